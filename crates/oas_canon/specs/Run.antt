@@ -1,13 +1,17 @@
 -- What a run over a source and a writer does.
-use Rattle.std.specs.Prelude.{◌≡◌, ℕ, ◌<◌, Bool, true, false, List, [], ◌++◌, length, Option, Some, None, Result, Ok, Err, IsTrue, ◌⊎◌}
+use Rattle.std.specs.Prelude.{◌≡◌, ◌≢◌, ℕ, ◌<◌, Bool, true, false, List, [], ◌++◌, length, Option, Some, None, Result, Ok, Err, IsTrue, ◌⊎◌}
 use Rattle.std.specs.Io.KnownBytes.{Appends}
 use Rattle.oas_num.specs.declared.refusals.Why.{Why}
 use Rattle.oas_num.specs.declared.refusals.Refusal.{Refusal}
-use Rattle.oas_num.specs.declared.refusals.Why.TheVariants.{Truncated, Read, InputTooLong, Write, Memory}
+use Rattle.oas_num.specs.declared.refusals.Why.TheVariants.{Truncated, Read, InputTooLong, Write, Memory, DuplicateCell}
 use Rattle.oas_num.specs.Script.{Script, Rest, Takes, IsAtEnd, HasFailed, IsTooLong}
 use Rattle.oas_canon.specs.declared.limits.Limits.{Limits}
-use Rattle.oas_canon.specs.Meaning.{Layout, Accepted, Means, SameLayout}
-use Rattle.oas_canon.specs.Canonical.{IsWithinLimits, IsCanonicalOf}
+use Rattle.std.specs.Map.{keys_of}
+use Rattle.oas_num.specs.declared.reals.Real.{Real}
+use Rattle.oas_canon.specs.declared.records.Record.{Record}
+use Rattle.oas_canon.specs.File.{ratio, FileOf}
+use Rattle.oas_canon.specs.Meaning.{Layout, cells, Allowed, IsReduced, IsDistinct, Accepted, Means, SameLayout}
+use Rattle.oas_canon.specs.Canonical.{IsWithinLimits, IsHeld, IsOrdered, IsCanonicalOf}
 
 -- The bytes decided, and not the source's end, a device or the memory.
 abbrev pub decides : Why → Bool
@@ -17,6 +21,47 @@ decides InputTooLong = false
 decides Write = false
 decides Memory = false
 decides _ = true
+
+-- ---- a draft is read, and sealed
+
+-- all that the source gave is a file with records that are allowed, of which the draft is the meaning, but that a cell may be defined twice
+pub record IsDrafted (limits : Limits) (old : Script) (draft : Layout) (new : Script) : Type 0 where
+  pub bytes : List ℕ
+  pub takes : Takes old bytes new
+  pub ended : IsAtEnd new
+  pub unit : Real
+  pub records : List Record
+  pub file : FileOf unit records bytes
+  pub allowed : Allowed limits records
+  pub reduced : IsReduced (ratio unit) draft.unit
+  pub is : cells records ≡ draft.cells
+  pub within : IsWithinLimits limits draft
+
+-- no accepted file begins with what was taken, or the source has ended and what was taken is none, or a device or the memory failed
+pub record IsRefused (limits : Limits) (old : Script) (why : Why) (new : Script) : Type 0 where
+  pub bytes : List ℕ
+  pub takes : Takes old bytes new
+  pub decided : IsTrue (decides why) → (more : List ℕ) → Accepted limits (bytes ++ more) → ⊥
+  pub truncated : why ≡ Truncated → (Accepted limits bytes → ⊥) × IsAtEnd new
+  pub device : why ≡ Read → HasFailed new
+  pub too_long : why ≡ InputTooLong → IsTooLong new
+  pub reading : why ≢ Write
+
+abbrev pub ReadsDraft : {L : Type 0} → (L → Layout) → Limits → Script → Result L Refusal → Script → Type 0
+ReadsDraft layout limits old (Ok draft) new = IsDrafted limits old (layout draft) new
+ReadsDraft layout limits old (Err refusal) new = IsRefused limits old refusal.why new
+
+-- the layout of a draft in which no cell is defined twice, in order
+pub record IsSealed (draft l : Layout) : Type 0 where
+  pub distinct : IsDistinct (keys_of draft.cells)
+  pub same : SameLayout draft l
+  pub ordered : IsOrdered l.cells
+  pub within : (limits : Limits) → IsWithinLimits limits draft → IsWithinLimits limits l
+
+-- a seal gives the layout, or finds a cell that is defined twice, or has no memory
+abbrev pub Seals : {L : Type 0} → (L → Layout) → Layout → Result L Why → Type 0
+Seals layout draft (Ok l) = IsSealed draft (layout l)
+Seals layout draft (Err why) = (why ≡ Memory) ⊎ ((why ≡ DuplicateCell) × (IsDistinct (keys_of draft.cells) → ⊥))
 
 -- ---- a layout is read
 
@@ -29,20 +74,11 @@ pub record IsRead (limits : Limits) (old : Script) (l : Layout) (new : Script) :
   pub meaning : Layout
   pub means : Means bytes meaning
   pub same : SameLayout meaning l
-  pub held : IsWithinLimits limits l
-
--- no accepted file begins with what was taken, or the source has ended and what was taken is none, or a device or the memory failed
-pub record IsRefused (limits : Limits) (old : Script) (why : Why) (new : Script) : Type 0 where
-  pub bytes : List ℕ
-  pub takes : Takes old bytes new
-  pub decided : IsTrue (decides why) → (more : List ℕ) → Accepted limits (bytes ++ more) → ⊥
-  pub truncated : why ≡ Truncated → (Accepted limits bytes → ⊥) × IsAtEnd new
-  pub device : why ≡ Read → HasFailed new
-  pub too_long : why ≡ InputTooLong → IsTooLong new
+  pub held : IsHeld limits l
 
 abbrev pub ReadsLayout : {L : Type 0} → (L → Layout) → Limits → Script → Result L Refusal → Script → Type 0
 ReadsLayout layout limits old (Ok l) new = IsRead limits old (layout l) new
-ReadsLayout layout limits old (Err refusal) new = IsRefused limits old refusal.why new × (refusal.why ≡ Write → ⊥)
+ReadsLayout layout limits old (Err refusal) new = IsRefused limits old refusal.why new
 
 -- ---- the whole
 
