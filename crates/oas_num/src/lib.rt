@@ -37,7 +37,7 @@ pub use sinks::{Counter, Sink, SinkFault, put_unsigned, shortest_is_one};
 pub use slices::SliceSource;
 pub use sources::{INPUT_MAX, Source, SourceFault};
 pub use spelling::{Spelled, next_byte, read_if, read_list};
-pub use texts::{Label, Name, read_text};
+pub use texts::{Label, Name, Padding, read_text};
 
 #[cfg(test)]
 mod tests;
