@@ -1,9 +1,13 @@
 //! The laws of spellings: each function's contract is one, and its body is empty.
+ghost use Rattle.std.specs.Prelude.{◌≡◌, ◌<◌, ◌≤◌, ◌^◌, ℕ, ℤ, List, length, nat_abs};
 ghost use Rattle.oas_num.specs.Grammar.{OneFront};
 ghost use Rattle.oas_num.specs.Combinators.{OneSpelling, IsWithin};
 ghost use Rattle.oas_num.specs.Style.{Style, Any, Shortest, unsigned_in, signed_in};
 ghost use Rattle.oas_num.specs.Texts.{name_in, label_in};
 ghost use Rattle.oas_num.specs.Reals.{real_in};
+ghost use Rattle.oas_num.specs.Integers.{IsUnsigned};
+ghost use Rattle.oas_num.specs.Writing.{shortest, shortest_signed};
+ghost use Rattle.oas_num.specs.Ratio.{Ratio, Reduces};
 
 /// Integers without a sign.
 pub fn unsigned()
@@ -38,4 +42,16 @@ pub fn reals()
     ensures front { (style : Style) → OneFront (real_in style) }
     ensures one { OneSpelling (real_in Shortest) }
     ensures within { IsWithin (real_in Shortest) (real_in Any) }
+{}
+
+/// What the writers of integers put: a spelling than which none is shorter, and without a sign the only one of its length.
+pub fn shortest()
+    ensures unsigned { (n : ℕ) → n < 2 ^ 64 → unsigned_in Shortest n (shortest n) }
+    ensures only { (n : ℕ) (bytes : List ℕ) → IsUnsigned n bytes → length bytes ≤ length (shortest n) → bytes ≡ shortest n }
+    ensures signed { (z : ℤ) → nat_abs z < 2 ^ 63 → signed_in Shortest z (shortest_signed z) }
+{}
+
+/// A fraction has one form in lowest terms.
+pub fn fractions()
+    ensures { (num den : ℕ) (a b : Ratio) → Reduces num den a → Reduces num den b → a ≡ b }
 {}
