@@ -1,0 +1,25 @@
+# Everything here goes through `rt`, which builds only what it has proved.
+
+PREFIX ?= /usr/local
+JOBS ?= 2
+
+.PHONY: all install test bench clean
+
+# The program: proves every crate that it stands on, builds it, and leaves it as ./oascanon.
+all:
+	cd crates/oascanon && rt run --jobs $(JOBS) -- --help >/dev/null
+	cp crates/oascanon/out/oascanon oascanon
+
+install: all
+	install -D -m 755 oascanon $(DESTDIR)$(PREFIX)/bin/oascanon
+
+# The gate: every proof from nothing, the edits that must fail, the tests, the stored runs.
+test:
+	rt ci
+
+# Speed and memory, beside a baseline in the same run.
+bench: all
+	bench/run
+
+clean:
+	rm -rf crates/*/out oascanon

@@ -1,0 +1,158 @@
+-- The loop over the bytes of an integer.
+use Rattle.std.proofs.Common.{◌≡◌, ℕ, ◌+◌, ◌*◌, ◌%◌, ◌^◌, ◌<◌, ◌≤◌, suc, List, [], ◌∷◌, ◌++◌, length, ◌⊎◌, inl, inr, refl, sym, ap, ◌∙◌, append_assoc, add-one, arith}
+use Rattle.std.proofs.lemmas.List.{length-append}
+use Rattle.std.proofs.Math.Nat.{pow-suc, pow-le-pow_right}
+use Rattle.std.proofs.lemmas.Nat.{mul-le}
+use Rattle.oas_num.specs.declared.refusals.Why.{Why}
+use Rattle.oas_num.specs.declared.refusals.Why.TheVariants.{Truncated, IntegerRange, Read, InputTooLong}
+use Rattle.oas_num.specs.Script.{Script, Takes}
+use Rattle.oas_num.specs.Integers.{IsOpen, IsClosed, IsUnsigned, value_of}
+use Rattle.oas_num.specs.IntegerLaws.{open_front}
+use Rattle.oas_num.specs.Grammar.{IsByte}
+use Rattle.oas_num.specs.Reading.{ReadsValue, Fails, NoneFits, EndsWith, ByteMay, IntegerMay, IsOutOfRange}
+use Rattle.oas_num.proofs.ReadLemmas.{Takes-none, Takes-then, Wants, Fails-after}
+
+value_of-push : (front : List ℕ) (b : ℕ) → value_of (front ++ b ∷ []) ≡ value_of front + b % 128 * 128 ^ length front
+value_of-push [] b = omega arith
+value_of-push (c ∷ front) b =
+    let e = value_of-push front b in
+    let p : 128 ^ suc (length front) ≡ 128 ^ length front * 128 = pow-suc 128 (length front) in
+    rw (e, p) (omega arith)
+
+IsOpen-push : (front : List ℕ) (b : ℕ) → IsOpen front → 128 ≤ b → b < 256 → IsOpen (front ++ b ∷ [])
+IsOpen-push [] b o le lt = (le, lt, tt)
+IsOpen-push (c ∷ front) b o le lt = (o.0, o.1, IsOpen-push front b o.2 le lt)
+
+IsClosed-push : (front : List ℕ) (b : ℕ) → IsOpen front → b < 128 → IsClosed (front ++ b ∷ [])
+IsClosed-push [] b o lt = inl (lt, refl)
+IsClosed-push (c ∷ front) b o lt = inr (o.0, o.1, IsClosed-push front b o.2 lt)
+
+-- the first byte of a spelling
+byte_first : (q r rest : List ℕ) → IsClosed q → q ++ r ≡ rest → (b : ℕ) × (bytes : List ℕ) × (more : List ℕ) × IsByte b bytes × (bytes ++ more ≡ rest)
+byte_first [] r rest h e = absurd h
+byte_first (d ∷ q) r rest h e = (d, d ∷ [], q ++ r, record { only = refl; small = elim h [ inl s ↦ omega arith | inr s ↦ omega arith ] }, e)
+
+open_wants : (front : List ℕ) → IsOpen front → Wants IsUnsigned front IsByte
+open_wants front o = record {
+  wants = λ v p r rest s e.
+      let m = open_front front p r rest o s.closed e in
+      byte_first m.0 r rest m.2 m.3;
+}
+
+pub IntegerMay-byte : (why : Why) (last : List ℕ) → ByteMay why last → IntegerMay why last
+IntegerMay-byte Truncated last h = tt
+IntegerMay-byte Read last h = tt
+IntegerMay-byte InputTooLong last h = tt
+IntegerMay-byte _ last h = absurd h
+
+-- so many bytes of groups were read, and this is their value
+pub record Partway (old now : Script) (count value weight : ℕ) : Type 0 where
+  pub front : List ℕ
+  pub takes : Takes old front now
+  pub are_open : IsOpen front
+  pub len : length front ≡ count
+  pub value_is : value ≡ value_of front
+  pub weight_is : weight ≡ 128 ^ count
+  pub below : value < weight
+
+pub starts : (old : Script) → Partway old old 0 0 1
+starts old = record { front = []; takes = Takes-none old; are_open = tt; len = refl; value_is = refl; weight_is = refl; below = omega arith }
+
+weight_le : (i k : ℕ) → i ≤ k → 128 ^ i ≤ 128 ^ k
+weight_le i k le = pow-le-pow_right (omega arith) le
+
+digit_le : (b w : ℕ) → b % 128 * w ≤ 127 * w
+digit_le b w = mul-le (b % 128) w 127 w (omega arith) (omega arith)
+
+module _ (old mid : Script) (i v w : ℕ) (so_far : Partway old mid i v w) where
+  -- the next digit fits
+  pub digit_fits : (b : ℕ) → i < 9 → v + b % 128 * w < 2 ^ 63
+  digit_fits b lt =
+      let le : 128 ^ i ≤ 128 ^ 8 = weight_le i 8 (omega arith) in
+      let d = digit_le b w in
+      omega (arith, so_far.weight_is, so_far.below)
+
+  pub weight_fits : i < 9 → w * 128 ≤ 2 ^ 63
+  weight_fits lt =
+      let le : 128 ^ i ≤ 128 ^ 8 = weight_le i 8 (omega arith) in
+      omega (arith, so_far.weight_is)
+
+  -- after nine bytes
+  pub at_ninth : 9 ≤ i → i ≤ 9 → (i ≡ 9) × (w ≡ 2 ^ 63) × (v < 2 ^ 63)
+  at_ninth ge le =
+      let is : i ≡ 9 = omega arith in
+      let e : w ≡ 128 ^ 9 = so_far.weight_is ∙ ap (λ (k : ℕ). 128 ^ k) is in
+      (is, e, omega (arith, so_far.below, e))
+
+  pub goes_on : (new : Script) (b : ℕ) → ReadsValue IsByte mid b new → 128 ≤ b → Partway old new (i + 1) (v + b % 128 * w) (w * 128)
+  goes_on new b read le =
+      let only = read.spelled.only in
+      let d = digit_le b w in
+      record {
+        front = so_far.front ++ b ∷ [];
+        takes = Takes-then old mid new so_far.front (b ∷ []) so_far.takes (rw only at read.takes);
+        are_open = IsOpen-push so_far.front b so_far.are_open le read.spelled.small;
+        len = omega (arith, length-append so_far.front (b ∷ []), so_far.len);
+        value_is = rw (value_of-push so_far.front b) cc;
+        weight_is = let p : 128 ^ suc i ≡ 128 ^ i * 128 = pow-suc 128 i in rw add-one (omega (arith, p, so_far.weight_is));
+        below = omega (arith, so_far.below);
+      }
+
+  pub found : (new : Script) (b n : ℕ) → i ≤ 9 → ReadsValue IsByte mid b new → b < 128 → n ≡ v + b % 128 * w → n < 2 ^ 64 → ReadsValue IsUnsigned old n new
+  found new b n few read lt is fits =
+      let only = read.spelled.only in
+      record {
+        bytes = so_far.front ++ b ∷ [];
+        takes = Takes-then old mid new so_far.front (b ∷ []) so_far.takes (rw only at read.takes);
+        spelled = record {
+          closed = IsClosed-push so_far.front b so_far.are_open lt;
+          short = omega (arith, length-append so_far.front (b ∷ []), so_far.len);
+          value = rw (value_of-push so_far.front b) (is ∙ cc);
+          fits = fits;
+        };
+      }
+
+  pub byte_fails : (new : Script) (why : Why) → Fails IsByte ByteMay mid why new → Fails IsUnsigned IntegerMay old why new
+  byte_fails new why f = Fails-after IsUnsigned IsByte IntegerMay ByteMay old mid new why so_far.front (IntegerMay-byte why) so_far.takes (open_wants so_far.front so_far.are_open) f
+
+pub last_fits : (v w b : ℕ) → w ≡ 2 ^ 63 → v < 2 ^ 63 → b ≤ 1 → v + b * w < 2 ^ 64
+last_fits v w b e lt le = let m : b * w ≤ 1 * w = mul-le b w 1 w le (omega arith) in omega (arith, m, e, lt)
+
+pub small_digit : (v w b : ℕ) → b ≤ 1 → v + b * w ≡ v + b % 128 * w
+small_digit v w b le = let e : b % 128 ≡ b = omega arith in rw e refl
+
+closed_long : (q : List ℕ) → IsClosed q → 0 < length q
+closed_long [] h = absurd h
+closed_long (d ∷ q) h = omega arith
+
+-- a tenth byte above 1 leaves no number
+tenth : (front q r more : List ℕ) (b n : ℕ) → length front ≡ 9 → 1 < b → IsClosed q → IsUnsigned n (front ++ q) → q ++ r ≡ b ∷ more → ⊥
+tenth front [] r more b n len above h s e = absurd h
+tenth front (d ∷ q) r more b n len above h s e =
+    let head : d ≡ b = cc in
+    elim h [
+      | inl t ↦
+          let none : q ≡ [] = t.1 in
+          let v : n ≡ value_of front + d % 128 * 128 ^ length front = s.value ∙ (rw none (value_of-push front d)) in
+          let w : 128 ^ length front ≡ 128 ^ 9 = ap (λ (k : ℕ). 128 ^ k) len in
+          let v2 : n ≡ value_of front + d % 128 * 128 ^ 9 = rw w at v in
+          omega (arith, v2, s.fits)
+      | inr t ↦ omega (arith, closed_long q t.2, s.short, length-append front (d ∷ q))
+    ]
+
+pub out_of_range : (old mid new : Script) (i v w b : ℕ) → Partway old mid i v w → i ≡ 9 → ReadsValue IsByte mid b new → 1 < b → Fails IsUnsigned IntegerMay old IntegerRange new
+out_of_range old mid new i v w b so_far ninth read above =
+    let only = read.spelled.only in
+    record {
+      bytes = so_far.front ++ b ∷ [];
+      takes = Takes-then old mid new so_far.front (b ∷ []) so_far.takes (rw only at read.takes);
+      reason = record { front = []; last = so_far.front ++ b ∷ []; joined = refl; holds = record { front = so_far.front; tenth = b; joined = refl; nine = so_far.len ∙ ninth; open_front = so_far.are_open; above = above } };
+      format = λ _. record {
+        none = λ u p r more s e.
+            let m = open_front so_far.front p r (b ∷ more) so_far.are_open s.closed (e ∙ append_assoc so_far.front (b ∷ []) more) in
+            tenth so_far.front m.0 r more b u (so_far.len ∙ ninth) above m.2 (rw m.1 at s) m.3;
+      };
+      truncated = λ is. absurd cc;
+      device = λ is. absurd cc;
+      too_long = λ is. absurd cc;
+    }

@@ -1,0 +1,7 @@
+pub mod ReadLemmas
+pub mod IntegerLemmas
+pub mod GrammarLemmas
+pub mod WritingLemmas
+pub mod TextLemmas
+pub mod ReaderLemmas
+pub mod RealLemmas

@@ -1,0 +1,60 @@
+-- One read after another.
+use Rattle.std.proofs.Common.{◌≡◌, ◌≢◌, ℕ, ◌+◌, ◌<◌, ◌≤◌, List, [], ◌∷◌, ◌++◌, length, Option, Some, None, refl, sym, ap, ◌∙◌, append_assoc, arith}
+use Rattle.std.proofs.lemmas.List.{length-append}
+use Rattle.oas_num.specs.declared.refusals.Why.{Why}
+use Rattle.oas_num.specs.Script.{Script, Rest, Gave, Takes}
+use Rattle.oas_num.specs.Grammar.{IsByte}
+use Rattle.oas_num.specs.Reading.{NoneFits, NoneWithin, EndsWith, ReadsValue, Fails}
+
+Gave-none : (r : Option Rest) → Gave r [] r
+Gave-none None = tt
+Gave-none (Some r) = (refl, refl)
+
+pub Takes-none : (s : Script) → Takes s [] s
+Takes-none s = record { given = omega arith; limit = refl; reliable = refl; failures = omega arith; rest = Gave-none s.rest }
+
+Gave-then : (r s t : Option Rest) (a b : List ℕ) → Gave r a s → Gave s b t → Gave r (a ++ b) t
+Gave-then None s t a b p q = tt
+Gave-then (Some r) None t a b p q = absurd p
+Gave-then (Some r) (Some s) None a b p q = absurd q
+Gave-then (Some r) (Some s) (Some t) a b p q = (p.0 ∙ ap (λ (x : List ℕ). a ++ x) q.0 ∙ sym (append_assoc a b t.bytes), q.1 ∙ p.1)
+
+pub Takes-then : (old mid new : Script) (a b : List ℕ) → Takes old a mid → Takes mid b new → Takes old (a ++ b) new
+Takes-then old mid new a b p q = record {
+  given = omega (arith, p.given, q.given, length-append a b);
+  limit = q.limit ∙ p.limit;
+  reliable = q.reliable ∙ p.reliable;
+  failures = omega (arith, p.failures, q.failures);
+  rest = Gave-then old.rest mid.rest new.rest a b p.rest q.rest;
+}
+
+-- after these bytes each spelling goes on by one of the other kind
+pub record Wants {V W : Type 0} (spells : V → List ℕ → Type 0) (front : List ℕ) (next : W → List ℕ → Type 0) : Type 0 where
+  pub wants : (v : V) (p r rest : List ℕ) → spells v p → p ++ r ≡ front ++ rest → (w : W) × (q : List ℕ) × (more : List ℕ) × next w q × (q ++ more ≡ rest)
+
+module _ {V W : Type 0} (spells : V → List ℕ → Type 0) (next : W → List ℕ → Type 0) where
+  NoneFits-after : (front bytes : List ℕ) → Wants spells front next → NoneFits next bytes → NoneFits spells (front ++ bytes)
+  NoneFits-after front bytes wants none = record {
+    none = λ v p r more s e.
+        let w = wants.wants v p r (bytes ++ more) s (e ∙ append_assoc front bytes more) in
+        none.none w.0 w.1 w.2 more w.3 w.4;
+  }
+
+  NoneWithin-after : (front bytes : List ℕ) → Wants spells front next → NoneWithin next bytes → NoneWithin spells (front ++ bytes)
+  NoneWithin-after front bytes wants none = record {
+    none = λ v p r s e.
+        let w = wants.wants v p r bytes s e in
+        none.none w.0 w.1 w.2 w.3 w.4;
+  }
+
+  -- what fails there fails as a whole
+  pub Fails-after : (may there : Why → List ℕ → Type 0) (old mid new : Script) (why : Why) (front : List ℕ) → ((last : List ℕ) → there why last → may why last) → Takes old front mid → Wants spells front next → Fails next there mid why new → Fails spells may old why new
+  Fails-after may there old mid new why front allows takes wants f = record {
+    bytes = front ++ f.bytes;
+    takes = Takes-then old mid new front f.bytes takes f.takes;
+    reason = let r = f.reason in record { front = front ++ r.front; last = r.last; joined = ap (λ (x : List ℕ). front ++ x) r.joined ∙ sym (append_assoc front r.front r.last); holds = allows r.last r.holds };
+    format = λ is. NoneFits-after front f.bytes wants (f.format is);
+    truncated = λ is. let g = f.truncated is in (NoneWithin-after front f.bytes wants g.0, g.1);
+    device = f.device;
+    too_long = f.too_long;
+  }

@@ -1,0 +1,5 @@
+use Rattle.oas_num.specs.RealLaws.{OneFront-real, OneSpelling-real, IsWithin-real}
+use Rattle.oas_num.proofs.laws.reals.Goals as goal
+
+pub returns : goal.returns
+returns c = record { front = OneFront-real; one = OneSpelling-real; within = IsWithin-real }

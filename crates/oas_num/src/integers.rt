@@ -1,0 +1,105 @@
+ghost use Rattle.std.specs.Prelude.{◌≡◌, List, ℕ};
+ghost use Rattle.oas_num.specs.Grammar.{IsThere};
+ghost use Rattle.oas_num.specs.Integers.{IsUnsigned, IsSigned};
+ghost use Rattle.oas_num.specs.Reading.{Reads, IntegerMay};
+
+use crate::refusals::Why;
+use crate::sources::Source;
+use crate::spelling::{Spelled, next_byte};
+use std::alloc::Global;
+
+/// A number below 2^64 (SEMI P39, Unsigned integers): groups of seven bits, the least significant first. Longer spellings
+/// than needed are accepted, of ten bytes at most (own rule).
+#[derive(Clone, Copy, Debug, PartialEq, Eq)]
+pub struct Unsigned(pub u64);
+
+/// A number with a sign (SEMI P39, Signed integers): bit 0 is the sign, the other bits the magnitude. Minus zero is zero
+/// (own rule).
+#[derive(Clone, Copy, Debug, PartialEq, Eq)]
+pub struct Signed(pub i64);
+
+/// Reads a number without a sign. It is refused at the byte that decides.
+pub fn read_unsigned<S: Source>(source: &mut S) -> Result<u64, Why>
+    ensures { Reads IsUnsigned IntegerMay (S.script source.old) result (S.script source.new) }
+{
+    let mut value: u64 = 0;
+    let mut weight: u64 = 1;
+    for _ in 0..9u8 {
+        let byte = next_byte(source)?;
+        value += u64::from(byte % 128) * weight;
+        if byte < 128 {
+            return Ok(value);
+        }
+        weight *= 128;
+    }
+    let last = next_byte(source)?;
+    if last > 1 {
+        return Err(Why::IntegerRange);
+    }
+    Ok(value + u64::from(last) * weight)
+}
+
+/// Reads a number with a sign.
+pub fn read_signed<S: Source>(source: &mut S) -> Result<i64, Why>
+    ensures { Reads IsSigned IntegerMay (S.script source.old) result (S.script source.new) }
+{
+    let coded = read_unsigned(source)?;
+    let magnitude = (coded / 2) as i64;
+    if coded % 2 == 0 {
+        Ok(magnitude)
+    } else {
+        Ok(-magnitude)
+    }
+}
+
+/// Reads a number without a sign, where there is one.
+pub fn read_unsigned_if<S: Source>(there: bool, source: &mut S) -> Result<Option<u64>, Why>
+    ensures { Reads (IsThere there IsUnsigned) IntegerMay (S.script source.old) result (S.script source.new) }
+{
+    if there {
+        Ok(Some(read_unsigned(source)?))
+    } else {
+        Ok(None)
+    }
+}
+
+/// Reads a number with a sign, where there is one.
+pub fn read_signed_if<S: Source>(there: bool, source: &mut S) -> Result<Option<i64>, Why>
+    ensures { Reads (IsThere there IsSigned) IntegerMay (S.script source.old) result (S.script source.new) }
+{
+    if there {
+        Ok(Some(read_signed(source)?))
+    } else {
+        Ok(None)
+    }
+}
+
+impl Spelled for Unsigned {
+    ghost use Rattle.oas_num.specs.Integers.{SpellsUnsigned};
+    ghost use Rattle.oas_num.specs.IntegerLaws.{Unsigned-one_front};
+
+    ghost spells = { SpellsUnsigned };
+
+    ghost may = { IntegerMay };
+
+    ghost one_front = { Unsigned-one_front };
+
+    fn read<S: Source>(_alloc: Global, source: &mut S) -> Result<Unsigned, Why> {
+        Ok(Unsigned(read_unsigned(source)?))
+    }
+}
+
+impl Spelled for Signed {
+    ghost use Rattle.oas_num.specs.Integers.{SpellsSigned};
+    ghost use Rattle.oas_num.specs.IntegerLaws.{Signed-one_front};
+
+    ghost spells = { SpellsSigned };
+
+    ghost may = { IntegerMay };
+
+    ghost one_front = { Signed-one_front };
+
+    fn read<S: Source>(_alloc: Global, source: &mut S) -> Result<Signed, Why> {
+        Ok(Signed(read_signed(source)?))
+    }
+}

@@ -1,0 +1,3 @@
+pub mod ReadingLemmas
+pub mod RaceLemmas
+pub mod RectangleLemmas

@@ -1,0 +1,16 @@
+use Rattle.std.proofs.Common.{◌≡◌, ◌≤◌, ◌+◌, drop}
+use Rattle.oas_ring.specs.Points.{list_cmp}
+use Rattle.oas_ring.specs.Readings.{reading_of}
+use Rattle.oas_ring.proofs.least.compare_readings.Given as goal
+
+-- what is left decides
+abbrev pub invariant-loop-k : goal.invariant-loop-k
+invariant-loop-k g l =
+    let points = g.V.RingView.points in
+    let steps = g.V.RingView.steps in
+    let p = points l.fn.view in
+    record {
+      fixed : points l.view ≡ p;
+      left : list_cmp (drop l.k (reading_of p l.a)) (drop l.k (reading_of p l.b)) ≡ list_cmp (reading_of p l.a) (reading_of p l.b);
+      cost : steps l.view ≤ steps l.fn.view + l.k;
+    }

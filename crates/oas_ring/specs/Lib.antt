@@ -1,0 +1,9 @@
+pub mod Points
+pub mod PointsLaws
+pub mod Rings
+pub mod RingsLaws
+pub mod Readings
+pub mod ReadingsLaws
+pub mod Race
+pub mod View
+pub mod Rectangles
