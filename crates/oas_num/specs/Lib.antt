@@ -16,3 +16,5 @@ pub mod Reals
 pub mod RealLaws
 pub mod Writing
 pub mod WritingLaws
+pub mod Deltas
+pub mod DeltaLaws

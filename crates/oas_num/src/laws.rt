@@ -4,6 +4,7 @@ ghost use Rattle.oas_num.specs.Combinators.{OneSpelling, IsWithin};
 ghost use Rattle.oas_num.specs.Style.{Style, Any, Shortest, unsigned_in, signed_in};
 ghost use Rattle.oas_num.specs.Texts.{name_in, label_in};
 ghost use Rattle.oas_num.specs.Reals.{real_in};
+ghost use Rattle.oas_num.specs.Deltas.{gdelta_in};
 
 /// Integers without a sign.
 pub fn unsigned()
@@ -38,4 +39,11 @@ pub fn reals()
     ensures front { (style : Style) → OneFront (real_in style) }
     ensures one { OneSpelling (real_in Shortest) }
     ensures within { IsWithin (real_in Shortest) (real_in Any) }
+{}
+
+/// g-deltas. In the shortest style one is of form 2, and a component of zero goes east or north (own rule).
+pub fn gdeltas()
+    ensures front { (style : Style) → OneFront (gdelta_in style) }
+    ensures one { OneSpelling (gdelta_in Shortest) }
+    ensures within { IsWithin (gdelta_in Shortest) (gdelta_in Any) }
 {}

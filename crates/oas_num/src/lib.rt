@@ -16,6 +16,7 @@
 //! Whether memory is there is outside every contract: a read that allocates may answer [`Why::Memory`].
 #![tactic(auto)]
 
+mod deltas;
 mod integers;
 pub mod laws;
 mod readers;
@@ -27,6 +28,7 @@ mod sources;
 mod spelling;
 mod texts;
 
+pub use deltas::{Delta1, Delta2, Delta3, GDelta};
 pub use integers::{
     Signed, Unsigned, read_signed, read_signed_if, read_unsigned, read_unsigned_if,
 };
