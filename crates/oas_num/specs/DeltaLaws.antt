@@ -1,5 +1,5 @@
 -- The laws of deltas: no spelling begins another; a g-delta has one spelling in the shortest style, which is one of its spellings.
-use Rattle.std.proofs.Common.{◌≡◌, ℕ, ◌+◌, ◌*◌, ◌/◌, ◌%◌, List, Some, sym, ap, ◌∙◌, arith}
+use Rattle.std.proofs.Common.{refl, ℤ, pos, negsuc, nat_abs, ◌<◌, ◌^◌, ◌++◌, ◌≡◌, ℕ, ◌+◌, ◌*◌, ◌/◌, ◌%◌, List, Some, sym, ap, ◌∙◌, arith}
 use Rattle.oas_num.specs.declared.deltas.Delta1.{Delta1}
 use Rattle.oas_num.specs.declared.deltas.GDelta.{GDelta}
 use Rattle.oas_num.specs.Grammar.{OneFront, IsPair, IsThere}
@@ -9,7 +9,8 @@ use Rattle.oas_num.specs.CombinatorLaws.{OneSpelling-pair}
 use Rattle.oas_num.specs.Integers.{IsUnsigned, signed_of}
 use Rattle.oas_num.specs.IntegerLaws.{OneFront-IsUnsigned, OneFront-IsSigned}
 use Rattle.oas_num.specs.Style.{Style, Any, Shortest, unsigned_in, code}
-use Rattle.oas_num.specs.StyleLaws.{OneFront-unsigned, OneSpelling-unsigned, code-signed_of}
+use Rattle.oas_num.specs.StyleLaws.{OneFront-unsigned, OneSpelling-unsigned, code-signed_of, shortest-IsShortest}
+use Rattle.oas_num.specs.Writing.{shortest, shortest_gdelta}
 use Rattle.oas_num.specs.Deltas.{SpellsDelta1, SpellsDelta2, SpellsDelta3, SpellsGDelta, delta2_of, delta3_of, has_second, gdelta_of, gdelta_from, IsNumbers, long_numbers, gdelta_in, step}
 
 -- of no 1-delta does one spelling begin another
@@ -89,4 +90,19 @@ IsWithin-gdelta = record {
       joined = p.joined;
     };
   };
+}
+
+code_small : (z : ℤ) (m : ℕ) → nat_abs z < m → code z < 2 * m
+code_small (pos n) m lt = omega (arith, lt)
+code_small (negsuc n) m lt = omega (arith, lt)
+
+-- what the writer of g-deltas puts is that spelling
+pub shortest_gdelta-spells : (d : GDelta) → nat_abs d.dx < 2 ^ 62 → nat_abs d.dy < 2 ^ 63 → gdelta_in Shortest d (shortest_gdelta d.dx d.dy)
+unfolding shortest_gdelta
+shortest_gdelta-spells d x y = record {
+  front = shortest (2 * code d.dx + 1);
+  back = shortest (code d.dy);
+  first = shortest-IsShortest (2 * code d.dx + 1) (omega (arith, code_small d.dx (2 ^ 62) x));
+  second = shortest-IsShortest (code d.dy) (omega (arith, code_small d.dy (2 ^ 63) y));
+  joined = refl;
 }

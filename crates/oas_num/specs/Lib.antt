@@ -16,5 +16,7 @@ pub mod Reals
 pub mod RealLaws
 pub mod Writing
 pub mod WritingLaws
+pub mod Ratio
+pub mod RatioLaws
 pub mod Deltas
 pub mod DeltaLaws

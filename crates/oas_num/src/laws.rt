@@ -1,10 +1,15 @@
 //! The laws of spellings: each function's contract is one, and its body is empty.
+ghost use Rattle.std.specs.Prelude.{◌≡◌, ◌<◌, ◌≤◌, ◌^◌, ℕ, ℤ, List, length, nat_abs};
 ghost use Rattle.oas_num.specs.Grammar.{OneFront};
 ghost use Rattle.oas_num.specs.Combinators.{OneSpelling, IsWithin};
 ghost use Rattle.oas_num.specs.Style.{Style, Any, Shortest, unsigned_in, signed_in};
 ghost use Rattle.oas_num.specs.Texts.{name_in, label_in};
 ghost use Rattle.oas_num.specs.Reals.{real_in};
 ghost use Rattle.oas_num.specs.Deltas.{gdelta_in};
+ghost use Rattle.oas_num.specs.declared.deltas.GDelta.{GDelta};
+ghost use Rattle.oas_num.specs.Integers.{IsUnsigned};
+ghost use Rattle.oas_num.specs.Writing.{shortest, shortest_signed, shortest_gdelta};
+ghost use Rattle.oas_num.specs.Ratio.{Ratio, Reduces};
 
 /// Integers without a sign.
 pub fn unsigned()
@@ -41,9 +46,23 @@ pub fn reals()
     ensures within { IsWithin (real_in Shortest) (real_in Any) }
 {}
 
-/// g-deltas. In the shortest style one is of form 2, and a component of zero goes east or north (own rule).
+/// g-deltas. In the shortest style one is of form 2, and a component of zero goes east or north
+/// (own rule); it is what the writer of g-deltas puts.
 pub fn gdeltas()
     ensures front { (style : Style) → OneFront (gdelta_in style) }
     ensures one { OneSpelling (gdelta_in Shortest) }
     ensures within { IsWithin (gdelta_in Shortest) (gdelta_in Any) }
+    ensures written { (d : GDelta) → nat_abs d.dx < 2 ^ 62 → nat_abs d.dy < 2 ^ 63 → gdelta_in Shortest d (shortest_gdelta d.dx d.dy) }
+{}
+
+/// What the writers of integers put: a spelling than which none is shorter, and without a sign the only one of its length.
+pub fn shortest()
+    ensures unsigned { (n : ℕ) → n < 2 ^ 64 → unsigned_in Shortest n (shortest n) }
+    ensures only { (n : ℕ) (bytes : List ℕ) → IsUnsigned n bytes → length bytes ≤ length (shortest n) → bytes ≡ shortest n }
+    ensures signed { (z : ℤ) → nat_abs z < 2 ^ 63 → signed_in Shortest z (shortest_signed z) }
+{}
+
+/// A fraction has one form in lowest terms.
+pub fn fractions()
+    ensures { (num den : ℕ) (a b : Ratio) → Reduces num den a → Reduces num den b → a ≡ b }
 {}

@@ -11,12 +11,15 @@
 //! - The grammar of spellings is made of few parts (specs/Grammar.antt, specs/Combinators.antt), with three laws each:
 //!   `OneFront`, `OneSpelling` (in the shortest style a value has one spelling) and `IsWithin` (the shortest spellings are
 //!   spellings). It is written over a `Style` (specs/Style.antt): any spelling that the standard has, or the shortest.
-//! - A [`Sink`] is given bytes, and `Writes` (specs/Writing.antt) says which, also where it failed.
+//! - A [`Sink`] is given bytes, and `Writes` (specs/Writing.antt) says which, also where it failed: then a front of them.
+//!   The writers of numbers put the shortest spellings: `shortest`, `shortest_signed` and `shortest_gdelta` there.
+//! - A [`Fraction`] is positive and in lowest terms: `Reduces` (specs/Ratio.antt).
 //!
 //! Whether memory is there is outside every contract: a read that allocates may answer [`Why::Memory`].
 #![tactic(auto)]
 
 mod deltas;
+mod fractions;
 mod integers;
 pub mod laws;
 mod readers;
@@ -29,17 +32,18 @@ mod spelling;
 mod texts;
 
 pub use deltas::{Delta1, Delta2, Delta3, GDelta};
+pub use fractions::Fraction;
 pub use integers::{
     Signed, Unsigned, read_signed, read_signed_if, read_unsigned, read_unsigned_if,
 };
 pub use readers::{Ending, ReaderSource};
 pub use reals::Real;
 pub use refusals::{Refusal, Why};
-pub use sinks::{Counter, Sink, SinkFault, put_unsigned, shortest_is_one};
+pub use sinks::{Counter, Sink, SinkFault, put_gdelta, put_signed, put_unsigned, unsigned_len};
 pub use slices::SliceSource;
 pub use sources::{INPUT_MAX, Source, SourceFault};
 pub use spelling::{Spelled, next_byte, read_if, read_list};
-pub use texts::{Label, Name, read_text};
+pub use texts::{Label, Name, Padding, read_text};
 
 #[cfg(test)]
 mod tests;

@@ -1,0 +1,7 @@
+use Rattle.oas_num.specs.WritingLaws.{shortest_only}
+use Rattle.oas_num.specs.StyleLaws.{shortest-IsShortest}
+use Rattle.oas_num.proofs.WritingLemmas.{shortest_signed-IsShortestSigned}
+use Rattle.oas_num.proofs.laws.shortest.Goals as goal
+
+pub returns : goal.returns
+returns c = record { unsigned = shortest-IsShortest; only = shortest_only; signed = shortest_signed-IsShortestSigned }
