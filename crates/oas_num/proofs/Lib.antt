@@ -6,3 +6,4 @@ pub mod TextLemmas
 pub mod ReaderLemmas
 pub mod RealLemmas
 pub mod OutletLemmas
+pub mod DeltaLemmas

@@ -20,3 +20,5 @@ pub mod Outlets
 pub mod OutletLaws
 pub mod Ratio
 pub mod RatioLaws
+pub mod Deltas
+pub mod DeltaLaws

@@ -44,7 +44,7 @@ impl Points {
         ensures { IfOk result (λ copy. copy ≡ self.now) }
     {
         Ok(Points {
-            items: self.items.as_slice().to_vec(alloc)?,
+            items: self.as_slice().to_vec(alloc)?,
         })
     }
 }
