@@ -5,3 +5,4 @@ pub mod WritingLemmas
 pub mod TextLemmas
 pub mod ReaderLemmas
 pub mod RealLemmas
+pub mod DeltaLemmas

@@ -18,3 +18,5 @@ pub mod Writing
 pub mod WritingLaws
 pub mod Ratio
 pub mod RatioLaws
+pub mod Deltas
+pub mod DeltaLaws

@@ -18,6 +18,7 @@
 //! Whether memory is there is outside every contract: a read that allocates may answer [`Why::Memory`].
 #![tactic(auto)]
 
+mod deltas;
 mod fractions;
 mod integers;
 pub mod laws;
@@ -30,6 +31,7 @@ mod sources;
 mod spelling;
 mod texts;
 
+pub use deltas::{Delta1, Delta2, Delta3, GDelta};
 pub use fractions::Fraction;
 pub use integers::{
     Signed, Unsigned, read_signed, read_signed_if, read_unsigned, read_unsigned_if,
@@ -41,7 +43,7 @@ pub use sinks::{Counter, Sink, SinkFault, put_gdelta, put_signed, put_unsigned, 
 pub use slices::SliceSource;
 pub use sources::{INPUT_MAX, Source, SourceFault};
 pub use spelling::{Spelled, next_byte, read_if, read_list};
-pub use texts::{Label, Name, read_text};
+pub use texts::{Label, Name, Padding, read_text};
 
 #[cfg(test)]
 mod tests;
