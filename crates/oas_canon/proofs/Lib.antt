@@ -1,0 +1,9 @@
+pub mod Fronts
+pub mod Growing
+pub mod Pins
+pub mod Heads
+pub mod StepLemmas
+pub mod CollectingLemmas
+pub mod Magic
+pub mod Readings
+pub mod Gathers

@@ -1,19 +1,20 @@
 -- The one spelling of a layout: judged on bytes, and as a function of the layout.
-use Rattle.std.specs.Prelude.{◌≡◌, ℕ, ◌==◌, if◌then◌else◌, ◌+◌, ◌<◌, ◌≤◌, ◌^◌, List, [], ◌∷◌, ◌++◌, length, map, false, replicate}
+use Rattle.std.specs.Prelude.{◌≡◌, ℕ, ◌==◌, if◌then◌else◌, ◌+◌, ◌<◌, ◌≤◌, ◌^◌, List, [], ◌∷◌, ◌++◌, length, map, false, replicate, nat_abs}
 use Rattle.std.specs.List.{AllByRecursion}
 use Rattle.std.specs.List.Sorted.{IsStrictlySortedBy}
 use Rattle.std.specs.Ordering.{is_gt}
 use Rattle.std.specs.declared.cmp.Ordering.{Ordering}
 use Rattle.std.specs.Map.{keys_of}
-use Rattle.oas_num.specs.Texts.{IsNameByte}
+use Rattle.oas_num.specs.Texts.{IsName}
 use Rattle.oas_num.specs.Writing as writing
 use Rattle.oas_canon.specs.declared.rectangles.Rectangle.{Rectangle}
 use Rattle.oas_canon.specs.declared.limits.Limits.{Limits}
-use Rattle.oas_num.specs.Style.{Shortest, code}
+use Rattle.oas_num.specs.Style.{Shortest}
+use Rattle.oas_num.specs.Ratio.{Ratio, IsLowest}
 use Rattle.oas_num.specs.declared.reals.Real.{Real}
 use Rattle.oas_canon.specs.declared.records.Record.{Record}
 use Rattle.oas_canon.specs.declared.records.Record.TheVariants.{Pad, Cell, Rectangle as Shape}
-use Rattle.oas_canon.specs.File.{Ratio, IsLowest, FileIn, magic, end_bytes}
+use Rattle.oas_canon.specs.File.{FileIn, magic, end_bytes}
 use Rattle.oas_canon.specs.Meaning.{Layout, Cells, cells, Allowed, Whole, Accepted, Means, SameLayout, rectangle_cmp, name_cmp, count_of_all, weight_of, AreInRange}
 
 -- no element is above one after it
@@ -58,7 +59,7 @@ abbrev pub record_bytes : Record → List ℕ
 record_bytes Pad = 0 ∷ []
 record_bytes (Cell name) = 14 ∷ name_bytes name
 record_bytes (Shape r) =
-    20 ∷ 123 ∷ (writing.shortest r.layer ++ (writing.shortest r.datatype ++ (writing.shortest r.width ++ (writing.shortest r.height ++ (writing.shortest (code r.x) ++ writing.shortest (code r.y))))))
+    20 ∷ 123 ∷ (writing.shortest r.layer ++ (writing.shortest r.datatype ++ (writing.shortest r.width ++ (writing.shortest r.height ++ (writing.shortest_signed r.x ++ writing.shortest_signed r.y)))))
 
 abbrev pub all_bytes : List Record → List ℕ
 all_bytes [] = []
@@ -86,19 +87,11 @@ pub record Fits (r : Rectangle) : Type 0 where
   pub datatype : r.datatype < 2 ^ 64
   pub width : r.width < 2 ^ 64
   pub height : r.height < 2 ^ 64
-  pub x : code r.x < 2 ^ 64
-  pub y : code r.y < 2 ^ 64
-
--- a name that can be spelled
-pub record IsTitle (name : List ℕ) : Type 0 where
-  pub some : 0 < length name
-  pub few : length name < 2 ^ 64
-  pub bytes : AllByRecursion IsNameByte name
+  pub x : nat_abs r.x < 2 ^ 63
+  pub y : nat_abs r.y < 2 ^ 63
 
 -- a unit that can be spelled, in lowest terms
 pub record IsUnitHeld (u : Ratio) : Type 0 where
-  pub some_num : 0 < u.num
-  pub some_den : 0 < u.den
   pub lowest : IsLowest u
   pub num : u.num < 2 ^ 64
   pub den : u.den < 2 ^ 64
@@ -106,7 +99,7 @@ pub record IsUnitHeld (u : Ratio) : Type 0 where
 -- what can be spelled, within the limits
 pub record IsWithinLimits (limits : Limits) (l : Layout) : Type 0 where
   pub unit : IsUnitHeld l.unit
-  pub names : AllByRecursion (λ c. IsTitle c.0) l.cells
+  pub names : AllByRecursion (λ c. IsName c.0) l.cells
   pub fits : AllByRecursion (λ c. AllByRecursion Fits c.1) l.cells
   pub few : count_of_all l.cells ≤ limits.elements
   pub light : weight_of l.cells ≤ limits.weight

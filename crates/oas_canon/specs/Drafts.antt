@@ -10,4 +10,4 @@ cells_of cs = map (λ c. (c.name, c.rectangles.items)) cs
 
 -- the unit and the cells
 abbrev pub layout_of : Draft → Layout
-layout_of draft = record { unit = record { num = draft.unit.num; den = draft.unit.den }; cells = cells_of draft.cells.items }
+layout_of draft = record { unit = draft.unit; cells = cells_of draft.cells.items }

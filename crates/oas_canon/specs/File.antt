@@ -1,12 +1,13 @@
 -- What a file is: the magic, START, records and END, spelled in a style.
 use Rattle.std.specs.Prelude.{◌≡◌, ℕ, ℤ, Bool, true, false, ◌==◌, ◌+◌, ◌<◌, List, [], ◌∷◌, ◌++◌, length, replicate}
-use Rattle.std.specs.Int.{IsGcd}
 use Rattle.oas_num.specs.declared.reals.Real.{Real}
+use Rattle.oas_num.specs.declared.texts.Padding.{Padding}
 use Rattle.oas_num.specs.Grammar.{IsPair, IsSuch, IsImage, IsEach, IsCount, IsByte}
 use Rattle.oas_num.specs.Combinators.{IsExactly, IsNever, IsEither, IsKeyed}
 use Rattle.oas_num.specs.Style.{Style, Any, Shortest, unsigned_in, signed_in}
 use Rattle.oas_num.specs.Reals.{real_in}
-use Rattle.oas_num.specs.Texts.{name_in}
+use Rattle.oas_num.specs.Ratio.{Ratio, IsLowest}
+use Rattle.oas_num.specs.Texts.{name_in, label_in, SpellsPadding}
 use Rattle.oas_canon.specs.declared.rectangles.Rectangle.{Rectangle}
 use Rattle.oas_canon.specs.declared.records.Record.{Record}
 use Rattle.oas_canon.specs.declared.records.Record.TheVariants.{Pad, Cell, Rectangle as Shape}
@@ -36,8 +37,11 @@ IsFields s =
     IsPair (signed_in s) (λ _.
     signed_in s))))))
 
+abbrev pub rectangle_of : Fields → Rectangle
+rectangle_of f = record { layer = f.1.0; datatype = f.1.1.0; width = f.1.1.1.0; height = f.1.1.1.1.0; x = f.1.1.1.1.1.0; y = f.1.1.1.1.1.1 }
+
 abbrev pub shape_of : Fields → Record
-shape_of f = Shape (record { layer = f.1.0; datatype = f.1.1.0; width = f.1.1.1.0; height = f.1.1.1.1.0; x = f.1.1.1.1.1.0; y = f.1.1.1.1.1.1 })
+shape_of f = Shape (rectangle_of f)
 
 abbrev pub pad_of : Unit {0} → Record
 pad_of done = Pad
@@ -55,26 +59,15 @@ IsRecord s = IsKeyed id_of (unsigned_in s) (IsRest s)
 
 -- ---- START
 
--- a fraction, by its parts
-pub record Ratio : Type 0 where
-  pub num : ℕ
-  pub den : ℕ
-
+-- the fraction without its sign
 abbrev pub ratio : Real → Ratio
 ratio u = record { num = u.num; den = u.den }
-
-abbrev pub real : Ratio → Real
-real u = record { negative = false; num = u.num; den = u.den }
 
 -- it is above zero
 pub record IsAbove (u : Real) : Type 0 where
   pub plain : u.negative ≡ false
   pub num : 0 < u.num
   pub den : 0 < u.den
-
--- no number above 1 divides both parts
-abbrev pub IsLowest : Ratio → Type 0
-IsLowest u = IsGcd u.num u.den 1
 
 -- a unit, in lowest terms in the shortest style
 abbrev pub IsUnit : Style → Real → Type 0
@@ -94,12 +87,15 @@ abbrev pub offsets_in : Style → Unit {0} → List ℕ → Type 0
 offsets_in Any = IsTwelve
 offsets_in Shortest = IsExactly (replicate 12 0)
 
--- the length 3, and 1.0
-abbrev pub IsVersion : Style → Unit {0} × Unit {0} → List ℕ → Type 0
-IsVersion s = IsPair (IsNumber s 3) (λ _. IsExactly (49 ∷ 46 ∷ 48 ∷ []))
+-- the a-string 1.0
+abbrev pub version : List ℕ
+version = 49 ∷ 46 ∷ 48 ∷ []
+
+abbrev pub IsVersion : Style → Unit {0} → List ℕ → Type 0
+IsVersion s done bytes = label_in s version bytes
 
 abbrev pub StartParts : Type 0
-StartParts = Unit {0} × ((Unit {0} × Unit {0}) × (Real × (Unit {0} × Unit {0})))
+StartParts = Unit {0} × (Unit {0} × (Real × (Unit {0} × Unit {0})))
 
 -- the id, version, unit, offset-flag 0 and table-offsets
 abbrev pub IsStartParts : Style → StartParts → List ℕ → Type 0
@@ -111,23 +107,23 @@ IsStartParts s =
     offsets_in s))))
 
 abbrev pub start_parts : Real → StartParts
-start_parts u = (tt, ((tt, tt), (u, (tt, tt))))
+start_parts u = (tt, (tt, (u, (tt, tt))))
 
 abbrev pub IsStart : Style → Real → List ℕ → Type 0
 IsStart s u bytes = IsStartParts s (start_parts u) bytes
 
 -- ---- END
 
--- the id, padding with its length before it, and scheme 0
-abbrev pub IsEndParts : Unit {0} × (List ℕ × Unit {0}) → List ℕ → Type 0
-IsEndParts =
-    IsPair (IsNumber Any 2) (λ _.
-    IsPair (IsKeyed length (unsigned_in Any) (λ count. IsCount IsByte count)) (λ _.
-    IsNumber Any 0))
+abbrev pub EndParts : Type 0
+EndParts = Unit {0} × (Padding × Unit {0})
 
--- 256 bytes in all
+-- the id, padding, and scheme 0
+abbrev pub IsEndParts : EndParts → List ℕ → Type 0
+IsEndParts = IsPair (IsNumber Any 2) (λ _. IsPair SpellsPadding (λ _. IsNumber Any 0))
+
+-- these, 256 bytes in all
 pub record IsAnyEnd (done : Unit {0}) (bytes : List ℕ) : Type 0 where
-  pub padding : List ℕ
+  pub padding : Padding
   pub spelled : IsEndParts (tt, (padding, tt)) bytes
   pub len : length bytes ≡ 256
 

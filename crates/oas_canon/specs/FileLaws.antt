@@ -11,11 +11,12 @@ use Rattle.oas_num.specs.Style.{Style, Any, Shortest, unsigned_in, signed_in}
 use Rattle.oas_num.specs.StyleLaws.{OneFront-unsigned, OneFront-signed, OneSpelling-unsigned, OneSpelling-signed, IsWithin-unsigned, IsWithin-signed}
 use Rattle.oas_num.specs.Reals.{real_in}
 use Rattle.oas_num.specs.RealLaws.{OneFront-real, OneSpelling-real, IsWithin-real}
-use Rattle.oas_num.specs.TextLaws.{OneFront-name, OneSpelling-name, IsWithin-name}
+use Rattle.oas_num.specs.TextLaws.{OneFront-name, OneSpelling-name, IsWithin-name, OneFront-label, OneSpelling-label, IsWithin-label, OneFront-padding}
+use Rattle.oas_num.specs.Texts.{padding_of}
 use Rattle.oas_canon.specs.declared.rectangles.Rectangle.{Rectangle}
 use Rattle.oas_canon.specs.declared.records.Record.{Record}
 use Rattle.oas_canon.specs.declared.records.Record.TheVariants.{Pad, Cell, Rectangle as Shape}
-use Rattle.oas_canon.specs.File.{IsNumber, id_of, Fields, IsFields, shape_of, pad_of, IsRest, IsRecord, IsUnit, unit_in, IsTwelve, offsets_in, IsVersion, StartParts, IsStartParts, start_parts, IsStart, IsEndParts, IsAnyEnd, end_bytes, IsEnd, magic, Parts, parts, IsFile, FileIn, FileOf}
+use Rattle.oas_canon.specs.File.{IsNumber, id_of, Fields, IsFields, shape_of, pad_of, IsRest, IsRecord, IsUnit, unit_in, IsTwelve, offsets_in, version, IsVersion, StartParts, IsStartParts, start_parts, IsStart, IsEndParts, IsAnyEnd, end_bytes, IsEnd, magic, Parts, parts, IsFile, FileIn, FileOf}
 
 -- ---- none begins another
 
@@ -50,7 +51,7 @@ OneFront-offsets = record {
 }
 
 pub OneFront-version : OneFront (IsVersion Any)
-OneFront-version = OneFront-pair _ _ (OneFront-number 3) (λ _. OneFront-exactly (49 ∷ 46 ∷ 48 ∷ []))
+OneFront-version = record { one = λ v w a b x y p q e. (((OneFront-label Any).one version version a b x y p q e).0, refl) }
 
 OneFront-start_parts : OneFront (IsStartParts Any)
 OneFront-start_parts =
@@ -67,11 +68,8 @@ OneFront-start = record {
       (both.0, ap (λ (s : StartParts). s.1.1.0) both.1);
 }
 
-OneFront-end_parts : OneFront IsEndParts
-OneFront-end_parts =
-    OneFront-pair _ _ (OneFront-number 2) (λ _.
-    OneFront-pair _ _ (OneFront-keyed length (unsigned_in Any) (λ count. IsCount IsByte count) (OneFront-unsigned Any) (λ count. OneFront-count IsByte count OneFront-byte)) (λ _.
-    OneFront-number 0))
+pub OneFront-end_parts : OneFront IsEndParts
+OneFront-end_parts = OneFront-pair _ _ (OneFront-number 2) (λ _. OneFront-pair _ _ OneFront-padding (λ _. OneFront-number 0))
 
 pub OneFront-end : OneFront (IsEnd Any)
 OneFront-end = record {
@@ -144,10 +142,13 @@ OneSpelling-record = OneSpelling-keyed id_of (unsigned_in Shortest) (IsRest Shor
 pub OneSpelling-unit : OneSpelling (unit_in Shortest)
 OneSpelling-unit = OneSpelling-such (IsUnit Shortest) (real_in Shortest) OneSpelling-real
 
+OneSpelling-version : OneSpelling (IsVersion Shortest)
+OneSpelling-version = record { same = λ v a b p q. OneSpelling-label.same version a b p q }
+
 OneSpelling-start_parts : OneSpelling (IsStartParts Shortest)
 OneSpelling-start_parts =
     OneSpelling-pair _ _ (OneSpelling-number 1) (λ _.
-    OneSpelling-pair _ _ (OneSpelling-pair _ _ (OneSpelling-number 3) (λ _. OneSpelling-exactly (49 ∷ 46 ∷ 48 ∷ []))) (λ _.
+    OneSpelling-pair _ _ OneSpelling-version (λ _.
     OneSpelling-pair _ _ OneSpelling-unit (λ _.
     OneSpelling-pair _ _ (OneSpelling-number 0) (λ _.
     OneSpelling-exactly (replicate 12 0)))))
@@ -212,22 +213,25 @@ pub IsWithin-end : IsWithin (IsEnd Shortest) (IsEnd Any)
 unfolding end_bytes
 IsWithin-end = record {
   within = λ v a p. record {
-    padding = replicate 252 0;
+    padding = padding_of (replicate 252 0);
     spelled = record {
         front = 2 ∷ []; back = 252 ∷ 1 ∷ (replicate 252 0 ++ (0 ∷ [])); first = one_group 2 (omega arith); joined = p;
         second = record {
-            front = 252 ∷ 1 ∷ replicate 252 0; back = 0 ∷ []; second = one_group 0 (omega arith); joined = refl;
-            first = record { front = 252 ∷ 1 ∷ []; back = replicate 252 0; joined = refl; first = two_groups; second = record { len = refl; each = zeros 252 } };
+            front = 252 ∷ 1 ∷ replicate 252 0; back = 0 ∷ []; joined = refl; second = one_group 0 (omega arith);
+            first = record { front = 252 ∷ 1 ∷ []; back = replicate 252 0; first = two_groups; joined = refl; second = record { from = replicate 252 0; is = refl; spelled = record { len = refl; each = zeros 252 } } };
         };
     };
     len = ap length p;
   };
 }
 
+IsWithin-version : IsWithin (IsVersion Shortest) (IsVersion Any)
+IsWithin-version = record { within = λ v a p. IsWithin-label.within version a p }
+
 IsWithin-start_parts : IsWithin (IsStartParts Shortest) (IsStartParts Any)
 IsWithin-start_parts =
     IsWithin-pair _ _ _ _ (IsWithin-number 1) (λ _.
-    IsWithin-pair _ _ _ _ (IsWithin-pair _ _ _ _ (IsWithin-number 3) (λ _. IsWithin-itself _)) (λ _.
+    IsWithin-pair _ _ _ _ IsWithin-version (λ _.
     IsWithin-pair _ _ _ _ IsWithin-unit (λ _.
     IsWithin-pair _ _ _ _ (IsWithin-number 0) (λ _.
     IsWithin-offsets))))

@@ -5,3 +5,7 @@ pub mod Places
 pub mod Canonical
 pub mod Run
 pub mod Drafts
+pub mod Collecting
+pub mod Steps
+pub mod Reasons
+pub mod Gathering

@@ -9,9 +9,10 @@ use Rattle.std.specs.BTreeMap.{is_at}
 use Rattle.oas_canon.specs.declared.rectangles.Rectangle.{Rectangle}
 use Rattle.oas_canon.specs.declared.limits.Limits.{Limits}
 use Rattle.oas_num.specs.declared.reals.Real.{Real}
+use Rattle.oas_num.specs.Ratio.{Ratio, Reduces}
 use Rattle.oas_canon.specs.declared.records.Record.{Record}
 use Rattle.oas_canon.specs.declared.records.Record.TheVariants.{Pad, Cell, Rectangle as Shape}
-use Rattle.oas_canon.specs.File.{Ratio, ratio, IsLowest, FileOf}
+use Rattle.oas_canon.specs.File.{FileOf}
 
 -- ---- cells
 
@@ -38,14 +39,11 @@ pub record Layout : Type 0 where
   pub unit : Ratio
   pub cells : Cells
 
--- r is the fraction u in lowest terms
-pub record IsReduced (u r : Ratio) : Type 0 where
-  pub num : 0 < r.num
-  pub den : 0 < r.den
-  pub lowest : IsLowest r
-  pub same : u.num * r.den ≡ r.num * u.den
-
 -- ---- limits
+
+-- those that a file has where nothing else is said
+abbrev pub standard : Limits
+standard = record { elements = 2 ^ 24; weight = 2 ^ 28 }
 
 -- how many elements there are
 abbrev pub count_of_all : Cells → ℕ
@@ -64,12 +62,14 @@ furthest = 2 ^ 60
 abbrev pub IsNear : ℤ → Type 0
 IsNear z = (neg_ℤ (pos furthest) ≤ℤ z) × (z ≤ℤ pos furthest)
 
+-- a side of that length from there
+abbrev pub IsNearSide : ℤ → ℕ → Type 0
+IsNearSide low length = IsNear low × IsNear (low +ℤ pos length)
+
 -- both corners
 pub record IsInRange (r : Rectangle) : Type 0 where
-  pub x : IsNear r.x
-  pub y : IsNear r.y
-  pub right : IsNear (r.x +ℤ pos r.width)
-  pub top : IsNear (r.y +ℤ pos r.height)
+  pub x : IsNearSide r.x r.width
+  pub y : IsNearSide r.y r.height
 
 abbrev pub AreInRange : Cells → Type 0
 AreInRange cs = AllByRecursion (λ c. AllByRecursion IsInRange c.1) cs
@@ -105,7 +105,7 @@ pub record Means (b : List ℕ) (m : Layout) : Type 0 where
   pub unit : Real
   pub records : List Record
   pub file : FileOf unit records b
-  pub reduced : IsReduced (ratio unit) m.unit
+  pub reduced : Reduces unit.num unit.den m.unit
   pub is : cells records ≡ m.cells
 
 -- ---- when two are the same

@@ -8,9 +8,10 @@ use Rattle.oas_num.specs.Script.{Script, Rest, Takes, IsAtEnd, HasFailed, IsTooL
 use Rattle.oas_canon.specs.declared.limits.Limits.{Limits}
 use Rattle.std.specs.Map.{keys_of}
 use Rattle.oas_num.specs.declared.reals.Real.{Real}
+use Rattle.oas_num.specs.Ratio.{Reduces}
 use Rattle.oas_canon.specs.declared.records.Record.{Record}
-use Rattle.oas_canon.specs.File.{ratio, FileOf}
-use Rattle.oas_canon.specs.Meaning.{Layout, cells, Allowed, IsReduced, IsDistinct, Accepted, Means, SameLayout}
+use Rattle.oas_canon.specs.File.{FileOf}
+use Rattle.oas_canon.specs.Meaning.{Layout, cells, Allowed, IsDistinct, Accepted, Means, SameLayout}
 use Rattle.oas_canon.specs.Canonical.{IsWithinLimits, IsHeld, IsOrdered, IsCanonicalOf}
 
 -- The bytes decided, and not the source's end, a device or the memory.
@@ -21,6 +22,11 @@ decides InputTooLong = false
 decides Write = false
 decides Memory = false
 decides _ = true
+
+-- a refusal at that offset
+abbrev pub placed_at : {T : Type 0} → ℕ → Result T Why → Result T Refusal
+placed_at at (Ok value) = Ok value
+placed_at at (Err why) = Err (record { at = at; why = why })
 
 -- ---- a draft is read, and sealed
 
@@ -33,7 +39,7 @@ pub record IsDrafted (limits : Limits) (old : Script) (draft : Layout) (new : Sc
   pub records : List Record
   pub file : FileOf unit records bytes
   pub allowed : Allowed limits records
-  pub reduced : IsReduced (ratio unit) draft.unit
+  pub reduced : Reduces unit.num unit.den draft.unit
   pub is : cells records ≡ draft.cells
   pub within : IsWithinLimits limits draft
 

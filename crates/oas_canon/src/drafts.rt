@@ -1,5 +1,5 @@
 use crate::cells::Cell;
-use crate::fractions::Fraction;
+use oas_num::Fraction;
 
 /// A layout as it was read: its unit, and its cells in the order in which they are defined.
 #[derive(Debug, Drop)]

@@ -2,16 +2,20 @@
 #![tactic(auto)]
 
 mod cells;
+mod collecting;
 mod drafts;
-mod fractions;
+mod head;
 pub mod laws;
 mod limits;
+mod reading;
 mod records;
 mod rectangles;
 
 pub use cells::Cell;
 pub use drafts::Draft;
-pub use fractions::Fraction;
 pub use limits::Limits;
 pub use records::Record;
 pub use rectangles::Rectangle;
+
+#[cfg(test)]
+mod tests;
