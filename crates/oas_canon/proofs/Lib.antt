@@ -7,3 +7,11 @@ pub mod CollectingLemmas
 pub mod Magic
 pub mod Readings
 pub mod Gathers
+pub mod CellLemmas
+pub mod Counting
+pub mod Forms
+pub mod Lengths
+pub mod OrderedLayouts
+pub mod PuttingLemmas
+pub mod Sorting
+pub mod Spelling
