@@ -19,7 +19,7 @@ pub use layout::Layout;
 pub use limits::Limits;
 pub use records::Record;
 pub use rectangles::Rectangle;
-pub use writing::put_canonical;
+pub use writing::{put_canonical, write_canonical};
 
 #[cfg(test)]
 mod tests;
