@@ -7,3 +7,4 @@ pub mod CollectingLemmas
 pub mod Magic
 pub mod Readings
 pub mod Gathers
+pub mod Drafting
