@@ -8,3 +8,11 @@ pub mod Magic
 pub mod Readings
 pub mod Gathers
 pub mod Drafting
+pub mod CellLemmas
+pub mod Counting
+pub mod Forms
+pub mod Lengths
+pub mod OrderedLayouts
+pub mod PuttingLemmas
+pub mod Sorting
+pub mod Spelling

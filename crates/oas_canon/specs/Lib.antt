@@ -9,3 +9,5 @@ pub mod Collecting
 pub mod Steps
 pub mod Reasons
 pub mod Gathering
+pub mod Layouts
+pub mod Putting

@@ -19,7 +19,7 @@ use std::hash::{Hash, Hasher};
 use std::marker::Model;
 
 /// The next byte, from `low` to `high`.
-fn next_within<S: Source>(low: u8, high: u8, source: &mut S) -> Result<u8, Why>
+pub fn next_within<S: Source>(low: u8, high: u8, source: &mut S) -> Result<u8, Why>
     ensures { Reads (IsSuch (IsBetween low high) IsByte) (TextMay (IsBetween low high))
         (S.script source.old) result (S.script source.new) }
 {
