@@ -26,8 +26,8 @@ use Rattle.oas_canon.proofs.Growing.{allowed_front, allowed_pad, allowed_cell, a
 
 -- ---- what was collected stands for one record more
 
-module _ {limits : Limits} {old new : Collected} {rs : List Record} (s : StandsFor limits old rs) where
-  stands_pad : new ≡ old → StandsFor limits new (rs ++ Pad ∷ [])
+module _ {limits : Limits} {old : Collected} {rs : List Record} (s : StandsFor limits old rs) where
+  stands_pad : {new : Collected} → new ≡ old → StandsFor limits new (rs ++ Pad ∷ [])
   stands_pad e = record {
     is = ap held e ∙ s.is ∙ sym (cells-pad rs);
     elements = ap (λ (c : Collected). c.elements) e ∙ s.elements ∙ ap count_of_all (sym (cells-pad rs));
@@ -35,8 +35,8 @@ module _ {limits : Limits} {old new : Collected} {rs : List Record} (s : StandsF
     allowed = allowed_pad rs s.allowed;
   }
 
-  stands_cell : (name : List ℕ) → Begins limits old name (Ok tt) new → StandsFor limits new (rs ++ Cell name ∷ [])
-  stands_cell name h =
+  stands_cell : (new : Collected) (name : List ℕ) → Begins limits old name (Ok tt) new → StandsFor limits new (rs ++ Cell name ∷ [])
+  stands_cell new name h =
       let more : cells (rs ++ Cell name ∷ []) ≡ cells rs ++ (name, []) ∷ [] = cells-cell rs name in
       let heavier : weight_of (cells (rs ++ Cell name ∷ [])) ≡ weight_of (cells rs) + (1 + length name) = ap weight_of more ∙ weight-append (cells rs) ((name, []) ∷ []) ∙ omega arith in
       record {
@@ -46,8 +46,8 @@ module _ {limits : Limits} {old new : Collected} {rs : List Record} (s : StandsF
         allowed = allowed_cell rs name s.allowed (omega (arith, heavier, h.2, h.3, s.weight));
       }
 
-  stands_shape : (r : Rectangle) → Puts limits old r (Ok tt) new → StandsFor limits new (rs ++ Shape r ∷ [])
-  stands_shape r h = by_cells (cells rs) refl where
+  stands_shape : (new : Collected) (r : Rectangle) → Puts limits old r (Ok tt) new → StandsFor limits new (rs ++ Shape r ∷ [])
+  stands_shape new r h = by_cells (cells rs) refl where
     by_cells : (cs : Cells) → cells rs ≡ cs → StandsFor limits new (rs ++ Shape r ∷ [])
     by_cells [] e = absurd (h.0 (s.is ∙ e))
     by_cells (c ∷ cs) e =
@@ -104,19 +104,19 @@ module _ {limits : Limits} {old new : Collected} {rs : List Record} (s : StandsF
   shape_not r why (Heavy some lt le is) a = let l = shape_later r some in omega (arith, l.weight, a.light, s.weight, le)
   shape_not r why (Far some lt le far is) a = let l = shape_later r some in far (l.near a.near)
 
-  pub stands_more : (r : Record) → Collects limits old r (Ok tt) new → StandsFor limits new (rs ++ r ∷ [])
-  stands_more Pad h = stands_pad h.1
-  stands_more (Cell name) h = stands_cell name h
-  stands_more (Shape r) h = stands_shape r h
+  pub stands_more : (new : Collected) (r : Record) → Collects limits old r (Ok tt) new → StandsFor limits new (rs ++ r ∷ [])
+  stands_more new Pad h = stands_pad h.1
+  stands_more new (Cell name) h = stands_cell new name h
+  stands_more new (Shape r) h = stands_shape new r h
 
   -- a record is refused for the memory, or since it is not allowed
-  pub refused_more : (r : Record) (why : Why) → Collects limits old r (Err why) new → (why ≡ Memory) ⊎ ((why ≢ Write) × (why ≢ Truncated) × (why ≢ Read) × (why ≢ InputTooLong) × (Allowed limits (rs ++ r ∷ []) → ⊥))
-  refused_more Pad why h = absurd cc
-  refused_more (Cell name) why h = elim h [
+  pub refused_more : (new : Collected) (r : Record) (why : Why) → Collects limits old r (Err why) new → (why ≡ Memory) ⊎ ((why ≢ Write) × (why ≢ Truncated) × (why ≢ Read) × (why ≢ InputTooLong) × (Allowed limits (rs ++ r ∷ []) → ⊥))
+  refused_more new Pad why h = absurd cc
+  refused_more new (Cell name) why h = elim h [
     | inl e ↦ inl e
     | inr e ↦ inr ((λ f. cc), (λ f. cc), (λ f. cc), (λ f. cc), cell_not name e.1)
   ]
-  refused_more (Shape r) why h = elim h [ inl e ↦ inl e | inr e ↦ inr (others why e (shape_not r why e)) ] where
+  refused_more new (Shape r) why h = elim h [ inl e ↦ inl e | inr e ↦ inr (others why e (shape_not r why e)) ] where
     others : (why : Why) → Outside limits old r why → (Allowed limits (rs ++ Shape r ∷ []) → ⊥) → (why ≢ Write) × (why ≢ Truncated) × (why ≢ Read) × (why ≢ InputTooLong) × (Allowed limits (rs ++ Shape r ∷ []) → ⊥)
     others why (NoCell none is) n = ((λ f. cc), (λ f. cc), (λ f. cc), (λ f. cc), n)
     others why (TooMany some le is) n = ((λ f. cc), (λ f. cc), (λ f. cc), (λ f. cc), n)
@@ -147,12 +147,12 @@ module _ {limits : Limits} {origin mid : Script} {unit : Real} {c : Collected} (
     front = front_more m.front read.spelled
 
     -- a record is read and taken
-    pub gather_more : {after : Collected} → Collects limits c r (Ok tt) after → HasGathered limits origin unit new after
-    gather_more h = record { records = m.records ++ r ∷ []; bytes = m.bytes ++ read.bytes; takes = both; front = front; stands = stands_more m.stands r h }
+    pub gather_more : (after : Collected) → Collects limits c r (Ok tt) after → HasGathered limits origin unit new after
+    gather_more after h = record { records = m.records ++ r ∷ []; bytes = m.bytes ++ read.bytes; takes = both; front = front; stands = stands_more m.stands after r h }
 
     -- or refused
-    pub gather_refuses : {after : Collected} {why : Why} → Collects limits c r (Err why) after → IsRefused limits origin why new
-    gather_refuses {why = why} h = by_cause (refused_more m.stands r why h) where
+    pub gather_refuses : (after : Collected) (why : Why) → Collects limits c r (Err why) after → IsRefused limits origin why new
+    gather_refuses after why h = by_cause (refused_more m.stands after r why h) where
       by_cause : (why ≡ Memory) ⊎ ((why ≢ Write) × (why ≢ Truncated) × (why ≢ Read) × (why ≢ InputTooLong) × (Allowed limits (m.records ++ r ∷ []) → ⊥)) → IsRefused limits origin why new
       by_cause (inl e) = record {
         bytes = m.bytes ++ read.bytes;

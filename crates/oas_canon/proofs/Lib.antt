@@ -7,6 +7,7 @@ pub mod CollectingLemmas
 pub mod Magic
 pub mod Readings
 pub mod Gathers
+pub mod Drafting
 pub mod CellLemmas
 pub mod Counting
 pub mod Forms
