@@ -35,14 +35,16 @@ fn prefixes(rt: HostRuntime) -> Result<(), std::alloc::AllocError> {
             45
         };
         let answer = read_draft(rt.alloc(), &mut source, &Limits::standard());
-        assert!(rt; matches!(answer, Err(ref refusal) if refusal.at == at && refusal.why == Why::Truncated));
+        assert!(rt;
+            matches!(answer, Err(ref refusal) if refusal.at == at && refusal.why == Why::Truncated)
+        );
     }
     let mut source = SliceSource::new(&file, 301);
     match read_draft(rt.alloc(), &mut source, &Limits::standard()) {
         Ok((draft, end)) => {
             assert_eq!(rt; end, 45);
             assert_eq!(rt; draft.cells.len(), 1);
-            assert_eq!(rt; draft.unit.num, 1000);
+            assert_eq!(rt; draft.unit.num(), 1000);
         }
         Err(_) => assert!(rt; false),
     }
