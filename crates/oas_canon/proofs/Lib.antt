@@ -16,3 +16,4 @@ pub mod OrderedLayouts
 pub mod PuttingLemmas
 pub mod Sorting
 pub mod Spelling
+pub mod Whole
