@@ -13,6 +13,7 @@ pub mod Counting
 pub mod Forms
 pub mod Lengths
 pub mod OrderedLayouts
+pub mod OutletLemmas
 pub mod PuttingLemmas
 pub mod Sorting
 pub mod Spelling

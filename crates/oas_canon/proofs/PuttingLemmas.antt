@@ -66,6 +66,10 @@ module _ {K : Type 0} {given : K → List ℕ → K → Type 0} {failures : K �
   pub fails_at : {whole a : List ℕ} {old mid new : K} {n : ℕ} (left : List ℕ) → PutSoFar given failures whole (a ++ left) old mid n → PutsFront given failures mid a new → PutsFront given failures old whole new
   fails_at left p q = last_fails p (first_fails left q)
 
+  -- what was put whole is a front of itself
+  pub nothing_left : {whole : List ℕ} {old now : K} {n : ℕ} → PutsAll given failures old whole n now → PutSoFar given failures whole [] old now n
+  nothing_left {whole = whole} p = record { front = whole; joined = sym (append-nil whole); puts = p.puts; count_is = p.count_is }
+
   -- no part is longer than the whole
   pub part_fits : {whole : List ℕ} {old mid : K} {n m : ℕ} (a left : List ℕ) → PutSoFar given failures whole (a ++ left) old mid n → m ≡ length a → n + m ≤ length whole
   part_fits {whole = whole} a left p e = omega (arith, p.count_is, e, ap length p.joined, length-append p.front (a ++ left), length-append a left)

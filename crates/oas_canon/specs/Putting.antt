@@ -1,5 +1,8 @@
 -- What the writer puts, and counts.
-use Rattle.std.specs.Prelude.{◌≡◌, ℕ, List, ◌∷◌, ◌++◌, length, map, Result, Ok, Err}
+use Rattle.std.specs.Prelude.{◌≡◌, ℕ, List, ◌∷◌, ◌++◌, length, map, Option, Result, Ok, Err}
+use Rattle.std.specs.Io.KnownBytes.{Appends}
+use Rattle.oas_num.specs.declared.refusals.Refusal.{Refusal}
+use Rattle.oas_num.specs.declared.refusals.Why.TheVariants.{Write as NotWritten}
 use Rattle.oas_num.specs.declared.sinks.SinkFault.{SinkFault}
 use Rattle.oas_num.specs.Writing.{Puts, PutsFront}
 use Rattle.oas_canon.specs.declared.rectangles.Rectangle.{Rectangle}
@@ -19,3 +22,19 @@ Counts given failures old bytes (Err fault) new = PutsFront given failures old b
 -- a cell's name, and its rectangles
 abbrev pub cell_bytes : List ℕ × List Rectangle → List ℕ
 cell_bytes c = all_bytes (Named c.0 ∷ map Shape c.1)
+
+-- ---- over a writer
+
+-- the writer took all of the bytes, so many
+pub record IsWritten {W : Type 0} (contents : W → Option (List ℕ)) (old : W) (bytes : List ℕ) (new : W) (count : ℕ) : Type 0 where
+  pub count_is : count ≡ length bytes
+  pub took : Appends (contents old) (contents new) bytes
+
+-- the writer failed after it took a front of the bytes, as long as the refusal's place says
+pub record IsCutOff {W : Type 0} (contents : W → Option (List ℕ)) (old : W) (bytes : List ℕ) (new : W) (refusal : Refusal) : Type 0 where
+  pub reason : refusal.why ≡ NotWritten
+  pub front : List ℕ
+  pub back : List ℕ
+  pub joined : bytes ≡ front ++ back
+  pub took : Appends (contents old) (contents new) front
+  pub place : refusal.at ≡ length front

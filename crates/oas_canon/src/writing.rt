@@ -1,18 +1,20 @@
 //! The canonical bytes of a layout, put into a sink.
-ghost use Rattle.std.specs.Prelude.{◌≡◌, ◌∷◌, ◌≤◌, ◌<◌, ◌^◌, length, IfOk, nat_abs};
+ghost use Rattle.std.specs.Prelude.{◌≡◌, ◌+◌, ◌*◌, ◌∷◌, ◌≤◌, ◌<◌, ◌^◌, length, IfErr, IfOk, OnOk, nat_abs};
 ghost use Rattle.std.specs.List.{AllByRecursion};
+ghost use Rattle.oas_num.specs.Outlets.{IsGiven, IsSent, failures_of};
 ghost use Rattle.oas_num.specs.Writing.{shortest, shortest_signed};
 ghost use Rattle.oas_canon.specs.declared.records.Record.TheVariants.{Cell as Named, Rectangle as Shape};
 ghost use Rattle.oas_canon.specs.Canonical.{all_bytes, record_bytes, records_of, Fits, unit_bytes, head_bytes, canonical_bytes};
 ghost use Rattle.oas_canon.specs.File.{end_bytes};
 ghost use Rattle.oas_canon.specs.Drafts.{cells_of};
-ghost use Rattle.oas_canon.specs.Putting.{Counts, cell_bytes};
+ghost use Rattle.oas_canon.specs.Putting.{Counts, IsCutOff, IsWritten, cell_bytes};
 ghost use Rattle.oas_canon.specs.Layouts.{IsLight};
 
 use crate::cells::Cell;
 use crate::layout::Layout;
 use crate::rectangles::Rectangle;
-use oas_num::{Sink, SinkFault, put_signed, put_unsigned, unsigned_len};
+use oas_num::{Outlet, Refusal, Sink, SinkFault, Why, put_signed, put_unsigned, unsigned_len};
+use std::io::Write;
 
 /// The magic, the id of START, and the version string `1.0`.
 const START: [u8; 18] = *b"%SEMI-OASIS\r\n\x01\x031.0";
@@ -176,7 +178,37 @@ fn put_file<K: Sink>(sink: &mut K, num: u64, den: u64, cells: &[Cell]) -> Result
 
 /// Puts the canonical file of a layout, and answers how many bytes it has. At a fault a front of it was put.
 pub fn put_canonical<K: Sink>(layout: &Layout, sink: &mut K) -> Result<u64, SinkFault>
-    ensures { Counts K.given K.failures sink.old (canonical_bytes layout.now) result sink.new }
+    ensures counts { Counts K.given K.failures sink.old (canonical_bytes layout.now) result sink.new }
+    ensures short { length (canonical_bytes layout.now) ≤ 320 + 64 * 2 ^ 30 }
 {
     put_file(sink, layout.unit.num(), layout.unit.den(), &layout.cells)
+}
+
+/// Puts the canonical file of a layout into an outlet, and has its writer take all of it.
+fn put_and_close<W: Write>(layout: &Layout, outlet: &mut Outlet<'_, W>) -> Result<u64, SinkFault>
+    ensures counts { Counts (IsGiven W.contents) failures_of outlet.old (canonical_bytes layout.now) result outlet.new }
+    ensures all { OnOk result (IsSent outlet.new) }
+    ensures short { length (canonical_bytes layout.now) ≤ 320 + 64 * 2 ^ 30 }
+{
+    let count = put_canonical(layout, outlet)?;
+    outlet.close()?;
+    Ok(count)
+}
+
+/// Writes the canonical file of a layout, and answers how many bytes it has.
+///
+/// A fault of the writer is `Why::Write`, and its place is the number of bytes that the writer took: those are the first
+/// of the file. Where it is the number of all of them, the flush failed.
+pub fn write_canonical<W: Write>(layout: &Layout, writer: &mut W) -> Result<u64, Refusal>
+    ensures written { IfOk result (IsWritten W.contents writer.old (canonical_bytes layout.now) writer.new) }
+    ensures refused { IfErr result (IsCutOff W.contents writer.old (canonical_bytes layout.now) writer.new) }
+{
+    let mut outlet = Outlet::new(writer);
+    match put_and_close(layout, &mut outlet) {
+        Ok(count) => Ok(count),
+        Err(_) => Err(Refusal {
+            at: outlet.taken(),
+            why: Why::Write,
+        }),
+    }
 }
