@@ -79,7 +79,10 @@ head_read {old = old} {mid = mid} {new = new} {u = u} m s r = record {
   bytes = m.bytes ++ s.bytes;
   takes = Takes-then old mid new m.bytes s.bytes m.takes s.takes;
   front = record {
-    start = s.bytes; body = []; begun = s.spelled; each = refl;
+    start = s.bytes;
+    body = [];
+    begun = s.spelled;
+    each = refl;
     joined = ap (λ (c : List ℕ). c ++ s.bytes) m.spelled ∙ ap (λ (c : List ℕ). magic ++ c) (sym (append-nil s.bytes));
   };
   reduces = r;
@@ -185,9 +188,11 @@ unit_held u unit start s r =
 file_all : {unit : Real} {records : List Record} {bytes last : List ℕ} → FrontOf unit records bytes → IsEnd Any tt last → FileOf unit records (bytes ++ last)
 file_all {last = last} f end = record {
   spelled = record {
-      front = magic; back = f.start ++ (f.body ++ last); first = refl;
-      second = record { front = f.start; back = f.body ++ last; first = f.begun; joined = refl; second = record { front = f.body; back = last; first = f.each; second = end; joined = refl } };
-      joined = ap (λ (c : List ℕ). c ++ last) f.joined ∙ append_assoc magic (f.start ++ f.body) last ∙ ap (λ (c : List ℕ). magic ++ c) (append_assoc f.start f.body last);
+    front = magic;
+    back = f.start ++ (f.body ++ last);
+    first = refl;
+    second = record { front = f.start; back = f.body ++ last; first = f.begun; joined = refl; second = record { front = f.body; back = last; first = f.each; second = end; joined = refl } };
+    joined = ap (λ (c : List ℕ). c ++ last) f.joined ∙ append_assoc magic (f.start ++ f.body) last ∙ ap (λ (c : List ℕ). magic ++ c) (append_assoc f.start f.body last);
   };
 }
 

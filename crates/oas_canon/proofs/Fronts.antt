@@ -44,7 +44,12 @@ pub record GoesOn (rs ss : List Record) (left : List ℕ) : Type 0 where
 
 pub goes_on : (rs ss : List Record) (a b c left : List ℕ) → IsEach (IsRecord Any) rs a → IsEach (IsRecord Any) ss b → IsEnd Any tt c → a ++ left ≡ b ++ c → GoesOn rs ss left
 goes_on [] ss a b c left p q r e = record {
-  tail = ss; all = refl; rest = b; last = c; each = q; end = r;
+  tail = ss;
+  all = refl;
+  rest = b;
+  last = c;
+  each = q;
+  end = r;
   joined = ap (λ (m : List ℕ). m ++ left) (sym p) ∙ e;
 }
 goes_on (t ∷ ts) [] a b c left p q r e =
@@ -57,7 +62,12 @@ goes_on (t ∷ ts) (u ∷ us) a b c left p q r e =
     let e2 = after_same p.0 q.0 (p.1 ++ left) (q.1 ++ c) one.0 e1 in
     let more = goes_on ts us p.1 q.1 c left p.3 q.3 r e2 in
     record {
-      tail = more.tail; rest = more.rest; last = more.last; each = more.each; end = more.end; joined = more.joined;
+      tail = more.tail;
+      rest = more.rest;
+      last = more.last;
+      each = more.each;
+      end = more.end;
+      joined = more.joined;
       all = λ i. sym one.1 i ∷ more.all i;
     }
 
@@ -100,12 +110,13 @@ step_refused {u = u} {rs = rs} {old = old} {mid = mid} {new = new} {bytes = byte
       let s = first_step rs a.records (f.bytes ++ more) g.1 in
       (f.format (decides_format why is)).none s.0 s.1 s.2 more s.3 s.4;
   truncated = λ is.
-      let t = f.truncated is in
-      (λ a.
-          let g = file_goes_on f.bytes front a.file in
-          let s = first_step rs a.records f.bytes g.1 in
-          t.0.none s.0 s.1 s.2 s.3 s.4,
-       t.1);
+      let t = f.truncated is in (
+        λ a.
+            let g = file_goes_on f.bytes front a.file in
+            let s = first_step rs a.records f.bytes g.1 in
+            t.0.none s.0 s.1 s.2 s.3 s.4,
+        t.1,
+      );
   device = f.device;
   too_long = f.too_long;
   reading = reading;

@@ -72,10 +72,14 @@ module _ (wanted : List ℕ) (k : ℕ) (lt : k < length wanted) where
 
   pub wanted_wants : get_or wanted k 0 < 256 → Wants (IsExactly wanted) (take k wanted) (IsExactly (get_or wanted k 0 ∷ []))
   wanted_wants small = record {
-    wants = λ v p r rest s e.
-        (tt, get_or wanted k 0 ∷ [], drop (suc k) wanted ++ r, refl,
-         append_cancel_left (take k wanted) (get_or wanted k 0 ∷ (drop (suc k) wanted ++ r)) rest
-             (sym (append_assoc (take k wanted) (get_or wanted k 0 ∷ drop (suc k) wanted) r) ∙ ap (λ (c : List ℕ). c ++ r) (sym split) ∙ ap (λ (c : List ℕ). c ++ r) (sym s) ∙ e));
+    wants = λ v p r rest s e. (
+      tt,
+      get_or wanted k 0 ∷ [],
+      drop (suc k) wanted ++ r,
+      refl,
+      append_cancel_left (take k wanted) (get_or wanted k 0 ∷ (drop (suc k) wanted ++ r)) rest
+          (sym (append_assoc (take k wanted) (get_or wanted k 0 ∷ drop (suc k) wanted) r) ∙ ap (λ (c : List ℕ). c ++ r) (sym split) ∙ ap (λ (c : List ℕ). c ++ r) (sym s) ∙ e),
+    );
   }
 
   pub matched_more : {old mid new : Script} → Matched wanted old mid k → ReadsValue (IsExactly (get_or wanted k 0 ∷ [])) mid tt new → Matched wanted old new (suc k)

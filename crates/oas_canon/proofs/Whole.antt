@@ -31,8 +31,11 @@ module _ {limits : Limits} {old new : Script} {draft : Layout} (d : IsDrafted li
     takes = d.takes;
     ended = d.ended;
     accepted = record {
-        unit = d.unit; records = d.records; file = d.file; allowed = d.allowed;
-        whole = record { distinct = subst (λ (cs : Cells). IsDistinct (keys_of cs)) (sym d.is) s.distinct; light = d.allowed.light };
+      unit = d.unit;
+      records = d.records;
+      file = d.file;
+      allowed = d.allowed;
+      whole = record { distinct = subst (λ (cs : Cells). IsDistinct (keys_of cs)) (sym d.is) s.distinct; light = d.allowed.light };
     };
     meaning = draft;
     means = record { unit = d.unit; records = d.records; file = d.file; reduced = d.reduced; is = d.is };

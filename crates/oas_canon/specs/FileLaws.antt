@@ -176,12 +176,12 @@ IsWithin-rest id =
     IsWithin-either (id == 0) _ _ _ _ (IsWithin-itself _)
     (IsWithin-either (id == 14) _ _ _ _ (IsWithin-image Cell _ _ IsWithin-name)
     (IsWithin-either (id == 20) _ _ _ _ (IsWithin-image shape_of _ _ (
-        IsWithin-pair _ _ _ _ (IsWithin-itself _) (λ _.
-        IsWithin-pair _ _ _ _ IsWithin-unsigned (λ _.
-        IsWithin-pair _ _ _ _ IsWithin-unsigned (λ _.
-        IsWithin-pair _ _ _ _ IsWithin-unsigned (λ _.
-        IsWithin-pair _ _ _ _ IsWithin-unsigned (λ _.
-        IsWithin-pair _ _ _ _ IsWithin-signed (λ _. IsWithin-signed))))))))
+    IsWithin-pair _ _ _ _ (IsWithin-itself _) (λ _.
+    IsWithin-pair _ _ _ _ IsWithin-unsigned (λ _.
+    IsWithin-pair _ _ _ _ IsWithin-unsigned (λ _.
+    IsWithin-pair _ _ _ _ IsWithin-unsigned (λ _.
+    IsWithin-pair _ _ _ _ IsWithin-unsigned (λ _.
+    IsWithin-pair _ _ _ _ IsWithin-signed (λ _. IsWithin-signed))))))))
     (IsWithin-itself _)))
 
 pub IsWithin-record : IsWithin (IsRecord Shortest) (IsRecord Any)
@@ -215,11 +215,17 @@ IsWithin-end = record {
   within = λ v a p. record {
     padding = padding_of (replicate 252 0);
     spelled = record {
-        front = 2 ∷ []; back = 252 ∷ 1 ∷ (replicate 252 0 ++ (0 ∷ [])); first = one_group 2 (omega arith); joined = p;
-        second = record {
-            front = 252 ∷ 1 ∷ replicate 252 0; back = 0 ∷ []; joined = refl; second = one_group 0 (omega arith);
-            first = record { front = 252 ∷ 1 ∷ []; back = replicate 252 0; first = two_groups; joined = refl; second = record { from = replicate 252 0; is = refl; spelled = record { len = refl; each = zeros 252 } } };
-        };
+      front = 2 ∷ [];
+      back = 252 ∷ 1 ∷ (replicate 252 0 ++ (0 ∷ []));
+      first = one_group 2 (omega arith);
+      joined = p;
+      second = record {
+        front = 252 ∷ 1 ∷ replicate 252 0;
+        back = 0 ∷ [];
+        joined = refl;
+        second = one_group 0 (omega arith);
+        first = record { front = 252 ∷ 1 ∷ []; back = replicate 252 0; first = two_groups; joined = refl; second = record { from = replicate 252 0; is = refl; spelled = record { len = refl; each = zeros 252 } } };
+      };
     };
     len = ap length p;
   };

@@ -5,8 +5,8 @@ ghost use Rattle.oas_canon.specs.Collecting.{Begins, Puts, Collects, held};
 
 use crate::cells::Cell;
 use crate::limits::Limits;
-use crate::rectangles::Rectangle;
 use crate::records::Record;
+use crate::rectangles::Rectangle;
 use oas_num::{Name, Why};
 use std::alloc::Global;
 

@@ -35,7 +35,9 @@ fn prefixes(rt: HostRuntime) -> Result<(), std::alloc::AllocError> {
             45
         };
         let answer = read_draft(rt.alloc(), &mut source, &Limits::standard());
-        assert!(rt; matches!(answer, Err(ref refusal) if refusal.at == at && refusal.why == Why::Truncated));
+        assert!(rt;
+            matches!(answer, Err(ref refusal) if refusal.at == at && refusal.why == Why::Truncated)
+        );
     }
     let mut source = SliceSource::new(&file, 301);
     match read_draft(rt.alloc(), &mut source, &Limits::standard()) {
