@@ -17,3 +17,4 @@ pub mod OutletLemmas
 pub mod PuttingLemmas
 pub mod Sorting
 pub mod Spelling
+pub mod Whole

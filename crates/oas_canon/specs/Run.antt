@@ -99,6 +99,20 @@ pub record IsDone (limits : Limits) (old new : Script) (before after : Option (L
   pub count : n ≡ length canonical
   pub written : Appends before after canonical
 
+-- all that the source gave is an accepted file, and the writer failed after it took so many bytes of its canonical form
+pub record IsCut (limits : Limits) (old new : Script) (before after : Option (List ℕ)) (at : ℕ) : Type 0 where
+  pub bytes : List ℕ
+  pub takes : Takes old bytes new
+  pub ended : IsAtEnd new
+  pub accepted : Accepted limits bytes
+  pub canonical : List ℕ
+  pub is : IsCanonicalOf limits bytes canonical
+  pub front : List ℕ
+  pub back : List ℕ
+  pub joined : canonical ≡ front ++ back
+  pub took : Appends before after front
+  pub place : at ≡ length front
+
 -- An answer says that the file is accepted, and a refusal that it is not, if not for the writer or the memory.
 abbrev pub IsDecided : Limits → Option Rest → Result ℕ Refusal → Type 0
 IsDecided limits None answer = Unit {0}

@@ -11,8 +11,8 @@ use crate::records::read_record;
 use oas_num::{Fraction, Refusal, Source, SourceFault, Why};
 use std::alloc::Global;
 
-/// A refusal at that offset.
-fn placed<T>(at: u64, outcome: Result<T, Why>) -> Result<T, Refusal>
+/// What a step answered, its refusal at that offset.
+pub fn placed<T>(at: u64, outcome: Result<T, Why>) -> Result<T, Refusal>
     ensures { result ≡ placed_at at outcome }
 {
     match outcome {
