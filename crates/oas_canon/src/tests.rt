@@ -1,5 +1,6 @@
 //! What no clause says: that a run succeeds where memory is there, and which limit is met first. The worked rows are the
 //! command's.
+ghost use Rattle.std.specs.Prelude.{◌≤◌, ◌^◌};
 
 use super::*;
 use oas_num::{SliceSource, Why};
