@@ -1,5 +1,5 @@
 -- The order on points and on lists of points is total, and alike is equal.
-use Rattle.std.proofs.Common.{◌≡◌, ◌≢◌, ◌↔◌, ℤ, Bool, true, false, IsTrue, List, [], ◌∷◌, Ordering, refl, sym, ap, ◌∙◌}
+use Rattle.std.proofs.Common.{◌≡◌, ◌≢◌, ◌↔◌, ℤ, Bool, false, IsTrue, List, [], ◌∷◌, Ordering, refl, sym, ap, ◌∙◌}
 use Rattle.std.specs.Ordering.{int_cmp, ordering_then, ordering_reverse, is_eq, is_gt, eq_by_cmp}
 use Rattle.std.specs.declared.cmp.Ordering.TheVariants.{Less, Equal, Greater}
 use Rattle.std.specs.Cmp.{IsTotalOrder, int_cmp_total, on_total, then_total}
@@ -20,7 +20,9 @@ point_lists_total = lists_total points_total
 
 -- points that compare as equal are one point
 pub exact_points : CmpEqualImpliesEq point_cmp
-exact_points a b h = ap (λ (p : ℤ × ℤ). record { x = p.0; y = p.1 }) (exact_pairs int_cmp int_cmp exact_signed exact_signed (a.x, a.y) (b.x, b.y) h)
+exact_points a b h =
+    ap (λ (p : ℤ × ℤ). record { x = p.0; y = p.1 })
+    (exact_pairs int_cmp int_cmp exact_signed exact_signed (a.x, a.y) (b.x, b.y) h)
 
 -- where a comparison by two keys answers Equal, both do
 both_equal : (r o : Ordering) → ordering_then r o ≡ Equal → (r ≡ Equal) × (o ≡ Equal)
@@ -51,7 +53,8 @@ equal_lists a b = equal_points a b (eq_by_cmp list_cmp a b) refl
 
 -- neither list is below the other: they are one list
 pub equal_if_neither_below : (a b : List Point) → list_cmp a b ≢ Less → list_cmp b a ≢ Less → a ≡ b
-equal_if_neither_below a b p q = exact_lists a b (neither (list_cmp a b) (list_cmp b a) (point_lists_total.antisymm a b) p q)
+equal_if_neither_below a b p q =
+    exact_lists a b (neither (list_cmp a b) (list_cmp b a) (point_lists_total.antisymm a b) p q)
   where
     neither : (o r : Ordering) → o ≡ ordering_reverse r → o ≢ Less → r ≢ Less → o ≡ Equal
     neither Less r e p q = absurd (p refl)
@@ -89,10 +92,10 @@ not_below_twice a b c g h =
     let bc = not_greater (list_cmp b c) (list_cmp c b) (point_lists_total.antisymm b c) h in
     not_less (list_cmp a c) (list_cmp c a) (point_lists_total.antisymm a c) (upto point_lists_total c b a bc ab)
 
--- what is not above is not below, the other way round
-pub not_below_from_not_above : (a b : List Point) → list_cmp a b ≢ Greater → list_cmp b a ≢ Less
-not_below_from_not_above a b h l = h (point_lists_total.antisymm a b ∙ ap ordering_reverse l)
+-- where a comparison of two lists doesn't answer that the first is above, the second is not below the first
+pub not_below_from_not_above : (a b : List Point) (o : Ordering) → o ≡ list_cmp a b → o ≢ Greater → list_cmp b a ≢ Less
+not_below_from_not_above a b o e h l = h (e ∙ point_lists_total.antisymm a b ∙ ap ordering_reverse l)
 
--- what is above is not below
-pub not_below_from_above : (a b : List Point) → list_cmp a b ≡ Greater → list_cmp a b ≢ Less
-not_below_from_above a b h l = let x : Greater ≡ Less = sym h ∙ l in cc
+-- where it does, the first is not below
+pub not_below_from_above : (a b : List Point) (o : Ordering) → o ≡ list_cmp a b → o ≡ Greater → list_cmp a b ≢ Less
+not_below_from_above a b o e h l = let x : Greater ≡ Less = sym h ∙ e ∙ l in cc
