@@ -1,23 +1,23 @@
 -- Adding up displacements as they are read.
-use Rattle.std.proofs.Common.{◌≡◌, ◌≢◌, ℕ, zero, suc, ℤ, pos, ◌+◌, ◌-◌, ◌*◌, ◌^◌, ◌<◌, ◌≤◌, List, [], ◌∷◌, ◌++◌, map, length, refl, sym, ap, subst, ◌∙◌, append_assoc, arith}
+use Rattle.std.proofs.Common.{◌≡◌, ◌≢◌, ℕ, zero, suc, ℤ, pos, ◌+◌, ◌-◌, ◌^◌, ◌<◌, List, [], ◌∷◌, ◌++◌, map, length, refl, sym, ap, subst, ◌∙◌, arith}
 use Rattle.std.specs.Prelude.{◌+ℤ◌, ◌*ℤ◌}
 use Rattle.std.specs.List.{AllByRecursion}
 use Rattle.std.proofs.lemmas.Int.{ints}
 use lib.IntN.{zero-*ℤ, *ℤ-zero, suc_ℤ-*ℤ}
-use Rattle.std.proofs.lemmas.List.{length_push, length-append, append-nil}
+use Rattle.std.proofs.lemmas.List.{length_push, append-nil}
 use Rattle.oas_num.specs.declared.refusals.Why.{Why}
 use Rattle.oas_num.specs.declared.refusals.Why.TheVariants.{Truncated, IntegerRange, CoordinateRange, Read, InputTooLong, Memory}
 use Rattle.oas_num.specs.declared.deltas.GDelta.{GDelta}
 use Rattle.oas_num.specs.Deltas.{step}
 use Rattle.oas_num.specs.Script.{Script}
-use Rattle.oas_num.specs.Grammar.{IsSuch, IsImage, IsEach, IsCount}
+use Rattle.oas_num.specs.Grammar.{IsImage, IsCount}
 use Rattle.oas_num.specs.Reading.{ReadsValue, Fails, IntegerMay}
 use Rattle.oas_num.proofs.ReadLemmas.{Takes-then}
 use Rattle.oas_num.proofs.GrammarLemmas.{Listed, listed_none, listed_more, listed_fails, listed_all, no_memory, such_read, such_fails}
 use Rattle.oas_shape.specs.declared.offsets.Along.{Along}
-use Rattle.oas_shape.specs.Steps.{still, added, times, sums_after, sums, IsNear, IsPartialSum}
+use Rattle.oas_shape.specs.Steps.{still, added, times, sums_after, IsNear, IsPartialSum}
 use Rattle.oas_shape.specs.Offsets.{offsets_by}
-use Rattle.oas_shape.specs.Repetitions.{displacement_in, IsOffsets, RepFieldMay, IsPast}
+use Rattle.oas_shape.specs.Repetitions.{displacement_in, IsOffsets, RepFieldMay}
 use Rattle.oas_shape.specs.RepetitionLaws.{OneFront-displacement}
 use Rattle.oas_shape.proofs.SumLemmas.{all_more, at_middle, at_front}
 use Rattle.oas_shape.proofs.ReadingLemmas.{image_read, image_fails, begins_with}

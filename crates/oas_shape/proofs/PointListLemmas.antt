@@ -1,14 +1,14 @@
 -- The parts of a point list, one after another.
-use Rattle.std.proofs.Common.{◌≡◌, ℕ, ◌<◌, ◌≤◌, List, arith}
+use Rattle.std.proofs.Common.{ℕ, ◌<◌, ◌≤◌, List, arith}
 use Rattle.oas_num.specs.declared.refusals.Why.{Why}
-use Rattle.oas_num.specs.declared.refusals.Why.TheVariants.{Truncated, IntegerRange, ListKind, PointCount, Read, InputTooLong, Memory}
+use Rattle.oas_num.specs.declared.refusals.Why.TheVariants.{Truncated, IntegerRange, ListKind, PointCount, Read, InputTooLong}
 use Rattle.oas_num.specs.declared.deltas.GDelta.{GDelta}
 use Rattle.oas_num.specs.Script.{Script}
 use Rattle.oas_num.specs.Grammar.{IsPair, IsSuch}
 use Rattle.oas_num.specs.Integers.{IsUnsigned}
 use Rattle.oas_num.specs.IntegerLaws.{OneFront-IsUnsigned}
 use Rattle.oas_num.specs.Reading.{ReadsValue, Fails, IntegerMay}
-use Rattle.oas_num.proofs.GrammarLemmas.{Midway, begins, seen, ◌▸◌, fails_at, such_read, such_fails_by, refused}
+use Rattle.oas_num.proofs.GrammarLemmas.{Midway, begins, seen, ◌▸◌, fails_at, such_read, refused}
 use Rattle.oas_shape.specs.declared.list_use.ListUse.{ListUse}
 use Rattle.oas_shape.specs.ListUses.{IsFitting}
 use Rattle.oas_shape.specs.PointLists.{IsListKind, deltas_in, polyline_of, after_kind, IsPointList, PointListMay}

@@ -1,8 +1,8 @@
 -- Reading values that stand for others.
-use Rattle.std.proofs.Common.{◌≡◌, ℕ, ◌≤◌, ◌<◌, List, [], ◌∷◌, ◌++◌, length, refl, sym, ap, ◌∙◌, append_assoc, arith, subst, ◌⊎◌, inl, inr}
+use Rattle.std.proofs.Common.{◌≡◌, ℕ, ◌≤◌, List, [], ◌∷◌, ◌++◌, length, refl, sym, ap, ◌∙◌, append_assoc, arith, subst, inl, inr}
 use Rattle.oas_num.specs.declared.refusals.Why.{Why}
 use Rattle.oas_num.specs.declared.refusals.Why.TheVariants.{Memory}
-use Rattle.oas_num.specs.Script.{Script, Takes}
+use Rattle.oas_num.specs.Script.{Script}
 use Rattle.oas_num.specs.Grammar.{OneFront, IsImage, IsEach}
 use Rattle.oas_num.specs.GrammarLaws.{after_same}
 use Rattle.oas_num.specs.Reading.{ReadsValue, Fails, ListMay}

@@ -1,12 +1,11 @@
 -- Sums of steps.
-use Rattle.std.proofs.Common.{◌≡◌, ℕ, ℤ, pos, negsuc, zero, suc, ◌+◌, ◌*◌, List, [], ◌∷◌, ◌++◌, map, refl, sym, ap, ◌∙◌, arith}
-use Rattle.std.specs.Prelude.{◌+ℤ◌, ◌*ℤ◌}
+use Rattle.std.proofs.Common.{◌≡◌, ℤ, pos, List, [], ◌∷◌, ◌++◌, arith}
+use Rattle.std.specs.Prelude.{◌+ℤ◌}
 use Rattle.std.specs.List.{AllByRecursion}
 use Rattle.std.proofs.lemmas.Int.{ints}
 use Rattle.oas_num.specs.declared.deltas.GDelta.{GDelta}
-use Rattle.oas_num.specs.Deltas.{step}
 use Rattle.oas_ring.specs.declared.point.Point.{Point}
-use Rattle.oas_shape.specs.Steps.{still, added, times, sums_after, sums, moved}
+use Rattle.oas_shape.specs.Steps.{still, added, moved}
 
 plus_assoc : (a b c : ℤ) → (a +ℤ b) +ℤ c ≡ a +ℤ (b +ℤ c)
 plus_assoc a b c = omega (arith, ints)

@@ -1,22 +1,21 @@
 -- The laws of point lists: no spelling begins another; in the shortest style each has one, which is one of its spellings.
-use Rattle.std.proofs.Common.{◌≡◌, ℕ, ◌<◌, Bool, true, false, List, length, refl, sym, ap, ◌∙◌, arith}
+use Rattle.std.proofs.Common.{◌≡◌, ℕ, true, false, List, length, refl, sym, ◌∙◌, arith}
 use Rattle.std.specs.Prelude.{◌==◌}
 use Rattle.oas_num.specs.declared.deltas.GDelta.{GDelta}
 use Rattle.oas_num.specs.Grammar.{OneFront, IsPair, IsSuch, IsImage, IsCount}
 use Rattle.oas_num.specs.GrammarLaws.{OneFront-pair, OneFront-image, OneFront-such, OneFront-count}
-use Rattle.oas_num.specs.Combinators.{OneSpelling, IsWithin, IsEither}
-use Rattle.oas_num.specs.CombinatorLaws.{OneFront-either, OneFront-within, OneSpelling-pair, OneSpelling-count, IsWithin-count, IsWithin-itself}
+use Rattle.oas_num.specs.Combinators.{OneSpelling, IsWithin}
+use Rattle.oas_num.specs.CombinatorLaws.{OneFront-either, OneFront-within, OneSpelling-pair, OneSpelling-count, IsWithin-count}
 use Rattle.oas_num.specs.Integers.{IsUnsigned}
 use Rattle.oas_num.specs.IntegerLaws.{OneFront-IsUnsigned}
 use Rattle.oas_num.specs.Style.{Style, Any, Shortest, unsigned_in}
-use Rattle.oas_num.specs.StyleLaws.{OneFront-unsigned, OneSpelling-unsigned}
+use Rattle.oas_num.specs.StyleLaws.{OneSpelling-unsigned}
 use Rattle.oas_num.specs.Deltas.{SpellsDelta1, SpellsDelta2, SpellsDelta3, SpellsGDelta, gdelta_in}
-use Rattle.oas_num.specs.DeltaLaws.{Delta1-one_front, Delta2-one_front, Delta3-one_front, GDelta-one_front, OneFront-gdelta, OneSpelling-gdelta, IsWithin-gdelta}
+use Rattle.oas_num.specs.DeltaLaws.{Delta1-one_front, Delta2-one_front, Delta3-one_front, GDelta-one_front, OneSpelling-gdelta, IsWithin-gdelta}
 use Rattle.oas_shape.specs.declared.list_use.ListUse.{ListUse}
 use Rattle.oas_shape.specs.declared.list_use.ListUse.TheVariants.{Polygon, Path}
 use Rattle.oas_shape.specs.ListUses.{IsFitting}
-use Rattle.oas_shape.specs.Polylines.{Polyline}
-use Rattle.oas_shape.specs.PointLists.{IsListKind, alternating, step2, step3, stepg, deltas_in, closing_of, polyline_of, after_kind, IsPointList, plain_line, IsShortestList, IsPlainList, point_list_in}
+use Rattle.oas_shape.specs.PointLists.{IsListKind, alternating, step2, step3, stepg, deltas_in, polyline_of, after_kind, IsPointList, plain_line, IsShortestList, point_list_in}
 
 -- the type, below 6
 pub OneFront-kind : OneFront (IsSuch IsListKind IsUnsigned)

@@ -1,11 +1,10 @@
 -- The laws of repetition fields: no spelling begins another; the shortest style has none.
-use Rattle.std.proofs.Common.{◌≡◌, ℕ, Bool, true, false, List, [], Option, ◌+◌}
+use Rattle.std.proofs.Common.{ℕ, Bool, true, false, [], ◌+◌}
 use Rattle.std.specs.Prelude.{◌==◌}
 use Rattle.std.specs.List.{AllByRecursion}
-use Rattle.oas_num.specs.declared.deltas.GDelta.{GDelta}
 use Rattle.oas_num.specs.Grammar.{OneFront, IsPair, IsSuch, IsImage, IsThere, IsCount}
 use Rattle.oas_num.specs.GrammarLaws.{OneFront-pair, OneFront-image, OneFront-such, OneFront-there, OneFront-count}
-use Rattle.oas_num.specs.Combinators.{OneSpelling, IsWithin, IsEither, IsExactly, IsNever}
+use Rattle.oas_num.specs.Combinators.{OneSpelling, IsWithin, IsExactly}
 use Rattle.oas_num.specs.CombinatorLaws.{OneFront-either, OneFront-exactly, OneFront-never, OneSpelling-never}
 use Rattle.oas_num.specs.Integers.{IsUnsigned}
 use Rattle.oas_num.specs.IntegerLaws.{OneFront-IsUnsigned}
@@ -14,8 +13,7 @@ use Rattle.oas_num.specs.Deltas.{SpellsGDelta}
 use Rattle.oas_num.specs.DeltaLaws.{GDelta-one_front}
 use Rattle.oas_shape.specs.declared.offsets.Along.{Along}
 use Rattle.oas_shape.specs.declared.offsets.Along.TheVariants.{X, Y, Free}
-use Rattle.oas_shape.specs.declared.repetitions.RepField.{RepField}
-use Rattle.oas_shape.specs.declared.repetitions.RepField.TheVariants.{Again, New}
+use Rattle.oas_shape.specs.declared.repetitions.RepField.TheVariants.{New}
 use Rattle.oas_shape.specs.Steps.{IsPartialSum}
 use Rattle.oas_shape.specs.Offsets.{offsets_by}
 use Rattle.oas_shape.specs.Repetitions.{IsRepetitionKind, AreTwo, matrix_of, IsMatrix, columns_of, IsColumns, rows_of, IsRows, lattice_of, IsLattice, line_of, IsLine, x_space, y_space, displacement_in, IsOffsets, grid_of, listed_of, after_dim, IsListed, repetition_by, again, field_by, field_of, rep_field_in}

@@ -454,7 +454,9 @@ fn try_list(alloc: Global) -> Trial {
 
 /// Reads a repetition of type 10 with 16 displacements, and copies it.
 fn try_repetition(alloc: Global) -> Trial {
-    let bytes = [10, 15, 16, 16, 16, 16, 16, 16, 16, 16, 16, 16, 16, 16, 16, 16, 16, 16];
+    let bytes = [
+        10, 15, 16, 16, 16, 16, 16, 16, 16, 16, 16, 16, 16, 16, 16, 16, 16, 16,
+    ];
     let repetition = match RepField::read(alloc, &mut SliceSource::new(&bytes, 100)) {
         Ok(RepField::New(repetition)) => repetition,
         Err(Why::Memory) => return Trial::NoMemory,

@@ -1,8 +1,8 @@
-use Rattle.std.proofs.Common.{◌≡◌, ◌+◌, sym, subst, arith}
+use Rattle.std.proofs.Common.{sym, arith}
 use Rattle.std.proofs.lemmas.Result.{err_from_is_err_and}
 use Rattle.oas_num.proofs.ReadLemmas.{Takes-none}
 use Rattle.oas_num.proofs.GrammarLemmas.{no_memory}
-use Rattle.oas_shape.proofs.OffsetLemmas.{summing_none, summing_more, summed_all, summed_more, summed_fails, summed_past, summed_no_memory}
+use Rattle.oas_shape.proofs.OffsetLemmas.{summing_more, summed_all, summed_more, summed_fails, summed_past, summed_no_memory}
 use Rattle.oas_shape.proofs.offsets.read_sums.Goals as goal
 
 pub returns-in_err-push : goal.returns-in_err-push

@@ -1,4 +1,3 @@
-use Rattle.std.proofs.Common.{subst, sym}
 use Rattle.oas_shape.proofs.VertexLemmas.{walked_none, walked_more, walked_past}
 use Rattle.oas_shape.proofs.vertices.walk.Goals as goal
 
