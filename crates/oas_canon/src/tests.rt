@@ -28,7 +28,9 @@ fn file_of(alloc: Global, more: &[u8]) -> Result<Vec<u8>, Fail> {
 }
 
 /// Asserts that a file is refused so under these limits.
-fn expect_refusal(rt: &impl Abort, alloc: Global, file: &[u8], limits: Limits, at: u64, why: Why) {
+fn expect_refusal(rt: &impl Abort, alloc: Global, file: &[u8], limits: Limits, at: u64, why: Why)
+    requires { limits.weight ≤ 2 ^ 30 }
+{
     let mut source = SliceSource::new(file, 1000);
     match read_layout(alloc, &mut source, &limits) {
         Ok(_) => assert!(rt; false),
