@@ -1,17 +1,22 @@
 -- The parts of a string, one after another.
-use Rattle.std.proofs.Common.{◌≡◌, ◌≢◌, ℕ, ◌<◌, ◌≤◌, List, length, refl, arith}
+use Rattle.std.proofs.Common.{◌≡◌, ◌≢◌, ℕ, ◌+◌, ◌<◌, ◌≤◌, ◌^◌, List, [], ◌∷◌, ◌++◌, length, Result, Ok, Err, refl, sym, ap, ◌∙◌, arith}
+use Rattle.std.proofs.lemmas.List.{length_push}
 use Rattle.oas_num.specs.declared.refusals.Why.{Why}
 use Rattle.oas_num.specs.declared.refusals.Why.TheVariants.{Truncated, IntegerRange, EmptyName, StringByte, Read, InputTooLong, Memory}
 use Rattle.oas_num.specs.Script.{Script}
-use Rattle.oas_num.specs.Grammar.{OneFront, IsSuch}
+use Rattle.oas_num.specs.Grammar.{OneFront, IsSuch, IsImage, IsCount, IsByte}
+use Rattle.oas_num.specs.GrammarLaws.{OneFront-byte}
 use Rattle.oas_num.specs.Combinators.{IsKeyed}
 use Rattle.oas_num.specs.Integers.{IsUnsigned}
 use Rattle.oas_num.specs.IntegerLaws.{OneFront-IsUnsigned}
 use Rattle.oas_num.specs.Style.{Any}
-use Rattle.oas_num.specs.Texts.{IsNameByte, IsLabelByte, IsText, IsPositive, SpellsName, SpellsLabel}
-use Rattle.oas_num.specs.TextLaws.{OneFront-positive}
-use Rattle.oas_num.specs.Reading.{ReadsValue, Fails, ByteMay, IntegerMay, NameMay, LabelMay, TextMay}
-use Rattle.oas_num.proofs.GrammarLemmas.{Midway, begins, key_read, key_fails, such_read, such_fails, refused}
+use Rattle.oas_num.specs.Texts.{IsNameByte, IsLabelByte, IsName, IsLabel, IsText, IsPositive, IsPassed, SpellsName, SpellsLabel, SpellsPadding, padding_of, padding_length}
+use Rattle.oas_num.specs.TextLaws.{OneFront-positive, OneFront-passed, text_of}
+use Rattle.oas_num.specs.Reading.{Reads, ReadsValue, Fails, ByteMay, IntegerMay, NameMay, LabelMay, TextMay}
+use Rattle.oas_num.proofs.GrammarLemmas.{Midway, begins, key_read, key_fails, such_read, such_fails, refused, is_read, fails_last, Listed, listed_none, listed_more, listed_fails, listed_all}
+use Rattle.oas_num.proofs.ReadLemmas.{Takes-none, Fails-after}
+use Rattle.oas_num.proofs.IntegerLemmas.{IntegerMay-byte}
+use Rattle.oas_num.specs.declared.texts.Padding.{Padding}
 
 pub NameMay-integer : (why : Why) (last : List ℕ) → IntegerMay why last → NameMay why last
 NameMay-integer Truncated last h = tt
@@ -70,7 +75,15 @@ empty {old = old} {new = new} {count = count} none read =
     key_fails SpellsName length (IsSuch IsPositive IsUnsigned) (λ count. IsText IsNameByte count) (λ v. v) NameMay NameMay old old new EmptyName (λ _ _ h. h) (begins SpellsName old)
     (refused IsPositive IsUnsigned NameMay old new EmptyName count OneFront-IsUnsigned read (λ (pos : 0 < count). omega arith) spelled (λ e. cc) (λ e. cc) (λ e. cc))
 
+-- the bytes that were read are those of a name
+pub read_name : {old new : Script} {count : ℕ} {text : List ℕ} → count ≢ 0 → count < 2 ^ 64 → ReadsValue (IsText IsNameByte count) old text new → IsName text
+read_name some fits read = record { some = omega (arith, read.spelled.len); fits = omega (arith, read.spelled.len); class = text_of read.spelled }
+
 -- ---- a-strings
+
+-- the bytes that were read are those of a label
+pub read_label : {old new : Script} {count : ℕ} {text : List ℕ} → count < 2 ^ 64 → ReadsValue (IsText IsLabelByte count) old text new → IsLabel text
+read_label fits read = record { fits = omega (arith, read.spelled.len); class = text_of read.spelled }
 
 pub label_length_fails : {old new : Script} {why : Why} → Fails IsUnsigned IntegerMay old why new → Fails SpellsLabel LabelMay old why new
 label_length_fails {old = old} {new = new} {why = why} f =
@@ -79,3 +92,45 @@ label_length_fails {old = old} {new = new} {why = why} f =
 pub with_label_length : {old new : Script} {count : ℕ} → ReadsValue IsUnsigned old count new → Midway SpellsLabel (IsText IsLabelByte count) (λ text. text) old new
 with_label_length {old = old} {new = new} {count = count} read =
     key_read SpellsLabel length IsUnsigned (λ count. IsText IsLabelByte count) (λ v. v) old old new count OneFront-IsUnsigned (λ v q h. h.len) (begins SpellsLabel old) read
+
+-- ---- passed bytes
+
+-- so many bytes were passed
+pub record Passed (old now : Script) (count : ℕ) : Type 0 where
+  pub text : List ℕ
+  pub listed : Listed IsByte old now text
+  pub len : length text ≡ count
+
+pub passed_none : (s : Script) → Passed s s 0
+passed_none s = record { text = []; listed = listed_none IsByte s; len = refl }
+
+pub passed_more : {old mid new : Script} {count byte : ℕ} → Passed old mid count → ReadsValue IsByte mid byte new → Passed old new (count + 1)
+passed_more {old = old} {mid = mid} {new = new} {byte = byte} p read = record {
+  text = p.text ++ byte ∷ [];
+  listed = listed_more IsByte old mid new p.text byte p.listed read;
+  len = length_push _ _ ∙ ap (λ n. n + 1) p.len;
+}
+
+pub passed_fails : {old mid new : Script} {at count : ℕ} {why : Why} → at < count → Passed old mid at → Fails IsByte ByteMay mid why new → Fails (IsPassed count) ByteMay old why new
+passed_fails {old = old} {mid = mid} {new = new} {count = count} {why = why} lt p f =
+    let g = listed_fails IsByte count ByteMay ByteMay old mid new why p.text OneFront-byte (λ _ h. h) (omega (arith, p.len)) p.listed f in
+    Fails-after (IsPassed count) (IsCount IsByte count) ByteMay ByteMay old old new why [] (λ _ h. h) (Takes-none old) (record { wants = λ v p r rest s e. (s.from, p, r, s.spelled, e) }) g
+
+pub passed_all : {old new : Script} {at count : ℕ} → at ≡ count → Passed old new at → ReadsValue (IsPassed count) old (record { length = count }) new
+passed_all {old = old} {new = new} {count = count} is p = record {
+  bytes = p.listed.bytes;
+  spelled = record { from = p.text; is = ap (λ (n : ℕ). let padding : Padding = record { length = n } in padding) (p.len ∙ is); spelled = record { len = p.len ∙ is; each = p.listed.each } };
+  takes = p.listed.takes;
+}
+
+pub padding_length_fails : {old new : Script} {why : Why} → Fails IsUnsigned IntegerMay old why new → Fails SpellsPadding IntegerMay old why new
+padding_length_fails {old = old} {new = new} {why = why} f =
+    key_fails SpellsPadding padding_length IsUnsigned IsPassed (λ v. v) IntegerMay IntegerMay old old new why (λ _ _ h. h) (begins SpellsPadding old) f
+
+pub with_padding_length : {old new : Script} {count : ℕ} → ReadsValue IsUnsigned old count new → Midway SpellsPadding (IsPassed count) (λ padding. padding) old new
+with_padding_length {old = old} {new = new} {count = count} read =
+    key_read SpellsPadding padding_length IsUnsigned IsPassed (λ v. v) old old new count OneFront-IsUnsigned (λ v q h. sym (ap padding_length h.is) ∙ h.spelled.len) (begins SpellsPadding old) read
+
+pub padding_done : (old mid new : Script) (count : ℕ) (r : Result Padding Why) → ReadsValue IsUnsigned old count mid → Reads (IsPassed count) ByteMay mid r new → Reads SpellsPadding IntegerMay old r new
+padding_done old mid new count (Ok padding) read passed = is_read (with_padding_length read) passed
+padding_done old mid new count (Err why) read passed = fails_last (with_padding_length read) IntegerMay-byte passed

@@ -1,12 +1,13 @@
 -- The laws of strings in any style.
-use Rattle.std.proofs.Common.{ℕ, List, length}
-use Rattle.oas_num.specs.Grammar.{OneFront, IsSuch, IsByte}
-use Rattle.oas_num.specs.GrammarLaws.{OneFront-such, OneFront-count, OneFront-byte}
+use Rattle.std.proofs.Common.{◌≡◌, ℕ, ◌<◌, ◌≤◌, ◌^◌, List, [], ◌∷◌, ◌++◌, length, refl, arith}
+use Rattle.oas_num.specs.Grammar.{OneFront, IsSuch, IsEach, IsCount, IsByte}
+use Rattle.oas_num.specs.GrammarLaws.{OneFront-such, OneFront-count, OneFront-image, OneFront-byte}
 use Rattle.oas_num.specs.Combinators.{OneSpelling, IsWithin}
 use Rattle.oas_num.specs.CombinatorLaws.{OneFront-keyed, OneSpelling-keyed, OneSpelling-such, OneSpelling-count, OneSpelling-byte, IsWithin-keyed, IsWithin-such, IsWithin-itself}
 use Rattle.oas_num.specs.Style.{Style, Any, Shortest, unsigned_in}
-use Rattle.oas_num.specs.StyleLaws.{OneFront-unsigned, OneSpelling-unsigned, IsWithin-unsigned}
-use Rattle.oas_num.specs.Texts.{IsNameByte, IsLabelByte, IsText, IsPositive, name_in, label_in}
+use Rattle.oas_num.specs.StyleLaws.{OneFront-unsigned, OneSpelling-unsigned, IsWithin-unsigned, shortest-IsShortest}
+use Rattle.oas_num.specs.Writing.{shortest}
+use Rattle.oas_num.specs.Texts.{IsNameByte, IsLabelByte, IsOf, IsName, IsLabel, IsText, IsPositive, IsPassed, SpellsPadding, padding_of, padding_length, name_in, label_in}
 
 -- the bytes of a text
 pub OneFront-class : (class : ℕ → Type 0) → OneFront (IsSuch class IsByte)
@@ -17,6 +18,22 @@ OneFront-text class count = OneFront-count (IsSuch class IsByte) count (OneFront
 
 pub OneSpelling-text : (class : ℕ → Type 0) (count : ℕ) → OneSpelling (IsText class count)
 OneSpelling-text class count = OneSpelling-count (IsSuch class IsByte) count (OneSpelling-such class IsByte OneSpelling-byte)
+
+-- bytes of a class spell themselves
+each_itself : (class : ℕ → Type 0) → ((b : ℕ) → class b → b < 256) → (bytes : List ℕ) → IsOf class bytes → IsEach (IsSuch class IsByte) bytes bytes
+each_itself class small [] h = refl
+each_itself class small (b ∷ bytes) h = (b ∷ [], bytes, record { holds = h.0; spelled = record { only = refl; small = small b h.0 } }, each_itself class small bytes h.1, refl)
+
+pub text_itself : (class : ℕ → Type 0) → ((b : ℕ) → class b → b < 256) → (bytes : List ℕ) → IsOf class bytes → IsText class (length bytes) bytes bytes
+text_itself class small bytes h = record { len = refl; each = each_itself class small bytes h }
+
+-- and what is spelled as a text of a class is of it
+each_of : (class : ℕ → Type 0) (text bytes : List ℕ) → IsEach (IsSuch class IsByte) text bytes → IsOf class text
+each_of class [] bytes h = tt
+each_of class (b ∷ text) bytes h = (h.2.holds, each_of class text h.1 h.3)
+
+pub text_of : {class : ℕ → Type 0} {count : ℕ} {text bytes : List ℕ} → IsText class count text bytes → IsOf class text
+text_of {class = class} {text = text} {bytes = bytes} h = each_of class text bytes h.each
 
 -- n-strings
 pub OneFront-positive : (style : Style) → OneFront (IsSuch IsPositive (unsigned_in style))
@@ -40,3 +57,29 @@ OneSpelling-label = OneSpelling-keyed length (unsigned_in Shortest) (λ count. I
 
 pub IsWithin-label : IsWithin (label_in Shortest) (label_in Any)
 IsWithin-label = IsWithin-keyed length (unsigned_in Shortest) (unsigned_in Any) (λ count. IsText IsLabelByte count) (λ count. IsText IsLabelByte count) IsWithin-unsigned (λ count. IsWithin-itself (IsText IsLabelByte count))
+
+-- the canonical spelling of a name, and of a label
+pub name_spelled : (name : List ℕ) → IsName name → name_in Shortest name (shortest (length name) ++ name)
+name_spelled name h = record {
+  front = shortest (length name);
+  back = name;
+  first = record { holds = h.some; spelled = shortest-IsShortest (length name) h.fits };
+  second = text_itself IsNameByte (λ b c. omega (arith, c.1)) name h.class;
+  joined = refl;
+}
+
+pub label_spelled : (label : List ℕ) → IsLabel label → label_in Shortest label (shortest (length label) ++ label)
+label_spelled label h = record {
+  front = shortest (length label);
+  back = label;
+  first = shortest-IsShortest (length label) h.fits;
+  second = text_itself IsLabelByte (λ b c. omega (arith, c.1)) label h.class;
+  joined = refl;
+}
+
+-- passed bytes
+pub OneFront-passed : (count : ℕ) → OneFront (IsPassed count)
+OneFront-passed count = OneFront-image padding_of (IsCount IsByte count) (OneFront-count IsByte count OneFront-byte)
+
+pub OneFront-padding : OneFront SpellsPadding
+OneFront-padding = OneFront-keyed padding_length (unsigned_in Any) IsPassed (OneFront-unsigned Any) OneFront-passed

@@ -1,6 +1,7 @@
 -- How strings are spelled.
-use Rattle.std.specs.Prelude.{◌≡◌, ℕ, ◌<◌, ◌≤◌, List, [], ◌∷◌, ◌++◌, length}
-use Rattle.oas_num.specs.Grammar.{IsSuch, IsCount, IsByte}
+use Rattle.std.specs.Prelude.{◌≡◌, ℕ, ◌<◌, ◌≤◌, ◌^◌, List, [], ◌∷◌, ◌++◌, length}
+use Rattle.oas_num.specs.declared.texts.Padding.{Padding}
+use Rattle.oas_num.specs.Grammar.{IsSuch, IsImage, IsCount, IsByte}
 use Rattle.oas_num.specs.Combinators.{IsKeyed}
 use Rattle.oas_num.specs.Style.{Style, Any, unsigned_in}
 
@@ -15,6 +16,22 @@ IsNameByte byte = IsBetween 33 126 byte
 -- a byte of an a-string: printable, or a space
 abbrev pub IsLabelByte : ℕ → Type 0
 IsLabelByte byte = IsBetween 32 126 byte
+
+-- each byte is of the class
+abbrev pub IsOf : (ℕ → Type 0) → List ℕ → Type 0
+IsOf class [] = Unit {0}
+IsOf class (b ∷ bs) = class b × IsOf class bs
+
+-- what the bytes of a name are
+pub record IsName (bytes : List ℕ) : Type 0 where
+  pub some : 0 < length bytes
+  pub fits : length bytes < 2 ^ 64
+  pub class : IsOf IsNameByte bytes
+
+-- what the bytes of a label are
+pub record IsLabel (bytes : List ℕ) : Type 0 where
+  pub fits : length bytes < 2 ^ 64
+  pub class : IsOf IsLabelByte bytes
 
 -- so many bytes of a class
 abbrev pub IsText : (ℕ → Type 0) → ℕ → List ℕ → List ℕ → Type 0
@@ -36,3 +53,18 @@ SpellsName = name_in Any
 
 abbrev pub SpellsLabel : List ℕ → List ℕ → Type 0
 SpellsLabel = label_in Any
+
+-- of passed bytes only their number is kept
+abbrev pub padding_of : List ℕ → Padding
+padding_of bytes = record { length = length bytes }
+
+abbrev pub padding_length : Padding → ℕ
+padding_length padding = padding.length
+
+-- so many bytes of any kind
+abbrev pub IsPassed : ℕ → Padding → List ℕ → Type 0
+IsPassed count = IsImage padding_of (IsCount IsByte count)
+
+-- a length, and that many bytes of any kind
+abbrev pub SpellsPadding : Padding → List ℕ → Type 0
+SpellsPadding = IsKeyed padding_length (unsigned_in Any) IsPassed

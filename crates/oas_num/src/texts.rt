@@ -1,13 +1,21 @@
-ghost use Rattle.std.specs.Prelude.{◌≡◌, ◌≤◌, List, ℕ};
-ghost use Rattle.oas_num.specs.Reading.{Reads, ReadsAs, TextMay};
+ghost use Rattle.std.specs.Prelude.{◌≡◌, ◌≤◌, ◌==◌, List, ℕ, IfOk};
+ghost use Rattle.std.proofs.Common.{rules};
+ghost use Rattle.std.specs.Cmp.{partial_order_from_own_ties};
+ghost use Rattle.std.specs.Cmp.Rules.{comparing, hashing};
+ghost use Rattle.std.specs.Cmp.Lexicographic.{slice_cmp, pointwise};
+ghost use Rattle.std.specs.Ordering.{nat_cmp, as_partial_cmp};
+ghost use Rattle.std.specs.Hash as fed;
+ghost use Rattle.oas_num.specs.Reading.{Reads, ReadsAs, ByteMay, TextMay};
 ghost use Rattle.oas_num.specs.Grammar.{IsSuch, IsByte};
-ghost use Rattle.oas_num.specs.Texts.{IsText, IsBetween};
+ghost use Rattle.oas_num.specs.Texts.{IsText, IsBetween, IsName, IsLabel, IsPassed};
 
 use crate::integers::read_unsigned;
 use crate::refusals::Why;
 use crate::sources::Source;
 use crate::spelling::{Spelled, next_byte};
-use std::alloc::Global;
+use std::alloc::{AllocError, Global};
+use std::cmp::Ordering;
+use std::hash::{Hash, Hasher};
 use std::marker::Model;
 
 /// The next byte, from `low` to `high`.
@@ -41,7 +49,17 @@ pub fn read_text<S: Source>(
     Ok(text)
 }
 
-/// An n-string (SEMI P39, Strings): one or more printable bytes, `21` to `7E`, no space among them.
+/// A copy of the bytes.
+fn copy_of(alloc: Global, bytes: &[u8]) -> Result<Vec<u8>, AllocError>
+    ensures { IfOk result (λ copy. copy.items ≡ bytes.now) }
+{
+    let mut copy = Vec::with_capacity(alloc, bytes.len())?;
+    copy.extend_from_slice(bytes)?;
+    Ok(copy)
+}
+
+/// An n-string (SEMI P39, Strings): one or more printable bytes, `21` to `7E`, no space among them. Names are ordered by
+/// their bytes, a proper prefix first.
 #[derive(Debug, Drop)]
 pub struct Name {
     bytes: Vec<u8>,
@@ -51,13 +69,25 @@ impl Model for Name {
     ghost Value = { List ℕ };
 
     ghost view = { λ name. name.bytes.items };
+
+    ghost invariant = { λ name. IsName name.bytes.items };
 }
 
 impl Name {
+    /// Its bytes.
     pub fn as_bytes(&self) -> &[u8]
-        ensures { result.now ≡ self.now }
+        ensures bytes { result.now ≡ self.now }
+        ensures class { IsName self.now }
     {
         &self.bytes
+    }
+
+    /// An equal one.
+    pub fn try_clone(&self, alloc: Global) -> Result<Name, AllocError>
+        ensures { IfOk result (λ copy. copy ≡ self.now) }
+    {
+        let bytes = copy_of(alloc, &self.bytes)?;
+        Ok(Name { bytes })
     }
 }
 
@@ -83,7 +113,56 @@ impl Spelled for Name {
     }
 }
 
-/// An a-string (SEMI P39, Strings): printable bytes and spaces, `20` to `7E`, or none.
+impl PartialEq for Name {
+    ghost eq = { pointwise ◌==◌ };
+
+    ghost laws = { Prim.search (comparing, rules) };
+
+    fn eq(&self, other: &Name) -> bool {
+        self.as_bytes() == other.as_bytes()
+    }
+}
+
+impl Eq for Name {
+    ghost laws = { Prim.search (comparing, rules) };
+}
+
+impl Ord for Name {
+    ghost cmp = { slice_cmp nat_cmp };
+
+    ghost total = { Prim.search (comparing, rules) };
+
+    ghost matches_partial_cmp = { Prim.search (comparing, rules) };
+
+    ghost matches_eq = { Prim.search (comparing, rules) };
+
+    fn cmp(&self, other: &Name) -> Ordering {
+        self.as_bytes().cmp(other.as_bytes())
+    }
+}
+
+impl PartialOrd for Name {
+    ghost partial_cmp = { as_partial_cmp (slice_cmp nat_cmp) };
+
+    ghost laws = { partial_order_from_own_ties (Prim.search (comparing, rules)) (Prim.search (comparing, rules)) };
+
+    fn partial_cmp(&self, other: &Name) -> Option<Ordering> {
+        Some(self.cmp(other))
+    }
+}
+
+impl Hash for Name {
+    ghost hash_input = { fed.slice fed.u8 };
+
+    ghost respects_eq = { Prim.search (hashing, rules) };
+
+    fn hash<H: Hasher>(&self, state: &mut H) {
+        self.as_bytes().hash(state);
+    }
+}
+
+/// An a-string (SEMI P39, Strings): printable bytes and spaces, `20` to `7E`, or none. Labels are ordered by their bytes,
+/// a proper prefix first.
 #[derive(Debug, Drop)]
 pub struct Label {
     bytes: Vec<u8>,
@@ -93,13 +172,25 @@ impl Model for Label {
     ghost Value = { List ℕ };
 
     ghost view = { λ label. label.bytes.items };
+
+    ghost invariant = { λ label. IsLabel label.bytes.items };
 }
 
 impl Label {
+    /// Its bytes.
     pub fn as_bytes(&self) -> &[u8]
-        ensures { result.now ≡ self.now }
+        ensures bytes { result.now ≡ self.now }
+        ensures class { IsLabel self.now }
     {
         &self.bytes
+    }
+
+    /// An equal one.
+    pub fn try_clone(&self, alloc: Global) -> Result<Label, AllocError>
+        ensures { IfOk result (λ copy. copy ≡ self.now) }
+    {
+        let bytes = copy_of(alloc, &self.bytes)?;
+        Ok(Label { bytes })
     }
 }
 
@@ -119,5 +210,87 @@ impl Spelled for Label {
         let length = read_unsigned(source)?;
         let bytes = read_text(alloc, 32, 126, length, source)?;
         Ok(Label { bytes })
+    }
+}
+
+impl PartialEq for Label {
+    ghost eq = { pointwise ◌==◌ };
+
+    ghost laws = { Prim.search (comparing, rules) };
+
+    fn eq(&self, other: &Label) -> bool {
+        self.as_bytes() == other.as_bytes()
+    }
+}
+
+impl Eq for Label {
+    ghost laws = { Prim.search (comparing, rules) };
+}
+
+impl Ord for Label {
+    ghost cmp = { slice_cmp nat_cmp };
+
+    ghost total = { Prim.search (comparing, rules) };
+
+    ghost matches_partial_cmp = { Prim.search (comparing, rules) };
+
+    ghost matches_eq = { Prim.search (comparing, rules) };
+
+    fn cmp(&self, other: &Label) -> Ordering {
+        self.as_bytes().cmp(other.as_bytes())
+    }
+}
+
+impl PartialOrd for Label {
+    ghost partial_cmp = { as_partial_cmp (slice_cmp nat_cmp) };
+
+    ghost laws = { partial_order_from_own_ties (Prim.search (comparing, rules)) (Prim.search (comparing, rules)) };
+
+    fn partial_cmp(&self, other: &Label) -> Option<Ordering> {
+        Some(self.cmp(other))
+    }
+}
+
+impl Hash for Label {
+    ghost hash_input = { fed.slice fed.u8 };
+
+    ghost respects_eq = { Prim.search (hashing, rules) };
+
+    fn hash<H: Hasher>(&self, state: &mut H) {
+        self.as_bytes().hash(state);
+    }
+}
+
+/// A b-string (SEMI P39, Strings) of which only the length is kept: its bytes are passed over.
+#[derive(Clone, Copy, Debug, PartialEq, Eq)]
+pub struct Padding {
+    /// How many bytes it has.
+    pub length: u64,
+}
+
+/// So many bytes of any kind.
+fn pass_over<S: Source>(count: u64, source: &mut S) -> Result<Padding, Why>
+    ensures { Reads (IsPassed count) ByteMay (S.script source.old) result (S.script source.new) }
+{
+    for _ in 0..count {
+        next_byte(source)?;
+    }
+    Ok(Padding { length: count })
+}
+
+impl Spelled for Padding {
+    ghost use Rattle.oas_num.specs.Texts.{SpellsPadding};
+    ghost use Rattle.oas_num.specs.TextLaws.{OneFront-padding};
+    ghost use Rattle.oas_num.specs.Reading.{IntegerMay};
+
+    ghost spells = { SpellsPadding };
+
+    ghost may = { IntegerMay };
+
+    ghost one_front = { OneFront-padding };
+
+    fn read<S: Source>(_alloc: Global, source: &mut S) -> Result<Padding, Why> {
+        let length = read_unsigned(source)?;
+        pass_over(length, source)
     }
 }

@@ -1,6 +1,7 @@
+use Rattle.std.proofs.Common.{arith}
 use Rattle.std.proofs.lemmas.Result.{err_from_is_err_and}
 use Rattle.oas_num.proofs.GrammarLemmas.{fails_last, is_read}
-use Rattle.oas_num.proofs.TextLemmas.{LabelMay-text, label_length_fails, with_label_length}
+use Rattle.oas_num.proofs.TextLemmas.{LabelMay-text, label_length_fails, with_label_length, read_label}
 use Rattle.oas_num.proofs.texts.LabelSpelled.read.Goals as goal
 
 pub returns-in_err-length : goal.returns-in_err-length
@@ -15,3 +16,6 @@ returns-in_err-bytes g c =
 
 pub returns : goal.returns
 returns g c = is_read (with_label_length c.in_ok-length.ensures) c.in_ok-bytes.ensures
+
+pub invariant_of-result : goal.invariant_of-result
+invariant_of-result g c = read_label (omega (arith, c.in_ok-length.length)) c.in_ok-bytes.ensures

@@ -1,6 +1,7 @@
+use Rattle.std.proofs.Common.{arith}
 use Rattle.std.proofs.lemmas.Result.{err_from_is_err_and}
 use Rattle.oas_num.proofs.GrammarLemmas.{fails_last, is_read}
-use Rattle.oas_num.proofs.TextLemmas.{NameMay-text, name_length_fails, with_name_length, empty}
+use Rattle.oas_num.proofs.TextLemmas.{NameMay-text, name_length_fails, with_name_length, read_name, empty}
 use Rattle.oas_num.proofs.texts.NameSpelled.read.Goals as goal
 
 pub returns-in_err-length : goal.returns-in_err-length
@@ -18,3 +19,6 @@ returns-in_err-bytes g c =
 
 pub returns : goal.returns
 returns g c = is_read (with_name_length c.if-length-eq0.false c.in_ok-length.ensures) c.in_ok-bytes.ensures
+
+pub invariant_of-result : goal.invariant_of-result
+invariant_of-result g c = read_name c.if-length-eq0.false (omega (arith, c.in_ok-length.length)) c.in_ok-bytes.ensures
