@@ -44,7 +44,7 @@ fn canon(rt: &HostRuntime) -> u8 {
                 at: 0,
                 why: Why::Memory,
             };
-            run::refuse(STANDARD_INPUT, refusal, &mut err)
+            run::run_refused(STANDARD_INPUT, refusal, &mut err)
         }
     }
 }
