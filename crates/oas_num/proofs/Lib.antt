@@ -5,3 +5,5 @@ pub mod WritingLemmas
 pub mod TextLemmas
 pub mod ReaderLemmas
 pub mod RealLemmas
+pub mod OutletLemmas
+pub mod DeltaLemmas

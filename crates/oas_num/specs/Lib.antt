@@ -16,5 +16,9 @@ pub mod Reals
 pub mod RealLaws
 pub mod Writing
 pub mod WritingLaws
+pub mod Outlets
+pub mod OutletLaws
 pub mod Ratio
 pub mod RatioLaws
+pub mod Deltas
+pub mod DeltaLaws

@@ -5,8 +5,10 @@ ghost use Rattle.oas_num.specs.Combinators.{OneSpelling, IsWithin};
 ghost use Rattle.oas_num.specs.Style.{Style, Any, Shortest, unsigned_in, signed_in};
 ghost use Rattle.oas_num.specs.Texts.{name_in, label_in};
 ghost use Rattle.oas_num.specs.Reals.{real_in};
+ghost use Rattle.oas_num.specs.Deltas.{gdelta_in};
+ghost use Rattle.oas_num.specs.declared.deltas.GDelta.{GDelta};
 ghost use Rattle.oas_num.specs.Integers.{IsUnsigned};
-ghost use Rattle.oas_num.specs.Writing.{shortest, shortest_signed};
+ghost use Rattle.oas_num.specs.Writing.{shortest, shortest_signed, shortest_gdelta};
 ghost use Rattle.oas_num.specs.Ratio.{Ratio, Reduces};
 
 /// Integers without a sign.
@@ -42,6 +44,15 @@ pub fn reals()
     ensures front { (style : Style) → OneFront (real_in style) }
     ensures one { OneSpelling (real_in Shortest) }
     ensures within { IsWithin (real_in Shortest) (real_in Any) }
+{}
+
+/// g-deltas. In the shortest style one is of form 2, and a component of zero goes east or north
+/// (own rule); it is what the writer of g-deltas puts.
+pub fn gdeltas()
+    ensures front { (style : Style) → OneFront (gdelta_in style) }
+    ensures one { OneSpelling (gdelta_in Shortest) }
+    ensures within { IsWithin (gdelta_in Shortest) (gdelta_in Any) }
+    ensures written { (d : GDelta) → nat_abs d.dx < 2 ^ 62 → nat_abs d.dy < 2 ^ 63 → gdelta_in Shortest d (shortest_gdelta d.dx d.dy) }
 {}
 
 /// What the writers of integers put: a spelling than which none is shorter, and without a sign the only one of its length.

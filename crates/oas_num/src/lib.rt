@@ -13,14 +13,18 @@
 //!   spellings). It is written over a `Style` (specs/Style.antt): any spelling that the standard has, or the shortest.
 //! - A [`Sink`] is given bytes, and `Writes` (specs/Writing.antt) says which, also where it failed: then a front of them.
 //!   The writers of numbers put the shortest spellings: `shortest`, `shortest_signed` and `shortest_gdelta` there.
+//! - An [`Outlet`] is a sink over a borrowed writer: what the writer took is a front of what was put, and after `close` all
+//!   of it: `IsGiven` and `TakesFront` (specs/Outlets.antt), with their laws in specs/OutletLaws.antt.
 //! - A [`Fraction`] is positive and in lowest terms: `Reduces` (specs/Ratio.antt).
 //!
 //! Whether memory is there is outside every contract: a read that allocates may answer [`Why::Memory`].
 #![tactic(auto)]
 
+mod deltas;
 mod fractions;
 mod integers;
 pub mod laws;
+mod outlets;
 mod readers;
 mod reals;
 mod refusals;
@@ -29,11 +33,14 @@ mod slices;
 mod sources;
 mod spelling;
 mod texts;
+mod windows;
 
+pub use deltas::{Delta1, Delta2, Delta3, GDelta};
 pub use fractions::Fraction;
 pub use integers::{
     Signed, Unsigned, read_signed, read_signed_if, read_unsigned, read_unsigned_if,
 };
+pub use outlets::Outlet;
 pub use readers::{Ending, ReaderSource};
 pub use reals::Real;
 pub use refusals::{Refusal, Why};

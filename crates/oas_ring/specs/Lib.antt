@@ -7,3 +7,4 @@ pub mod ReadingsLaws
 pub mod Race
 pub mod View
 pub mod Rectangles
+pub mod RectanglesLaws

@@ -5,9 +5,13 @@ use Rattle.std.specs.Cmp.Lexicographic.{slice_cmp}
 use Rattle.std.specs.declared.cmp.Ordering.{Ordering}
 use Rattle.oas_ring.specs.declared.point.Point.{Point}
 
+-- the point where both axes are 0
+abbrev pub origin : Point
+origin = record { x = pos 0; y = pos 0 }
+
 -- the point at a place of a list, and past its end the origin
 abbrev pub point_at : List Point → ℕ → Point
-point_at p i = slice_index_or p i (record { x = pos 0; y = pos 0 })
+point_at p i = slice_index_or p i origin
 
 -- by x, and then by y
 abbrev pub point_cmp : Point → Point → Ordering

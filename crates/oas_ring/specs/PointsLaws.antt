@@ -1,5 +1,5 @@
 -- The order on points and on lists of points is total, and alike is equal.
-use Rattle.std.proofs.Common.{◌≡◌, ◌≢◌, ◌↔◌, ℤ, Bool, true, false, IsTrue, List, [], ◌∷◌, Ordering, refl, sym, ap, ◌∙◌}
+use Rattle.std.proofs.Common.{◌≡◌, ◌≢◌, ◌↔◌, ℤ, Bool, false, IsTrue, List, [], ◌∷◌, Ordering, refl, sym, ap, ◌∙◌}
 use Rattle.std.specs.Ordering.{int_cmp, ordering_then, ordering_reverse, is_eq, is_gt, eq_by_cmp}
 use Rattle.std.specs.declared.cmp.Ordering.TheVariants.{Less, Equal, Greater}
 use Rattle.std.specs.Cmp.{IsTotalOrder, int_cmp_total, on_total, then_total}
@@ -20,7 +20,9 @@ point_lists_total = lists_total points_total
 
 -- points that compare as equal are one point
 pub exact_points : CmpEqualImpliesEq point_cmp
-exact_points a b h = ap (λ (p : ℤ × ℤ). record { x = p.0; y = p.1 }) (exact_pairs int_cmp int_cmp exact_signed exact_signed (a.x, a.y) (b.x, b.y) h)
+exact_points a b h =
+    ap (λ (p : ℤ × ℤ). record { x = p.0; y = p.1 })
+    (exact_pairs int_cmp int_cmp exact_signed exact_signed (a.x, a.y) (b.x, b.y) h)
 
 -- where a comparison by two keys answers Equal, both do
 both_equal : (r o : Ordering) → ordering_then r o ≡ Equal → (r ≡ Equal) × (o ≡ Equal)
@@ -51,7 +53,8 @@ equal_lists a b = equal_points a b (eq_by_cmp list_cmp a b) refl
 
 -- neither list is below the other: they are one list
 pub equal_if_neither_below : (a b : List Point) → list_cmp a b ≢ Less → list_cmp b a ≢ Less → a ≡ b
-equal_if_neither_below a b p q = exact_lists a b (neither (list_cmp a b) (list_cmp b a) (point_lists_total.antisymm a b) p q)
+equal_if_neither_below a b p q =
+    exact_lists a b (neither (list_cmp a b) (list_cmp b a) (point_lists_total.antisymm a b) p q)
   where
     neither : (o r : Ordering) → o ≡ ordering_reverse r → o ≢ Less → r ≢ Less → o ≡ Equal
     neither Less r e p q = absurd (p refl)

@@ -1,9 +1,10 @@
 -- Two candidates for the least rotation of a list.
 use Rattle.std.specs.Prelude.{◌≡◌, ◌≢◌, ℕ, ◌<◌, List, length, take}
+use Rattle.std.specs.declared.cmp.Ordering.{Ordering}
 use Rattle.std.specs.declared.cmp.Ordering.TheVariants.{Less}
 use Rattle.oas_ring.specs.declared.point.Point.{Point}
 use Rattle.oas_ring.specs.declared.race.Race.{Race}
-use Rattle.oas_ring.specs.Points.{list_cmp}
+use Rattle.oas_ring.specs.Points.{point_at, point_cmp, list_cmp}
 use Rattle.oas_ring.specs.Rings.{rotation, IsRotation}
 
 -- some rotation is below the one from s
@@ -16,6 +17,10 @@ pub record IsRace (q : List Point) (race : Race) : Type 0 where
   pub within : race.best < length q
   pub agree : take race.agreed (rotation race.best q) ≡ take race.agreed (rotation race.rival q)
   pub beaten : (s : ℕ) → s < race.rival → s < length q → s ≢ race.best → IsBeaten q s
+
+-- how the points behind those in which the candidates agree compare
+abbrev pub next_order : List Point → Race → Ordering
+next_order q race = point_cmp (point_at (rotation race.best q) race.agreed) (point_at (rotation race.rival q) race.agreed)
 
 -- no rotation is below the one from s
 abbrev pub IsLeastTurn : List Point → ℕ → Type 0

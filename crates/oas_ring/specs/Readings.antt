@@ -1,5 +1,5 @@
 -- Readings of a ring, and the least of them.
-use Rattle.std.specs.Prelude.{◌≢◌, ℕ, ◌-◌, Bool, List, [], ◌∷◌, ◌++◌, length, reverse, if◌then◌else◌}
+use Rattle.std.specs.Prelude.{◌≢◌, ◌-◌, Bool, List, [], ◌∷◌, ◌++◌, length, reverse, if◌then◌else◌}
 use Rattle.std.specs.List.{list_any}
 use Rattle.std.specs.Ordering.{eq_by_cmp, is_lt}
 use Rattle.std.specs.declared.cmp.Ordering.TheVariants.{Less}
@@ -34,9 +34,13 @@ rotations_from front (x ∷ back) = (x ∷ back ++ front) ∷ rotations_from (fr
 abbrev pub readings : List Point → List (List Point)
 readings p = rotations_from [] p ++ rotations_from [] (reverse p)
 
+-- whether a list is among others
+abbrev pub is_among : List Point → List (List Point) → Bool
+is_among q = list_any (eq_by_cmp list_cmp q)
+
 -- whether q is among the readings of p: the test of `SameRing`
 abbrev pub is_same_ring : List Point → List Point → Bool
-is_same_ring p q = list_any (λ r. eq_by_cmp list_cmp q r) (readings p)
+is_same_ring p q = is_among q (readings p)
 
 -- the lesser of two lists
 abbrev pub lesser : List Point → List Point → List Point

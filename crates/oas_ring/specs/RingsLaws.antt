@@ -32,7 +32,8 @@ pub record Between (xs ys zs ws : List Point) : Type 0 where
   pub back : ys ≡ middle ++ ws
 
 -- any two splits of one list are so
-pub between_splits : (xs ys zs ws : List Point) → xs ++ ys ≡ zs ++ ws → length xs ≤ length zs → Between xs ys zs ws
+pub between_splits : (xs ys zs ws : List Point) → xs ++ ys ≡ zs ++ ws → length xs ≤ length zs
+    → Between xs ys zs ws
 between_splits xs ys zs ws e h =
     let n = length xs in
     let f : take n zs ≡ xs = sym (take-append-le n zs ws h) ∙ ap (take n) (sym e) ∙ take_at xs ys n refl in

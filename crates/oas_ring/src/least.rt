@@ -2,10 +2,10 @@
 //! direction, and one to compare the two.
 
 ghost use Rattle.std.specs.Prelude.{◌≡◌, ℕ, ◌+◌, ◌-◌, ◌*◌, ◌<◌, ◌≤◌, ◌^◌, List, length};
-ghost use Rattle.oas_ring.specs.Points.{point_at, point_cmp, list_cmp};
+ghost use Rattle.oas_ring.specs.Points.{list_cmp};
 ghost use Rattle.oas_ring.specs.Rings.{rotation};
 ghost use Rattle.oas_ring.specs.Readings.{reading_of, directed, IsLeastReadingOf};
-ghost use Rattle.oas_ring.specs.Race.{IsRace, IsLeastTurn};
+ghost use Rattle.oas_ring.specs.Race.{next_order, IsLeastTurn};
 ghost use Rattle.oas_ring.specs.declared.point.Point.{Point};
 
 use crate::point::Point;
@@ -30,8 +30,7 @@ fn compare_next<V: RingView>(view: &mut V, backwards: bool, race: Race) -> Order
     requires rival { race.rival < length (V.points view.old) }
     requires agreed { race.agreed < length (V.points view.old) }
     requires few { V.steps view.old < 2 ^ 63 }
-    ensures order { let q = directed backwards (V.points view.old) in
-        result ≡ point_cmp (point_at (rotation race.best q) race.agreed) (point_at (rotation race.rival q) race.agreed) }
+    ensures order { result ≡ next_order (directed backwards (V.points view.old)) race }
     ensures step { V.steps view.new ≡ V.steps view.old + 1 }
     ensures fixed { V.points view.new ≡ V.points view.old }
 {

@@ -5,9 +5,7 @@
 //! each comparison moves a candidate on or lengthens what they agree in, and none is wasted.
 
 ghost use Rattle.std.specs.Prelude.{◌≡◌, ℕ, ◌+◌, ◌*◌, ◌<◌, ◌≤◌, ◌^◌, List, length};
-ghost use Rattle.oas_ring.specs.Points.{point_at, point_cmp};
-ghost use Rattle.oas_ring.specs.Rings.{rotation};
-ghost use Rattle.oas_ring.specs.Race.{IsRace};
+ghost use Rattle.oas_ring.specs.Race.{IsRace, next_order};
 ghost use Rattle.oas_ring.specs.declared.point.Point.{Point};
 
 use std::cmp::Ordering;
@@ -27,9 +25,9 @@ pub(crate) fn advance(race: Race, order: Ordering) -> Race
     requires rival { race.rival < 2 ^ 59 }
     requires agreed { race.agreed < 2 ^ 59 }
     ensures rises { race.best + race.rival + race.agreed < result.best + result.rival + result.agreed }
-    ensures bounded { race.best < race.rival → result.best + result.rival + result.agreed ≤ 2 * race.rival + race.agreed + 1 }
-    ensures race { (q : List Point) → IsRace q race → race.rival < length q → race.agreed < length q
-        → order ≡ point_cmp (point_at (rotation race.best q) race.agreed) (point_at (rotation race.rival q) race.agreed)
+    ensures bounded { race.best < race.rival
+        → result.best + result.rival + result.agreed ≤ 2 * race.rival + race.agreed + 1 }
+    ensures race { (q : List Point) → IsRace q race → race.rival < length q → race.agreed < length q → order ≡ next_order q race
         → IsRace q result }
 {
     match order {

@@ -9,8 +9,10 @@ invariant-loop-k g l =
     let points = g.V.RingView.points in
     let steps = g.V.RingView.steps in
     let p = points l.fn.view in
+    let a = reading_of p l.a in
+    let b = reading_of p l.b in
     record {
       fixed : points l.view ≡ p;
-      left : list_cmp (drop l.k (reading_of p l.a)) (drop l.k (reading_of p l.b)) ≡ list_cmp (reading_of p l.a) (reading_of p l.b);
+      left : list_cmp (drop l.k a) (drop l.k b) ≡ list_cmp a b;
       cost : steps l.view ≤ steps l.fn.view + l.k;
     }

@@ -6,5 +6,7 @@ pub returns-else-is_empty : goal.returns-else-is_empty
 returns-else-is_empty c =
     let p = c.args.a.now in
     let q = c.args.b.now in
-    let law = same_exactly_if_least p q (reading_of p c.least_reading-in_a.result) (reading_of q c.least_reading-in_b.result) c.least_reading-in_a.ensures.least c.least_reading-in_b.ensures.least in
+    let a = c.least_reading-in_a in
+    let b = c.least_reading-in_b in
+    let law = same_exactly_if_least p q (reading_of p a.result) (reading_of q b.result) a.ensures.least b.ensures.least in
     (λ t. law.1 (c.same_readings.ensures.0 t), λ s. c.same_readings.ensures.1 (law.0 s))

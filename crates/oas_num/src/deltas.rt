@@ -1,0 +1,231 @@
+ghost use Rattle.std.specs.Prelude.{◌≡◌, ◌<◌, ◌^◌, List, ℕ};
+ghost use Rattle.oas_num.specs.Deltas.{toward, delta2_of, delta3_of, gdelta_from};
+ghost use Rattle.oas_num.specs.Integers.{signed_of};
+
+use crate::integers::{read_signed, read_unsigned, read_unsigned_if};
+use crate::refusals::Why;
+use crate::sources::Source;
+use crate::spelling::Spelled;
+use std::alloc::Global;
+
+/// A 1-delta (SEMI P39, Deltas): how far along one axis. Which axis that is, the list says in which it stands.
+#[derive(Clone, Copy, Debug, PartialEq, Eq)]
+pub struct Delta1(pub i64);
+
+/// A 2-delta (SEMI P39, Deltas): along one of the two axes. East is +x, north is +y.
+#[derive(Clone, Copy, Debug, PartialEq, Eq)]
+pub struct Delta2 {
+    pub dx: i64,
+    pub dy: i64,
+}
+
+/// A 3-delta (SEMI P39, Deltas): along an axis, or as far along both.
+#[derive(Clone, Copy, Debug, PartialEq, Eq)]
+pub struct Delta3 {
+    pub dx: i64,
+    pub dy: i64,
+}
+
+/// A g-delta (SEMI P39, Deltas): any step.
+#[derive(Clone, Copy, Debug, PartialEq, Eq)]
+pub struct GDelta {
+    pub dx: i64,
+    pub dy: i64,
+}
+
+impl Spelled for Delta1 {
+    ghost use Rattle.oas_num.specs.Deltas.{SpellsDelta1};
+    ghost use Rattle.oas_num.specs.Reading.{IntegerMay};
+    ghost use Rattle.oas_num.specs.DeltaLaws.{Delta1-one_front};
+
+    ghost spells = { SpellsDelta1 };
+
+    ghost may = { IntegerMay };
+
+    ghost one_front = { Delta1-one_front };
+
+    fn read<S: Source>(_alloc: Global, source: &mut S) -> Result<Delta1, Why> {
+        Ok(Delta1(read_signed(source)?))
+    }
+}
+
+impl Spelled for Delta2 {
+    ghost use Rattle.oas_num.specs.Deltas.{SpellsDelta2};
+    ghost use Rattle.oas_num.specs.Reading.{IntegerMay};
+    ghost use Rattle.oas_num.specs.DeltaLaws.{Delta2-one_front};
+
+    ghost spells = { SpellsDelta2 };
+
+    ghost may = { IntegerMay };
+
+    ghost one_front = { Delta2-one_front };
+
+    fn read<S: Source>(_alloc: Global, source: &mut S) -> Result<Delta2, Why> {
+        let coded = read_unsigned(source)?;
+        Ok(delta2_from(coded))
+    }
+}
+
+impl Spelled for Delta3 {
+    ghost use Rattle.oas_num.specs.Deltas.{SpellsDelta3};
+    ghost use Rattle.oas_num.specs.Reading.{IntegerMay};
+    ghost use Rattle.oas_num.specs.DeltaLaws.{Delta3-one_front};
+
+    ghost spells = { SpellsDelta3 };
+
+    ghost may = { IntegerMay };
+
+    ghost one_front = { Delta3-one_front };
+
+    fn read<S: Source>(_alloc: Global, source: &mut S) -> Result<Delta3, Why> {
+        let coded = read_unsigned(source)?;
+        Ok(delta3_from(coded))
+    }
+}
+
+impl Spelled for GDelta {
+    ghost use Rattle.oas_num.specs.Deltas.{SpellsGDelta};
+    ghost use Rattle.oas_num.specs.Reading.{IntegerMay};
+    ghost use Rattle.oas_num.specs.DeltaLaws.{GDelta-one_front};
+
+    ghost spells = { SpellsGDelta };
+
+    ghost may = { IntegerMay };
+
+    ghost one_front = { GDelta-one_front };
+
+    fn read<S: Source>(_alloc: Global, source: &mut S) -> Result<GDelta, Why> {
+        let first = read_unsigned(source)?;
+        let second = read_unsigned_if(first % 2 == 1, source)?;
+        Ok(step_from(first, second))
+    }
+}
+
+/// The low two bits are the direction, the rest is how far.
+fn delta2_from(coded: u64) -> Delta2
+    ensures { result ≡ delta2_of coded }
+{
+    let step = step_toward(coded % 4, coded / 4);
+    Delta2 {
+        dx: step.dx,
+        dy: step.dy,
+    }
+}
+
+/// The low three bits are the direction, the rest is how far.
+fn delta3_from(coded: u64) -> Delta3
+    ensures { result ≡ delta3_of coded }
+{
+    let step = step_toward(coded % 8, coded / 8);
+    Delta3 {
+        dx: step.dx,
+        dy: step.dy,
+    }
+}
+
+/// The step that a g-delta's numbers stand for.
+fn step_from(first: u64, second: Option<u64>) -> GDelta
+    ensures { result ≡ gdelta_from first second }
+{
+    match second {
+        None => step_toward(first / 2 % 8, first / 16),
+        Some(second) => GDelta {
+            dx: component(first / 2),
+            dy: component(second),
+        },
+    }
+}
+
+/// So far in one of eight directions: 0 east, 1 north, 2 west, 3 south, 4 north-east, 5 north-west, 6 south-west,
+/// 7 south-east. A diagonal goes so far along both axes.
+fn step_toward(direction: u64, far: u64) -> GDelta
+    requires { far < 2 ^ 63 }
+    ensures { result ≡ toward direction far }
+{
+    let far = far as i64;
+    match direction {
+        0 => GDelta { dx: far, dy: 0 },
+        1 => GDelta { dx: 0, dy: far },
+        2 => GDelta { dx: -far, dy: 0 },
+        3 => GDelta { dx: 0, dy: -far },
+        4 => GDelta { dx: far, dy: far },
+        5 => GDelta { dx: -far, dy: far },
+        6 => GDelta { dx: -far, dy: -far },
+        _ => GDelta { dx: far, dy: -far },
+    }
+}
+
+/// One component of a step: bit 0 is the sign, the other bits the magnitude.
+fn component(coded: u64) -> i64
+    ensures { result ≡ signed_of coded }
+{
+    let far = (coded / 2) as i64;
+    if coded % 2 == 0 { far } else { -far }
+}
+
+#[cfg(test)]
+mod tests {
+    use super::*;
+    use crate::slices::SliceSource;
+
+    /// Five in each direction, in the order of their numbers.
+    const FIVE: [(i64, i64); 8] = [
+        (5, 0),
+        (0, 5),
+        (-5, 0),
+        (0, -5),
+        (5, 5),
+        (-5, 5),
+        (-5, -5),
+        (5, -5),
+    ];
+
+    #[test]
+    fn directions(rt: HostRuntime) {
+        for i in 0..8usize {
+            let (dx, dy) = FIVE[i];
+            let code = i as u8;
+            let bytes = [40 + code];
+            let mut source = SliceSource::new(&bytes, 1);
+            assert_eq!(rt;
+                Delta3::read(rt.alloc(), &mut source),
+                Ok(Delta3 { dx, dy })
+            );
+            let bytes = [80 + 2 * code];
+            let mut source = SliceSource::new(&bytes, 1);
+            assert_eq!(rt;
+                GDelta::read(rt.alloc(), &mut source),
+                Ok(GDelta { dx, dy })
+            );
+            if code < 4 {
+                let bytes = [20 + code];
+                let mut source = SliceSource::new(&bytes, 1);
+                assert_eq!(rt;
+                    Delta2::read(rt.alloc(), &mut source),
+                    Ok(Delta2 { dx, dy })
+                );
+            }
+        }
+    }
+
+    #[test]
+    fn two_numbers(rt: HostRuntime) {
+        let mut source = SliceSource::new(&[9, 2, 11, 3, 3, 1], 6);
+        assert_eq!(rt;
+            GDelta::read(rt.alloc(), &mut source),
+            Ok(GDelta { dx: 2, dy: 1 })
+        );
+        assert_eq!(rt;
+            GDelta::read(rt.alloc(), &mut source),
+            Ok(GDelta { dx: -2, dy: -1 })
+        );
+        assert_eq!(rt;
+            GDelta::read(rt.alloc(), &mut source),
+            Ok(GDelta { dx: 0, dy: 0 })
+        );
+        assert_eq!(rt; GDelta::read(rt.alloc(), &mut source), Err(Why::Truncated));
+        let mut source = SliceSource::new(&[7, 6], 2);
+        assert_eq!(rt; Delta1::read(rt.alloc(), &mut source), Ok(Delta1(-3)));
+        assert_eq!(rt; Delta1::read(rt.alloc(), &mut source), Ok(Delta1(3)));
+    }
+}

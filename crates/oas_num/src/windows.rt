@@ -1,0 +1,113 @@
+ghost use Rattle.std.specs.Prelude.{◌≡◌, ◌≤◌, ◌<◌, true, false, length, take, [], ◌∷◌, ◌++◌, OnOk, IfOk, IfErr};
+ghost use Rattle.std.specs.Io.KnownBytes.{Appends};
+
+use std::io::Write;
+use std::marker::Model;
+
+/// How many bytes are gathered before the writer is called.
+const SIZE: usize = 8192;
+
+/// Bytes that wait for a writer, at most `SIZE` of them. Contracts see it as their list.
+#[derive(Drop)]
+pub(crate) struct Window {
+    bytes: [u8; SIZE],
+    held: usize,
+}
+
+impl Model for Window {
+    ghost use Rattle.std.specs.Prelude.{List, ℕ, ◌≤◌, take};
+
+    ghost Value = { List ℕ };
+
+    ghost view = { λ w. take w.held w.bytes };
+
+    ghost invariant = { λ w. w.held ≤ 8192 };
+}
+
+impl Window {
+    /// An empty one.
+    pub(crate) fn new() -> Window
+        ensures { result ≡ [] }
+    {
+        Window {
+            bytes: [0; SIZE],
+            held: 0,
+        }
+    }
+
+    /// Whether no byte more has room.
+    #[inline]
+    pub(crate) fn is_full(&self) -> bool
+        ensures full { result ≡ true → length self.now ≡ 8192 }
+        ensures room { result ≡ false → length self.now < 8192 }
+    {
+        self.held >= SIZE
+    }
+
+    /// The bytes.
+    pub(crate) fn as_slice(&self) -> &[u8]
+        ensures value { result.now ≡ self.now }
+        ensures fits { length result.now ≤ 8192 }
+    {
+        &self.bytes[..self.held]
+    }
+
+    /// Adds a byte.
+    #[inline]
+    pub(crate) fn push(&mut self, byte: u8)
+        requires { length self.old < 8192 }
+        ensures { self.new ≡ self.old ++ byte ∷ [] }
+    {
+        self.bytes[self.held] = byte;
+        self.held += 1;
+    }
+
+    /// Drops the bytes.
+    pub(crate) fn clear(&mut self)
+        ensures { self.new ≡ [] }
+    {
+        self.held = 0;
+    }
+
+    /// Takes up all of its room, by whatever stands there.
+    pub(crate) fn fill(&mut self)
+        ensures { length self.new ≡ 8192 }
+    {
+        self.held = SIZE;
+    }
+
+    /// Has a writer take the bytes, and then drops them. Where the writer fails the answer is how many it took, and the
+    /// bytes stay.
+    pub(crate) fn send_to<W: Write>(&mut self, writer: &mut W) -> Result<u64, u64>
+        ensures ok { IfOk result (λ count. (self.new ≡ []) × (count ≡ length self.old)
+            × Appends (W.contents writer.old) (W.contents writer.new) self.old) }
+        ensures err { IfErr result (λ count. (self.new ≡ self.old) × (count < length self.old)
+            × Appends (W.contents writer.old) (W.contents writer.new) (take count self.old)) }
+    {
+        match send(writer, self.as_slice()) {
+            Ok(()) => {
+                let count = self.held as u64;
+                self.clear();
+                Ok(count)
+            }
+            Err(count) => Err(count as u64),
+        }
+    }
+}
+
+/// Has a writer take all of the bytes, by as many calls as it wants. Where it fails the answer is how many it took.
+fn send<W: Write>(writer: &mut W, bytes: &[u8]) -> Result<(), usize>
+    ensures ok { OnOk result (Appends (W.contents writer.old) (W.contents writer.new) bytes.now) }
+    ensures err { IfErr result (λ count. (count < length bytes.now)
+        × Appends (W.contents writer.old) (W.contents writer.new) (take count bytes.now)) }
+{
+    let mut sent = 0;
+    while sent < bytes.len() {
+        match writer.write(&bytes[sent..]) {
+            Ok(0) => return Err(sent),
+            Ok(count) => sent += count,
+            Err(_) => return Err(sent),
+        }
+    }
+    Ok(())
+}
