@@ -1,9 +1,13 @@
 -- How a run ends: its status, and what it says on its error output.
-use Rattle.std.specs.Prelude.{◌≡◌, ℕ, List, [], ◌++◌, Option, Result, Ok, Err, ◌⊎◌}
+use Rattle.std.specs.Prelude.{◌≡◌, ℕ, List, [], ◌++◌, Option, Result, Ok, Err, IfOk, IfErr, ◌⊎◌}
 use Rattle.std.specs.Io.KnownBytes.{Appends}
 use Rattle.oas_num.specs.declared.refusals.Refusal.{Refusal}
+use Rattle.oas_num.specs.declared.refusals.Why.TheVariants.{Write}
 use Rattle.oas_num.specs.Refusals.{number_of}
+use Rattle.oas_num.specs.Script.{Script}
 use Rattle.oas_num.specs.Writing.{Puts, PutsFront}
+use Rattle.oas_canon.specs.Meaning.{standard}
+use Rattle.oas_canon.specs.Run.{IsDone, IsRefused, Exactly}
 use Rattle.oascanon.specs.Lines.{refusal_line}
 
 -- 0 after an answer, 1 after a refusal
@@ -31,3 +35,10 @@ pub record AppendsFront (old new : Option (List ℕ)) (bytes : List ℕ) : Type 
   pub back : List ℕ
   pub joined : bytes ≡ front ++ back
   pub appends : Appends old new front
+
+-- what `canonicalize` says of its answer: all was read, and the canonical file of it was written; or it is refused, and nothing was written; and that it is refused exactly where it isn't accepted
+pub record Canonicalizes {W : Type 0} (contents : W → Option (List ℕ)) (old : Script) (before : W) (answer : Result ℕ Refusal) (new : Script) (after : W) : Type 0 where
+  pub done : IfOk answer (λ n. IsDone standard old new (contents before) (contents after) n)
+  pub refused : IfErr answer (λ refusal. (refusal.why ≡ Write) ⊎ IsRefused standard old refusal.why new)
+  pub nothing : IfErr answer (λ refusal. (refusal.why ≡ Write) ⊎ (after ≡ before))
+  pub exactly : Exactly standard old answer new

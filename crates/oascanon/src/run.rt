@@ -2,7 +2,7 @@ ghost use Rattle.std.specs.Prelude.{◌≡◌, ℕ, Result};
 ghost use Rattle.oas_num.specs.Refusals.{number_of};
 ghost use Rattle.oas_num.specs.declared.refusals.Refusal.{Refusal as Refused};
 ghost use Rattle.oascanon.specs.Lines.{refusal_line};
-ghost use Rattle.oascanon.specs.Runs.{status_of, said, Tells, Ends, AppendsFront};
+ghost use Rattle.oascanon.specs.Runs.{status_of, said, Tells, Ends, AppendsFront, Canonicalizes};
 
 use crate::output::put_refusal;
 use oas_canon::canonicalize;
@@ -26,6 +26,7 @@ pub fn run_canon<S: Source, W: Write, E: Write>(
     err: &mut E,
 ) -> u8
     ensures { (answer : Result ℕ Refused) × (result ≡ status_of answer)
+        × Canonicalizes W.contents (S.script from.old) out.old answer (S.script from.new) out.new
         × AppendsFront (E.contents err.old) (E.contents err.new) (said name.now answer) }
 {
     let mut told = Outlet::new(err);
@@ -43,6 +44,7 @@ pub fn canon_telling<S: Source, W: Write, K: Sink>(
     told: &mut K,
 ) -> u8
     ensures { (answer : Result ℕ Refused) × (result ≡ status_of answer)
+        × Canonicalizes W.contents (S.script from.old) out.old answer (S.script from.new) out.new
         × Ends K.given K.failures name.now told.old answer told.new }
 {
     match canonicalize(alloc, from, out) {
