@@ -12,7 +12,7 @@ use Rattle.oas_num.specs.IntegerLaws.{OneFront-IsUnsigned}
 use Rattle.oas_num.specs.Style.{Any}
 use Rattle.oas_num.specs.Texts.{IsNameByte, IsLabelByte, IsName, IsLabel, IsText, IsPositive, IsPassed, SpellsName, SpellsLabel, SpellsPadding, padding_of, padding_length}
 use Rattle.oas_num.specs.TextLaws.{OneFront-positive, OneFront-passed, text_of}
-use Rattle.oas_num.specs.Reading.{Reads, ReadsValue, Fails, ByteMay, IntegerMay, NameMay, LabelMay, TextMay}
+use Rattle.oas_num.specs.Reading.{Reads, ReadsValue, Fails, ByteMay, IntegerMay, NameMay, LabelMay, ClassMay, TextMay}
 use Rattle.oas_num.proofs.GrammarLemmas.{Midway, begins, key_read, key_fails, such_read, such_fails, refused, is_read, fails_last, Listed, listed_none, listed_more, listed_fails, listed_all}
 use Rattle.oas_num.proofs.ReadLemmas.{Takes-none, Fails-after}
 use Rattle.oas_num.proofs.IntegerLemmas.{IntegerMay-byte}
@@ -48,11 +48,18 @@ LabelMay-text InputTooLong last h = tt
 LabelMay-text Memory last h = tt
 LabelMay-text _ last h = absurd h
 
-pub TextMay-byte : (class : ℕ → Type 0) (why : Why) (last : List ℕ) → ByteMay why last → TextMay class why last
-TextMay-byte class Truncated last h = tt
-TextMay-byte class Read last h = tt
-TextMay-byte class InputTooLong last h = tt
-TextMay-byte class _ last h = absurd h
+pub ClassMay-byte : (class : ℕ → Type 0) (why : Why) (last : List ℕ) → ByteMay why last → ClassMay class why last
+ClassMay-byte class Truncated last h = tt
+ClassMay-byte class Read last h = tt
+ClassMay-byte class InputTooLong last h = tt
+ClassMay-byte class _ last h = absurd h
+
+pub TextMay-class : (class : ℕ → Type 0) (why : Why) (last : List ℕ) → ClassMay class why last → TextMay class why last
+TextMay-class class Truncated last h = tt
+TextMay-class class Read last h = tt
+TextMay-class class InputTooLong last h = tt
+TextMay-class class StringByte last h = h
+TextMay-class class _ last h = absurd h
 
 -- ---- n-strings
 

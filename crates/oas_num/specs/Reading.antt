@@ -59,6 +59,14 @@ LabelMay IntegerRange last = IsOutOfRange last
 LabelMay StringByte last = (byte : ℕ) × (last ≡ byte ∷ []) × ¬ IsLabelByte byte
 LabelMay _ last = ⊥
 
+-- where a read of a byte of a class may fail
+abbrev pub ClassMay : (ℕ → Type 0) → Why → List ℕ → Type 0
+ClassMay class Truncated last = Unit {0}
+ClassMay class Read last = Unit {0}
+ClassMay class InputTooLong last = Unit {0}
+ClassMay class StringByte last = (byte : ℕ) × (last ≡ byte ∷ []) × ¬ class byte
+ClassMay class _ last = ⊥
+
 -- where a read of the bytes of a string may fail
 abbrev pub TextMay : (ℕ → Type 0) → Why → List ℕ → Type 0
 TextMay class Truncated last = Unit {0}

@@ -5,7 +5,7 @@ ghost use Rattle.std.specs.Cmp.Rules.{comparing, hashing};
 ghost use Rattle.std.specs.Cmp.Lexicographic.{slice_cmp, pointwise};
 ghost use Rattle.std.specs.Ordering.{nat_cmp, as_partial_cmp};
 ghost use Rattle.std.specs.Hash as fed;
-ghost use Rattle.oas_num.specs.Reading.{Reads, ReadsAs, ByteMay, TextMay};
+ghost use Rattle.oas_num.specs.Reading.{Reads, ReadsAs, ByteMay, ClassMay, TextMay};
 ghost use Rattle.oas_num.specs.Grammar.{IsSuch, IsByte};
 ghost use Rattle.oas_num.specs.Texts.{IsText, IsBetween, IsName, IsLabel, IsPassed};
 
@@ -19,8 +19,8 @@ use std::hash::{Hash, Hasher};
 use std::marker::Model;
 
 /// The next byte, from `low` to `high`.
-fn next_within<S: Source>(low: u8, high: u8, source: &mut S) -> Result<u8, Why>
-    ensures { Reads (IsSuch (IsBetween low high) IsByte) (TextMay (IsBetween low high))
+pub fn next_within<S: Source>(low: u8, high: u8, source: &mut S) -> Result<u8, Why>
+    ensures { Reads (IsSuch (IsBetween low high) IsByte) (ClassMay (IsBetween low high))
         (S.script source.old) result (S.script source.new) }
 {
     let byte = next_byte(source)?;

@@ -35,28 +35,29 @@ list_cmp_decided a b k o h g e ne =
     first Equal r ne = absurd (ne refl)
     first Greater r ne = refl
 
--- one point more of two readings that agree there
-pub readings_more : (p : List Point) (a b : Reading) (k i j : ℕ) (o : Ordering) → k < length p
+-- what is left of two readings decides as before, where they agree in one point more
+pub readings_more : (p : List Point) (a b : Reading) (k i j : ℕ) (o all : Ordering) → k < length p
     → point_at (reading_of p a) k ≡ point_at p i → point_at (reading_of p b) k ≡ point_at p j
     → o ≡ point_cmp (point_at p i) (point_at p j) → o ≡ Equal
-    → list_cmp (drop k (reading_of p a)) (drop k (reading_of p b))
-    ≡ list_cmp (drop (k + 1) (reading_of p a)) (drop (k + 1) (reading_of p b))
-readings_more p a b k i j o h pa pb e eq =
+    → list_cmp (drop k (reading_of p a)) (drop k (reading_of p b)) ≡ all
+    → list_cmp (drop (k + 1) (reading_of p a)) (drop (k + 1) (reading_of p b)) ≡ all
+readings_more p a b k i j o all h pa pb e eq so_far =
     let la = length-reading_of p a in
     let lb = length-reading_of p b in
     let e' : Equal ≡ point_cmp (point_at (reading_of p a) k) (point_at (reading_of p b) k) = cc in
-    list_cmp_more (reading_of p a) (reading_of p b) k Equal (omega arith) (omega arith) e'
+    sym (list_cmp_more (reading_of p a) (reading_of p b) k Equal (omega arith) (omega arith) e') ∙ so_far
 
 -- and where the points differ, they decide
-pub readings_decided : (p : List Point) (a b : Reading) (k i j : ℕ) (o : Ordering) → k < length p
+pub readings_decided : (p : List Point) (a b : Reading) (k i j : ℕ) (o all : Ordering) → k < length p
     → point_at (reading_of p a) k ≡ point_at p i → point_at (reading_of p b) k ≡ point_at p j
     → o ≡ point_cmp (point_at p i) (point_at p j) → o ≢ Equal
-    → list_cmp (drop k (reading_of p a)) (drop k (reading_of p b)) ≡ o
-readings_decided p a b k i j o h pa pb e ne =
+    → list_cmp (drop k (reading_of p a)) (drop k (reading_of p b)) ≡ all
+    → o ≡ all
+readings_decided p a b k i j o all h pa pb e ne so_far =
     let la = length-reading_of p a in
     let lb = length-reading_of p b in
     let e' : o ≡ point_cmp (point_at (reading_of p a) k) (point_at (reading_of p b) k) = cc in
-    list_cmp_decided (reading_of p a) (reading_of p b) k o (omega arith) (omega arith) e' ne
+    sym (list_cmp_decided (reading_of p a) (reading_of p b) k o (omega arith) (omega arith) e' ne) ∙ so_far
 
 -- one point more of a reading
 pub reading_push : (p : List Point) (r : Reading) (k i : ℕ) → k < length p

@@ -92,10 +92,10 @@ not_below_twice a b c g h =
     let bc = not_greater (list_cmp b c) (list_cmp c b) (point_lists_total.antisymm b c) h in
     not_less (list_cmp a c) (list_cmp c a) (point_lists_total.antisymm a c) (upto point_lists_total c b a bc ab)
 
--- what is not above is not below, the other way round
-pub not_below_from_not_above : (a b : List Point) → list_cmp a b ≢ Greater → list_cmp b a ≢ Less
-not_below_from_not_above a b h l = h (point_lists_total.antisymm a b ∙ ap ordering_reverse l)
+-- where a comparison of two lists doesn't answer that the first is above, the second is not below the first
+pub not_below_from_not_above : (a b : List Point) (o : Ordering) → o ≡ list_cmp a b → o ≢ Greater → list_cmp b a ≢ Less
+not_below_from_not_above a b o e h l = h (e ∙ point_lists_total.antisymm a b ∙ ap ordering_reverse l)
 
--- what is above is not below
-pub not_below_from_above : (a b : List Point) → list_cmp a b ≡ Greater → list_cmp a b ≢ Less
-not_below_from_above a b h l = let x : Greater ≡ Less = sym h ∙ l in cc
+-- where it does, the first is not below
+pub not_below_from_above : (a b : List Point) (o : Ordering) → o ≡ list_cmp a b → o ≡ Greater → list_cmp a b ≢ Less
+not_below_from_above a b o e h l = let x : Greater ≡ Less = sym h ∙ e ∙ l in cc

@@ -14,7 +14,7 @@ returns-in-Greater-clause-least g c =
     let same = sym c.len-count.ensures in
     least_of_both p f.result b.result b.result c.least_turn-forth.result c.least_turn-back.result c.requires.some
     (f.ensures.reading p same) c.least_turn-forth.ensures.least (b.ensures.reading p same) back_least
-    (not_below_from_above (reading_of p f.result) (reading_of p b.result) (sym order ∙ c.in-Greater.is))
+    (not_below_from_above (reading_of p f.result) (reading_of p b.result) c.compare_readings.result order c.in-Greater.is)
     (not_below_itself (reading_of p b.result))
 
 pub returns-in_default : goal.returns-in_default
@@ -32,7 +32,7 @@ returns-in_default g c =
       least = least_of_both p f.result b.result f.result c.least_turn-forth.result c.least_turn-back.result c.requires.some
           (f.ensures.reading p same) c.least_turn-forth.ensures.least (b.ensures.reading p same) back_least
           (not_below_itself (reading_of p f.result))
-          (not_below_from_not_above (reading_of p f.result) (reading_of p b.result) (λ h. c.in_default.not-Greater (order ∙ h)));
+          (not_below_from_not_above (reading_of p f.result) (reading_of p b.result) c.compare_readings.result order c.in_default.not-Greater);
       cost = omega arith;
       fixed = c.compare_readings.ensures.fixed ∙ c.least_turn-back.ensures.fixed ∙ c.least_turn-forth.ensures.fixed;
     }

@@ -1,0 +1,54 @@
+-- The form in which a polygon is kept, by the reading that was found.
+use Rattle.std.proofs.Common.{◌≡◌, ◌≤◌, ◌*◌, ℕ, Bool, false, List, length, Option, None, Some, refl, sym, ◌∙◌, ap, subst, arith}
+use Rattle.oas_ring.specs.declared.point.Point.{Point}
+use Rattle.oas_ring.specs.declared.rectangles.Corners.{Corners}
+use Rattle.oas_ring.specs.declared.readings.Reading.{Reading}
+use Rattle.oas_ring.specs.Rings.{rotation}
+use Rattle.oas_ring.specs.Readings.{reading_of, IsLeastReadingOf}
+use Rattle.oas_layout.specs.declared.profile.Profile.{Profile}
+use Rattle.oas_layout.specs.declared.profile.Profile.TheVariants.{One}
+use Rattle.oas_layout.specs.declared.element.Element.{Element}
+use Rattle.oas_layout.specs.declared.element.Element.TheVariants.{Polygon}
+use Rattle.oas_ring.specs.Readings.{least_of}
+use Rattle.oas_ring.specs.ReadingsLaws.{least_of-is}
+use Rattle.oas_layout.specs.Same.{drawn_box, normal_polygon, normal, IsNormal}
+use Rattle.oas_layout.specs.SameLaws.{normal-normal, weight_of-normal, weight_of-normal-le}
+use Rattle.oas_layout.specs.Weight.{weight_of}
+use Rattle.std.proofs.Common.{take, drop, ◌++◌, []}
+use Rattle.std.proofs.lemmas.List.{append-nil}
+use Rattle.std.proofs.lemmas.Nat.{mul-le}
+
+-- from its first point on in its order, a list is read as it is
+reading_of-first : (p : List Point) (r : Reading) → r.start ≡ 0 → r.backwards ≡ false → reading_of p r ≡ p
+reading_of-first p r start forwards =
+    ap (λ (t : Reading). reading_of p t) (λ i. record { start = start i; backwards = forwards i }) ∙ append-nil p
+
+module _ (profile : Profile) (layer datatype : ℕ) (p ring : List Point) (o : Option Corners) (there : ring ≡ p) (box : o ≡ drawn_box profile ring) where
+  drawn : drawn_box profile p ≡ o
+  drawn = ap (drawn_box profile) (sym there) ∙ sym box
+
+  -- a polygon that is drawn round no rectangle, read otherwise
+  pub kept_turned : (q : List Point) (r : Reading) → o ≡ None → IsLeastReadingOf ring (reading_of ring r) → q ≡ reading_of ring r → Polygon layer datatype q ≡ normal_polygon layer datatype (least_of p) (drawn_box profile p)
+  kept_turned q r none least is =
+      λ i. normal_polygon layer datatype ((is ∙ least_of-is ring (reading_of ring r) least ∙ ap least_of there) i) (sym (drawn ∙ none) i)
+
+  -- or as it is
+  pub kept_as_it_is : (r : Reading) → o ≡ None → IsLeastReadingOf ring (reading_of ring r) → r.start ≡ 0 → r.backwards ≡ false → Polygon layer datatype p ≡ normal_polygon layer datatype (least_of p) (drawn_box profile p)
+  kept_as_it_is r none least start forwards = kept_turned p r none least (sym there ∙ sym (reading_of-first ring r start forwards))
+
+-- what is kept is in its kept form, and weighs no more than what was spelled
+module _ (profile own : Profile) (e kept : Element) (same : profile ≡ own) (is : kept ≡ normal profile e) where
+  pub kept_normal : IsNormal own kept
+  kept_normal = subst (λ p. IsNormal p kept) same (ap (normal profile) is ∙ normal-normal profile e ∙ sym is)
+
+  pub kept_lighter : (w n s : ℕ) → w ≡ weight_of e → s ≡ w * n → weight_of kept * n ≤ s
+  kept_lighter w n s weight product =
+      let less : weight_of (normal profile e) ≤ weight_of e = weight_of-normal-le profile e in
+      let much : weight_of (normal profile e) * n ≤ weight_of e * n = mul-le (weight_of (normal profile e)) n (weight_of e) n less (omega arith) in
+      let first : weight_of kept * n ≡ weight_of (normal profile e) * n = ap (λ (x : Element). weight_of x * n) is in
+      let last : w * n ≡ weight_of e * n = ap (λ (k : ℕ). k * n) weight in
+      omega (arith, first, much, last, product)
+
+  pub kept_as_spelled : (w n s : ℕ) → w ≡ weight_of e → s ≡ w * n → own ≡ One → weight_of kept * n ≡ s
+  kept_as_spelled w n s weight product one =
+      ap (λ (x : Element). weight_of x * n) is ∙ ap (λ p. weight_of (normal p e) * n) (same ∙ one) ∙ ap (λ (k : ℕ). k * n) (weight_of-normal e) ∙ sym (ap (λ (k : ℕ). k * n) weight) ∙ sym product

@@ -1,0 +1,108 @@
+-- Layouts are the same exactly if their cells are equal.
+use Rattle.std.proofs.Common.{◌≡◌, ℕ, suc, ◌+◌, ◌<◌, List, [], ◌∷◌, Bool, true, false, cond, Option, None, Some, is_some, unwrap_or, length, slice_get, refl, sym, ◌∙◌, ap, subst, arith, ◌↔◌, ◌&&◌, T, not, IsTrue, true≢false}
+use Rattle.std.specs.Prelude.{sum_by, ◌==◌, option_map, IfSome}
+use Rattle.std.specs.List.{AllByRecursion}
+use Rattle.std.specs.List.Sorted.{IsStrictlySortedBy}
+use Rattle.std.specs.Map.{lookup, keys_of}
+use Rattle.std.specs.BTreeMap.{is_at}
+use Rattle.std.specs.FinMap.Entries.{same_entries, is_sorted, below_all, find}
+use Rattle.std.proofs.lemmas.Map.Keys.{sorted_head, sorted_tail}
+use Rattle.std.specs.declared.cmp.Ordering.TheVariants.{Less}
+use Rattle.std.specs.Cmp.Lexicographic.{pointwise, nat_list_cmp_total, nat_list_eq_equiv, texts_ties}
+use Rattle.std.proofs.lemmas.Map.Lookups.{exact_bytes}
+use Rattle.oas_layout.specs.declared.element.Element.{Element}
+use Rattle.oas_layout.specs.declared.profile.Profile.{Profile}
+use Rattle.oas_layout.specs.ElementLaws.{element_total, exact_elements}
+use Rattle.oas_layout.specs.Bag.{items, IsBag}
+use Rattle.oas_layout.specs.Same.{same_element, IsNormal}
+use Rattle.oas_layout.specs.SameLaws.{same_normal}
+use Rattle.oas_layout.specs.Meaning.{elements_of, count_of, SameLayout}
+use Rattle.oas_layout.specs.Contents.{Cell, Contents, expanded, meaning_of, IsLayout}
+use Rattle.oas_layout.proofs.Counting.{sum_by-items, same_bags}
+use Rattle.oas_layout.proofs.Sealed.{name_cmp}
+
+-- bags with equal counts of each element are equal
+pub same_held : (profile : Profile) (es fs : List (Element × ℕ)) → IsBag profile es → IsBag profile fs → ((e : Element) → count_of profile e (items es) ≡ count_of profile e (items fs)) → es ≡ fs
+same_held profile es fs b c h =
+    same_bags element_total exact_elements (same_element profile) (IsNormal profile) (same_normal profile) es fs b.normal c.normal b.tally.positive c.tally.positive b.tally.ascending c.tally.ascending (λ q _. sym (sum_by-items _ es) ∙ h q ∙ sum_by-items _ fs)
+
+bag_at : (profile : Profile) (test : List ℕ → Bool) (cs : List Cell) → AllByRecursion (λ c. IsBag profile c.1) cs → IfSome (lookup test cs) (IsBag profile)
+bag_at profile test [] h = tt
+bag_at profile test (c ∷ cs) h = elim (test c.0) as (λ b. IfSome (cond b (Some c.1) (lookup test cs)) (IsBag profile)) [ true ↦ h.0 | false ↦ bag_at profile test cs h.1 ]
+
+-- the elements of a cell, by the counts that are held
+elements_of-expanded : (name : List ℕ) (cs : List Cell) → elements_of name (expanded cs) ≡ option_map items (lookup (pointwise ◌==◌ name) cs)
+elements_of-expanded name [] = refl
+elements_of-expanded name (c ∷ cs) =
+    elim (pointwise ◌==◌ name c.0) as (λ b. cond b (Some (items c.1)) (elements_of name (expanded cs)) ≡ option_map items (cond b (Some c.1) (lookup (pointwise ◌==◌ name) cs))) [ true ↦ refl | false ↦ elements_of-expanded name cs ]
+
+joined : (profile : Profile) (o p : Option (List (Element × ℕ))) → IfSome o (IsBag profile) → IfSome p (IsBag profile) → is_some (option_map items o) ≡ is_some (option_map items p) → ((e : Element) → count_of profile e (unwrap_or (option_map items o) []) ≡ count_of profile e (unwrap_or (option_map items p) [])) → o ≡ p
+joined profile None None b c s h = refl
+joined profile None (Some y) b c s h = cc
+joined profile (Some x) None b c s h = cc
+joined profile (Some x) (Some y) b c s h = ap Some (same_held profile x y b c h)
+
+by_cmp : (q : List ℕ) (cs : List Cell) → lookup (pointwise ◌==◌ q) cs ≡ lookup (is_at (name_cmp q)) cs
+by_cmp q cs = λ i. lookup (λ k. texts_ties q k i) cs
+
+sorted_below : (x : List ℕ) (cs : List Cell) → AllByRecursion (λ k. name_cmp x k ≡ Less) (keys_of cs) → T (below_all name_cmp x cs)
+sorted_below x [] h = tt
+sorted_below x (c ∷ cs) h = rw h.0 (sorted_below x cs h.1)
+
+sorted_list : (cs : List Cell) → IsStrictlySortedBy name_cmp (keys_of cs) → T (is_sorted name_cmp cs)
+sorted_list [] s = tt
+sorted_list (c ∷ cs) s = both _ _ (sorted_below c.0 cs (sorted_head name_cmp c.0 (keys_of cs) s)) (sorted_list cs (sorted_tail name_cmp c.0 (keys_of cs) s)) where
+  both : (a b : Bool) → T a → T b → T (a && b)
+  both true b p q = q
+  both false b p q = p
+
+find_is : (q : List ℕ) (cs : List Cell) → find name_cmp q cs ≡ lookup (is_at (name_cmp q)) cs
+find_is q [] = refl
+find_is q (c ∷ cs) = ap (λ o. cond (is_at (name_cmp q) c.0) (Some c.1) o) (find_is q cs)
+
+pub cells_from_same : (profile : Profile) (a b : Contents) (m n v w x y : ℕ) → IsLayout a.limits profile a.cells m v x → IsLayout b.limits profile b.cells n w y → SameLayout profile (meaning_of a) (meaning_of b) → a.cells ≡ b.cells
+cells_from_same profile a b m n v w x y k l s =
+    same_entries name_cmp nat_list_cmp_total exact_bytes a.cells b.cells (sorted_list a.cells k.ascending) (sorted_list b.cells l.ascending)
+    (λ q.
+    let left = elements_of-expanded q a.cells in
+    let right = elements_of-expanded q b.cells in
+    find_is q a.cells ∙ sym (by_cmp q a.cells)
+    ∙ joined profile (lookup (pointwise ◌==◌ q) a.cells) (lookup (pointwise ◌==◌ q) b.cells) (bag_at profile _ a.cells k.counted.bags) (bag_at profile _ b.cells l.counted.bags) (ap is_some (sym left) ∙ s.cells q ∙ ap is_some right)
+    (λ e. ap (λ o. count_of profile e (unwrap_or o [])) (sym left) ∙ s.counts q e ∙ ap (λ o. count_of profile e (unwrap_or o [])) right)
+    ∙ by_cmp q b.cells ∙ sym (find_is q b.cells))
+
+pub same_from_cells : (profile : Profile) (a b : Contents) → a.unit ≡ b.unit → a.cells ≡ b.cells → SameLayout profile (meaning_of a) (meaning_of b)
+same_from_cells profile a b u e = record {
+  unit = u;
+  cells = λ name. ap (λ cs. is_some (elements_of name (expanded cs))) e;
+  counts = λ name x. ap (λ cs. count_of profile x (unwrap_or (elements_of name (expanded cs)) [])) e;
+}
+
+-- lists that read alike are equal
+pub same_reads : (cs ds : List Cell) → length cs ≡ length ds → ((k : ℕ) → k < length cs → slice_get cs k ≡ slice_get ds k) → cs ≡ ds
+same_reads [] [] e h = refl
+same_reads [] (d ∷ ds) e h = absurd (omega (arith, e))
+same_reads (c ∷ cs) [] e h = absurd (omega (arith, e))
+same_reads (c ∷ cs) (d ∷ ds) e h =
+    let head : c ≡ d = ap (λ o. unwrap_or o c) (h 0 (omega arith)) in
+    λ i. head i ∷ same_reads cs ds (omega (arith, e)) (λ k below. h (suc k) (omega (arith, below))) i
+
+-- layouts of which the units or the cells differ are not the same
+pub differ : (profile : Profile) (u v : Contents) (a b : Contents) (m n w x y z : ℕ) → u ≡ a → v ≡ b → profile ≡ a.profile → a.profile ≡ b.profile → IsLayout u.limits u.profile u.cells m w y → IsLayout v.limits v.profile v.cells n x z → (a.unit ≡ b.unit → a.cells ≡ b.cells → ⊥) → (IsTrue false → SameLayout profile (meaning_of a) (meaning_of b)) × (SameLayout profile (meaning_of a) (meaning_of b) → IsTrue false)
+differ profile u v a b m n w x y z e f own both k l apart =
+    let ka : IsLayout a.limits a.profile a.cells m w y = subst (λ (w' : Contents). IsLayout w'.limits w'.profile w'.cells m w y) e k in
+    let lb : IsLayout b.limits b.profile b.cells n x z = subst (λ (w' : Contents). IsLayout w'.limits w'.profile w'.cells n x z) f l in
+    let kp : IsLayout a.limits profile a.cells m w y = subst (λ p. IsLayout a.limits p a.cells m w y) (sym own) ka in
+    let lp : IsLayout b.limits profile b.cells n x z = subst (λ p. IsLayout b.limits p b.cells n x z) (sym (own ∙ both)) lb in
+    (λ h. absurd (true≢false (sym h)), λ s. absurd (apart s.unit (cells_from_same profile a b m n w x y z kp lp s)))
+
+one_entry : (o p : Option Cell) (c d : Cell) → o ≡ p → o ≡ Some c → p ≡ Some d → c ≡ d
+one_entry o p c d e f g = ap (λ q. unwrap_or q c) (sym f ∙ e ∙ g)
+
+pub same_at : (cs ds : List Cell) (i : ℕ) (c d : Cell) → slice_get cs i ≡ Some c → slice_get ds i ≡ Some d → cs ≡ ds → c ≡ d
+same_at cs ds i c d f g e = one_entry (slice_get cs i) (slice_get ds i) c d (ap (λ (es : List Cell). slice_get es i) e) f g
+
+pub unlike_itself : (c d : Cell) → c ≡ d → true ≡ not (pointwise ◌==◌ c.0 d.0) → ⊥
+unlike_itself c d e h =
+    let alike : pointwise ◌==◌ c.0 d.0 ≡ true = ap (λ k. pointwise ◌==◌ c.0 k) (sym (ap (λ (p : Cell). p.0) e)) ∙ nat_list_eq_equiv.refl c.0 in
+    true≢false (h ∙ ap not alike)

@@ -1,0 +1,5 @@
+use Rattle.oas_layout.proofs.LawProofs.{held}
+use Rattle.oas_layout.proofs.laws.held_counts.Goals as goal
+
+pub returns : goal.returns
+returns c = held

@@ -1,0 +1,27 @@
+use Rattle.std.proofs.Common.{◌≡◌, ℕ, List, length, slice_get, refl, sym, ◌∙◌, ap, arith, rules, true≢false, true, not}
+use Rattle.oas_layout.specs.Contents.{Cell, Contents}
+use Rattle.oas_layout.proofs.SameLemmas.{differ, same_at, same_reads, same_from_cells, unlike_itself}
+use Rattle.oas_layout.proofs.layout.Layout.same.Goals as goal
+
+pub returns-then-count-len : goal.returns-then-count-len
+returns-then-count-len c =
+    differ c.args.self.now.profile _ _ c.args.self.now c.args.other.now _ _ _ _ _ _ c.self.view_is c.other.view_is refl c.requires c.self.invariant c.other.invariant
+    (λ _ e. c.if-count-len.true (c.len-count.ensures.len ∙ ap (λ (v : Contents). length v.cells) c.self.view_is ∙ ap length e ∙ sym (ap (λ (v : Contents). length v.cells) c.other.view_is) ∙ sym c.len.ensures.len))
+
+pub returns-then-ne-2 : goal.returns-then-ne-2
+returns-then-ne-2 c =
+    differ c.args.self.now.profile _ _ c.args.self.now c.args.other.now _ _ _ _ _ _ c.self.view_is c.other.view_is refl c.requires c.self.invariant c.other.invariant
+    (λ _ e. unlike_itself _ _ (same_at c.args.self.now.cells c.args.other.now.cells c.loop-i.i _ _ c.cell.ensures.cell c.cell-in-loop-i.ensures.cell e) c.if-ne-2.ensures)
+
+pub returns-then-not-same : goal.returns-then-not-same
+returns-then-not-same c =
+    differ c.args.self.now.profile _ _ c.args.self.now c.args.other.now _ _ _ _ _ _ c.self.view_is c.other.view_is refl c.requires c.self.invariant c.other.invariant
+    (λ _ e. true≢false (sym (c.if-not-same.ensures.1 (ap (λ (p : Cell). p.1) (same_at c.args.self.now.cells c.args.other.now.cells c.loop-i.i _ _ c.cell.ensures.cell c.cell-in-loop-i.ensures.cell e)))))
+
+pub returns : goal.returns
+returns c =
+    let left = ap (λ (v : Contents). length v.cells) c.self.view_is in
+    let right = ap (λ (v : Contents). length v.cells) c.other.view_is in
+    let unit : c.self.inside.unit ≡ c.other.inside.unit = search rules in
+    let units : c.args.self.now.unit ≡ c.args.other.now.unit = sym (ap (λ (v : Contents). v.unit) c.self.view_is) ∙ unit ∙ ap (λ (v : Contents). v.unit) c.other.view_is in
+    (λ _. same_from_cells c.args.self.now.profile c.args.self.now c.args.other.now units (same_reads c.args.self.now.cells c.args.other.now.cells (omega (arith, left, right, c.len-count.ensures.len, c.len.ensures.len, c.if-count-len.false)) (λ k below. c.loop-i.invariant k (omega (arith, below, left, c.len-count.ensures.len, c.loop-i-test.false)))), λ _. refl)

@@ -1,0 +1,14 @@
+pub mod Ascending
+pub mod Bag
+pub mod Boxes
+pub mod BoxesLaws
+pub mod Contents
+pub mod Element
+pub mod ElementLaws
+pub mod Grid
+pub mod Laws
+pub mod Limits
+pub mod Meaning
+pub mod Same
+pub mod SameLaws
+pub mod Weight

@@ -1,0 +1,218 @@
+//! A layout in the making.
+
+ghost use Rattle.std.specs.Prelude.{◌≡◌, ◌≤◌, ◌+◌, ◌*◌, ◌<◌, ◌⊎◌, length, None, Some, OnOk, OnErr, IfErr, IfOk};
+ghost use Rattle.std.specs.Option.{SomeIff};
+ghost use Rattle.oas_num.specs.declared.refusals.Why.TheVariants.{Memory};
+ghost use Rattle.oas_layout.specs.declared.profile.Profile.TheVariants.{One};
+ghost use Rattle.oas_layout.specs.Weight.{weight_of};
+ghost use Rattle.oas_layout.specs.Same.{IsNormal};
+ghost use Rattle.oas_layout.specs.Meaning.{element_count};
+ghost use Rattle.oas_layout.specs.Contents.{expanded, nothing, with_cell, holding, added, cell_refusal, refusal, IsSealed};
+
+use crate::bag::Bag;
+use crate::element::Element;
+use crate::layout::Layout;
+use crate::limits::Limits;
+use crate::profile::Profile;
+use indexmap::IndexMap;
+use oas_num::{Fraction, Name, Why};
+use std::alloc::{AllocError, Global};
+use std::marker::Model;
+
+/// A layout in the making: a unit, limits and a profile, and cells in order of definition.
+#[derive(Drop)]
+pub struct Draft {
+    unit: Fraction,
+    limits: Limits,
+    profile: Profile,
+    cells: IndexMap<Name, Bag>,
+    count: u64,
+    weight: u64,
+    spelled: u64,
+    alloc: Global,
+}
+
+impl Model for Draft {
+    ghost use Rattle.oas_layout.specs.Contents.{Contents, IsCounted};
+
+    ghost Value = { Contents };
+
+    ghost view = { λ a. record { unit = a.unit; limits = a.limits; profile = a.profile; cells = a.cells.entries; spelled = a.spelled } };
+
+    ghost invariant = { λ a. IsCounted a.limits a.profile a.cells.entries a.count a.weight a.spelled };
+}
+
+impl Draft {
+    /// A draft of no cells, with room for one.
+    pub fn new(
+        alloc: Global,
+        unit: Fraction,
+        limits: Limits,
+        profile: Profile,
+    ) -> Result<Draft, AllocError>
+        ensures { IfOk result (λ d. d ≡ nothing unit limits profile) }
+    {
+        let cells = IndexMap::with_capacity(alloc, 1)?;
+        Ok(Draft {
+            unit,
+            limits,
+            profile,
+            cells,
+            count: 0,
+            weight: 0,
+            spelled: 0,
+            alloc,
+        })
+    }
+
+    /// How many cells there are.
+    pub fn cells(&self) -> usize
+        ensures { result ≡ length self.now.cells }
+    {
+        self.cells.len()
+    }
+
+    /// Adds a cell with no elements, and answers how many cells stand before it.
+    pub fn add_cell(&mut self, name: Name) -> Result<usize, (Why, Name)>
+        ensures ok { IfOk result (λ i. (cell_refusal self.old name ≡ None) × (i ≡ length self.old.cells) × (self.new ≡ with_cell self.old name)) }
+        ensures why { IfErr result (λ e. (e.0 ≡ Memory) ⊎ (cell_refusal self.old name ≡ Some e.0)) }
+        ensures back { IfErr result (λ e. e.1 ≡ name) }
+        ensures err { OnErr result (self.new ≡ self.old) }
+    {
+        if self.cells.contains_key(&name) {
+            return Err((Why::DuplicateCell, name));
+        }
+        let weight = name.as_bytes().len() as u64;
+        if weight >= self.limits.weight() - self.spelled {
+            return Err((Why::TooHeavy, name));
+        }
+        let before = self.cells.len();
+        let bag = Bag::new(self.alloc);
+        if let Err(e) = self.cells.insert(name, bag) {
+            return Err((Why::Memory, e.value.0));
+        }
+        self.weight += 1 + weight;
+        self.spelled += 1 + weight;
+        Ok(before)
+    }
+
+    /// Adds an element to a cell, or hands it back.
+    pub fn add(&mut self, cell: usize, element: Element) -> Result<(), (Why, Element)>
+        requires { cell < length self.old.cells }
+        ensures ok { OnOk result ((refusal self.old element 1 ≡ None) × (self.new ≡ added self.old cell element 1)) }
+        ensures why { IfErr result (λ e. (e.0 ≡ Memory) ⊎ (refusal self.old element 1 ≡ Some e.0)) }
+        ensures back { IfErr result (λ e. e.1 ≡ element) }
+        ensures err { OnErr result (self.new ≡ self.old) }
+    {
+        self.add_many(cell, element, 1)
+    }
+
+    /// Adds so many equal elements to a cell, or hands the element back.
+    pub fn add_many(
+        &mut self,
+        cell: usize,
+        element: Element,
+        times: u64,
+    ) -> Result<(), (Why, Element)>
+        requires cell { cell < length self.old.cells }
+        requires some { 0 < times }
+        ensures ok { OnOk result ((refusal self.old element times ≡ None) × (self.new ≡ added self.old cell element times)) }
+        ensures why { IfErr result (λ e. (e.0 ≡ Memory) ⊎ (refusal self.old element times ≡ Some e.0)) }
+        ensures back { IfErr result (λ e. e.1 ≡ element) }
+        ensures err { OnErr result (self.new ≡ self.old) }
+    {
+        if element.lacks_points() {
+            return Err((Why::PointCount, element));
+        }
+        if times > self.limits.elements() - self.count {
+            return Err((Why::TooManyElements, element));
+        }
+        let room = self.limits.weight() - self.spelled;
+        let Some(spelled) = product_within(element.weight(), times, room) else {
+            return Err((Why::TooHeavy, element));
+        };
+        if !element.fits_grid() {
+            return Err((Why::CoordinateRange, element));
+        }
+        let Ok(kept) = element.kept_form(self.alloc, self.profile) else {
+            return Err((Why::Memory, element));
+        };
+        let Some(kept) = kept else {
+            if let Err(element) = self.hold(cell, element, times, spelled) {
+                return Err((Why::Memory, element));
+            }
+            return Ok(());
+        };
+        if let Err(_) = self.hold(cell, kept, times, spelled) {
+            return Err((Why::Memory, element));
+        }
+        Ok(())
+    }
+
+    /// Adds an element in its kept form to a cell so many times, spelled with this weight, or hands it back.
+    fn hold(
+        &mut self,
+        cell: usize,
+        element: Element,
+        times: u64,
+        spelled: u64,
+    ) -> Result<(), Element>
+        requires cell { cell < length self.old.cells }
+        requires some { 0 < times }
+        requires kept { IsNormal self.old.profile element }
+        requires few { element_count (expanded self.old.cells) + times ≤ self.old.limits.elements }
+        requires light { self.old.spelled + spelled ≤ self.old.limits.weight }
+        requires lighter { weight_of element * times ≤ spelled }
+        requires as_spelled { self.old.profile ≡ One → weight_of element * times ≡ spelled }
+        ensures ok { OnOk result (self.new ≡ holding self.old cell element times spelled) }
+        ensures back { IfErr result (λ e. e ≡ element) }
+        ensures err { OnErr result (self.new ≡ self.old) }
+    {
+        let weight = element.weight() * times;
+        if let Err(element) = self.cells[cell].add(element, times) {
+            return Err(element);
+        }
+        self.count += times;
+        self.weight += weight;
+        self.spelled += spelled;
+        Ok(())
+    }
+
+    /// The layout of what is held, its cells by ascending names. A refused seal gives the draft up.
+    pub fn seal(self) -> Result<Layout, AllocError>
+        ensures { IfOk result (λ l. IsSealed self l) }
+    {
+        let Draft {
+            unit,
+            limits,
+            profile,
+            mut cells,
+            count,
+            weight,
+            spelled,
+            alloc: _,
+        } = self;
+        cells.sort_keys()?;
+        Ok(Layout {
+            unit,
+            limits,
+            profile,
+            cells,
+            count,
+            weight,
+            spelled,
+        })
+    }
+}
+
+/// The product, where it is at most the limit.
+fn product_within(a: u64, b: u64, limit: u64) -> Option<u64>
+    ensures { SomeIff result (a * b ≤ limit) (a * b) }
+{
+    let product = a.checked_mul(b)?;
+    if product <= limit {
+        Some(product)
+    } else {
+        None
+    }
+}

@@ -1,0 +1,36 @@
+//! Laws over the definitions alone.
+
+ghost use Rattle.std.specs.Prelude.{◌≡◌};
+ghost use Rattle.oas_layout.specs.declared.profile.Profile.{Profile};
+ghost use Rattle.oas_layout.specs.Laws.{TestsSame, KeptIsSame, SameIfKeptEqual, KeptIsKept, KeptPolygons, AddingCounts, HeldCounts, EqualCounts, IsReflexive, IsSymmetric, IsTransitive};
+
+/// An element is the same as the form in which it is kept, and two elements are the same exactly if these are equal.
+pub fn kept_forms()
+    ensures test { (profile : Profile) → TestsSame profile }
+    ensures same { (profile : Profile) → KeptIsSame profile }
+    ensures equal { (profile : Profile) → SameIfKeptEqual profile }
+    ensures kept { (profile : Profile) → KeptIsKept profile }
+    ensures polygons { (profile : Profile) → KeptPolygons profile }
+{}
+
+/// More of an element adds to the count of what is the same, and to no other.
+pub fn adding_counts()
+    ensures { (profile : Profile) → AddingCounts profile }
+{}
+
+/// The number beside a held element is its count.
+pub fn held_counts()
+    ensures { (profile : Profile) → HeldCounts profile }
+{}
+
+/// Two ascending lists of elements in their kept forms, in which every element counts the same, are equal.
+pub fn equal_counts()
+    ensures { (profile : Profile) → EqualCounts profile }
+{}
+
+/// Being the same layout is an equivalence.
+pub fn same_layouts()
+    ensures reflexive { (profile : Profile) → IsReflexive profile }
+    ensures symmetric { (profile : Profile) → IsSymmetric profile }
+    ensures transitive { (profile : Profile) → IsTransitive profile }
+{}

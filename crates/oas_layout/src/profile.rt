@@ -1,0 +1,11 @@
+//! What is taken for the same element.
+
+/// What is taken for the same element (own rule).
+///
+/// A polygon is the same in each of its readings, under both profiles. Under profile two a polygon that goes round a
+/// rectangle with positive sides is also the same as that rectangle.
+#[derive(Clone, Copy, Debug, PartialEq, Eq)]
+pub enum Profile {
+    One,
+    Two,
+}

@@ -1,0 +1,277 @@
+-- Reading the front of a file.
+use Rattle.std.proofs.Common.{◌≡◌, ◌≢◌, ℕ, ◌+◌, ◌*◌, ◌<◌, ◌≤◌, false, List, [], ◌∷◌, ◌++◌, length, get_or, Err, IsTrue, inl, inr, refl, sym, ap, subst, ◌∙◌, append_assoc, arith}
+use Rattle.std.specs.Prelude.{◌⊎◌, ◌==◌}
+use Rattle.std.proofs.lemmas.List.{append-nil, append_cancel_left, length-append}
+use Rattle.std.proofs.lemmas.Nat.{mul-le}
+use Rattle.oas_num.specs.declared.refusals.Why.{Why}
+use Rattle.oas_num.specs.declared.refusals.Why.TheVariants.{Magic, Version, OffsetFlag, OutOfPlace, Unit as UnitIsRefused}
+use Rattle.oas_num.specs.declared.reals.Real.{Real}
+use Rattle.oas_num.specs.Script.{Script, Takes}
+use Rattle.oas_num.specs.Ratio.{Ratio}
+use Rattle.oas_num.specs.Grammar.{IsPair, IsSuch, IsByte}
+use Rattle.oas_num.specs.GrammarLaws.{after_same}
+use Rattle.oas_num.specs.Integers.{IsUnsigned}
+use Rattle.oas_num.specs.IntegerLaws.{OneFront-IsUnsigned}
+use Rattle.oas_num.specs.Style.{Any}
+use Rattle.oas_num.specs.Texts.{IsLabelByte, IsOf, IsText, label_in}
+use Rattle.oas_num.specs.TextLaws.{OneFront-label, OneFront-class}
+use Rattle.oas_num.specs.Reals.{real_in, RealMay}
+use Rattle.oas_num.specs.RealLaws.{OneFront-real}
+use Rattle.oas_num.specs.Reading.{ReadsValue, Fails, ByteMay, IntegerMay, ClassMay}
+use Rattle.oas_num.proofs.ReadLemmas.{Takes-none, Takes-then, Wants, Fails-after}
+use Rattle.oas_num.proofs.GrammarLemmas.{Midway, begins, seen, ◌▸◌, fails_at, such_read, such_fails_by, refused, Listed, listed_none, listed_more, listed_fails, listed_all}
+use Rattle.oas_record.specs.declared.heads.Head.{Head}
+use Rattle.oas_record.specs.Ends.{IsNumber}
+use Rattle.oas_record.specs.Heads.{magic, IsMagic, MagicMay, IsPassedLabel, version, version_in, VersionMay, IsPositiveReal, IsUnit, SpellsUnit, unit_in, UnitMay, IsFlag, flag_in, offsets_in, start_parts, head_of, start_in, StartMay, head_in, ReadsHead}
+use Rattle.oas_record.specs.HeadLaws.{OneFront-start_id}
+use Rattle.oas_record.proofs.MayLemmas.{MagicMay-byte, VersionMay-integer, VersionMay-class, StartMay-integer, UnitMay-real}
+
+-- ---- the magic
+
+-- so much of it was read
+pub record Matched (old now : Script) (count : ℕ) : Type 0 where
+  pub front : List ℕ
+  pub rest : List ℕ
+  pub is_magic : magic ≡ front ++ rest
+  pub len : length front ≡ count
+  pub takes : Takes old front now
+
+pub matched_none : (s : Script) → Matched s s 0
+matched_none s = record { front = []; rest = magic; is_magic = refl; len = refl; takes = Takes-none s }
+
+magic_small : IsOf (λ b. b < 256) magic
+magic_small = (omega arith, (omega arith, (omega arith, (omega arith, (omega arith, (omega arith, (omega arith, (omega arith, (omega arith, (omega arith, (omega arith, (omega arith, (omega arith, tt)))))))))))))
+
+rest_of_class : (class : ℕ → Type 0) (front rest : List ℕ) → IsOf class (front ++ rest) → IsOf class rest
+rest_of_class class [] rest h = h
+rest_of_class class (b ∷ front) rest h = rest_of_class class front rest h.1
+
+-- what follows the front
+at_length : (front rest : List ℕ) (w : ℕ) → get_or (front ++ w ∷ rest) (length front) 0 ≡ w
+at_length [] rest w = refl
+at_length (b ∷ front) rest w = at_length front rest w
+
+magic_wants : (front rest : List ℕ) (w : ℕ) → magic ≡ front ++ w ∷ rest → Wants IsMagic front IsByte
+magic_wants front rest w is = record {
+  wants = λ v p r more s e.
+      let same : (w ∷ rest) ++ r ≡ more =
+      append_cancel_left front ((w ∷ rest) ++ r) more (sym (append_assoc front (w ∷ rest) r) ∙ ap (λ (c : List ℕ). c ++ r) (sym is ∙ sym s) ∙ e) in
+      let small = rest_of_class (λ b. b < 256) front (w ∷ rest) (subst (IsOf (λ b. b < 256)) is magic_small) in
+      (w, w ∷ [], rest ++ r, record { only = refl; small = small.0 }, same);
+}
+
+-- one more byte is wanted
+some_left : (front rest : List ℕ) (count : ℕ) → magic ≡ front ++ rest → length front ≡ count → count < 13 → (w : ℕ) × (more : List ℕ) × (rest ≡ w ∷ more)
+some_left front [] count is len lt = let l : 13 ≡ length (front ++ []) = ap length is in absurd (omega (arith, l, len, lt, length-append front []))
+some_left front (w ∷ more) count is len lt = (w, more, refl)
+
+module _ (old mid new : Script) (count : ℕ) (lt : count < 13) (m : Matched old mid count) where
+  pub magic_fails : (why : Why) → Fails IsByte ByteMay mid why new → Fails IsMagic MagicMay old why new
+  magic_fails why f =
+      let left = some_left m.front m.rest count m.is_magic m.len lt in
+      Fails-after IsMagic IsByte MagicMay ByteMay old mid new why m.front (MagicMay-byte why) m.takes (magic_wants m.front left.1 left.0 (m.is_magic ∙ ap (λ (c : List ℕ). m.front ++ c) left.2)) f
+
+  pub matched_more : (byte : ℕ) → byte ≡ get_or magic count 0 → ReadsValue IsByte mid byte new → Matched old new (count + 1)
+  matched_more byte same read =
+      let left = some_left m.front m.rest count m.is_magic m.len lt in
+      let is : magic ≡ m.front ++ left.0 ∷ left.1 = m.is_magic ∙ ap (λ (c : List ℕ). m.front ++ c) left.2 in
+      let w : byte ≡ left.0 = same ∙ ap (λ (c : List ℕ). get_or c count 0) is ∙ ap (λ n. get_or (m.front ++ left.0 ∷ left.1) n 0) (sym m.len) ∙ at_length m.front left.1 left.0 in
+      record {
+        front = m.front ++ byte ∷ [];
+        rest = left.1;
+        is_magic = is ∙ ap (λ (c : ℕ). m.front ++ c ∷ left.1) (sym w) ∙ sym (append_assoc m.front (byte ∷ []) left.1);
+        len = omega (arith, length-append m.front (byte ∷ []), m.len);
+        takes = let only = read.spelled.only in Takes-then old mid new m.front (byte ∷ []) m.takes (rw only at read.takes);
+      }
+
+  pub magic_wrong : (byte : ℕ) → byte ≢ get_or magic count 0 → ReadsValue IsByte mid byte new → Fails IsMagic MagicMay old Magic new
+  magic_wrong byte other read =
+      let left = some_left m.front m.rest count m.is_magic m.len lt in
+      let is : magic ≡ m.front ++ left.0 ∷ left.1 = m.is_magic ∙ ap (λ (c : List ℕ). m.front ++ c) left.2 in
+      let w : get_or magic count 0 ≡ left.0 = ap (λ (c : List ℕ). get_or c count 0) is ∙ ap (λ n. get_or (m.front ++ left.0 ∷ left.1) n 0) (sym m.len) ∙ at_length m.front left.1 left.0 in
+      let isnt : byte ≢ left.0 = λ e. other (e ∙ sym w) in
+      let only = read.spelled.only in
+      record {
+        bytes = m.front ++ byte ∷ [];
+        takes = Takes-then old mid new m.front (byte ∷ []) m.takes (rw only at read.takes);
+        reason = record { front = []; last = m.front ++ byte ∷ []; joined = refl; holds = record { front = m.front; wanted = left.0; rest = left.1; byte = byte; is_magic = is; joined = refl; other = isnt } };
+        format = λ _. record {
+          none = λ v p r more s e.
+              let same : (left.0 ∷ left.1) ++ r ≡ (byte ∷ []) ++ more =
+              append_cancel_left m.front ((left.0 ∷ left.1) ++ r) ((byte ∷ []) ++ more) (sym (append_assoc m.front (left.0 ∷ left.1) r) ∙ ap (λ (c : List ℕ). c ++ r) (sym is ∙ sym s) ∙ e ∙ append_assoc m.front (byte ∷ []) more) in
+              let head : left.0 ≡ byte = cc in
+              isnt (sym head);
+        };
+        truncated = λ is. absurd cc;
+        device = λ is. absurd cc;
+        too_long = λ is. absurd cc;
+      }
+
+none_left : (front rest : List ℕ) → magic ≡ front ++ rest → length front ≡ 13 → front ≡ magic
+none_left front [] is len = sym (append-nil front) ∙ sym is
+none_left front (w ∷ rest) is len = let l : 13 ≡ length (front ++ w ∷ rest) = ap length is in absurd (omega (arith, l, len, length-append front (w ∷ rest)))
+
+pub magic_done : (old new : Script) (count : ℕ) (v : Unit {0}) → count ≡ 13 → Matched old new count → ReadsValue IsMagic old v new
+magic_done old new count v is m = record { bytes = m.front; spelled = none_left m.front m.rest m.is_magic (m.len ∙ is); takes = m.takes }
+
+-- ---- the version
+
+-- its length fails
+pub version_length_fails : {old new : Script} {why : Why} → Fails IsUnsigned IntegerMay old why new → Fails (version_in Any) VersionMay old why new
+version_length_fails {old = old} {new = new} {why = why} f =
+    Fails-after (version_in Any) IsUnsigned VersionMay IntegerMay old old new why [] (VersionMay-integer why) (Takes-none old)
+    (record { wants = λ v p r rest s e. (3, s.front, s.back ++ r, s.first, sym (append_assoc s.front s.back r) ∙ ap (λ (c : List ℕ). c ++ r) (sym s.joined) ∙ e) }) f
+
+-- after another length no version follows
+wrong_length : (n : ℕ) (a : List ℕ) → IsUnsigned n a → n ≢ 3 → (v : Unit {0}) (p r rest : List ℕ) → version_in Any v p → p ++ r ≡ a ++ rest → ⊥
+wrong_length n a h isnt v p r rest s e =
+    let joined : s.front ++ (s.back ++ r) ≡ a ++ rest = sym (append_assoc s.front s.back r) ∙ ap (λ (c : List ℕ). c ++ r) (sym s.joined) ∙ e in
+    let one = OneFront-IsUnsigned.one 3 n s.front a (s.back ++ r) rest s.first h joined in
+    isnt (sym one.1)
+
+-- the bytes of a text of another length fail
+pub version_pass_fails : {old mid new : Script} {n : ℕ} {why : Why} → n ≢ 3 → ReadsValue IsUnsigned old n mid → Fails (IsPassedLabel n) (ClassMay IsLabelByte) mid why new → Fails (version_in Any) VersionMay old why new
+version_pass_fails {old = old} {mid = mid} {new = new} {n = n} {why = why} isnt read f =
+    let wrong = wrong_length n read.bytes read.spelled isnt in
+    record {
+      bytes = read.bytes ++ f.bytes;
+      takes = Takes-then old mid new read.bytes f.bytes read.takes f.takes;
+      reason = let r = f.reason in record { front = read.bytes ++ r.front; last = r.last; joined = ap (λ (x : List ℕ). read.bytes ++ x) r.joined ∙ sym (append_assoc read.bytes r.front r.last); holds = VersionMay-class why r.last r.holds };
+      format = λ _. record { none = λ v p r more s e. wrong v p r (f.bytes ++ more) s (e ∙ append_assoc read.bytes f.bytes more) };
+      truncated = λ is. (record { none = λ v p r s e. wrong v p r f.bytes s e }, (f.truncated is).1);
+      device = f.device;
+      too_long = f.too_long;
+    }
+
+-- a byte of a text of three bytes fails
+pub version_byte_fails : {old mid now new : Script} {n : ℕ} {why : Why} (text : List ℕ) → n ≡ 3 → ReadsValue IsUnsigned old n mid → Listed (IsSuch IsLabelByte IsByte) mid now text → length text < 3 → Fails (IsSuch IsLabelByte IsByte) (ClassMay IsLabelByte) now why new → Fails (version_in Any) VersionMay old why new
+version_byte_fails {old = old} {mid = mid} {now = now} {new = new} {n = n} {why = why} text three read listed lt f =
+    let g = listed_fails (IsSuch IsLabelByte IsByte) 3 VersionMay (ClassMay IsLabelByte) mid now new why text (OneFront-class IsLabelByte) (VersionMay-class why) lt listed f in
+    let spelled : IsUnsigned 3 read.bytes = rw three at read.spelled in
+    Fails-after (version_in Any) (IsText IsLabelByte 3) VersionMay VersionMay old mid new why read.bytes (λ _ h. h) read.takes
+    (record {
+      wants = λ v p r rest s e.
+          let joined : s.front ++ (s.back ++ r) ≡ read.bytes ++ rest = sym (append_assoc s.front s.back r) ∙ ap (λ (c : List ℕ). c ++ r) (sym s.joined) ∙ e in
+          let one = OneFront-IsUnsigned.one 3 3 s.front read.bytes (s.back ++ r) rest s.first spelled joined in
+          (version, s.back, r, s.second, after_same s.front read.bytes (s.back ++ r) rest one.0 joined);
+    }) g
+
+-- the text as a label
+as_label : {old mid new : Script} {n : ℕ} (text : List ℕ) → ReadsValue IsUnsigned old n mid → ReadsValue (IsText IsLabelByte n) mid text new → ReadsValue (label_in Any) old text new
+as_label {old = old} {mid = mid} {new = new} {n = n} text read bytes =
+    let same : length text ≡ n = bytes.spelled.len in
+    record {
+      bytes = read.bytes ++ bytes.bytes;
+      takes = Takes-then old mid new read.bytes bytes.bytes read.takes bytes.takes;
+      spelled = record { front = read.bytes; back = bytes.bytes; first = rw (← same) at read.spelled; second = record { len = refl; each = bytes.spelled.each }; joined = refl };
+    }
+
+-- another text was read
+pub version_wrong : {old mid new : Script} {n : ℕ} (text : List ℕ) → text ≢ version → ReadsValue IsUnsigned old n mid → ReadsValue (IsText IsLabelByte n) mid text new → Fails (version_in Any) VersionMay old Version new
+version_wrong {old = old} {new = new} text isnt read bytes =
+    let label = as_label text read bytes in
+    record {
+      bytes = label.bytes;
+      takes = label.takes;
+      reason = record { front = []; last = label.bytes; joined = refl; holds = (text, label.spelled, isnt) };
+      format = λ _. record { none = λ v p r more s e. let one = (OneFront-label Any).one version text p label.bytes r more s label.spelled e in isnt (sym one.1) };
+      truncated = λ is. absurd cc;
+      device = λ is. absurd cc;
+      too_long = λ is. absurd cc;
+    }
+
+pub version_passed : {old mid new : Script} {n : ℕ} {v : Unit {0}} → n ≢ 3 → ReadsValue IsUnsigned old n mid → ReadsValue (IsPassedLabel n) mid v new → Fails (version_in Any) VersionMay old Version new
+version_passed {n = n} isnt read passed =
+    let text = passed.spelled.from in
+    version_wrong text (λ e. isnt (sym passed.spelled.spelled.len ∙ ap length e)) read (record { bytes = passed.bytes; spelled = passed.spelled.spelled; takes = passed.takes })
+
+-- three bytes were read
+pub three : {old mid1 mid2 new : Script} {a b c : ℕ} → ReadsValue (IsSuch IsLabelByte IsByte) old a mid1 → ReadsValue (IsSuch IsLabelByte IsByte) mid1 b mid2 → ReadsValue (IsSuch IsLabelByte IsByte) mid2 c new → Listed (IsSuch IsLabelByte IsByte) old new (a ∷ b ∷ c ∷ [])
+three {old = old} {mid1 = mid1} {mid2 = mid2} {new = new} {a = a} {b = b} {c = c} p q r = listed_more _ old mid2 new (a ∷ b ∷ []) c (listed_more _ old mid1 mid2 (a ∷ []) b (listed_more _ old old mid1 [] a (listed_none _ old) p) q) r
+
+pub two : {old mid1 new : Script} {a b : ℕ} → ReadsValue (IsSuch IsLabelByte IsByte) old a mid1 → ReadsValue (IsSuch IsLabelByte IsByte) mid1 b new → Listed (IsSuch IsLabelByte IsByte) old new (a ∷ b ∷ [])
+two {old = old} {mid1 = mid1} {new = new} {a = a} {b = b} p q = listed_more _ old mid1 new (a ∷ []) b (listed_more _ old old mid1 [] a (listed_none _ old) p) q
+
+pub one : {old new : Script} {a : ℕ} → ReadsValue (IsSuch IsLabelByte IsByte) old a new → Listed (IsSuch IsLabelByte IsByte) old new (a ∷ [])
+one {old = old} {new = new} {a = a} p = listed_more _ old old new [] a (listed_none _ old) p
+
+pub version_other : {old mid new : Script} {n a b c : ℕ} → n ≡ 3 → ((a ≡ 0x31) → ⊥) ⊎ (((a ≡ 0x31) × ((b ≡ 0x2E) → ⊥)) ⊎ ((a ≡ 0x31) × (b ≡ 0x2E) × ((c ≡ 0x30) → ⊥))) → ReadsValue IsUnsigned old n mid → Listed (IsSuch IsLabelByte IsByte) mid new (a ∷ b ∷ c ∷ []) → Fails (version_in Any) VersionMay old Version new
+version_other {mid = mid} {new = new} {n = n} {a = a} {b = b} {c = c} is isnt read listed =
+    version_wrong (a ∷ b ∷ c ∷ []) (λ e. let f : a ≡ 0x31 = cc in let g : b ≡ 0x2E = cc in let h : c ≡ 0x30 = cc in elim isnt [ inl m ↦ m f | inr m ↦ elim m [ inl k ↦ k.1 g | inr k ↦ k.2 h ] ]) read (listed_all (IsSuch IsLabelByte IsByte) n mid new (a ∷ b ∷ c ∷ []) (sym is) listed)
+
+pub version_done : {old mid new : Script} {n a b c : ℕ} (v : Unit {0}) → n ≡ 3 → (a ≡ 0x31) × ((b ≡ 0x2E) × (c ≡ 0x30)) → ReadsValue IsUnsigned old n mid → Listed (IsSuch IsLabelByte IsByte) mid new (a ∷ b ∷ c ∷ []) → ReadsValue (version_in Any) old v new
+version_done {old = old} {mid = mid} {new = new} {n = n} {a = a} {b = b} {c = c} v is same read listed =
+    let label = as_label (a ∷ b ∷ c ∷ []) read (listed_all (IsSuch IsLabelByte IsByte) n mid new (a ∷ b ∷ c ∷ []) (sym is) listed) in
+    let f = same.0 in let g = same.1.0 in let h = same.1.1 in
+    let text : a ∷ b ∷ c ∷ [] ≡ version = cc in
+    record { bytes = label.bytes; spelled = subst (λ (t : List ℕ). label_in Any t label.bytes) text label.spelled; takes = label.takes }
+
+-- ---- the unit
+
+product_some : (a b n : ℕ) → 0 < a → 0 < b → a * b ≡ n → 0 < n
+product_some a b n p q e = let m : 1 * 1 ≤ a * b = mul-le 1 1 a b p q in omega (arith, m, e)
+
+positive_unit : (r : Real) (unit : Ratio) → IsUnit r unit → IsPositiveReal r
+positive_unit r unit h = (h.positive, (product_some unit.num h.reduces.divisor r.num h.reduces.lowest.num_some h.reduces.some h.reduces.num_is, product_some unit.den h.reduces.divisor r.den h.reduces.lowest.den_some h.reduces.some h.reduces.den_is))
+
+pub unit_fails : {old new : Script} {why : Why} → Fails (real_in Any) RealMay old why new → Fails SpellsUnit UnitMay old why new
+unit_fails {old = old} {new = new} {why = why} f =
+    Fails-after SpellsUnit (real_in Any) UnitMay RealMay old old new why [] (UnitMay-real why) (Takes-none old) (record { wants = λ v p r rest s e. (s.real, p, r, s.spelled, e) }) f
+
+pub unit_refused : {old new : Script} (r : Real) → ¬ IsPositiveReal r → ReadsValue (real_in Any) old r new → Fails SpellsUnit UnitMay old UnitIsRefused new
+unit_refused r isnt read = record {
+  bytes = read.bytes;
+  takes = read.takes;
+  reason = record { front = []; last = read.bytes; joined = refl; holds = (r, read.spelled, isnt) };
+  format = λ _. record { none = λ u p rest more s e. let one = (OneFront-real Any).one s.real r p read.bytes rest more s.spelled read.spelled e in isnt (subst IsPositiveReal one.1 (positive_unit s.real u s.is_unit)) };
+  truncated = λ is. absurd cc;
+  device = λ is. absurd cc;
+  too_long = λ is. absurd cc;
+}
+
+pub negative_isnt : (r : Real) → IsTrue r.negative → ¬ IsPositiveReal r
+negative_isnt r is h = let e : r.negative ≡ false = h.0 in absurd cc
+
+pub zero_isnt : (r : Real) → (r.num ≡ 0) ⊎ (r.den ≡ 0) → ¬ IsPositiveReal r
+zero_isnt r is h = elim is [ inl e ↦ omega (arith, e, h.1.0) | inr e ↦ omega (arith, e, h.1.1) ]
+
+-- ---- START
+
+pub starts : (s : Script) → Midway (start_in Any) (start_parts Any) head_of s s
+starts s = seen (start_in Any) head_of (start_parts Any) (λ v. v) s s (begins (start_in Any) s)
+
+pub id_fails : {old new : Script} {why : Why} → Fails IsUnsigned IntegerMay old why new → Fails (start_in Any) StartMay old why new
+id_fails {old = old} {new = new} {why = why} f = fails_at (starts old) (λ _ _ h. h) (such_fails_by (IsNumber 1) IsUnsigned StartMay IntegerMay old new why StartMay-integer f)
+
+pub id_refused : {old new : Script} {id : ℕ} → id ≢ 1 → ReadsValue IsUnsigned old id new → Fails (start_in Any) StartMay old (OutOfPlace id) new
+id_refused {old = old} {new = new} {id = id} isnt read =
+    fails_at (starts old) (λ _ _ h. h) (refused (IsNumber 1) IsUnsigned StartMay old new (OutOfPlace id) id OneFront-IsUnsigned read isnt (read.spelled, isnt) (λ e. cc) (λ e. cc) (λ e. cc))
+
+pub with_id : {old new : Script} {id : ℕ} → id ≡ 1 → ReadsValue IsUnsigned old id new
+    → Midway (start_in Any) (IsPair (version_in Any) (λ _. IsPair (unit_in Any) (λ _. IsPair (flag_in Any) (λ flag. offsets_in Any (flag == 0))))) (λ f. head_of (id, f)) old new
+with_id {old = old} {new = new} {id = id} is read = starts old ▸ (OneFront-start_id Any, such_read (IsNumber 1) IsUnsigned old new id is read)
+
+pub flag_fails : {old new : Script} {why : Why} → Fails IsUnsigned IntegerMay old why new → Fails (flag_in Any) StartMay old why new
+flag_fails {old = old} {new = new} {why = why} f = such_fails_by IsFlag IsUnsigned StartMay IntegerMay old new why StartMay-integer f
+
+pub flag_refused : {old new : Script} {flag : ℕ} → 1 < flag → ReadsValue IsUnsigned old flag new → Fails (flag_in Any) StartMay old OffsetFlag new
+flag_refused {old = old} {new = new} {flag = flag} large read =
+    refused IsFlag IsUnsigned StartMay old new OffsetFlag flag OneFront-IsUnsigned read (λ (lt : flag < 2). omega (arith, lt, large)) (flag, read.spelled, large) (λ e. cc) (λ e. cc) (λ e. cc)
+
+pub flag_read : {old new : Script} {flag : ℕ} → flag ≤ 1 → ReadsValue IsUnsigned old flag new → ReadsValue (flag_in Any) old flag new
+flag_read {old = old} {new = new} {flag = flag} le read = such_read IsFlag IsUnsigned old new flag (omega (arith, le)) read
+
+-- ---- the front
+
+pub magic_refused : {old new : Script} {why : Why} → Fails IsMagic MagicMay old why new → ReadsHead old (Err (record { at = 0; why = why })) new
+magic_refused f = inl (record { at = refl; fails = f })
+
+pub start_refused : {old mid new : Script} {why : Why} {v : Unit {0}} → ReadsValue IsMagic old v mid → Fails (start_in Any) StartMay mid why new → ReadsHead old (Err (record { at = 13; why = why })) new
+start_refused {old = old} {mid = mid} {new = new} read f = inr (record { at = refl; mid = mid; takes = let e : read.bytes ≡ magic = read.spelled in rw e at read.takes; fails = f })
+
+pub front_read : {old mid new : Script} {head : Head} {v : Unit {0}} → ReadsValue IsMagic old v mid → ReadsValue (start_in Any) mid head new → ReadsValue (head_in Any) old head new
+front_read {old = old} {mid = mid} {new = new} {head = head} {v = v} read rest = record {
+  bytes = read.bytes ++ rest.bytes;
+  takes = Takes-then old mid new read.bytes rest.bytes read.takes rest.takes;
+  spelled = record { from = (tt, head); is = refl; spelled = record { front = read.bytes; back = rest.bytes; first = read.spelled; second = rest.spelled; joined = refl } };
+}

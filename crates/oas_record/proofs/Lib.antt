@@ -1,0 +1,5 @@
+pub mod MayLemmas
+pub mod PassLemmas
+pub mod EndLemmas
+pub mod HeadLemmas
+pub mod ReferenceLemmas

@@ -1,0 +1,172 @@
+-- How the front of a file is spelled: the magic and START (SEMI P39, START record).
+use Rattle.std.specs.Prelude.{◌≡◌, ◌≢◌, ℕ, ◌<◌, ◌≤◌, ◌==◌, Bool, false, List, [], ◌∷◌, ◌++◌, Result, Ok, Err, ◌⊎◌}
+use Rattle.oas_num.specs.declared.refusals.Why.{Why}
+use Rattle.oas_num.specs.declared.refusals.Why.TheVariants.{Magic, Truncated, IntegerRange, StringByte, FloatReal, RealType, Unit as UnitIsRefused, Version, OffsetFlag, OutOfPlace, InputTooLong, Read}
+use Rattle.oas_num.specs.declared.refusals.Refusal.{Refusal}
+use Rattle.oas_num.specs.declared.reals.Real.{Real}
+use Rattle.oas_num.specs.Ratio.{Ratio, IsLowest, Reduces}
+use Rattle.oas_num.specs.Grammar.{IsPair, IsSuch, IsImage}
+use Rattle.oas_num.specs.Combinators.{IsExactly}
+use Rattle.oas_num.specs.Integers.{IsUnsigned}
+use Rattle.oas_num.specs.Style.{Style, Any, Shortest, unsigned_in}
+use Rattle.oas_num.specs.Texts.{IsLabelByte, IsText, label_in}
+use Rattle.oas_num.specs.Reals.{real_in, RealMay}
+use Rattle.oas_num.specs.Reading.{IsOutOfRange, ReadsValue, Fails, ClassMay}
+use Rattle.oas_num.specs.Script.{Script, Takes}
+use Rattle.oas_record.specs.declared.heads.Head.{Head}
+use Rattle.oas_record.specs.Ends.{nothing, IsNumber, offsets_if}
+
+-- %SEMI-OASIS, CR, LF
+abbrev pub magic : List ℕ
+magic = 0x25 ∷ 0x53 ∷ 0x45 ∷ 0x4D ∷ 0x49 ∷ 0x2D ∷ 0x4F ∷ 0x41 ∷ 0x53 ∷ 0x49 ∷ 0x53 ∷ 0x0D ∷ 0x0A ∷ []
+
+abbrev pub IsMagic : Unit {0} → List ℕ → Type 0
+IsMagic = IsExactly magic
+
+-- so many bytes of an a-string, not kept
+abbrev pub IsPassedLabel : ℕ → Unit {0} → List ℕ → Type 0
+IsPassedLabel count = IsImage nothing (IsText IsLabelByte count)
+
+-- 1.0
+abbrev pub version : List ℕ
+version = 0x31 ∷ 0x2E ∷ 0x30 ∷ []
+
+-- the version as an a-string
+abbrev pub version_in : Style → Unit {0} → List ℕ → Type 0
+version_in style done bytes = label_in style version bytes
+
+-- a real that is positive
+abbrev pub IsPositiveReal : Real → Type 0
+IsPositiveReal r = (r.negative ≡ false) × ((0 < r.num) × (0 < r.den))
+
+-- a positive real and the same in lowest terms
+pub record IsUnit (r : Real) (unit : Ratio) : Type 0 where
+  pub positive : r.negative ≡ false
+  pub reduces : Reduces r.num r.den unit
+
+-- a unit: any real of that value; in the shortest style that in lowest terms
+pub record SpellsUnit (unit : Ratio) (bytes : List ℕ) : Type 0 where
+  pub real : Real
+  pub is_unit : IsUnit real unit
+  pub spelled : real_in Any real bytes
+
+pub record ShortestUnit (unit : Ratio) (bytes : List ℕ) : Type 0 where
+  pub lowest : IsLowest unit
+  pub spelled : real_in Shortest (record { negative = false; num = unit.num; den = unit.den }) bytes
+
+abbrev pub unit_in : Style → Ratio → List ℕ → Type 0
+unit_in Any = SpellsUnit
+unit_in Shortest = ShortestUnit
+
+-- the offset-flag: 0 or 1, and 0 in a canonical file
+abbrev pub IsFlag : ℕ → Type 0
+IsFlag flag = flag < 2
+
+abbrev pub flag_in : Style → ℕ → List ℕ → Type 0
+flag_in Any = IsSuch IsFlag (unsigned_in Any)
+flag_in Shortest = IsSuch (IsNumber 0) (unsigned_in Shortest)
+
+-- table-offsets: in a canonical file twelve zeros
+abbrev pub twelve_zeros : List ℕ
+twelve_zeros = 0 ∷ 0 ∷ 0 ∷ 0 ∷ 0 ∷ 0 ∷ 0 ∷ 0 ∷ 0 ∷ 0 ∷ 0 ∷ 0 ∷ []
+
+abbrev pub offsets_in : Style → Bool → Unit {0} → List ℕ → Type 0
+offsets_in Any there = offsets_if there
+offsets_in Shortest there = IsExactly twelve_zeros
+
+-- version, unit, flag and table-offsets where the flag is 0
+abbrev pub StartParts : Type 0
+StartParts = ℕ × (Unit {0} × (Ratio × (ℕ × Unit {0})))
+
+abbrev pub start_parts : Style → StartParts → List ℕ → Type 0
+start_parts style =
+    IsPair (IsSuch (IsNumber 1) (unsigned_in style)) (λ _.
+    IsPair (version_in style) (λ _.
+    IsPair (unit_in style) (λ _.
+    IsPair (flag_in style) (λ flag.
+    offsets_in style (flag == 0)))))
+
+abbrev pub head_of : StartParts → Head
+head_of p = record { unit = p.1.1.0; flag_in_end = p.1.1.1.0 == 1 }
+
+-- START
+abbrev pub start_in : Style → Head → List ℕ → Type 0
+start_in style = IsImage head_of (start_parts style)
+
+abbrev pub head_after : Unit {0} × Head → Head
+head_after p = p.1
+
+-- the magic and START
+abbrev pub head_in : Style → Head → List ℕ → Type 0
+head_in style = IsImage head_after (IsPair IsMagic (λ _. start_in style))
+
+-- the front of the magic, and then another byte
+pub record IsOffMagic (bytes : List ℕ) : Type 0 where
+  pub front : List ℕ
+  pub wanted : ℕ
+  pub rest : List ℕ
+  pub byte : ℕ
+  pub is_magic : magic ≡ front ++ wanted ∷ rest
+  pub joined : bytes ≡ front ++ byte ∷ []
+  pub other : byte ≢ wanted
+
+-- where a read of the magic may fail
+abbrev pub MagicMay : Why → List ℕ → Type 0
+MagicMay Magic last = IsOffMagic last
+MagicMay Truncated last = Unit {0}
+MagicMay Read last = Unit {0}
+MagicMay InputTooLong last = Unit {0}
+MagicMay _ last = ⊥
+
+-- where a read of the version may fail
+abbrev pub VersionMay : Why → List ℕ → Type 0
+VersionMay Truncated last = Unit {0}
+VersionMay Read last = Unit {0}
+VersionMay InputTooLong last = Unit {0}
+VersionMay IntegerRange last = IsOutOfRange last
+VersionMay StringByte last = ClassMay IsLabelByte StringByte last
+VersionMay Version last = (text : List ℕ) × label_in Any text last × (text ≢ version)
+VersionMay _ last = ⊥
+
+-- where a read of the unit may fail
+abbrev pub UnitMay : Why → List ℕ → Type 0
+UnitMay Truncated last = Unit {0}
+UnitMay Read last = Unit {0}
+UnitMay InputTooLong last = Unit {0}
+UnitMay IntegerRange last = IsOutOfRange last
+UnitMay FloatReal last = RealMay FloatReal last
+UnitMay RealType last = RealMay RealType last
+UnitMay UnitIsRefused last = (real : Real) × real_in Any real last × ¬ IsPositiveReal real
+UnitMay _ last = ⊥
+
+-- where a read of START may fail
+abbrev pub StartMay : Why → List ℕ → Type 0
+StartMay Truncated last = Unit {0}
+StartMay Read last = Unit {0}
+StartMay InputTooLong last = Unit {0}
+StartMay IntegerRange last = IsOutOfRange last
+StartMay StringByte last = VersionMay StringByte last
+StartMay Version last = VersionMay Version last
+StartMay FloatReal last = RealMay FloatReal last
+StartMay RealType last = RealMay RealType last
+StartMay UnitIsRefused last = UnitMay UnitIsRefused last
+StartMay OffsetFlag last = (flag : ℕ) × IsUnsigned flag last × (2 ≤ flag)
+StartMay (OutOfPlace id) last = IsUnsigned id last × (id ≢ 1)
+StartMay _ last = ⊥
+
+-- the magic is refused, at 0
+pub record RefusesMagic (old : Script) (refusal : Refusal) (new : Script) : Type 0 where
+  pub at : refusal.at ≡ 0
+  pub fails : Fails IsMagic MagicMay old refusal.why new
+
+-- the magic stands, and START is refused, at 13
+pub record RefusesStart (old : Script) (refusal : Refusal) (new : Script) : Type 0 where
+  pub at : refusal.at ≡ 13
+  pub mid : Script
+  pub takes : Takes old magic mid
+  pub fails : Fails (start_in Any) StartMay mid refusal.why new
+
+-- What a read of the front of a file does.
+abbrev pub ReadsHead : Script → Result Head Refusal → Script → Type 0
+ReadsHead old (Ok head) new = ReadsValue (head_in Any) old head new
+ReadsHead old (Err refusal) new = RefusesMagic old refusal new ⊎ RefusesStart old refusal new

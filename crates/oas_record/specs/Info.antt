@@ -1,0 +1,18 @@
+-- Info bytes: which fields a record gives.
+use Rattle.std.specs.Prelude.{ℕ, ◌==◌, Bool, not, bit_and, List}
+use Rattle.oas_num.specs.Grammar.{IsSuch, IsByte}
+use Rattle.oas_num.specs.Style.{Style, Any, Shortest}
+
+-- the bit of that weight is set
+abbrev pub has : ℕ → ℕ → Bool
+has info weight = not (bit_and info weight == 0)
+
+-- an info byte of which that holds, and in the shortest style this too
+abbrev pub info_in : (ℕ → Type 0) → (ℕ → Type 0) → Style → ℕ → List ℕ → Type 0
+info_in allowed canonical Any = IsSuch allowed IsByte
+info_in allowed canonical Shortest = IsSuch (λ info. allowed info × canonical info) IsByte
+
+-- what has no canonical spelling
+abbrev pub only_any : {V : Type 0} → Style → (V → List ℕ → Type 0) → V → List ℕ → Type 0
+only_any Any spells v bytes = spells v bytes
+only_any Shortest spells v bytes = ⊥

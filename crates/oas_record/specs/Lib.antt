@@ -1,0 +1,10 @@
+pub mod Info
+pub mod InfoLaws
+pub mod References
+pub mod ReferenceLaws
+pub mod NameRecords
+pub mod Ends
+pub mod EndLaws
+pub mod Heads
+pub mod HeadLaws
+pub mod May

@@ -1,0 +1,108 @@
+ghost use Rattle.oas_num.specs.Reading.{Reads};
+ghost use Rattle.oas_num.specs.Style.{Any};
+ghost use Rattle.oas_record.specs.Heads.{IsMagic, MagicMay, version_in, VersionMay, unit_in, UnitMay, start_in, StartMay, ReadsHead};
+
+use crate::ends::pass_offsets_if;
+use crate::passing::pass_label;
+use oas_num::{
+    Fraction, Real, Refusal, Source, Spelled, Why, next_byte, next_within, read_unsigned,
+};
+use std::alloc::Global;
+
+/// The magic: `%SEMI-OASIS`, CR, LF.
+const MAGIC: [u8; 13] = [
+    0x25, 0x53, 0x45, 0x4D, 0x49, 0x2D, 0x4F, 0x41, 0x53, 0x49, 0x53, 0x0D, 0x0A,
+];
+
+/// Where START stands.
+const START_AT: u64 = 13;
+
+/// What the front of a file says.
+#[derive(Clone, Copy, Debug, PartialEq, Eq)]
+pub struct Head {
+    /// Grid steps per micron.
+    pub unit: Fraction,
+    /// Whether the table-offsets stand in END, and not in START.
+    pub flag_in_end: bool,
+}
+
+/// The magic.
+fn read_magic<S: Source>(source: &mut S) -> Result<(), Why>
+    ensures { Reads IsMagic MagicMay (S.script source.old) result (S.script source.new) }
+{
+    for i in 0..13usize {
+        let byte = next_byte(source)?;
+        if byte != MAGIC[i] {
+            return Err(Why::Magic);
+        }
+    }
+    Ok(())
+}
+
+/// The version, an a-string that has to be `1.0`. It is compared as it is read, so no memory is taken.
+fn read_version<S: Source>(source: &mut S) -> Result<(), Why>
+    ensures { Reads (version_in Any) VersionMay (S.script source.old) result (S.script source.new) }
+{
+    let length = read_unsigned(source)?;
+    if length != 3 {
+        pass_label(length, source)?;
+        return Err(Why::Version);
+    }
+    let one = next_within(32, 126, source)?;
+    let point = next_within(32, 126, source)?;
+    let zero = next_within(32, 126, source)?;
+    if one != 0x31 || point != 0x2E || zero != 0x30 {
+        return Err(Why::Version);
+    }
+    Ok(())
+}
+
+/// The unit, a positive real, in lowest terms.
+fn read_unit<S: Source>(alloc: Global, source: &mut S) -> Result<Fraction, Why>
+    ensures { Reads (unit_in Any) UnitMay (S.script source.old) result (S.script source.new) }
+{
+    let real = Real::read(alloc, source)?;
+    if real.negative {
+        return Err(Why::Unit);
+    }
+    match Fraction::reduced(real.num, real.den) {
+        Some(unit) => Ok(unit),
+        None => Err(Why::Unit),
+    }
+}
+
+/// START (SEMI P39, START record): its id, the version, the unit, the offset-flag, and table-offsets where the flag is 0.
+fn read_start<S: Source>(alloc: Global, source: &mut S) -> Result<Head, Why>
+    ensures { Reads (start_in Any) StartMay (S.script source.old) result (S.script source.new) }
+{
+    let id = read_unsigned(source)?;
+    if id != 1 {
+        return Err(Why::OutOfPlace(id));
+    }
+    read_version(source)?;
+    let unit = read_unit(alloc, source)?;
+    let flag = read_unsigned(source)?;
+    if flag > 1 {
+        return Err(Why::OffsetFlag);
+    }
+    pass_offsets_if(flag == 0, source)?;
+    Ok(Head {
+        unit,
+        flag_in_end: flag == 1,
+    })
+}
+
+/// Reads the front of a file: the magic and START. It takes no memory; `alloc` is handed on.
+///
+/// It is refused at 0 for the magic, and at 13 for START.
+pub fn read_head<S: Source>(alloc: Global, source: &mut S) -> Result<Head, Refusal>
+    ensures { ReadsHead (S.script source.old) result (S.script source.new) }
+{
+    if let Err(why) = read_magic(source) {
+        return Err(Refusal { at: 0, why });
+    }
+    match read_start(alloc, source) {
+        Ok(head) => Ok(head),
+        Err(why) => Err(Refusal { at: START_AT, why }),
+    }
+}
