@@ -1,13 +1,12 @@
 -- What an outlet was given, call by call.
-use Rattle.std.proofs.Common.{◌≡◌, ℕ, ◌+◌, ◌<◌, ◌≤◌, ◌^◌, min, List, [], ◌∷◌, ◌++◌, length, take, drop, Option, Some, None, Bool, true, false, Result, Ok, Err, refl, sym, ap, ◌∙◌, append_assoc, append-nil, take-append-drop, length-append, ◌-◌, arith, MutBor}
+use Rattle.std.proofs.Common.{◌≡◌, ℕ, ◌+◌, ◌<◌, ◌^◌, min, List, [], ◌∷◌, ◌++◌, length, take, drop, Option, Bool, true, false, refl, sym, ap, ◌∙◌, append_assoc, append-nil, take-append-drop, length-append, ◌-◌, arith}
 use Rattle.std.proofs.lemmas.List.{length-take-le}
 use Rattle.std.specs.Io.KnownBytes.{Appends, Keeps}
 use Rattle.oas_num.specs.declared.outlets.Outlet.{Outlet}
-use Rattle.oas_num.specs.declared.sinks.SinkFault.{SinkFault}
-use Rattle.oas_num.specs.Writing.{Puts, PutsFront, Writes}
-use Rattle.oas_num.specs.Outlets.{unsent, failures_of, IsGiven, IsSent}
+use Rattle.oas_num.specs.Writing.{Puts, PutsFront}
+use Rattle.oas_num.specs.Outlets.{unsent, failures_of, IsGiven}
 use Rattle.oas_num.specs.OutletLaws.{Appends-then, Appends-kept}
-use Rattle.oas_num.proofs.WritingLemmas.{Puts-then, front_fails}
+use Rattle.oas_num.proofs.WritingLemmas.{Puts-then}
 
 -- a full window is the only one of an outlet that has failed
 pub works_below : (n : ℕ) (failed : Bool) → (failed ≡ true → n ≡ 8192) → n < 8192 → failed ≡ false

@@ -1,8 +1,8 @@
 -- What follows of a writer, where an outlet over it was given bytes.
-use Rattle.std.proofs.Common.{◌≡◌, ℕ, ◌+◌, ◌-◌, ◌^◌, ◌≤◌, min, List, [], ◌++◌, length, Option, Some, None, true, false, refl, sym, ap, ◌∙◌, append_assoc, append-nil, arith, MutBor}
+use Rattle.std.proofs.Common.{◌≡◌, ℕ, ◌+◌, ◌-◌, ◌^◌, min, List, [], ◌∷◌, ◌++◌, length, Option, Some, None, refl, sym, ap, ◌∙◌, append_assoc, append-nil, arith, MutBor}
 use Rattle.std.specs.Io.KnownBytes.{Appends, Keeps}
 use Rattle.oas_num.specs.declared.outlets.Outlet.{Outlet}
-use Rattle.oas_num.specs.Writing.{Puts}
+use Rattle.oas_num.specs.Writing.{Puts, PutsFront}
 use Rattle.oas_num.specs.Outlets.{unsent, failures_of, Opens, IsGiven, IsSent, TakesFront}
 
 pub Appends-none : (a : Option (List ℕ)) → Appends a a []
@@ -20,6 +20,10 @@ Appends-kept None b c xs p q = tt
 Appends-kept (Some x) None c xs p q = absurd p
 Appends-kept (Some x) (Some y) None xs p q = absurd q
 Appends-kept (Some x) (Some y) (Some z) xs p q = q ∙ p
+
+front_of_none : (a b : List ℕ) → [] ≡ a ++ b → a ≡ []
+front_of_none [] b e = refl
+front_of_none (x ∷ a) b e = absurd (cc)
 
 zero_more : (n : ℕ) → min (0 + n) (2 ^ 64 - 1) ≡ min n (2 ^ 64 - 1)
 zero_more n = omega arith
@@ -60,3 +64,40 @@ module _ {W : Type 0} (contents : W → Option (List ℕ)) (writer : MutBor W) w
   -- the outlet still stands before that writer
   pub stays : (o p : Outlet W) (bytes : List ℕ) → Opens writer o → IsGiven contents o bytes p → p.writer.ghost_name ≡ writer.ghost_name
   stays o p bytes h g = g.same_writer ∙ h.same_writer
+
+  -- the same of the writer's value once the outlet is gone: all was put, and then it was closed
+  pub writer_has : (o m p : Outlet W) (bytes : List ℕ) (last : W) → Opens writer o → Puts (IsGiven contents) failures_of o bytes m → Puts (IsGiven contents) failures_of m [] p → IsSent p → (writer.ghost_name ≡ p.writer.ghost_name → last ≡ p.writer.now) → Appends (contents writer.now) (contents last) bytes
+  writer_has o m p bytes last h puts closes done follows =
+      let g : IsGiven contents o (bytes ++ []) p = closes.after o bytes (given_since o m bytes h puts) in
+      let e : last ≡ p.writer.now = follows (sym (stays o p (bytes ++ []) h g)) in
+      let a : Appends (contents writer.now) (contents p.writer.now) (bytes ++ []) = takes_all o p (bytes ++ []) h g done in
+      rw e (rw append-nil at a)
+
+  -- and where a fault was met while these bytes were put
+  pub writer_took : (o p : Outlet W) (bytes : List ℕ) (last : W) → Opens writer o → PutsFront (IsGiven contents) failures_of o bytes p → (writer.ghost_name ≡ p.writer.ghost_name → last ≡ p.writer.now) → TakesFront contents writer.now last bytes p.taken
+  writer_took o p bytes last h puts follows =
+      let g = given_since o p puts.front h puts.puts in
+      let e : last ≡ p.writer.now = follows (sym (stays o p puts.front h g)) in
+      let t = takes_front o p puts.front h g in
+      rw e (record {
+        front = t.front;
+        back = t.back ++ puts.back;
+        joined = puts.joined ∙ ap (λ (x : List ℕ). x ++ puts.back) t.joined ∙ append_assoc t.front t.back puts.back;
+        took = t.took;
+        counted = t.counted;
+      })
+
+  -- or while it was closed
+  pub writer_took_rest : (o m p : Outlet W) (bytes : List ℕ) (last : W) → Opens writer o → Puts (IsGiven contents) failures_of o bytes m → PutsFront (IsGiven contents) failures_of m [] p → (writer.ghost_name ≡ p.writer.ghost_name → last ≡ p.writer.now) → TakesFront contents writer.now last bytes p.taken
+  writer_took_rest o m p bytes last h puts fails follows =
+      let g : IsGiven contents o (bytes ++ fails.front) p = fails.puts.after o bytes (given_since o m bytes h puts) in
+      let e : last ≡ p.writer.now = follows (sym (stays o p (bytes ++ fails.front) h g)) in
+      let t = takes_front o p (bytes ++ fails.front) h g in
+      let none : fails.front ≡ [] = front_of_none fails.front fails.back fails.joined in
+      rw e (record {
+        front = t.front;
+        back = t.back;
+        joined = sym (append-nil bytes) ∙ ap (λ (x : List ℕ). bytes ++ x) (sym none) ∙ t.joined;
+        took = t.took;
+        counted = t.counted;
+      })

@@ -1,9 +1,9 @@
 -- What lowest terms are: they are there for each fraction with positive parts, and they are one.
-use Rattle.std.proofs.Common.{◌≡◌, ℕ, ◌+◌, ◌*◌, ◌/◌, zero, suc, ◌<◌, ◌≤◌, refl, sym, ap, ◌∙◌, arith}
+use Rattle.std.proofs.Common.{◌≡◌, ℕ, ◌*◌, ◌/◌, zero, suc, ◌<◌, sym, ap, ◌∙◌, arith}
 use Rattle.std.specs.Int.{IsGcd}
 use Rattle.std.proofs.Math.Nat.{one-dvd, div-mul_cancel, dvd_of_mul-dvd-mul_right, mul-dvd-mul_right, pos_of_dvd_of_pos, eq_of_mul-eq-mul_right, one-mul}
 use Rattle.std.proofs.lemmas.Nat.Gcd.{same_from_IsGcd}
-use Rattle.oas_num.specs.Ratio.{Ratio, IsLowest, Reduces}
+use Rattle.oas_num.specs.Ratio.{Ratio, Reduces}
 
 pub divisor_some : (a b g : ℕ) → 0 < a → IsGcd a b g → 0 < g
 divisor_some a b g some h = pos_of_dvd_of_pos h.0 some
