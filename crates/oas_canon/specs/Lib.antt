@@ -1,0 +1,13 @@
+pub mod File
+pub mod FileLaws
+pub mod Meaning
+pub mod Places
+pub mod Canonical
+pub mod Run
+pub mod Drafts
+pub mod Collecting
+pub mod Steps
+pub mod Reasons
+pub mod Gathering
+pub mod Layouts
+pub mod Putting

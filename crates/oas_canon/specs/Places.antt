@@ -1,0 +1,75 @@
+-- Where a file that isn't accepted is refused.
+use Rattle.std.specs.Prelude.{◌≡◌, ◌≢◌, ℕ, ◌+◌, List, [], ◌∷◌, ◌++◌, length, ◌⊎◌}
+use Rattle.oas_canon.specs.declared.limits.Limits.{Limits}
+use Rattle.oas_num.specs.declared.reals.Real.{Real}
+use Rattle.oas_num.specs.Style.{Any}
+use Rattle.oas_canon.specs.declared.records.Record.{Record}
+use Rattle.oas_canon.specs.File.{magic, IsStart, IsRecord, IsEnd, FrontOf}
+use Rattle.oas_canon.specs.Meaning.{Allowed, Whole}
+
+-- no spelling is a front of what is left
+pub record NoneStands {V : Type 0} (spells : V → List ℕ → Type 0) (left : List ℕ) : Type 0 where
+  pub none : (v : V) (front rest : List ℕ) → spells v front → left ≢ front ++ rest
+
+-- before the magic
+pub record AtMagic (b : List ℕ) (at : ℕ) : Type 0 where
+  pub place : at ≡ 0
+  pub differs : (rest : List ℕ) → b ≢ magic ++ rest
+
+-- after the magic, where no START follows
+pub record AtStart (b : List ℕ) (at : ℕ) : Type 0 where
+  pub left : List ℕ
+  pub place : at ≡ 13
+  pub joined : b ≡ magic ++ left
+  pub none : NoneStands (IsStart Any) left
+
+-- before the place stand the magic, START and records that are allowed, and all of it is this
+pub record IsBefore (limits : Limits) (b left : List ℕ) (at : ℕ) (records : List Record) : Type 0 where
+  pub unit : Real
+  pub before : List ℕ
+  pub front : FrontOf unit records before
+  pub allowed : Allowed limits records
+  pub place : at ≡ length before
+  pub joined : b ≡ before ++ left
+
+-- a record by which they are allowed still
+pub record IsNext (limits : Limits) (records : List Record) (r : Record) (bytes : List ℕ) : Type 0 where
+  pub spelled : IsRecord Any r bytes
+  pub allowed : Allowed limits (records ++ r ∷ [])
+
+-- at a record: neither END nor one that is allowed stands there
+pub record AtRecord (limits : Limits) (b : List ℕ) (at : ℕ) : Type 0 where
+  pub left : List ℕ
+  pub records : List Record
+  pub before : IsBefore limits b left at records
+  pub no_end : NoneStands (IsEnd Any) left
+  pub no_record : NoneStands (IsNext limits records) left
+
+-- after END, where a byte follows
+pub record AfterEnd (limits : Limits) (b : List ℕ) (at : ℕ) : Type 0 where
+  pub left : List ℕ
+  pub records : List Record
+  pub start : ℕ
+  pub before : IsBefore limits b left start records
+  pub last : List ℕ
+  pub byte : ℕ
+  pub rest : List ℕ
+  pub end : IsEnd Any tt last
+  pub joined : left ≡ last ++ (byte ∷ rest)
+  pub place : at ≡ start + length last
+
+-- at END, behind which nothing follows, where the records are not a whole
+pub record AtEnd (limits : Limits) (b : List ℕ) (at : ℕ) : Type 0 where
+  pub left : List ℕ
+  pub records : List Record
+  pub before : IsBefore limits b left at records
+  pub end : IsEnd Any tt left
+  pub torn : Whole limits records → ⊥
+
+-- the one place at which it is refused
+pub data RefusedAt (limits : Limits) (b : List ℕ) (at : ℕ) : Type 0 where
+  ByMagic : AtMagic b at → RefusedAt limits b at
+  ByStart : AtStart b at → RefusedAt limits b at
+  ByRecord : AtRecord limits b at → RefusedAt limits b at
+  AfterLast : AfterEnd limits b at → RefusedAt limits b at
+  ByEnd : AtEnd limits b at → RefusedAt limits b at
