@@ -5,7 +5,7 @@ use Rattle.oas_num.specs.declared.refusals.Refusal.{Refusal}
 use Rattle.oas_num.specs.declared.sinks.SinkFault.{SinkFault}
 use Rattle.oas_num.specs.OutletLaws.{given_since, takes_front, stays}
 use Rattle.oas_num.specs.Outlets.{Opens, IsGiven, failures_of}
-use Rattle.oas_num.specs.Writing.{Puts, PutsFront, Writes}
+use Rattle.oas_num.specs.Writing.{Writes}
 use Rattle.oas_num.proofs.WritingLemmas.{Puts-none}
 use Rattle.oascanon.specs.Runs.{said, Tells, Ends, AppendsFront}
 

@@ -1,8 +1,8 @@
 -- Putting one part of a line after another.
-use Rattle.std.proofs.Common.{◌≡◌, ℕ, List, [], ◌++◌, Result, Ok, Err, refl, sym, ap, ◌∙◌, append_assoc, arith}
+use Rattle.std.proofs.Common.{◌≡◌, ℕ, List, ◌++◌, Result, refl, sym, ◌∙◌, append_assoc}
 use Rattle.oas_num.specs.declared.sinks.SinkFault.{SinkFault}
 use Rattle.oas_num.specs.Writing.{Puts, PutsFront, Writes}
-use Rattle.oas_num.proofs.WritingLemmas.{Puts-none, Puts-then, PutsFront-then, Writes-then}
+use Rattle.oas_num.proofs.WritingLemmas.{Puts-then, PutsFront-then, Writes-then}
 
 -- of the whole a front was put, and this is left
 pub record PutSoFar {K : Type 0} (given : K → List ℕ → K → Type 0) (failures : K → ℕ) (whole left : List ℕ) (old now : K) : Type 0 where
