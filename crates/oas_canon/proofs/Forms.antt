@@ -65,14 +65,18 @@ unit_is v u h r =
     ap (λ (sign : Bool). record { negative = sign; num = v.num; den = v.den }) h.0.plain ∙ ap real same
 
 -- what a canonical form means
-record Shaped (c : List ℕ) (m : Layout) : Type 0 where
-  file : FileIn Shortest (real m.unit) (records_of m.cells) c
-  ordered : IsOrdered m.cells
+pub record Shaped (c : List ℕ) (m : Layout) : Type 0 where
+  pub file : FileIn Shortest (real m.unit) (records_of m.cells) c
+  pub ordered : IsOrdered m.cells
 
-shaped : (limits : Limits) (c : List ℕ) (m : Layout) → CanonicalForm limits c → Means c m → Shaped c m
+-- its records' cells are those of its meaning
+pub cells_mean : (limits : Limits) (c : List ℕ) (m : Layout) → (h : CanonicalForm limits c) → Means c m → cells h.records ≡ m.cells
+cells_mean limits c m h k = let both = one_reading h.unit k.unit h.records k.records c (file_of h.unit h.records c h.file) k.file in ap cells both.1 ∙ k.is
+
+pub shaped : (limits : Limits) (c : List ℕ) (m : Layout) → CanonicalForm limits c → Means c m → Shaped c m
 shaped limits c m h k =
     let both = one_reading h.unit k.unit h.records k.records c (file_of h.unit h.records c h.file) k.file in
-    let cs : cells h.records ≡ m.cells = ap cells both.1 ∙ k.is in
+    let cs : cells h.records ≡ m.cells = cells_mean limits c m h k in
     let rs : h.records ≡ records_of m.cells = records-cells h.records h.kept h.allowed.placed ∙ ap records_of cs in
     let reduced : Reduces h.unit.num h.unit.den m.unit = subst (λ (v : Real). Reduces v.num v.den m.unit) (sym both.0) k.reduced in
     let u : h.unit ≡ real m.unit = unit_is h.unit m.unit (h.file.spelled.second.first.second.second.first.holds) reduced in
@@ -143,7 +147,7 @@ means_one b m n p q =
     let us : m.unit ≡ n.unit = one_lowest q.unit.num q.unit.den m.unit n.unit reduced q.reduced in
     λ i. record { unit = us i; cells = cs i }
 
-same_itself : (m n : Layout) → m ≡ n → SameLayout m n
+pub same_itself : (m n : Layout) → m ≡ n → SameLayout m n
 same_itself m n e = record {
   unit = ap (λ (l : Layout). l.unit) e;
   cells = λ name. ap (λ (l : Layout). is_some (rectangles_of name l.cells)) e;

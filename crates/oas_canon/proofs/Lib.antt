@@ -19,3 +19,4 @@ pub mod Sorting
 pub mod Spelling
 pub mod Whole
 pub mod Weights
+pub mod Held

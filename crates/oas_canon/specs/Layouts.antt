@@ -5,7 +5,7 @@ use Rattle.std.specs.List.Sorted.{IsPermutation, IsSorted}
 use Rattle.std.specs.Map.{keys_of}
 use Rattle.oas_canon.specs.declared.limits.Limits.{Limits}
 use Rattle.oas_canon.specs.Meaning.{Cells, Layout, Accepted, Means, rectangle_cmp, name_cmp, count_of_all, weight_of}
-use Rattle.oas_canon.specs.Canonical.{Ascends, Fits, IsOrdered, IsCanonicalOf, canonical_bytes}
+use Rattle.oas_canon.specs.Canonical.{Ascends, Fits, IsOrdered, CanonicalForm, IsCanonicalOf, canonical_bytes}
 
 -- its coordinates have a spelling, and its canonical file has fewer than 2^64 bytes
 pub record IsLight (l : Layout) : Type 0 where
@@ -47,3 +47,11 @@ CanonicalLength = (l : Layout) → length (canonical_bytes l) ≤ 320 + 64 * wei
 -- the canonical form of an accepted file has as many elements as it, and its weight
 abbrev pub CanonicalWeight : Type 0
 CanonicalWeight = (limits : Limits) (b c : List ℕ) (m n : Layout) → Accepted limits b → IsCanonicalOf limits b c → Means b m → Means c n → (count_of_all n.cells ≡ count_of_all m.cells) × (weight_of n.cells ≡ weight_of m.cells)
+
+-- its length is bounded by the weight of the file
+abbrev pub FormLength : Type 0
+FormLength = (limits : Limits) (b c : List ℕ) (m : Layout) → Accepted limits b → IsCanonicalOf limits b c → Means b m → length c ≤ 320 + 64 * weight_of m.cells
+
+-- a canonical form is the canonical bytes of what it means
+abbrev pub FormIsItsBytes : Type 0
+FormIsItsBytes = (limits : Limits) (c : List ℕ) (m : Layout) → CanonicalForm limits c → Means c m → c ≡ canonical_bytes m

@@ -1,7 +1,7 @@
 //! Laws of the definitions, each the contract of a function that does nothing.
 ghost use Rattle.oas_canon.specs.FileLaws.{OneReading};
 ghost use Rattle.oas_canon.specs.Canonical.{OneCanonicalForm, CanonicalBytes, FormIsBytes, SameExactly, CanonicalAgain, FormIsAccepted};
-ghost use Rattle.oas_canon.specs.Layouts.{CanonicalLength, CanonicalWeight};
+ghost use Rattle.oas_canon.specs.Layouts.{CanonicalLength, CanonicalWeight, FormIsItsBytes, FormLength};
 
 /// One byte list has at most one unit and record list.
 pub fn one_reading()
@@ -46,4 +46,14 @@ pub fn canonical_length()
 /// The canonical form of an accepted file has as many elements as the file, and its weight.
 pub fn canonical_weight()
     ensures { CanonicalWeight }
+{}
+
+/// A canonical form is the canonical bytes of what it means.
+pub fn form_is_its_bytes()
+    ensures { FormIsItsBytes }
+{}
+
+/// The canonical form of an accepted file has at most 320 bytes and 64 for each unit of the file's weight.
+pub fn form_length()
+    ensures { FormLength }
 {}
