@@ -1,38 +1,36 @@
 -- A layout put into order is the same layout.
-use Rattle.std.proofs.Common.{◌≡◌, ℕ, suc, zero, ◌+◌, ◌<◌, ◌≤◌, List, [], ◌∷◌, Bool, true, false, cond, Option, None, Some, is_some, unwrap_or, get_or, length, map, refl, sym, ◌∙◌, ap, subst, arith, true≢false, take, drop, set, ◌-◌, ◌++◌, inl, inr, Bor}
+use Rattle.std.proofs.Common.{◌≡◌, ℕ, suc, zero, ◌+◌, ◌<◌, List, [], ◌∷◌, Bool, true, false, cond, Option, None, Some, is_some, unwrap_or, get_or, length, refl, sym, ◌∙◌, ap, subst, arith, true≢false, take, drop, set, ◌-◌, ◌++◌, inl, inr, Bor}
 use Rattle.std.specs.Prelude.{sum_by, slice_get, ◌==◌}
 use Rattle.std.specs.Fn.{Called, ComparesAs}
 use denote.Param.Members.{Mut}
-use Rattle.std.specs.List.{AllByRecursion, All, Contains}
+use Rattle.std.specs.List.{AllByRecursion, Contains}
 use Rattle.std.specs.List as std
 use Rattle.std.specs.List.Sorted.{IsStrictlySortedBy, IsPermutation, IsSorted, IsSortedBy}
 use Rattle.std.specs.Map.{lookup, keys_of}
 use Rattle.std.specs.BTreeMap.{is_at}
-use Rattle.std.specs.Ordering.{nat_cmp, is_lt, is_gt, is_eq, ordering_reverse, eq_by_cmp}
+use Rattle.std.specs.Ordering.{is_lt, is_gt, is_eq, ordering_reverse, eq_by_cmp}
 use Rattle.std.specs.declared.cmp.Ordering.{Ordering}
 use Rattle.std.specs.declared.cmp.Ordering.TheVariants.{Less, Equal, Greater}
-use Rattle.std.specs.Cmp.{IsTotalOrder, IsEquivalence, IsStrictWeakOrder, tied_itself, eq_by_cmp_equiv}
-use Rattle.std.specs.Cmp.Lexicographic.{slice_cmp, pointwise, texts_ties, nat_list_cmp_total}
+use Rattle.std.specs.Cmp.{IsTotalOrder, IsStrictWeakOrder, tied_itself, eq_by_cmp_equiv}
+use Rattle.std.specs.Cmp.Lexicographic.{pointwise, texts_ties, nat_list_cmp_total}
 use Rattle.std.proofs.Math.Seq.{take-append_seam}
 use Rattle.std.proofs.lemmas.Bool.{cases_lt}
 use Rattle.std.proofs.lemmas.Fn.{always_returns_same}
 use Rattle.std.proofs.lemmas.Map.Lookups.{exact_bytes}
 use Rattle.std.proofs.lemmas.Map.Keys.{sorted_from_all_adjacent, apart_from_distinct, IsDistinct-from_sorted, IsDistinct-IsPermutation, IsDistinct-head, IsDistinct-tail, IsDistinct-cons}
 use Rattle.std.proofs.lemmas.Map.Entries.{place_from_lookup, lookup_from_place}
-use Rattle.std.proofs.lemmas.List.{get_or-map}
 use Rattle.std.proofs.lemmas.List.Sorted.{IsPermutation-map, IsPermutation-sym, All-permutation, Contains-permutation, sum_by-IsPermutation, length_permutation, sorted_far, ranks_by}
 use Rattle.std.proofs.lemmas.List.Sums.{sum_by-cons}
 use Rattle.std.proofs.lemmas.List.Elements.{All-from_recursion, recursion_from_All}
 use Rattle.oas_num.specs.Texts.{IsName}
 use Rattle.oas_canon.specs.declared.cells.Cell.{Cell}
-use Rattle.oas_canon.specs.declared.limits.Limits.{Limits}
 use Rattle.oas_canon.specs.declared.rectangles.Rectangle.{Rectangle}
 use Rattle.oas_canon.specs.contracts.rectangles.RectangleOrd.TheImpl.Laws as order
 use Rattle.oas_canon.specs.Drafts.{cells_of}
-use Rattle.oas_canon.specs.Meaning.{Cells, Layout, SameLayout, rectangle_cmp, name_cmp, count_of, rectangles_of, IsDistinct, count_of_all, weight_of, IsInRange, AreInRange}
-use Rattle.oas_canon.specs.Canonical.{Ascends, IsOrdered, Fits, IsWithinLimits}
+use Rattle.oas_canon.specs.Meaning.{Cells, Layout, rectangle_cmp, name_cmp, count_of, rectangles_of, IsDistinct, count_of_all, weight_of, IsInRange}
+use Rattle.oas_canon.specs.Canonical.{Ascends, IsOrdered, Fits}
 use Rattle.oas_canon.specs.Run.{IsSealed}
-use Rattle.oas_canon.specs.Layouts.{AreResorted, AreSorted, HasTwins, IsLight, IsInOrder}
+use Rattle.oas_canon.specs.Layouts.{AreResorted, AreSorted, HasTwins, IsLight}
 
 -- ---- sorted lists by neighbours, and by all pairs
 

@@ -1,0 +1,7 @@
+pub mod ReadingLemmas
+pub mod PointListLemmas
+pub mod StepLemmas
+pub mod SumLemmas
+pub mod VertexLemmas
+pub mod OffsetLemmas
+pub mod RepetitionLemmas

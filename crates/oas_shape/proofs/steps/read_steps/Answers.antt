@@ -1,0 +1,24 @@
+use Rattle.std.proofs.Common.{◌+◌, ◌∙◌, ap, arith, inl, inr, refl}
+use Rattle.std.proofs.lemmas.Result.{err_from_is_err_and}
+use Rattle.std.proofs.lemmas.List.{length_push}
+use Rattle.oas_num.specs.GrammarLaws.{OneFront-image}
+use Rattle.oas_num.proofs.GrammarLemmas.{listed_more, listed_fails, listed_no_memory}
+use Rattle.oas_shape.proofs.ReadingLemmas.{image_read, image_fails}
+use Rattle.oas_shape.proofs.steps.read_steps.Goals as goal
+
+pub returns-in_err-delta : goal.returns-in_err-delta
+returns-in_err-delta g c =
+    let p = err_from_is_err_and c.from_residual.result c.from_residual.ensures.1 in
+    rw (p.1, p.2) (listed_fails _ _ _ _ _ _ _ _ _ (OneFront-image _ _ g.met.D.Spelled.one_front) (λ _ h. inl h) (omega arith) c.loop.invariant.listed (image_fails _ _ (λ _ _ h. h) c.in_err-delta.ensures))
+
+pub returns-in_err-push : goal.returns-in_err-push
+returns-in_err-push g c =
+    let p = err_from_is_err_and c.from_residual-in_err-push.result c.from_residual-in_err-push.ensures.1 in
+    rw (p.1, p.2) (listed_no_memory _ _ _ _ _ _ _ _ (inr refl) c.loop.invariant.listed (image_read _ _ c.in_ok-delta.ensures))
+
+pub loop-preserved : goal.loop-preserved
+loop-preserved g c =
+    rw (c.in_ok-push.ensures.items, c.step.ensures) (record {
+      listed = listed_more _ _ _ _ _ _ c.loop.invariant.listed (image_read _ _ c.in_ok-delta.ensures);
+      len = length_push _ _ ∙ ap (λ n. n + 1) c.loop.invariant.len;
+    })

@@ -1,0 +1,99 @@
+-- How point lists are spelled (SEMI P39, Point lists).
+use Rattle.std.specs.Prelude.{◌≡◌, ℕ, pos, ◌<◌, ◌≤◌, ◌==◌, if◌then◌else◌, Bool, true, false, not, List, [], ◌∷◌, length}
+use Rattle.oas_num.specs.declared.refusals.Why.{Why}
+use Rattle.oas_num.specs.declared.refusals.Why.TheVariants.{Truncated, IntegerRange, ListKind, PointCount, Read, InputTooLong, Memory}
+use Rattle.oas_num.specs.declared.deltas.Delta1.{Delta1}
+use Rattle.oas_num.specs.declared.deltas.Delta2.{Delta2}
+use Rattle.oas_num.specs.declared.deltas.Delta3.{Delta3}
+use Rattle.oas_num.specs.declared.deltas.GDelta.{GDelta}
+use Rattle.oas_num.specs.Grammar.{IsPair, IsSuch, IsImage, IsCount}
+use Rattle.oas_num.specs.Combinators.{IsEither}
+use Rattle.oas_num.specs.Integers.{IsUnsigned}
+use Rattle.oas_num.specs.Style.{Style, Any, Shortest, unsigned_in}
+use Rattle.oas_num.specs.Deltas.{SpellsDelta1, SpellsDelta2, SpellsDelta3, SpellsGDelta, gdelta_in, step}
+use Rattle.oas_num.specs.Reading.{IsOutOfRange}
+use Rattle.oas_shape.specs.declared.list_use.ListUse.{ListUse}
+use Rattle.oas_shape.specs.declared.list_use.ListUse.TheVariants.{Polygon, Path}
+use Rattle.oas_shape.specs.declared.point_list.Closing.{Closing}
+use Rattle.oas_shape.specs.declared.point_list.Closing.TheVariants.{Listed, FirstX, FirstY}
+use Rattle.oas_shape.specs.ListUses.{IsFitting}
+use Rattle.oas_shape.specs.Polylines.{Polyline}
+
+-- there are six types
+abbrev pub IsListKind : ℕ → Type 0
+IsListKind kind = kind < 6
+
+-- 1-deltas go alternately along x and y
+abbrev pub alternating : Bool → List Delta1 → List GDelta
+alternating along_x [] = []
+alternating along_x (d ∷ ds) = (if along_x then step d.0 (pos 0) else step (pos 0) d.0) ∷ alternating (not along_x) ds
+
+-- the other deltas are steps
+abbrev pub step2 : Delta2 → GDelta
+step2 d = step d.dx d.dy
+
+abbrev pub step3 : Delta3 → GDelta
+step3 d = step d.dx d.dy
+
+abbrev pub stepg : GDelta → GDelta
+stepg d = d
+
+-- so many deltas of a list of that type
+abbrev pub deltas_in : ℕ → ℕ → List GDelta → List ℕ → Type 0
+deltas_in kind count =
+    IsEither (kind == 0) (IsImage (alternating true) (IsCount SpellsDelta1 count))
+    (IsEither (kind == 1) (IsImage (alternating false) (IsCount SpellsDelta1 count))
+    (IsEither (kind == 2) (IsCount (IsImage step2 SpellsDelta2) count)
+    (IsEither (kind == 3) (IsCount (IsImage step3 SpellsDelta3) count)
+    (IsCount (IsImage stepg SpellsGDelta) count))))
+
+-- Polygons of types 0 and 1 leave out their last vertex. That of type 0 has the x of the first vertex, that of type 1 its y.
+abbrev pub closing_of : ListUse → ℕ → Closing
+closing_of Polygon kind = if kind == 0 then FirstX else (if kind == 1 then FirstY else Listed)
+closing_of Path kind = Listed
+
+-- a list's type, its count and its deltas
+abbrev pub Parts : Type 0
+Parts = ℕ × (ℕ × List GDelta)
+
+-- the list that these are: in type 5 each delta changes the displacement before it
+abbrev pub polyline_of : ListUse → ℕ × (ℕ × List GDelta) → Polyline
+polyline_of purpose parts = record { deltas = parts.1.1; running = parts.0 == 5; closing = closing_of purpose parts.0 }
+
+-- what follows the type
+abbrev pub after_kind : ListUse → ℕ → ℕ × List GDelta → List ℕ → Type 0
+after_kind purpose kind = IsPair (IsSuch (IsFitting purpose kind) IsUnsigned) (deltas_in kind)
+
+-- any spelling: a type, a count that fits, and so many deltas of the type
+abbrev pub IsPointList : ListUse → Polyline → List ℕ → Type 0
+IsPointList purpose = IsImage (polyline_of purpose) (IsPair (IsSuch IsListKind IsUnsigned) (after_kind purpose))
+
+-- a list of type 4 with these deltas
+abbrev pub plain_line : List GDelta → Polyline
+plain_line deltas = record { deltas = deltas; running = false; closing = Listed }
+
+-- the shortest spelling of a type, a count and g-deltas
+abbrev pub IsShortestList : ℕ × (ℕ × List GDelta) → List ℕ → Type 0
+IsShortestList = IsPair (unsigned_in Shortest) (λ _. IsPair (unsigned_in Shortest) (IsCount (gdelta_in Shortest)))
+
+-- the canonical spelling: type 4, and all numbers the shortest
+pub record IsPlainList (purpose : ListUse) (line : Polyline) (bytes : List ℕ) : Type 0 where
+  pub plain : line ≡ plain_line line.deltas
+  pub fits : IsFitting purpose 4 (length line.deltas)
+  pub spelled : IsShortestList (4, (length line.deltas, line.deltas)) bytes
+
+-- a point list, in a style
+abbrev pub point_list_in : Style → ListUse → Polyline → List ℕ → Type 0
+point_list_in Any purpose = IsPointList purpose
+point_list_in Shortest purpose = IsPlainList purpose
+
+-- where a read of a point list may fail: last are the bytes with which what was read ends
+abbrev pub PointListMay : ListUse → Why → List ℕ → Type 0
+PointListMay purpose Truncated last = Unit {0}
+PointListMay purpose Read last = Unit {0}
+PointListMay purpose InputTooLong last = Unit {0}
+PointListMay purpose Memory last = Unit {0}
+PointListMay purpose IntegerRange last = IsOutOfRange last
+PointListMay purpose ListKind last = (kind : ℕ) × IsUnsigned kind last × (6 ≤ kind)
+PointListMay purpose PointCount last = (kind : ℕ) × (count : ℕ) × IsUnsigned count last × (kind < 6) × ¬ IsFitting purpose kind count
+PointListMay purpose _ last = ⊥

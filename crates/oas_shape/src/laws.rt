@@ -1,0 +1,21 @@
+//! The laws of point lists and repetitions: each function's contract is one, and its body is empty.
+ghost use Rattle.oas_num.specs.Grammar.{OneFront};
+ghost use Rattle.oas_num.specs.Combinators.{OneSpelling, IsWithin};
+ghost use Rattle.oas_num.specs.Style.{Style, Any, Shortest};
+ghost use Rattle.oas_shape.specs.declared.list_use.ListUse.{ListUse};
+ghost use Rattle.oas_shape.specs.PointLists.{point_list_in};
+ghost use Rattle.oas_shape.specs.Repetitions.{rep_field_in};
+
+/// Point lists. In the shortest style one is of type 4, with g-deltas in their shortest spelling (own rule).
+pub fn point_lists()
+    ensures front { (style : Style) (purpose : ListUse) → OneFront (point_list_in style purpose) }
+    ensures one { (purpose : ListUse) → OneSpelling (point_list_in Shortest purpose) }
+    ensures within { (purpose : ListUse) → IsWithin (point_list_in Shortest purpose) (point_list_in Any purpose) }
+{}
+
+/// Repetition fields. In the shortest style there is none (own rule): a canonical file gives each copy by itself.
+pub fn rep_fields()
+    ensures front { (style : Style) → OneFront (rep_field_in style) }
+    ensures one { OneSpelling (rep_field_in Shortest) }
+    ensures within { IsWithin (rep_field_in Shortest) (rep_field_in Any) }
+{}

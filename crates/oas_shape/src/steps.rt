@@ -1,0 +1,113 @@
+//! The deltas of a point list, read as steps.
+ghost use Rattle.std.specs.Prelude.{◌≡◌, ◌<◌, ◌+ℤ◌, pos, if◌then◌else◌};
+ghost use Rattle.oas_num.specs.Grammar.{IsCount, IsImage};
+ghost use Rattle.oas_num.specs.Deltas.{SpellsDelta1, step};
+ghost use Rattle.oas_num.specs.Reading.{ReadsAs, ListMay, IntegerMay};
+ghost use Rattle.oas_num.specs.declared.deltas.GDelta.{GDelta};
+ghost use Rattle.oas_shape.specs.PointLists.{deltas_in, alternating, step2, step3, stepg};
+
+use oas_num::{Delta1, Delta2, Delta3, GDelta, Source, Spelled, Why};
+use std::alloc::Global;
+
+/// A delta that is a step whatever stands before it.
+pub(crate) trait Step: Spelled + Drop {
+    /// The step.
+    ghost step_of: { Self → GDelta };
+
+    fn step(&self) -> GDelta
+        ensures { result ≡ step_of self.now };
+}
+
+impl Step for Delta2 {
+    ghost step_of = { step2 };
+
+    fn step(&self) -> GDelta {
+        GDelta {
+            dx: self.dx,
+            dy: self.dy,
+        }
+    }
+}
+
+impl Step for Delta3 {
+    ghost step_of = { step3 };
+
+    fn step(&self) -> GDelta {
+        GDelta {
+            dx: self.dx,
+            dy: self.dy,
+        }
+    }
+}
+
+impl Step for GDelta {
+    ghost step_of = { stepg };
+
+    fn step(&self) -> GDelta {
+        *self
+    }
+}
+
+/// Reads so many deltas of a list of that type. It takes no more memory than for what was read.
+pub(crate) fn read_deltas<S: Source>(
+    alloc: Global,
+    kind: u64,
+    count: u64,
+    source: &mut S,
+) -> Result<Vec<GDelta>, Why>
+    ensures { ReadsAs (λ steps. steps.items) (deltas_in kind count) (ListMay IntegerMay) (S.script source.old) result (S.script source.new) }
+{
+    match kind {
+        0 => read_alternating(alloc, true, count, source),
+        1 => read_alternating(alloc, false, count, source),
+        2 => read_steps::<Delta2, S>(alloc, count, source),
+        3 => read_steps::<Delta3, S>(alloc, count, source),
+        _ => read_steps::<GDelta, S>(alloc, count, source),
+    }
+}
+
+/// Reads so many deltas that are steps.
+fn read_steps<D: Step, S: Source>(
+    alloc: Global,
+    count: u64,
+    source: &mut S,
+) -> Result<Vec<GDelta>, Why>
+    ensures { ReadsAs (λ steps. steps.items) (IsCount (IsImage D.step_of D.spells) count) (ListMay D.may) (S.script source.old) result (S.script source.new) }
+{
+    let mut steps = Vec::new(alloc);
+    for _ in 0..count {
+        let delta = D::read(alloc, source)?;
+        steps.push(delta.step())?;
+    }
+    Ok(steps)
+}
+
+/// Reads so many 1-deltas, which go along x and y in turn.
+fn read_alternating<S: Source>(
+    alloc: Global,
+    x_first: bool,
+    count: u64,
+    source: &mut S,
+) -> Result<Vec<GDelta>, Why>
+    ensures { ReadsAs (λ steps. steps.items) (IsImage (alternating x_first) (IsCount SpellsDelta1 count)) (ListMay IntegerMay) (S.script source.old) result (S.script source.new) }
+{
+    let mut steps = Vec::new(alloc);
+    let mut along_x = x_first;
+    for _ in 0..count {
+        let delta = Delta1::read(alloc, source)?;
+        steps.push(along(along_x, delta))?;
+        along_x = !along_x;
+    }
+    Ok(steps)
+}
+
+/// So far along one axis.
+fn along(along_x: bool, far: Delta1) -> GDelta
+    ensures { result ≡ (if along_x then step far.0 (pos 0) else step (pos 0) far.0) }
+{
+    if along_x {
+        GDelta { dx: far.0, dy: 0 }
+    } else {
+        GDelta { dx: 0, dy: far.0 }
+    }
+}

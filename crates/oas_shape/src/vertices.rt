@@ -1,0 +1,120 @@
+//! The vertices of a point list.
+ghost use Rattle.std.specs.Prelude.{◌≡◌, ◌+ℤ◌, ◌^◌, IfOk, IfErr, SomeIff};
+ghost use Rattle.std.specs.List.{AllByRecursion};
+ghost use Rattle.std.specs.Option.{option_to_list};
+ghost use Rattle.oas_num.specs.Deltas.{step};
+ghost use Rattle.oas_shape.specs.Steps.{moved, IsNear, IsInRange};
+ghost use Rattle.oas_shape.specs.Polylines.{next_step, listed_vertices, left_out, vertices_of, VerticesMay};
+
+use crate::displacements::Displacement;
+use crate::point_list::{Closing, PointList};
+use oas_num::{GDelta, Why};
+use oas_ring::Point;
+use std::alloc::Global;
+
+/// How far a coordinate may be from 0 (own rule).
+const FURTHEST: i128 = 1152921504606846976;
+
+impl PointList {
+    /// All vertices at that position, the first of which it is (SEMI P39, Point lists). It is refused by
+    /// `CoordinateRange` where one of them is past the limits, and by `Memory`.
+    pub fn vertices(&self, alloc: Global, at: Point) -> Result<Vec<Point>, Why>
+        requires { IsInRange at }
+        ensures given { IfOk result (λ points. points.items ≡ vertices_of self.now at) }
+        ensures near { IfOk result (λ points. AllByRecursion IsInRange points.items) }
+        ensures refused { IfErr result (λ why. VerticesMay why (vertices_of self.now at)) }
+    {
+        let mut points = walk(alloc, self.deltas.as_slice(), self.running, at)?;
+        let last = points[points.len() - 1];
+        match point_left_out(self.closing, at, last) {
+            Some(point) => {
+                points.push(point)?;
+                Ok(points)
+            }
+            None => Ok(points),
+        }
+    }
+}
+
+/// The vertices that the deltas lead to, one after another.
+fn walk(alloc: Global, deltas: &[GDelta], running: bool, at: Point) -> Result<Vec<Point>, Why>
+    requires { IsInRange at }
+    ensures given { IfOk result (λ points. points.items ≡ listed_vertices running deltas.now at) }
+    ensures near { IfOk result (λ points. AllByRecursion IsInRange points.items) }
+    ensures refused { IfErr result (λ why. VerticesMay why (listed_vertices running deltas.now at)) }
+{
+    let mut points = Vec::new(alloc);
+    points.push(at)?;
+    let mut last = at;
+    let mut by = Displacement { x: 0, y: 0 };
+    for delta in deltas {
+        by = next_displacement(running, by, *delta);
+        let Some(next) = point_from(last, by) else {
+            return Err(Why::CoordinateRange);
+        };
+        points.push(next)?;
+        last = next;
+    }
+    Ok(points)
+}
+
+/// The next displacement, which in a running list is on top of the one before.
+fn next_displacement(running: bool, before: Displacement, delta: GDelta) -> Displacement
+    requires x { IsNear (2 ^ 63) before.x }
+    requires y { IsNear (2 ^ 63) before.y }
+    ensures value { step result.x result.y ≡ next_step running (step before.x before.y) delta }
+    ensures x_near { IsNear (2 ^ 64) result.x }
+    ensures y_near { IsNear (2 ^ 64) result.y }
+{
+    if running {
+        Displacement {
+            x: before.x + i128::from(delta.dx),
+            y: before.y + i128::from(delta.dy),
+        }
+    } else {
+        Displacement::from_delta(delta)
+    }
+}
+
+/// The point so far from that one, where it is within the limits.
+fn point_from(from: Point, by: Displacement) -> Option<Point>
+    requires x { IsNear (2 ^ 64) by.x }
+    requires y { IsNear (2 ^ 64) by.y }
+    ensures { SomeIff result (IsInRange (moved from (step by.x by.y))) (moved from (step by.x by.y)) }
+{
+    let x = coordinate_from(from.x, by.x)?;
+    let y = coordinate_from(from.y, by.y)?;
+    Some(Point { x, y })
+}
+
+/// The coordinate so far from that one, where it is within the limits.
+fn coordinate_from(from: i64, far: i128) -> Option<i64>
+    requires { IsNear (2 ^ 64) far }
+    ensures { SomeIff result (IsNear (2 ^ 60) (from +ℤ far)) (from +ℤ far) }
+{
+    let to = i128::from(from) + far;
+    if to < -FURTHEST {
+        return None;
+    }
+    if to > FURTHEST {
+        return None;
+    }
+    Some(to as i64)
+}
+
+/// The vertex that a list leaves out, of its first and its last one.
+fn point_left_out(closing: Closing, first: Point, last: Point) -> Option<Point>
+    ensures { option_to_list result ≡ left_out closing first last }
+{
+    match closing {
+        Closing::Listed => None,
+        Closing::FirstX => Some(Point {
+            x: first.x,
+            y: last.y,
+        }),
+        Closing::FirstY => Some(Point {
+            x: last.x,
+            y: first.y,
+        }),
+    }
+}
