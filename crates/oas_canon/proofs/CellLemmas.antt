@@ -1,7 +1,7 @@
 -- Putting the rectangles of a cell, and cells.
-use Rattle.std.proofs.Common.{◌≡◌, ℕ, ◌+◌, ◌<◌, ◌≤◌, ◌^◌, List, [], ◌∷◌, ◌++◌, length, map, drop, get_or, drop-cons, refl, sym, ap, subst, ◌∙◌, append_assoc, add-one, arith}
+use Rattle.std.proofs.Common.{◌≡◌, ℕ, ◌+◌, ◌<◌, ◌≤◌, List, [], ◌∷◌, ◌++◌, length, map, drop, get_or, drop-cons, refl, sym, ap, subst, ◌∙◌, append_assoc, add-one}
 use Rattle.std.specs.List.{AllByRecursion}
-use Rattle.oas_num.specs.Writing.{Puts, PutsFront}
+use Rattle.oas_num.specs.Writing.{PutsFront}
 use Rattle.oas_canon.specs.declared.rectangles.Rectangle.{Rectangle}
 use Rattle.oas_canon.specs.declared.cells.Cell.{Cell}
 use Rattle.oas_canon.specs.declared.records.Record.{Record}
@@ -10,7 +10,7 @@ use Rattle.oas_canon.specs.Canonical.{Fits, records_of, record_bytes, all_bytes}
 use Rattle.oas_canon.specs.Drafts.{cells_of}
 use Rattle.oas_canon.specs.Meaning.{Cells}
 use Rattle.oas_canon.specs.Putting.{PutsAll, cell_bytes}
-use Rattle.oas_canon.proofs.PuttingLemmas.{PutSoFar, first, ends, fails_at, part_fits, begins, all_put, ◌▸◌}
+use Rattle.oas_canon.proofs.PuttingLemmas.{PutSoFar, fails_at, part_fits, ◌▸◌}
 
 drop_next : {A : Type 0} (xs : List A) (i : ℕ) (d : A) → i < length xs → drop i xs ≡ get_or xs i d ∷ drop (i + 1) xs
 drop_next xs i d lt = drop-cons xs i d lt ∙ ap (λ (k : ℕ). get_or xs i d ∷ drop k xs) (sym (add-one i))

@@ -1,5 +1,5 @@
 -- What a record adds to what was collected.
-use Rattle.std.proofs.Common.{◌≡◌, ◌≢◌, ℕ, zero, suc, ◌+◌, ◌<◌, ◌≤◌, List, [], ◌∷◌, ◌++◌, length, get_or, set, map, refl, sym, ap, ◌∙◌, arith}
+use Rattle.std.proofs.Common.{◌≡◌, ◌≢◌, ℕ, zero, suc, ◌<◌, List, [], ◌∷◌, ◌++◌, length, get_or, set, ap, ◌∙◌, arith}
 use Rattle.oas_canon.specs.declared.cells.Cell.{Cell}
 use Rattle.oas_canon.specs.declared.rectangles.Rectangle.{Rectangle}
 use Rattle.oas_canon.specs.Drafts.{cells_of}

@@ -1,36 +1,36 @@
 -- The whole read: its head, its records and its end.
-use Rattle.std.proofs.Common.{◌≡◌, ◌≢◌, ℕ, zero, suc, ◌+◌, ◌*◌, ◌/◌, ◌%◌, ◌^◌, ◌<◌, ◌≤◌, Bool, true, false, List, [], ◌∷◌, ◌++◌, length, Option, Some, None, IsTrue, refl, sym, ap, subst, ◌∙◌, append_assoc, arith, inl, inr}
+use Rattle.std.proofs.Common.{◌≡◌, ◌≢◌, ℕ, zero, suc, ◌*◌, ◌/◌, ◌%◌, ◌^◌, ◌<◌, Bool, true, false, List, [], ◌∷◌, ◌++◌, Option, Some, None, refl, sym, ap, subst, ◌∙◌, append_assoc, arith, inl, inr}
 use Rattle.std.proofs.lemmas.List.{append-nil, append_cancel_left}
 use Rattle.std.proofs.lemmas.Bool.{cases_lt}
-use Rattle.std.specs.Prelude.{ℤ, pos, negsuc, neg_ℤ, nat_abs, ◌==◌, if◌then◌else◌}
+use Rattle.std.specs.Prelude.{ℤ, pos, neg_ℤ, nat_abs}
 use Rattle.std.specs.List.{AllByRecursion}
 use Rattle.oas_num.specs.declared.refusals.Why.{Why}
-use Rattle.oas_num.specs.declared.refusals.Why.TheVariants.{Truncated, TrailingBytes, Read, InputTooLong, Write, Memory}
+use Rattle.oas_num.specs.declared.refusals.Why.TheVariants.{TrailingBytes, Read, InputTooLong, Write}
 use Rattle.oas_num.specs.declared.reals.Real.{Real}
 use Rattle.oas_num.specs.Combinators.{IsExactly}
-use Rattle.oas_num.specs.Grammar.{IsPair, IsSuch, IsThere, IsEach, IsByte}
+use Rattle.oas_num.specs.Grammar.{IsSuch, IsThere, IsEach, IsByte}
 use Rattle.oas_num.specs.GrammarLaws.{after_same}
 use Rattle.oas_num.specs.Integers.{IsUnsigned, IsSigned, signed_of}
 use Rattle.oas_num.specs.Ratio.{Ratio, Reduces}
-use Rattle.oas_num.specs.Reals.{SpellsReal, part_of, real_in}
+use Rattle.oas_num.specs.Reals.{SpellsReal, part_of}
 use Rattle.oas_num.specs.Reading.{ReadsValue, Fails}
-use Rattle.oas_num.specs.Script.{Script, Takes, IsAtEnd, HasFailed, IsTooLong}
+use Rattle.oas_num.specs.Script.{Script, Takes, IsAtEnd}
 use Rattle.oas_num.specs.Style.{Any}
-use Rattle.oas_num.specs.Texts.{IsNameByte, IsOf, IsName, IsText, name_in}
+use Rattle.oas_num.specs.Texts.{IsNameByte, IsOf, IsName, name_in}
 use Rattle.oas_num.proofs.ReadLemmas.{Takes-then}
 use Rattle.oas_canon.specs.declared.collecting.Collected.{Collected}
 use Rattle.oas_canon.specs.declared.limits.Limits.{Limits}
 use Rattle.oas_canon.specs.declared.rectangles.Rectangle.{Rectangle}
 use Rattle.oas_canon.specs.declared.records.Record.{Record}
 use Rattle.oas_canon.specs.declared.records.Record.TheVariants.{Pad, Cell, Rectangle as Shape}
-use Rattle.oas_canon.specs.Canonical.{Fits, IsUnitHeld, IsWithinLimits}
-use Rattle.oas_canon.specs.Collecting.{held, StandsFor}
+use Rattle.oas_canon.specs.Canonical.{Fits, IsUnitHeld}
+use Rattle.oas_canon.specs.Collecting.{held}
 use Rattle.oas_canon.specs.File.{Fields, IsFields, IsRecord, IsStart, IsAbove, IsEnd, magic, FileOf, FrontOf}
 use Rattle.oas_canon.specs.FileLaws.{IsApart-end, OneFront-end}
 use Rattle.oas_canon.specs.Gathering.{IsHead, HasBegun, HasAll, MissesEnd}
-use Rattle.oas_canon.specs.Meaning.{Layout, Cells, leading, cells, count_of_all, weight_of, AreInRange, Accepted}
+use Rattle.oas_canon.specs.Meaning.{Layout, Cells, leading, cells, count_of_all, weight_of, AreInRange}
 use Rattle.oas_canon.specs.Reasons.{MagicMay, StartMay}
-use Rattle.oas_canon.specs.Run.{decides, IsRefused, IsDrafted}
+use Rattle.oas_canon.specs.Run.{IsRefused, IsDrafted}
 use Rattle.oas_canon.proofs.Fronts.{decides_format, file_goes_on}
 
 -- ---- the head

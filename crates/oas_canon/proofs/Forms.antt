@@ -1,5 +1,5 @@
 -- Canonical forms: each is what is written of its layout, and one layout has one.
-use Rattle.std.proofs.Common.{◌≡◌, ℕ, List, [], ◌∷◌, ◌++◌, length, map, Option, is_some, unwrap_or, Bool, true, false, ◌*◌, ◌+◌, ◌≤◌, ◌^◌, refl, sym, ◌∙◌, ap, subst, arith}
+use Rattle.std.proofs.Common.{◌≡◌, ℕ, List, [], ◌∷◌, ◌++◌, map, is_some, unwrap_or, Bool, ◌≤◌, refl, sym, ◌∙◌, ap, subst, arith}
 use Rattle.std.specs.List.{AllByRecursion}
 use Rattle.std.specs.Map.{keys_of}
 use Rattle.oas_num.specs.declared.reals.Real.{Real}
@@ -10,10 +10,10 @@ use Rattle.oas_canon.specs.declared.limits.Limits.{Limits}
 use Rattle.oas_canon.specs.declared.rectangles.Rectangle.{Rectangle}
 use Rattle.oas_canon.specs.declared.records.Record.{Record}
 use Rattle.oas_canon.specs.declared.records.Record.TheVariants.{Pad, Cell, Rectangle as Shape}
-use Rattle.oas_canon.specs.File.{FileIn, FileOf, IsAbove, IsUnit, ratio}
+use Rattle.oas_canon.specs.File.{FileIn, IsUnit, ratio}
 use Rattle.oas_canon.specs.FileLaws.{one_reading, one_spelling, file_of}
-use Rattle.oas_canon.specs.Meaning.{Layout, Cells, cells, leading, Allowed, Whole, Accepted, Means, SameLayout, count_of_all, weight_of, AreInRange, count_of, rectangles_of, IsDistinct}
-use Rattle.oas_canon.specs.Canonical.{IsKept, IsOrdered, CanonicalForm, records_of, OneCanonicalForm, canonical_bytes, CanonicalBytes, FormIsBytes, IsHeld, IsUnitHeld, IsCanonicalOf, SameExactly, CanonicalAgain, FormIsAccepted}
+use Rattle.oas_canon.specs.Meaning.{Layout, Cells, cells, leading, Means, SameLayout, count_of_all, weight_of, AreInRange, count_of, rectangles_of, IsDistinct}
+use Rattle.oas_canon.specs.Canonical.{IsKept, IsOrdered, CanonicalForm, records_of, OneCanonicalForm, canonical_bytes, CanonicalBytes, FormIsBytes, SameExactly, CanonicalAgain, FormIsAccepted}
 use Rattle.oas_canon.proofs.OrderedLayouts.{same_cells, distinct_names}
 use Rattle.oas_canon.proofs.Spelling.{canonical_spelled, real}
 
@@ -135,7 +135,7 @@ form_is_bytes limits c m l h k held s = let f = canonical_form limits l held in 
 
 -- ---- the headline over the definitions
 
-means_one : (b : List ℕ) (m n : Layout) → Means b m → Means b n → m ≡ n
+pub means_one : (b : List ℕ) (m n : Layout) → Means b m → Means b n → m ≡ n
 means_one b m n p q =
     let both = one_reading p.unit q.unit p.records q.records b p.file q.file in
     let cs : m.cells ≡ n.cells = sym p.is ∙ ap cells both.1 ∙ q.is in

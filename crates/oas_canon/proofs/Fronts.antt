@@ -1,5 +1,5 @@
 -- How a file goes on after its front.
-use Rattle.std.proofs.Common.{◌≡◌, ◌≢◌, ℕ, Bool, true, false, List, [], ◌∷◌, ◌++◌, length, Option, None, Some, IsTrue, refl, sym, ap, subst, ◌∙◌, append_assoc, arith}
+use Rattle.std.proofs.Common.{◌≡◌, ◌≢◌, ℕ, List, [], ◌∷◌, ◌++◌, Option, None, Some, IsTrue, refl, sym, ap, subst, ◌∙◌, append_assoc}
 use Rattle.std.proofs.lemmas.List.{append-nil, append_cancel_left}
 use Rattle.oas_num.specs.declared.refusals.Why.{Why}
 use Rattle.oas_num.specs.declared.refusals.Why.TheVariants.{Truncated, Read, InputTooLong, Write, Memory}
@@ -8,13 +8,12 @@ use Rattle.oas_num.specs.Grammar.{OneFront, IsEach}
 use Rattle.oas_num.specs.GrammarLaws.{after_same}
 use Rattle.oas_num.specs.Script.{Script, Takes}
 use Rattle.oas_num.specs.Style.{Any}
-use Rattle.oas_num.specs.Reading.{is_format, Fails, NoneFits, NoneWithin}
+use Rattle.oas_num.specs.Reading.{is_format, Fails}
 use Rattle.oas_num.proofs.ReadLemmas.{Takes-then}
 use Rattle.oas_canon.specs.declared.limits.Limits.{Limits}
 use Rattle.oas_canon.specs.declared.records.Record.{Record}
-use Rattle.oas_canon.specs.File.{IsRecord, IsStart, IsEnd, magic, FileOf, FrontOf}
+use Rattle.oas_canon.specs.File.{IsRecord, IsEnd, magic, FileOf, FrontOf}
 use Rattle.oas_canon.specs.FileLaws.{OneFront-record, OneFront-start, OneFront-end, IsApart-end}
-use Rattle.oas_canon.specs.Meaning.{Accepted}
 use Rattle.oas_canon.specs.Steps.{IsStep}
 use Rattle.oas_canon.specs.Run.{decides, IsRefused}
 

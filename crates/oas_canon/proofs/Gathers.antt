@@ -1,12 +1,10 @@
 -- One record more, or a refusal there.
-use Rattle.std.proofs.Common.{◌≡◌, ◌≢◌, ℕ, ◌+◌, ◌<◌, ◌≤◌, List, [], ◌∷◌, ◌++◌, length, Option, Some, None, Result, Ok, Err, IsTrue, inl, inr, ◌⊎◌, refl, sym, ap, subst, ◌∙◌, append_assoc, arith}
-use Rattle.std.proofs.lemmas.List.{append-nil}
+use Rattle.std.proofs.Common.{◌≡◌, ◌≢◌, ℕ, ◌+◌, ◌<◌, List, [], ◌∷◌, ◌++◌, length, Some, None, Ok, Err, IsTrue, inl, inr, ◌⊎◌, refl, sym, ap, subst, ◌∙◌, arith}
 use Rattle.std.specs.List.{AllByRecursion}
 use Rattle.oas_num.specs.declared.refusals.Why.{Why}
-use Rattle.oas_num.specs.declared.refusals.Why.TheVariants.{Truncated, Read, InputTooLong, Write, Memory, OutOfPlace, TooManyElements, TooHeavy, CoordinateRange}
+use Rattle.oas_num.specs.declared.refusals.Why.TheVariants.{Truncated, Read, InputTooLong, Write, Memory}
 use Rattle.oas_num.specs.declared.reals.Real.{Real}
 use Rattle.oas_num.specs.Script.{Script, Takes}
-use Rattle.oas_num.specs.Style.{Any}
 use Rattle.oas_num.specs.Reading.{ReadsValue, Fails}
 use Rattle.oas_num.proofs.ReadLemmas.{Takes-then}
 use Rattle.oas_canon.specs.declared.collecting.Collected.{Collected}
@@ -14,15 +12,15 @@ use Rattle.oas_canon.specs.declared.limits.Limits.{Limits}
 use Rattle.oas_canon.specs.declared.rectangles.Rectangle.{Rectangle}
 use Rattle.oas_canon.specs.declared.records.Record.{Record}
 use Rattle.oas_canon.specs.declared.records.Record.TheVariants.{Pad, Cell, Rectangle as Shape}
-use Rattle.oas_canon.specs.File.{FileOf, FrontOf}
-use Rattle.oas_canon.specs.Meaning.{Cells, leading, cells, count_of_all, weight_of, IsInRange, AreInRange, Allowed, Accepted}
+use Rattle.oas_canon.specs.File.{FrontOf}
+use Rattle.oas_canon.specs.Meaning.{Cells, leading, cells, count_of_all, weight_of, IsInRange, AreInRange, Allowed}
 use Rattle.oas_canon.specs.Collecting.{add_last, held, Begins, Outside, NoCell, TooMany, Heavy, Far, Puts, Collects, StandsFor}
 use Rattle.oas_canon.specs.Gathering.{HasBegun, HasGathered, HasAll}
 use Rattle.oas_canon.specs.Reasons.{StepMay}
 use Rattle.oas_canon.specs.Steps.{IsStep}
 use Rattle.oas_canon.specs.Run.{decides, IsRefused}
 use Rattle.oas_canon.proofs.Fronts.{front_more, file_goes_on, step_refused}
-use Rattle.oas_canon.proofs.Growing.{allowed_front, allowed_pad, allowed_cell, allowed_shape, cells-pad, cells-cell, cells-shape, count-append, weight-append, count-last, weight-last, near-last, near-cell, leading-pad, leading-cell, leading-first, leading-later}
+use Rattle.oas_canon.proofs.Growing.{allowed_front, allowed_pad, allowed_cell, allowed_shape, cells-pad, cells-cell, cells-shape, count-append, weight-append, count-last, weight-last, leading-first}
 
 -- ---- what was collected stands for one record more
 

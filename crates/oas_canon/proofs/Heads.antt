@@ -3,26 +3,26 @@ use Rattle.std.specs.Prelude.{not}
 use Rattle.std.specs.Cmp.Lexicographic.{pointwise}
 use Rattle.std.proofs.lemmas.Slice.Eq.{slice_eq-Decides}
 use Rattle.std.proofs.lemmas.Bool.Decides.{Decides-eqb}
-use Rattle.std.proofs.Common.{Decides, eqb, ◌≡◌, ◌≢◌, ℕ, ◌+◌, ◌<◌, ◌≤◌, Bool, true, false, List, [], ◌∷◌, ◌++◌, length, ◌⊎◌, inl, inr, refl, sym, ap, subst, ◌∙◌, arith}
+use Rattle.std.proofs.Common.{Decides, eqb, ◌≡◌, ◌≢◌, ℕ, Bool, true, false, List, [], refl, sym, ap, ◌∙◌}
 use Rattle.oas_num.specs.declared.refusals.Why.{Why}
 use Rattle.oas_num.specs.declared.refusals.Why.TheVariants.{Truncated, IntegerRange, StringByte, FloatReal, RealType, Version, Unit as BadUnit, OffsetFlag, OutOfPlace, Read, InputTooLong, Memory}
 use Rattle.oas_num.specs.declared.reals.Real.{Real}
 use Rattle.oas_num.specs.Script.{Script}
-use Rattle.oas_num.specs.Grammar.{OneFront, IsPair, IsSuch, IsCount, IsImage}
+use Rattle.oas_num.specs.Grammar.{IsPair, IsCount}
 use Rattle.oas_num.specs.Integers.{IsUnsigned}
 use Rattle.oas_num.specs.IntegerLaws.{OneFront-IsUnsigned}
-use Rattle.oas_num.specs.Reals.{SpellsReal, RealMay, real_in}
+use Rattle.oas_num.specs.Reals.{SpellsReal, RealMay}
 use Rattle.oas_num.specs.RealLaws.{OneFront-SpellsReal}
-use Rattle.oas_num.specs.Style.{Any, unsigned_in}
+use Rattle.oas_num.specs.Style.{Any}
 use Rattle.oas_num.specs.Texts.{SpellsLabel}
 use Rattle.oas_num.specs.TextLaws.{OneFront-label}
 use Rattle.oas_num.specs.Reading.{Fails, ReadsValue, IntegerMay, LabelMay}
-use Rattle.oas_num.proofs.ReadLemmas.{Takes-none, Wants, Fails-after}
-use Rattle.oas_num.proofs.GrammarLemmas.{Midway, ◌▸◌, fails_at, fails_last, such_read, such_fails_by, refused, is_read}
-use Rattle.oas_canon.specs.File.{IsNumber, IsAbove, IsUnit, unit_in, version, IsVersion, StartParts, IsStartParts, start_parts, IsStart, offsets_in, IsTwelve}
-use Rattle.oas_canon.specs.FileLaws.{OneFront-number, OneFront-version, OneFront-unit, OneFront-offsets}
+use Rattle.oas_num.proofs.ReadLemmas.{Takes-none, Fails-after}
+use Rattle.oas_num.proofs.GrammarLemmas.{Midway, ◌▸◌, fails_at, such_read, such_fails_by, refused}
+use Rattle.oas_canon.specs.File.{IsNumber, IsAbove, unit_in, version, IsVersion, StartParts, IsStartParts, start_parts, IsStart, offsets_in, IsTwelve}
+use Rattle.oas_canon.specs.FileLaws.{OneFront-number, OneFront-version, OneFront-unit}
 use Rattle.oas_canon.specs.Reasons.{VersionMay, StartMay, OffsetsMay}
-use Rattle.oas_canon.proofs.Pins.{pinned_read, pinned_fails, pinned_refused, IsOfBytes}
+use Rattle.oas_canon.proofs.Pins.{pinned_read, pinned_fails, pinned_refused}
 
 -- ---- reasons
 

@@ -5,8 +5,8 @@ use Rattle.oas_num.specs.Ratio.{Ratio}
 use Rattle.oas_num.specs.Writing.{shortest, shortest_signed}
 use Rattle.oas_canon.specs.declared.rectangles.Rectangle.{Rectangle}
 use Rattle.oas_canon.specs.declared.records.Record.TheVariants.{Cell, Rectangle as Shape}
-use Rattle.oas_canon.specs.File.{magic, end_bytes}
-use Rattle.oas_canon.specs.Meaning.{Cells, Layout, weight_of}
+use Rattle.oas_canon.specs.File.{end_bytes}
+use Rattle.oas_canon.specs.Meaning.{Cells, weight_of}
 use Rattle.oas_canon.specs.Canonical.{records_of, record_bytes, all_bytes, unit_bytes, head_bytes, canonical_bytes}
 use Rattle.oas_canon.specs.Layouts.{CanonicalLength}
 use Rattle.oas_canon.proofs.PuttingLemmas.{length-shortest, length-signed}

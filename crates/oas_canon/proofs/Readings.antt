@@ -1,10 +1,10 @@
 -- What a placed read tells.
-use Rattle.std.proofs.Common.{◌≡◌, ◌≢◌, ℕ, ◌+◌, ◌<◌, ◌≤◌, List, [], ◌∷◌, ◌++◌, length, Option, Some, None, Result, Ok, Err, inl, inr, refl, sym, ap, subst, ◌∙◌, arith}
+use Rattle.std.proofs.Common.{◌≡◌, ℕ, ◌<◌, List, [], ◌∷◌, length, Option, Some, None, Result, Ok, Err, sym, ap, subst, arith}
 use Rattle.std.proofs.lemmas.List.{length-append}
 use Rattle.oas_num.specs.declared.refusals.Why.{Why}
 use Rattle.oas_num.specs.declared.refusals.Refusal.{Refusal}
-use Rattle.oas_num.specs.Script.{Script, Takes}
-use Rattle.oas_num.specs.Integers.{IsUnsigned, IsClosed}
+use Rattle.oas_num.specs.Script.{Script}
+use Rattle.oas_num.specs.Integers.{IsClosed}
 use Rattle.oas_num.specs.Reading.{Reads, ReadsValue, Fails}
 use Rattle.oas_canon.specs.declared.records.Record.{Record}
 use Rattle.oas_canon.specs.Steps.{IsStep}

@@ -1,38 +1,36 @@
 -- A layout put into order is the same layout.
-use Rattle.std.proofs.Common.{◌≡◌, ℕ, suc, zero, ◌+◌, ◌<◌, ◌≤◌, List, [], ◌∷◌, Bool, true, false, cond, Option, None, Some, is_some, unwrap_or, get_or, length, map, refl, sym, ◌∙◌, ap, subst, arith, true≢false, take, drop, set, ◌-◌, ◌++◌, inl, inr, Bor}
+use Rattle.std.proofs.Common.{◌≡◌, ℕ, suc, zero, ◌+◌, ◌<◌, List, [], ◌∷◌, Bool, true, false, cond, Option, None, Some, is_some, unwrap_or, get_or, length, refl, sym, ◌∙◌, ap, subst, arith, true≢false, take, drop, set, ◌-◌, ◌++◌, inl, inr, Bor}
 use Rattle.std.specs.Prelude.{sum_by, slice_get, ◌==◌}
 use Rattle.std.specs.Fn.{Called, ComparesAs}
 use denote.Param.Members.{Mut}
-use Rattle.std.specs.List.{AllByRecursion, All, Contains}
+use Rattle.std.specs.List.{AllByRecursion, Contains}
 use Rattle.std.specs.List as std
 use Rattle.std.specs.List.Sorted.{IsStrictlySortedBy, IsPermutation, IsSorted, IsSortedBy}
 use Rattle.std.specs.Map.{lookup, keys_of}
 use Rattle.std.specs.BTreeMap.{is_at}
-use Rattle.std.specs.Ordering.{nat_cmp, is_lt, is_gt, is_eq, ordering_reverse, eq_by_cmp}
+use Rattle.std.specs.Ordering.{is_lt, is_gt, is_eq, ordering_reverse, eq_by_cmp}
 use Rattle.std.specs.declared.cmp.Ordering.{Ordering}
 use Rattle.std.specs.declared.cmp.Ordering.TheVariants.{Less, Equal, Greater}
-use Rattle.std.specs.Cmp.{IsTotalOrder, IsEquivalence, IsStrictWeakOrder, tied_itself, eq_by_cmp_equiv}
-use Rattle.std.specs.Cmp.Lexicographic.{slice_cmp, pointwise, texts_ties, nat_list_cmp_total}
+use Rattle.std.specs.Cmp.{IsTotalOrder, IsStrictWeakOrder, tied_itself, eq_by_cmp_equiv}
+use Rattle.std.specs.Cmp.Lexicographic.{pointwise, texts_ties, nat_list_cmp_total}
 use Rattle.std.proofs.Math.Seq.{take-append_seam}
 use Rattle.std.proofs.lemmas.Bool.{cases_lt}
 use Rattle.std.proofs.lemmas.Fn.{always_returns_same}
 use Rattle.std.proofs.lemmas.Map.Lookups.{exact_bytes}
 use Rattle.std.proofs.lemmas.Map.Keys.{sorted_from_all_adjacent, apart_from_distinct, IsDistinct-from_sorted, IsDistinct-IsPermutation, IsDistinct-head, IsDistinct-tail, IsDistinct-cons}
 use Rattle.std.proofs.lemmas.Map.Entries.{place_from_lookup, lookup_from_place}
-use Rattle.std.proofs.lemmas.List.{get_or-map}
 use Rattle.std.proofs.lemmas.List.Sorted.{IsPermutation-map, IsPermutation-sym, All-permutation, Contains-permutation, sum_by-IsPermutation, length_permutation, sorted_far, ranks_by}
 use Rattle.std.proofs.lemmas.List.Sums.{sum_by-cons}
 use Rattle.std.proofs.lemmas.List.Elements.{All-from_recursion, recursion_from_All}
 use Rattle.oas_num.specs.Texts.{IsName}
 use Rattle.oas_canon.specs.declared.cells.Cell.{Cell}
-use Rattle.oas_canon.specs.declared.limits.Limits.{Limits}
 use Rattle.oas_canon.specs.declared.rectangles.Rectangle.{Rectangle}
 use Rattle.oas_canon.specs.contracts.rectangles.RectangleOrd.TheImpl.Laws as order
 use Rattle.oas_canon.specs.Drafts.{cells_of}
-use Rattle.oas_canon.specs.Meaning.{Cells, Layout, SameLayout, rectangle_cmp, name_cmp, count_of, rectangles_of, IsDistinct, count_of_all, weight_of, IsInRange, AreInRange}
-use Rattle.oas_canon.specs.Canonical.{Ascends, IsOrdered, Fits, IsWithinLimits}
+use Rattle.oas_canon.specs.Meaning.{Cells, Layout, rectangle_cmp, name_cmp, count_of, rectangles_of, IsDistinct, count_of_all, weight_of, IsInRange}
+use Rattle.oas_canon.specs.Canonical.{Ascends, IsOrdered, Fits}
 use Rattle.oas_canon.specs.Run.{IsSealed}
-use Rattle.oas_canon.specs.Layouts.{AreResorted, AreSorted, HasTwins, IsLight, IsInOrder}
+use Rattle.oas_canon.specs.Layouts.{AreResorted, AreSorted, HasTwins, IsLight}
 
 -- ---- sorted lists by neighbours, and by all pairs
 
@@ -42,7 +40,7 @@ sorted_tail R x xs s k d z lt =
     subst (λ n. is_lt (R (get_or (x ∷ xs) n d) (get_or xs k d)) ≡ false) e (s (suc k) d (omega arith) (omega arith))
 
 module _ {X : Type 0} {R : X → X → Ordering} (o : IsTotalOrder R) where
-  not_above : (x y : X) → is_lt (R y x) ≡ false → is_gt (R x y) ≡ false
+  pub not_above : (x y : X) → is_lt (R y x) ≡ false → is_gt (R x y) ≡ false
   not_above x y h = by (R x y) (ap is_lt (sym (o.antisymm y x)) ∙ h) where
     by : (r : Ordering) → is_lt (ordering_reverse r) ≡ false → is_gt r ≡ false
     by Less t = refl
@@ -110,7 +108,7 @@ distinct_from (x ∷ xs) d = (all xs (IsDistinct-head alike x xs d), distinct_fr
 alike_flips : (x y : List ℕ) → alike x y ≡ alike y x
 alike_flips x y = (eq_by_cmp_equiv nat_list_cmp_total).symm x y
 
-distinct_moved : (xs ys : List (List ℕ)) → IsPermutation xs ys → IsDistinct xs → IsDistinct ys
+pub distinct_moved : (xs ys : List (List ℕ)) → IsPermutation xs ys → IsDistinct xs → IsDistinct ys
 distinct_moved xs ys p d = distinct_from ys (IsDistinct-IsPermutation alike alike_flips xs ys p (distinct_to xs d))
 
 -- two neighbours that are equal
@@ -133,7 +131,7 @@ distinct_sorted xs s = distinct_from xs (IsDistinct-from_sorted name_cmp xs s)
 
 -- ---- cells whose rectangles were sorted
 
-resorted_names : (cs ds : Cells) → AreResorted cs ds → keys_of ds ≡ keys_of cs
+pub resorted_names : (cs ds : Cells) → AreResorted cs ds → keys_of ds ≡ keys_of cs
 resorted_names [] [] h = refl
 resorted_names [] (d ∷ ds) h = absurd h
 resorted_names (c ∷ cs) [] h = absurd h
@@ -256,6 +254,12 @@ module _ (l : Layout) (es : Cells) (h : AreSorted l.cells es) where
 
   pub defined_twice : HasTwins (keys_of es) → IsDistinct (keys_of l.cells) → ⊥
   defined_twice t d = twins_differ (keys_of es) (distinct_moved (keys_of l.cells) (keys_of es) names_moved d) t
+
+  pub seal_count : count_of_all es ≡ count_of_all l.cells
+  seal_count = moved_count h.between es h.moved ∙ resorted_count l.cells h.between h.resorted
+
+  pub seal_weight : weight_of es ≡ weight_of l.cells
+  seal_weight = moved_weight h.between es h.moved ∙ resorted_weight l.cells h.between h.resorted
 
   pub seal_light : IsLight l → IsLight sealed
   seal_light k = record {

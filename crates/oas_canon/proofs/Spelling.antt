@@ -1,24 +1,24 @@
 -- The canonical bytes of a layout are its spelling in the shortest style.
-use Rattle.std.proofs.Common.{◌≡◌, ℕ, ℤ, ◌+◌, ◌<◌, ◌≤◌, ◌^◌, Bool, true, false, List, [], ◌∷◌, ◌++◌, length, map, refl, sym, ◌∙◌, ap, subst, arith, append_assoc, replicate}
+use Rattle.std.proofs.Common.{◌≡◌, ℕ, ◌+◌, ◌<◌, ◌^◌, Bool, true, false, List, [], ◌∷◌, ◌++◌, length, map, refl, sym, subst, arith, replicate}
 use Rattle.std.specs.Prelude.{◌==◌, if◌then◌else◌}
 use Rattle.std.specs.List.{AllByRecursion}
 use Rattle.std.proofs.lemmas.Bool.{lt-ltb, eqb-true}
 use Rattle.std.proofs.lemmas.List.{append-nil}
 use Rattle.oas_num.specs.declared.reals.Real.{Real}
-use Rattle.oas_num.specs.Grammar.{IsPair, IsSuch, IsEach, IsCount, IsByte}
-use Rattle.oas_num.specs.Style.{Shortest, IsShortest, unsigned_in}
+use Rattle.oas_num.specs.Grammar.{IsPair, IsSuch, IsEach, IsByte}
+use Rattle.oas_num.specs.Style.{Shortest, IsShortest}
 use Rattle.oas_num.specs.StyleLaws.{shortest-IsShortest}
 use Rattle.oas_num.specs.Texts.{IsNameByte, IsLabelByte, IsOf, IsName, name_in}
 use Rattle.oas_num.specs.Reals.{real_in, ShortestParts}
-use Rattle.oas_num.specs.Ratio.{Ratio, IsLowest}
+use Rattle.oas_num.specs.Ratio.{Ratio}
 use Rattle.oas_num.specs.Writing.{shortest, shortest_signed}
 use Rattle.oas_num.proofs.WritingLemmas.{shortest_signed-IsShortestSigned}
 use Rattle.oas_canon.specs.declared.rectangles.Rectangle.{Rectangle}
 use Rattle.oas_canon.specs.declared.records.Record.{Record}
 use Rattle.oas_canon.specs.declared.records.Record.TheVariants.{Pad, Cell, Rectangle as Shape}
-use Rattle.oas_canon.specs.File.{IsFields, IsRecord, IsStart, IsStartParts, start_parts, version, IsVersion, IsFile, FileIn, magic, parts, end_bytes}
+use Rattle.oas_canon.specs.File.{IsFields, IsRecord, IsStart, version, IsVersion, FileIn, magic, end_bytes}
 use Rattle.oas_canon.specs.Meaning.{Cells, Layout}
-use Rattle.oas_canon.specs.Canonical.{Fits, IsUnitHeld, IsWithinLimits, IsHeld, records_of, name_bytes, record_bytes, all_bytes, unit_bytes, head_bytes, canonical_bytes}
+use Rattle.oas_canon.specs.Canonical.{Fits, IsUnitHeld, records_of, name_bytes, record_bytes, all_bytes, unit_bytes, head_bytes, canonical_bytes}
 
 -- a record whose numbers and name have spellings
 abbrev pub IsSpellable : Record → Type 0

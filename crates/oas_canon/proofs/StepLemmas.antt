@@ -1,14 +1,13 @@
 -- Reading a record or END, part by part.
-use Rattle.std.proofs.Common.{◌≡◌, ◌≢◌, ℕ, ◌+◌, ◌-◌, ◌<◌, ◌≤◌, Bool, true, false, List, [], ◌∷◌, ◌++◌, length, Option, Some, None, ◌⊎◌, refl, sym, ap, subst, ◌∙◌, append_assoc, arith}
-use Rattle.std.proofs.lemmas.List.{length-append, append-nil}
+use Rattle.std.proofs.Common.{◌≡◌, ◌≢◌, ℕ, ◌-◌, List, [], ◌∷◌, ◌++◌, length, Option, Some, None, refl, sym, ap, subst, ◌∙◌, append_assoc, arith}
+use Rattle.std.proofs.lemmas.List.{append-nil}
 use Rattle.std.specs.Prelude.{ℤ, ◌==◌}
 use Rattle.oas_num.specs.declared.refusals.Why.{Why}
 use Rattle.oas_num.specs.declared.refusals.Why.TheVariants.{Truncated, IntegerRange, StringByte, EmptyName, InfoByte, ValidationScheme, EndLength, RecordLeftOut, UnknownRecord, OutOfPlace, Read, InputTooLong, Memory}
 use Rattle.oas_num.specs.declared.texts.Padding.{Padding}
 use Rattle.oas_num.specs.Script.{Script, Takes}
-use Rattle.oas_num.specs.Grammar.{OneFront, IsPair, IsImage, IsByte}
+use Rattle.oas_num.specs.Grammar.{OneFront, IsPair, IsByte}
 use Rattle.oas_num.specs.GrammarLaws.{OneFront-image, OneFront-pair}
-use Rattle.oas_num.specs.Combinators.{IsExactly}
 use Rattle.oas_num.specs.CombinatorLaws.{OneFront-exactly, OneFront-either}
 use Rattle.oas_num.specs.Integers.{IsUnsigned, IsSigned}
 use Rattle.oas_num.specs.IntegerLaws.{OneFront-IsUnsigned, OneFront-IsSigned}
@@ -17,16 +16,16 @@ use Rattle.oas_num.specs.StyleLaws.{OneFront-unsigned}
 use Rattle.oas_num.specs.Texts.{SpellsName, SpellsPadding}
 use Rattle.oas_num.specs.TextLaws.{OneFront-padding}
 use Rattle.oas_num.specs.Reading.{Fails, ReadsValue, IntegerMay, NameMay, ByteMay}
-use Rattle.oas_num.proofs.ReadLemmas.{Takes-none, Takes-then, Wants, Fails-after}
+use Rattle.oas_num.proofs.ReadLemmas.{Takes-none, Takes-then, Fails-after}
 use Rattle.oas_num.proofs.GrammarLemmas.{Midway, begins, seen, ◌▸◌, fails_at, fails_last, is_read}
 use Rattle.oas_canon.specs.declared.rectangles.Rectangle.{Rectangle}
 use Rattle.oas_canon.specs.declared.records.Record.{Record}
 use Rattle.oas_canon.specs.declared.records.Record.TheVariants.{Pad, Cell, Rectangle as Shape}
-use Rattle.oas_canon.specs.File.{IsNumber, Fields, IsFields, rectangle_of, IsRest, IsRecord, IsEnd, id_of}
+use Rattle.oas_canon.specs.File.{IsNumber, Fields, IsFields, rectangle_of, IsRest, id_of}
 use Rattle.oas_canon.specs.FileLaws.{OneFront-number, OneFront-rest}
 use Rattle.oas_canon.specs.Steps.{IsStep, IsRectangle, ending_of, IsEnding, end_of, LooseRest, step_of, IsLoose}
 use Rattle.oas_canon.specs.Reasons.{RectangleMay, EndMay, StepMay, IsNotRead, IsOmitted, IsRefusal}
-use Rattle.oas_canon.proofs.Pins.{IsOfBytes, pinned_read, pinned_fails, pinned_refused, byte_read, byte_fails, byte_refused}
+use Rattle.oas_canon.proofs.Pins.{IsOfBytes, pinned_read, pinned_fails, pinned_refused, byte_read, byte_refused}
 
 -- ---- the fields of a RECTANGLE
 

@@ -1,20 +1,19 @@
 -- The whole run, from its parts.
-use Rattle.std.proofs.Common.{◌≡◌, ◌≢◌, ℕ, ◌+◌, ◌<◌, ◌≤◌, ◌^◌, ◌⊎◌, inl, inr, Bool, true, false, List, [], ◌∷◌, ◌++◌, length, Option, Some, None, Result, Ok, Err, IfOk, IfErr, IsTrue, refl, sym, ◌∙◌, ap, subst, arith}
-use Rattle.std.proofs.lemmas.List.{append-nil, append_cancel_left}
+use Rattle.std.proofs.Common.{◌≡◌, ℕ, ◌≤◌, ◌^◌, ◌⊎◌, inl, inr, Bool, true, false, List, [], ◌++◌, Option, Some, None, Result, Ok, Err, IfOk, IfErr, IsTrue, refl, sym, ◌∙◌, ap, subst, arith}
+use Rattle.std.proofs.lemmas.List.{append-nil}
 use Rattle.std.specs.Map.{keys_of}
-use Rattle.std.specs.Io.KnownBytes.{Appends}
 use Rattle.oas_num.specs.declared.refusals.Why.{Why}
 use Rattle.oas_num.specs.declared.refusals.Why.TheVariants.{Truncated, Read, InputTooLong, Write, Memory, DuplicateCell}
 use Rattle.oas_num.specs.declared.refusals.Refusal.{Refusal}
 use Rattle.oas_num.specs.declared.reals.Real.{Real}
-use Rattle.oas_num.specs.Script.{Script, Rest, Gave, NoneLeft, Takes, IsAtEnd, HasFailed, IsTooLong}
+use Rattle.oas_num.specs.Script.{Script, Rest, Gave, NoneLeft}
 use Rattle.oas_canon.specs.declared.limits.Limits.{Limits}
 use Rattle.oas_canon.specs.declared.records.Record.{Record}
-use Rattle.oas_canon.specs.Canonical.{canonical_bytes, IsHeld, CanonicalForm}
+use Rattle.oas_canon.specs.Canonical.{canonical_bytes}
 use Rattle.oas_canon.specs.File.{Parts, parts, FileOf}
 use Rattle.oas_canon.specs.FileLaws.{OneFront-file}
 use Rattle.oas_canon.specs.Layouts.{IsLight}
-use Rattle.oas_canon.specs.Meaning.{Layout, Cells, cells, Accepted, Means, SameLayout, IsDistinct}
+use Rattle.oas_canon.specs.Meaning.{Layout, Cells, cells, Accepted, IsDistinct}
 use Rattle.oas_canon.specs.Putting.{IsWritten, IsCutOff}
 use Rattle.oas_canon.specs.Run.{decides, IsDrafted, IsRefused, IsSealed, Seals, IsRead, ReadsLayout, IsDone, IsCut, IsDecided, IsWithinSource, Exactly, placed_at}
 use Rattle.oas_canon.proofs.Forms.{canonical_form}

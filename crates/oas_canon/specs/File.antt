@@ -1,8 +1,8 @@
 -- What a file is: the magic, START, records and END, spelled in a style.
-use Rattle.std.specs.Prelude.{◌≡◌, ℕ, ℤ, Bool, true, false, ◌==◌, ◌+◌, ◌<◌, List, [], ◌∷◌, ◌++◌, length, replicate}
+use Rattle.std.specs.Prelude.{◌≡◌, ℕ, ℤ, false, ◌==◌, ◌<◌, List, [], ◌∷◌, ◌++◌, length, replicate}
 use Rattle.oas_num.specs.declared.reals.Real.{Real}
 use Rattle.oas_num.specs.declared.texts.Padding.{Padding}
-use Rattle.oas_num.specs.Grammar.{IsPair, IsSuch, IsImage, IsEach, IsCount, IsByte}
+use Rattle.oas_num.specs.Grammar.{IsPair, IsSuch, IsImage, IsEach, IsCount}
 use Rattle.oas_num.specs.Combinators.{IsExactly, IsNever, IsEither, IsKeyed}
 use Rattle.oas_num.specs.Style.{Style, Any, Shortest, unsigned_in, signed_in}
 use Rattle.oas_num.specs.Reals.{real_in}

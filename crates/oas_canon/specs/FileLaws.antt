@@ -1,22 +1,21 @@
 -- One byte list has at most one unit and record list, and in the shortest style one unit and record list has at most one byte list.
-use Rattle.std.proofs.Common.{◌≡◌, ℕ, ◌<◌, Bool, true, false, zero, suc, List, [], ◌∷◌, ◌++◌, length, replicate, inl, inr, refl, sym, ap, subst, ◌∙◌, pos, append_assoc, arith}
+use Rattle.std.proofs.Common.{◌≡◌, ℕ, ◌<◌, zero, suc, List, [], ◌∷◌, ◌++◌, length, replicate, inl, inr, refl, sym, ap, subst, ◌∙◌, pos, append_assoc, arith}
 use Rattle.std.specs.Prelude.{◌==◌}
 use Rattle.oas_num.specs.declared.reals.Real.{Real}
-use Rattle.oas_num.specs.Grammar.{OneFront, IsPair, IsSuch, IsImage, IsEach, IsCount, IsByte}
-use Rattle.oas_num.specs.GrammarLaws.{OneFront-pair, OneFront-such, OneFront-image, OneFront-count, OneFront-byte}
-use Rattle.oas_num.specs.Combinators.{IsExactly, IsNever, IsEither, IsKeyed, IsApart, OneSpelling, IsWithin}
+use Rattle.oas_num.specs.Grammar.{OneFront, IsEach, IsByte}
+use Rattle.oas_num.specs.GrammarLaws.{OneFront-pair, OneFront-such, OneFront-image, OneFront-count}
+use Rattle.oas_num.specs.Combinators.{IsApart, OneSpelling, IsWithin}
 use Rattle.oas_num.specs.CombinatorLaws.{IsWithin-each, IsWithin-either, IsWithin-image, IsWithin-itself, IsWithin-keyed, IsWithin-pair, OneFront-either, OneFront-exactly, OneFront-keyed, OneFront-never, OneFront-until, OneSpelling-each, OneSpelling-either, OneSpelling-exactly, OneSpelling-image, OneSpelling-keyed, OneSpelling-never, OneSpelling-pair, OneSpelling-such}
 use Rattle.oas_num.specs.Integers.{IsUnsigned}
-use Rattle.oas_num.specs.Style.{Style, Any, Shortest, unsigned_in, signed_in}
+use Rattle.oas_num.specs.Style.{Any, Shortest, unsigned_in}
 use Rattle.oas_num.specs.StyleLaws.{OneFront-unsigned, OneFront-signed, OneSpelling-unsigned, OneSpelling-signed, IsWithin-unsigned, IsWithin-signed}
 use Rattle.oas_num.specs.Reals.{real_in}
 use Rattle.oas_num.specs.RealLaws.{OneFront-real, OneSpelling-real, IsWithin-real}
 use Rattle.oas_num.specs.TextLaws.{OneFront-name, OneSpelling-name, IsWithin-name, OneFront-label, OneSpelling-label, IsWithin-label, OneFront-padding}
 use Rattle.oas_num.specs.Texts.{padding_of}
-use Rattle.oas_canon.specs.declared.rectangles.Rectangle.{Rectangle}
 use Rattle.oas_canon.specs.declared.records.Record.{Record}
 use Rattle.oas_canon.specs.declared.records.Record.TheVariants.{Pad, Cell, Rectangle as Shape}
-use Rattle.oas_canon.specs.File.{IsNumber, id_of, Fields, IsFields, shape_of, pad_of, IsRest, IsRecord, IsUnit, unit_in, IsTwelve, offsets_in, version, IsVersion, StartParts, IsStartParts, start_parts, IsStart, IsEndParts, IsAnyEnd, end_bytes, IsEnd, magic, Parts, parts, IsFile, FileIn, FileOf}
+use Rattle.oas_canon.specs.File.{IsNumber, id_of, Fields, IsFields, shape_of, pad_of, IsRest, IsRecord, IsUnit, unit_in, offsets_in, version, IsVersion, StartParts, IsStartParts, start_parts, IsStart, IsEndParts, end_bytes, IsEnd, magic, Parts, parts, IsFile, FileIn, FileOf}
 
 -- ---- none begins another
 

@@ -1,5 +1,5 @@
 -- What the records of a file mean, which files are accepted, and when two meanings are the same layout.
-use Rattle.std.specs.Prelude.{◌≡◌, ℕ, ℤ, pos, neg_ℤ, ◌+ℤ◌, ◌≤ℤ◌, ◌+◌, ◌*◌, ◌<◌, ◌≤◌, ◌^◌, List, [], ◌∷◌, length, Option, is_some, unwrap_or, count_by}
+use Rattle.std.specs.Prelude.{◌≡◌, ℕ, ℤ, pos, neg_ℤ, ◌+ℤ◌, ◌≤ℤ◌, ◌+◌, ◌≤◌, ◌^◌, List, [], ◌∷◌, length, Option, is_some, unwrap_or, count_by}
 use Rattle.std.specs.List.{AllByRecursion}
 use Rattle.std.specs.Ordering.{nat_cmp, int_cmp, ordering_then, eq_by_cmp}
 use Rattle.std.specs.declared.cmp.Ordering.{Ordering}

@@ -1,5 +1,5 @@
 -- What stands where a record is read: a record, or END.
-use Rattle.std.specs.Prelude.{◌≡◌, ℕ, ◌==◌, List, Option, Some, None}
+use Rattle.std.specs.Prelude.{ℕ, ◌==◌, List, Option, Some, None}
 use Rattle.oas_num.specs.Grammar.{IsPair, IsImage}
 use Rattle.oas_num.specs.declared.texts.Padding.{Padding}
 use Rattle.oas_num.specs.Combinators.{IsEither}

@@ -1,6 +1,12 @@
-use crate::limits::Limits;
-use crate::reading::read_draft;
+//! What no clause says: that a run succeeds where memory is there, and which limit is met first. The worked rows are the
+//! command's.
+ghost use Rattle.std.specs.Prelude.{◌≤◌, ◌^◌};
+
+use super::*;
 use oas_num::{SliceSource, Why};
+use std::alloc::Global;
+use std::process::Abort;
+use std::test::Fail;
 
 /// The magic, START with unit 1000, and one cell `A` with one rectangle.
 const FRONT: [u8; 45] = [
@@ -9,44 +15,65 @@ const FRONT: [u8; 45] = [
     0x7B, 0x01, 0x00, 0x0A, 0x14, 0x00, 0x00,
 ];
 
-#[test]
-fn prefixes(rt: HostRuntime) -> Result<(), std::alloc::AllocError> {
-    let mut file = Vec::from_slice(rt.alloc(), &FRONT)?;
+/// Its rectangle again.
+const AGAIN: [u8; 8] = [0x14, 0x7B, 0x01, 0x00, 0x0A, 0x14, 0x00, 0x00];
+
+/// A file of that front, these bytes, and the canonical END.
+fn file_of(alloc: Global, more: &[u8]) -> Result<Vec<u8>, Fail> {
+    let mut file = Vec::from_slice(alloc, &FRONT)?;
+    file.extend_from_slice(more)?;
     file.extend_from_slice(&[0x02, 0xFC, 0x01])?;
-    for _ in 0..253u8 {
-        match file.push(0) {
-            Ok(()) => {}
-            Err(_) => return Err(std::alloc::AllocError),
+    file.extend_from_slice(&[0; 253])?;
+    Ok(file)
+}
+
+/// Asserts that a file is refused so under these limits.
+fn expect_refusal(rt: &impl Abort, alloc: Global, file: &[u8], limits: Limits, at: u64, why: Why)
+    requires { limits.weight ≤ 2 ^ 30 }
+{
+    let mut source = SliceSource::new(file, 1000);
+    match read_layout(alloc, &mut source, &limits) {
+        Ok(_) => assert!(rt; false),
+        Err(refusal) => {
+            assert_eq!(rt; refusal.at, at);
+            assert_eq!(rt; refusal.why, why);
         }
     }
-    assert_eq!(rt; file.len(), 301);
-    for end in 0..301usize {
-        let front = &file[..end];
-        let mut source = SliceSource::new(front, 1000);
-        let at = if end < 13 {
-            0
-        } else if end < 34 {
-            13
-        } else if end < 37 {
-            34
-        } else if end < 45 {
-            37
-        } else {
-            45
-        };
-        let answer = read_draft(rt.alloc(), &mut source, &Limits::standard());
-        assert!(rt;
-            matches!(answer, Err(ref refusal) if refusal.at == at && refusal.why == Why::Truncated)
-        );
-    }
+}
+
+#[test]
+fn canonical_as_it_stands(rt: HostRuntime) -> Result<(), Fail> {
+    let file = file_of(rt.alloc(), &[])?;
     let mut source = SliceSource::new(&file, 301);
-    match read_draft(rt.alloc(), &mut source, &Limits::standard()) {
-        Ok((draft, end)) => {
-            assert_eq!(rt; end, 45);
-            assert_eq!(rt; draft.cells.len(), 1);
-            assert_eq!(rt; draft.unit.num(), 1000);
-        }
-        Err(_) => assert!(rt; false),
-    }
+    let mut out: Vec<u8> = Vec::new(rt.alloc());
+    assert!(rt; matches!(canonicalize(rt.alloc(), &mut source, &mut out), Ok(301)));
+    assert_eq!(rt; out.as_slice(), file.as_slice());
+    Ok(())
+}
+
+#[test]
+fn limits_met_first(rt: HostRuntime) -> Result<(), Fail> {
+    let file = file_of(rt.alloc(), &AGAIN)?;
+    let few = Limits {
+        elements: 1,
+        weight: 3,
+    };
+    expect_refusal(&rt, rt.alloc(), &file, few, 45, Why::TooManyElements);
+    let light = Limits {
+        elements: 2,
+        weight: 3,
+    };
+    expect_refusal(&rt, rt.alloc(), &file, light, 45, Why::TooHeavy);
+    let none = Limits {
+        elements: 2,
+        weight: 1,
+    };
+    expect_refusal(&rt, rt.alloc(), &file, none, 34, Why::TooHeavy);
+    let enough = Limits {
+        elements: 2,
+        weight: 4,
+    };
+    let mut source = SliceSource::new(&file, 1000);
+    assert!(rt; read_layout(rt.alloc(), &mut source, &enough).is_ok());
     Ok(())
 }

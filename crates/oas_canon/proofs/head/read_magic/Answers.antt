@@ -1,5 +1,5 @@
 use Rattle.std.proofs.lemmas.Result.{err_from_is_err_and}
-use Rattle.std.proofs.Common.{arith, suc, add-one}
+use Rattle.std.proofs.Common.{add-one}
 use Rattle.oas_num.proofs.ReadLemmas.{Takes-none}
 use Rattle.oas_canon.proofs.Pins.{matched_more, matched_fails, byte_read, byte_fails, byte_refused, matched_all}
 use Rattle.oas_canon.proofs.Magic.{MagicMay-byte, of_magic, magic_small}

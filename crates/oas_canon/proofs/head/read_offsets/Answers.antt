@@ -1,5 +1,5 @@
 use Rattle.std.proofs.lemmas.Result.{err_from_is_err_and}
-use Rattle.std.proofs.Common.{◌≡◌, ◌+◌, ◌∙◌, ap, arith, [], refl}
+use Rattle.std.proofs.Common.{◌+◌, ◌∙◌, ap, arith, [], refl}
 use Rattle.oas_num.proofs.GrammarLemmas.{listed_none, listed_more, listed_fails, listed_all}
 use Rattle.oas_num.specs.IntegerLaws.{OneFront-IsUnsigned}
 use Rattle.std.proofs.lemmas.List.{length_push}

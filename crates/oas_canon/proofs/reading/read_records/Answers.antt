@@ -1,4 +1,4 @@
-use Rattle.std.proofs.Common.{arith, refl, None}
+use Rattle.std.proofs.Common.{arith}
 use Rattle.std.proofs.lemmas.Result.{err_from_is_err_and}
 use Rattle.oas_canon.specs.Steps.{IsStep}
 use Rattle.oas_canon.specs.Reasons.{StepMay}

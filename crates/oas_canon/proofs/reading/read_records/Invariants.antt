@@ -1,4 +1,4 @@
-use Rattle.std.proofs.Common.{◌≡◌, ℕ, ◌-◌, ◌^◌}
+use Rattle.std.proofs.Common.{◌≡◌, ◌-◌, ◌^◌}
 use Rattle.oas_canon.specs.Gathering.{HasBegun, HasGathered}
 use Rattle.oas_canon.proofs.reading.read_records.Given as goal
 

@@ -1,5 +1,5 @@
 use Rattle.std.proofs.lemmas.Result.{err_from_is_err_and}
-use Rattle.oas_num.proofs.GrammarLemmas.{◌▸◌, fails_at, fails_last, is_read, listed_none, listed_more, listed_fails, listed_all}
+use Rattle.oas_num.proofs.GrammarLemmas.{fails_at}
 use Rattle.oas_canon.proofs.StepLemmas.{EndMay-integer, ending_starts, scheme_fails, scheme_other, ending_read}
 use Rattle.oas_canon.proofs.records.read_end.Goals as goal
 

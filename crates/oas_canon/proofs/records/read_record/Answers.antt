@@ -1,6 +1,6 @@
 use Rattle.std.proofs.lemmas.Result.{err_from_is_err_and}
 use Rattle.std.proofs.Common.{rules}
-use Rattle.oas_canon.proofs.StepLemmas.{id_fails, pad_read, name_fails, name_read, rectangle_fails, rectangle_read, end_fails, end_read, end_wrong, id_refused}
+use Rattle.oas_canon.proofs.StepLemmas.{id_fails, name_fails, name_read, rectangle_fails, rectangle_read, end_fails, end_read, end_wrong, id_refused}
 use Rattle.oas_canon.proofs.records.read_record.Goals as goal
 
 pub returns-in_err-id : goal.returns-in_err-id

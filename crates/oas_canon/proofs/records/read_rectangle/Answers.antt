@@ -1,7 +1,7 @@
 use Rattle.std.proofs.lemmas.Result.{err_from_is_err_and}
 use Rattle.std.proofs.Common.{arith, rules, w64}
 use Rattle.std.proofs.lemmas.Int.{to_z-of_z}
-use Rattle.oas_num.proofs.GrammarLemmas.{◌▸◌, fails_at, fails_last, is_read, listed_none, listed_more, listed_fails, listed_all}
+use Rattle.oas_num.proofs.GrammarLemmas.{fails_at, fails_last, is_read}
 use Rattle.oas_canon.proofs.Pins.{byte_fails}
 use Rattle.oas_canon.proofs.StepLemmas.{RectangleMay-byte, RectangleMay-integer, rectangle_starts, info_other, with_info, with_layer, with_datatype, with_width, with_height, with_x}
 use Rattle.oas_canon.proofs.records.read_rectangle.Goals as goal

@@ -1,5 +1,4 @@
 use Rattle.std.proofs.Common.{◌≡◌, arith, ap, ◌∙◌, w64, length}
-use Rattle.std.specs.Prelude.{nat_abs}
 use Rattle.std.proofs.lemmas.Int.{to_z-of_z}
 use Rattle.oas_num.specs.Writing.{shortest_signed}
 use Rattle.oas_canon.proofs.PuttingLemmas.{length-signed}

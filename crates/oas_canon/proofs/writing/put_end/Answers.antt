@@ -1,5 +1,5 @@
 use Rattle.std.proofs.lemmas.Result.{err_from_is_err_and}
-use Rattle.oas_canon.proofs.PuttingLemmas.{first, first_fails, fails_at, last_fails, ends, ◌▸◌}
+use Rattle.oas_canon.proofs.PuttingLemmas.{first, first_fails, last_fails, ends}
 use Rattle.oas_canon.proofs.writing.put_end.Goals as goal
 use Rattle.oas_canon.specs.File.{end_bytes}
 

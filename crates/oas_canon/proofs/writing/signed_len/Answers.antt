@@ -1,4 +1,4 @@
-use Rattle.std.proofs.Common.{◌*◌, sym, ap, ◌∙◌, ℕ, length, w64}
+use Rattle.std.proofs.Common.{◌*◌, ap, ◌∙◌, ℕ, length, w64}
 use Rattle.std.specs.Prelude.{nat_abs}
 use Rattle.std.proofs.lemmas.Int.{to_z-of_z}
 use Rattle.oas_num.specs.Writing.{shortest}

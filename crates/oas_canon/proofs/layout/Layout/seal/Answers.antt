@@ -1,7 +1,6 @@
-use Rattle.std.proofs.Common.{◌≡◌, ◌∙◌, List, refl, subst, sym, inr, true≢false, length, take, drop, ◌++◌, ap}
+use Rattle.std.proofs.Common.{◌≡◌, ◌∙◌, List, refl, subst, sym, inr, true≢false, length, take, drop, ◌++◌}
 use Rattle.std.specs.Map.{keys_of}
 use Rattle.oas_canon.specs.declared.cells.Cell.{Cell}
-use Rattle.oas_canon.specs.Meaning.{Layout}
 use Rattle.oas_canon.specs.Drafts.{cells_of, layout_of}
 use Rattle.oas_canon.specs.Run.{IsSealed}
 use Rattle.oas_canon.specs.Layouts.{AreSorted, HasTwins, IsInOrder}
