@@ -4,10 +4,12 @@
 //! `run_` functions, which are generic over their input and outputs, so that tests call them over memory; `main` opens
 //! the streams of the process and calls them. What they promise to `main`:
 //!
-//! - [`run::run_canon`] answers status 0 exactly where `oas_canon::canonicalize` answered Ok, and 1 where it refused
-//!   (`Run`, specs/Run.antt). A fault of the error output changes nothing.
-//! - [`output::write_refusal`] writes the line of a refusal, `NAME: refused N at OFFSET` (`refusal_line`,
-//!   specs/Lines.antt), wherever it answers Ok.
+//! - [`run::run_canon`] answers status 0 where `oas_canon::canonicalize` answered Ok, and 1 where it refused. What was
+//!   read and written is what that call says of its answer (`Canonicalizes`, specs/Runs.antt), and what the error output
+//!   took is a front of the refusal's line, and nothing after an Ok (`AppendsFront`).
+//! - [`run::canon_telling`] is the same over a sink for that line, whose contract counts failures: the line was put, unless
+//!   the sink failed (`Ends`).
+//! - [`output::put_refusal`] puts the line `NAME: refused N at OFFSET` (`refusal_line`, specs/Lines.antt).
 //!
 //! Not under a contract: what `main` opens, and which words `clap` understands.
 #![tactic(auto)]
