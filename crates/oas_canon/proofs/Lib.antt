@@ -1,4 +1,5 @@
 pub mod Fronts
+pub mod Placing
 pub mod Growing
 pub mod Pins
 pub mod Heads
