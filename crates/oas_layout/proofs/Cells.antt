@@ -23,26 +23,32 @@ use Rattle.oas_layout.specs.Contents.{Cell, Contents, expanded, cells_with_more,
 use Rattle.oas_layout.proofs.Counting.{total, sum_by-items, total-put_more}
 use Rattle.oas_layout.proofs.Order.{IsBag-empty, IsBag-put_more}
 
+-- how many elements there are: the sum of the counts
 length-items : (es : List (Element × ℕ)) → length (items es) ≡ total (λ _. 1) es
 length-items [] = refl
 length-items (p ∷ ps) = omega (arith, length-append (replicate p.1 p.0) (items ps), length-replicate p.1 p.0, length-items ps)
 
 module _ (e : Element) (n : ℕ) where
+  -- n more are n more elements
   pub length-items-with_more : (es : List (Element × ℕ)) → length (items (with_more es e n)) ≡ length (items es) + n
   length-items-with_more es = omega (arith, length-items es, length-items (with_more es e n), total-put_more element_cmp (λ _. 1) es e n (λ x _. refl))
 
+  -- and weigh n times as much as one
   pub weight-with_more : (es : List (Element × ℕ)) → sum_by weight_of (items (with_more es e n)) ≡ sum_by weight_of (items es) + n * weight_of e
   weight-with_more es =
       sum_by-items weight_of (with_more es e n) ∙ total-put_more element_cmp weight_of es e n (λ x h. ap weight_of (sym (exact_elements e x h))) ∙ ap (λ (k : ℕ). k + n * weight_of e) (sym (sum_by-items weight_of es))
 
+  -- what a sum over the cells grows by, if it grows so in the cell that is given more
   cells_sum-with_more : (f : List ℕ × List Element → ℕ) (w : ℕ) → ((c : Cell) → f (c.0, items (with_more c.1 e n)) ≡ f (c.0, items c.1) + w) → (cs : List Cell) (i : ℕ) → i < length cs → cells_sum f (expanded (cells_with_more cs i e n)) ≡ cells_sum f (expanded cs) + w
   cells_sum-with_more f w step [] i h = absurd (omega arith)
   cells_sum-with_more f w step (c ∷ cs) zero h = omega (arith, step c)
   cells_sum-with_more f w step (c ∷ cs) (suc i) h = omega (arith, cells_sum-with_more f w step cs i (omega arith))
 
+  -- n more elements in all
   pub element_count-with_more : (cs : List Cell) (i : ℕ) → i < length cs → element_count (expanded (cells_with_more cs i e n)) ≡ element_count (expanded cs) + n
   element_count-with_more cs i h = cells_sum-with_more (λ c. length c.1) n (λ c. length-items-with_more c.1) cs i h
 
+  -- and their weight
   pub cells_weight-with_more : (cs : List Cell) (i : ℕ) → i < length cs → cells_weight (expanded (cells_with_more cs i e n)) ≡ cells_weight (expanded cs) + n * weight_of e
   cells_weight-with_more cs i h = cells_sum-with_more (λ c. (1 + length c.0) + sum_by weight_of c.1) (n * weight_of e) (λ c. omega (arith, weight-with_more c.1)) cs i h
 
@@ -58,6 +64,7 @@ set_value_at-same [] i bag h = refl
 set_value_at-same (c ∷ cs) zero bag h = ap (λ es. (c.0, es) ∷ cs) (ap (λ o. unwrap_or o c.1) (sym h))
 set_value_at-same (c ∷ cs) (suc i) bag h = ap (λ (xs : List Cell). c ∷ xs) (set_value_at-same cs i bag h)
 
+-- an element is there no more often than there are elements
 pub count_at-le-length : (es : List (Element × ℕ)) (e : Element) → count_at es e ≤ length (items es)
 count_at-le-length [] e = omega arith
 count_at-le-length (p ∷ ps) e =
@@ -68,11 +75,13 @@ count_at-le-length (p ∷ ps) e =
       | _ ↦ λ h. rw h (omega (arith, all, own, count_at-le-length ps e))
     ] refl
 
+-- and a cell has no more elements than all cells together
 pub length-items-le : (cs : List Cell) (i : ℕ) (bag : List (Element × ℕ)) → slice_get (values_of cs) i ≡ Some bag → length (items bag) ≤ element_count (expanded cs)
 length-items-le [] i bag h = let no : ⊥ = cc in absurd no
 length-items-le (c ∷ cs) zero bag h = let same = ap (λ o. length (items (unwrap_or o c.1))) h in omega (arith, same)
 length-items-le (c ∷ cs) (suc i) bag h = omega (arith, length-items-le cs i bag h)
 
+-- a new cell adds what it gives itself
 cells_sum-push : (f : List ℕ × List Element → ℕ) (cs : List Cell) (name : List ℕ) → cells_sum f (expanded (cs ++ (name, []) ∷ [])) ≡ cells_sum f (expanded cs) + f (name, [])
 cells_sum-push f [] name = omega arith
 cells_sum-push f (x ∷ xs) name = omega (arith, cells_sum-push f xs name)
@@ -84,11 +93,13 @@ module _ (profile : Profile) where
   bag_of (c ∷ cs) zero bag h all = subst (IsBag profile) (ap (λ o. unwrap_or o c.1) h) all.0
   bag_of (c ∷ cs) (suc i) bag h all = bag_of cs i bag h all.1
 
+  -- writing a bag leaves bags
   bags-set_value_at : (cs : List Cell) (i : ℕ) (new : List (Element × ℕ)) → AllByRecursion (λ c. IsBag profile c.1) cs → IsBag profile new → AllByRecursion (λ c. IsBag profile c.1) (set_value_at cs i new)
   bags-set_value_at [] i new h good = tt
   bags-set_value_at (c ∷ cs) zero new h good = (good, h.1)
   bags-set_value_at (c ∷ cs) (suc i) new h good = (h.0, bags-set_value_at cs i new h.1 good)
 
+  -- so does a cell of no elements
   bags-push : (cs : List Cell) (name : List ℕ) → AllByRecursion (λ c. IsBag profile c.1) cs → AllByRecursion (λ c. IsBag profile c.1) (cs ++ (name, []) ∷ [])
   bags-push [] name h = (IsBag-empty profile [] refl, tt)
   bags-push (c ∷ cs) name h = (h.0, bags-push cs name h.1)
@@ -119,14 +130,17 @@ IsCounted-with_more limits profile cs count weight spelled i bag new e n w s k a
       bags = subst (λ (ds : List Cell). AllByRecursion (λ c. IsBag profile c.1) ds) same (bags-set_value_at profile cs i new k.bags good);
     })
 
+-- and what the draft then holds
 pub holding_is : (v : Contents) (unit : Ratio) (limits : Limits) (profile : Profile) (cs : List Cell) (spelled i : ℕ) (bag new : List (Element × ℕ)) (e : Element) (n s : ℕ) → record { unit = unit; limits = limits; profile = profile; cells = cs; spelled = spelled } ≡ v → slice_get (values_of cs) i ≡ Some bag → new ≡ with_more bag e n → ◌≡◌ {A = Contents} (record { unit = unit; limits = limits; profile = profile; cells = set_value_at cs i new; spelled = spelled + s }) (holding v i e n s)
 holding_is v unit limits profile cs spelled i bag new e n s view at is =
     (λ j. record { unit = unit; limits = limits; profile = profile; cells = (ap (λ es. set_value_at cs i es) is ∙ set_value_at-with_more e n cs i bag at) j; spelled = spelled + s }) ∙ ap (λ (u : Contents). holding u i e n s) view
 
+-- a refused addition leaves what the draft held
 pub unchanged_is : (v : Contents) (unit : Ratio) (limits : Limits) (profile : Profile) (cs : List Cell) (spelled i : ℕ) (bag new : List (Element × ℕ)) → record { unit = unit; limits = limits; profile = profile; cells = cs; spelled = spelled } ≡ v → slice_get (values_of cs) i ≡ Some bag → new ≡ bag → ◌≡◌ {A = Contents} (record { unit = unit; limits = limits; profile = profile; cells = set_value_at cs i new; spelled = spelled }) v
 unchanged_is v unit limits profile cs spelled i bag new view at is =
     (λ j. record { unit = unit; limits = limits; profile = profile; cells = (ap (λ es. set_value_at cs i es) is ∙ set_value_at-same cs i bag at) j; spelled = spelled }) ∙ view
 
+-- and its counters
 pub IsCounted-same : (limits : Limits) (profile : Profile) (cs : List Cell) (count weight spelled i : ℕ) (bag new : List (Element × ℕ)) → IsCounted limits profile cs count weight spelled → slice_get (values_of cs) i ≡ Some bag → new ≡ bag → IsCounted limits profile (set_value_at cs i new) count weight spelled
 IsCounted-same limits profile cs count weight spelled i bag new k at is =
     subst (λ (ds : List Cell). IsCounted limits profile ds count weight spelled) (sym (ap (λ es. set_value_at cs i es) is ∙ set_value_at-same cs i bag at)) k
@@ -144,14 +158,17 @@ IsCounted-push limits profile cs ds count weight spelled w name k is same light 
       bags = bags-push profile cs name k.bags;
     })
 
+-- and what the draft then holds
 pub pushed_is : (v : Contents) (unit : Ratio) (limits : Limits) (profile : Profile) (cs ds : List Cell) (spelled w : ℕ) (name : List ℕ) → record { unit = unit; limits = limits; profile = profile; cells = cs; spelled = spelled } ≡ v → ds ≡ cs ++ (name, []) ∷ [] → w ≡ length name → ◌≡◌ {A = Contents} (record { unit = unit; limits = limits; profile = profile; cells = ds; spelled = spelled + (1 + w) }) (with_cell v name)
 pushed_is v unit limits profile cs ds spelled w name view is same =
     (λ j. record { unit = unit; limits = limits; profile = profile; cells = is j; spelled = spelled + (1 + same j) }) ∙ ap (λ (u : Contents). with_cell u name) view
 
+-- where a test finds none, there is none
 pub none_there : {X : Type 0} (o : Option X) → false ≡ is_some o → o ≡ None
 none_there None h = refl
 none_there (Some x) h = cc
 
+-- the cell that is added is one of no elements
 pub pushed_empty : (cs ds : List Cell) (name : List ℕ) (bag : List (Element × ℕ)) → ds ≡ cs ++ (name, bag) ∷ [] → bag ≡ [] → ds ≡ cs ++ (name, []) ∷ []
 pushed_empty cs ds name bag is empty = is ∙ ap (λ es. cs ++ (name, es) ∷ []) empty
 
@@ -159,5 +176,6 @@ pushed_empty cs ds name bag is empty = is ∙ ap (λ es. cs ++ (name, es) ∷ []
 pub cell_refusal-none : (d : Contents) (name : List ℕ) → false ≡ has_cell d.cells name → d.spelled + (1 + length name) ≤ d.limits.weight → cell_refusal d name ≡ None
 cell_refusal-none d name there light = grind (arith, nat_tests)
 
+-- the same of an element
 pub refusal-none : (d : Contents) (e : Element) (n : ℕ) → false ≡ lacks_points e → element_count (expanded d.cells) + n ≤ d.limits.elements → d.spelled + n * weight_of e ≤ d.limits.weight → true ≡ fits_grid e → refusal d e n ≡ None
 refusal-none d e n points few light inside = grind (arith, nat_tests)

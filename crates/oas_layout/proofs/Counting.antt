@@ -24,6 +24,7 @@ module _ {K : Type 0} where
   total g [] = 0
   total g (p ∷ ps) = p.1 * g p.0 + total g ps
 
+  -- a sum over the keys, each as often as it is there, is the sum of what each weighs
   pub sum_by-items : (g : K → ℕ) (es : List (K × ℕ)) → sum_by g (items es) ≡ total g es
   sum_by-items g [] = refl
   sum_by-items g (p ∷ ps) = sum_by-append g (replicate p.1 p.0) (items ps) ∙ (λ i. sum_by-replicate g p.1 p.0 i + sum_by-items g ps i)
@@ -50,9 +51,11 @@ module _ {K : Type 0} where
 
 -- E is the test of equivalence, which ties keys in normal form as the order does
 module _ {K : Type 0} {R : K → K → Ordering} (o : IsTotalOrder R) (exact : CmpEqualImpliesEq R) (E : K → K → Bool) (N : K → Type 0) (agrees : (x y : K) → N x → N y → E x y ≡ eq_by_cmp R x y) where
+  -- all keys are normal
   abbrev pub AllNormal : List (K × ℕ) → Type 0
   AllNormal es = AllByRecursion (λ p. N p.0) es
 
+  -- each key is there at least once
   abbrev pub Positive : List (K × ℕ) → Type 0
   Positive es = AllByRecursion (λ p. 0 < p.1) es
 
@@ -60,6 +63,7 @@ module _ {K : Type 0} {R : K → K → Ordering} (o : IsTotalOrder R) (exact : C
   abbrev pub share : K → List (K × ℕ) → ℕ
   share q es = total (λ x. cond (E q x) 1 0) es
 
+  -- none is equivalent with a key that is below all
   share-below : (q : K) (es : List (K × ℕ)) → N q → AllNormal es → AllByRecursion (λ y. R q y ≡ Less) (keys_of es) → share q es ≡ 0
   share-below q [] m n h = refl
   share-below q (p ∷ ps) m n h =
@@ -67,11 +71,13 @@ module _ {K : Type 0} {R : K → K → Ordering} (o : IsTotalOrder R) (exact : C
       let rest = share-below q ps m n.1 h.1 in
       rw apart (omega (arith, rest))
 
+  -- those that are equivalent with the first key, which ties with q, are its count and those of the rest
   share-same : (q : K) (p : K × ℕ) (ps : List (K × ℕ)) → N q → N p.0 → R q p.0 ≡ Equal → share q (p ∷ ps) ≡ p.1 + share q ps
   share-same q p ps m n e =
       let yes : E q p.0 ≡ true = agrees q p.0 m n ∙ ap is_eq e in
       rw yes (omega arith)
 
+  -- none is equivalent with a key that is below the first
   share-less : (q : K) (p : K × ℕ) (ps : List (K × ℕ)) → N q → AllNormal (p ∷ ps) → IsStrictlySortedBy R (keys_of (p ∷ ps)) → R q p.0 ≡ Less → share q (p ∷ ps) ≡ 0
   share-less q p ps m n s e = share-below q (p ∷ ps) m n (e, chain (keys_of ps) (sorted_head R p.0 (keys_of ps) s)) where
     chain : (ks : List K) → AllByRecursion (λ y. R p.0 y ≡ Less) ks → AllByRecursion (λ y. R q y ≡ Less) ks
@@ -126,18 +132,22 @@ module _ {K : Type 0} {R : K → K → Ordering} (o : IsTotalOrder R) (exact : C
 
   -- ---- lists of keys, each as often as it is there
 
+  -- how many are equivalent with q
   abbrev pub count : K → List K → ℕ
   count q xs = count_by (E q) xs
 
+  -- one key more
   pub count-cons : (q x : K) (xs : List K) → count q (x ∷ xs) ≡ cond (E q x) 1 0 + count q xs
   count-cons q x xs = sum_by-cons (λ y. cond (E q y) 1 0) x xs
 
+  -- none is equivalent with a key that is below all
   count-above : (q : K) (xs : List K) → N q → AllByRecursion N xs → AllByRecursion (λ y. R q y ≡ Less) xs → count q xs ≡ 0
   count-above q [] m n h = refl
   count-above q (x ∷ xs) m n h =
       let apart : E q x ≡ false = agrees q x m n.0 ∙ ap is_eq h.0 in
       count-cons q x xs ∙ rw apart (omega (arith, count-above q xs m n.1 h.1))
 
+  -- none is equivalent with a key that is below the first of an ascending list
   count-less : (q x : K) (xs : List K) → N q → AllByRecursion N (x ∷ xs) → Ascends R (x ∷ xs) → R q x ≡ Less → count q (x ∷ xs) ≡ 0
   count-less q x xs m n a l = count-above q (x ∷ xs) m n (l, chain xs a.0) where
     chain : (ks : List K) → AllByRecursion (λ y. is_gt (R x y) ≡ false) ks → AllByRecursion (λ y. R q y ≡ Less) ks
@@ -148,6 +158,7 @@ module _ {K : Type 0} {R : K → K → Ordering} (o : IsTotalOrder R) (exact : C
       up Equal e g = sym (alike_right o x k q e) ∙ l
       up Greater e g = cc
 
+  -- a key is equivalent with itself
   count-self : (x : K) (xs : List K) → N x → count x (x ∷ xs) ≡ 1 + count x xs
   count-self x xs n = count-cons x x xs ∙ ap (λ b. cond b 1 0 + count x xs) (agrees x x n n ∙ ap is_eq (tied_itself o x))
 

@@ -24,6 +24,7 @@ reading_of-first p r start forwards =
     ap (λ (t : Reading). reading_of p t) (λ i. record { start = start i; backwards = forwards i }) ∙ append-nil p
 
 module _ (profile : Profile) (layer datatype : ℕ) (p ring : List Point) (o : Option Corners) (there : ring ≡ p) (box : o ≡ drawn_box profile ring) where
+  -- the rectangle that was found is that of the polygon
   drawn : drawn_box profile p ≡ o
   drawn = ap (drawn_box profile) (sym there) ∙ sym box
 
@@ -38,9 +39,11 @@ module _ (profile : Profile) (layer datatype : ℕ) (p ring : List Point) (o : O
 
 -- what is kept is in its kept form, and weighs no more than what was spelled
 module _ (profile own : Profile) (e kept : Element) (same : profile ≡ own) (is : kept ≡ normal profile e) where
+  -- what is kept is in its kept form
   pub kept_normal : IsNormal own kept
   kept_normal = subst (λ p. IsNormal p kept) same (ap (normal profile) is ∙ normal-normal profile e ∙ sym is)
 
+  -- it weighs no more
   pub kept_lighter : (w n s : ℕ) → w ≡ weight_of e → s ≡ w * n → weight_of kept * n ≤ s
   kept_lighter w n s weight product =
       let less : weight_of (normal profile e) ≤ weight_of e = weight_of-normal-le profile e in
@@ -49,6 +52,7 @@ module _ (profile own : Profile) (e kept : Element) (same : profile ≡ own) (is
       let last : w * n ≡ weight_of e * n = ap (λ (k : ℕ). k * n) weight in
       omega (arith, first, much, last, product)
 
+  -- and under profile one as much
   pub kept_as_spelled : (w n s : ℕ) → w ≡ weight_of e → s ≡ w * n → own ≡ One → weight_of kept * n ≡ s
   kept_as_spelled w n s weight product one =
       ap (λ (x : Element). weight_of x * n) is ∙ ap (λ p. weight_of (normal p e) * n) (same ∙ one) ∙ ap (λ (k : ℕ). k * n) (weight_of-normal e) ∙ sym (ap (λ (k : ℕ). k * n) weight) ∙ sym product

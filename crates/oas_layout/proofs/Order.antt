@@ -16,18 +16,23 @@ use Rattle.oas_layout.specs.Bag.{count_at, put_more, IsTally, IsBag}
 use Rattle.oas_layout.specs.Same.{IsNormal}
 
 module _ (es : List (Element × ℕ)) where
+  -- the count that a look-up finds
   pub count_at-derived : (e : Element) → unwrap_or (lookup (is_at (derived_cmp e)) es) 0 ≡ count_at es e
   count_at-derived e = ap (λ (R : Element → Element → Ordering). unwrap_or (lookup (is_at (R e)) es) 0) stated_cmp
 
+  -- the list that an insertion leaves
   pub insert_entry-derived : (e : Element) (n : ℕ) → insert_entry derived_cmp es e n ≡ insert_entry element_cmp es e n
   insert_entry-derived e n = ap (λ (R : Element → Element → Ordering). insert_entry R es e n) stated_cmp
 
+-- ascending by one order is ascending by the other
 pub ascending-derived : (ks : List Element) → IsStrictlySortedBy derived_cmp ks → IsStrictlySortedBy element_cmp ks
 ascending-derived ks = subst (λ (R : Element → Element → Ordering). IsStrictlySortedBy R ks) stated_cmp
 
+-- each element is there at least once
 abbrev Positive : List (Element × ℕ) → Type 0
 Positive es = AllByRecursion (λ p. 0 < p.1) es
 
+-- an insertion of a positive count keeps that
 pub positive-insert_entry : (R : Element → Element → Ordering) (es : List (Element × ℕ)) (e : Element) (n : ℕ) → 0 < n → Positive es → Positive (insert_entry R es e n)
 positive-insert_entry R [] e n h p = (h, tt)
 positive-insert_entry R (x ∷ xs) e n h p =
@@ -44,10 +49,12 @@ IsTally-insert_entry es fs e n b h s same = record {
   positive = subst Positive (sym same) (positive-insert_entry derived_cmp es e n h b.positive);
 }
 
+-- no elements are a tally
 pub IsTally-empty : (es : List (Element × ℕ)) → es ≡ [] → IsTally es
 unfolding IsStrictlySortedBy
 IsTally-empty es e = subst IsTally (sym e) (record { ascending = tt; positive = tt })
 
+-- kept forms stay kept forms
 normal-put_more : (profile : Profile) (es : List (Element × ℕ)) (e : Element) (n : ℕ) → IsNormal profile e → AllByRecursion (λ p. IsNormal profile p.0) es → AllByRecursion (λ p. IsNormal profile p.0) (put_more element_cmp es e n)
 normal-put_more profile [] e n h p = (h, tt)
 normal-put_more profile (x ∷ xs) e n h p =
@@ -64,6 +71,7 @@ IsBag-put_more profile es fs e n norm b t same = record {
   normal = subst (λ (gs : List (Element × ℕ)). AllByRecursion (λ p. IsNormal profile p.0) gs) (sym same) (normal-put_more profile es e n norm b.normal);
 }
 
+-- no elements are a bag
 pub IsBag-empty : (profile : Profile) (es : List (Element × ℕ)) → es ≡ [] → IsBag profile es
 IsBag-empty profile es e = record { tally = IsTally-empty es e; normal = subst (λ (gs : List (Element × ℕ)). AllByRecursion (λ p. IsNormal profile p.0) gs) (sym e) tt }
 

@@ -26,6 +26,7 @@ pub same_held : (profile : Profile) (es fs : List (Element × ℕ)) → IsBag pr
 same_held profile es fs b c h =
     same_bags element_total exact_elements (same_element profile) (IsNormal profile) (same_normal profile) es fs b.normal c.normal b.tally.positive c.tally.positive b.tally.ascending c.tally.ascending (λ q _. sym (sum_by-items _ es) ∙ h q ∙ sum_by-items _ fs)
 
+-- what a look-up finds is a bag
 bag_at : (profile : Profile) (test : List ℕ → Bool) (cs : List Cell) → AllByRecursion (λ c. IsBag profile c.1) cs → IfSome (lookup test cs) (IsBag profile)
 bag_at profile test [] h = tt
 bag_at profile test (c ∷ cs) h = elim (test c.0) as (λ b. IfSome (cond b (Some c.1) (lookup test cs)) (IsBag profile)) [ true ↦ h.0 | false ↦ bag_at profile test cs h.1 ]
@@ -36,30 +37,37 @@ elements_of-expanded name [] = refl
 elements_of-expanded name (c ∷ cs) =
     elim (pointwise ◌==◌ name c.0) as (λ b. cond b (Some (items c.1)) (elements_of name (expanded cs)) ≡ option_map items (cond b (Some c.1) (lookup (pointwise ◌==◌ name) cs))) [ true ↦ refl | false ↦ elements_of-expanded name cs ]
 
+-- bags that are both there, or both not, with equal counts
 joined : (profile : Profile) (o p : Option (List (Element × ℕ))) → IfSome o (IsBag profile) → IfSome p (IsBag profile) → is_some (option_map items o) ≡ is_some (option_map items p) → ((e : Element) → count_of profile e (unwrap_or (option_map items o) []) ≡ count_of profile e (unwrap_or (option_map items p) [])) → o ≡ p
 joined profile None None b c s h = refl
 joined profile None (Some y) b c s h = cc
 joined profile (Some x) None b c s h = cc
 joined profile (Some x) (Some y) b c s h = ap Some (same_held profile x y b c h)
 
+-- a name is found by equality as by the order
 by_cmp : (q : List ℕ) (cs : List Cell) → lookup (pointwise ◌==◌ q) cs ≡ lookup (is_at (name_cmp q)) cs
 by_cmp q cs = λ i. lookup (λ k. texts_ties q k i) cs
 
+-- the first name is below the others, as a test
 sorted_below : (x : List ℕ) (cs : List Cell) → AllByRecursion (λ k. name_cmp x k ≡ Less) (keys_of cs) → T (below_all name_cmp x cs)
 sorted_below x [] h = tt
 sorted_below x (c ∷ cs) h = rw h.0 (sorted_below x cs h.1)
 
+-- names that ascend pass the test of it
 sorted_list : (cs : List Cell) → IsStrictlySortedBy name_cmp (keys_of cs) → T (is_sorted name_cmp cs)
 sorted_list [] s = tt
 sorted_list (c ∷ cs) s = both _ _ (sorted_below c.0 cs (sorted_head name_cmp c.0 (keys_of cs) s)) (sorted_list cs (sorted_tail name_cmp c.0 (keys_of cs) s)) where
+  -- two tests that hold
   both : (a b : Bool) → T a → T b → T (a && b)
   both true b p q = q
   both false b p q = p
 
+-- the two kinds of look-up agree
 find_is : (q : List ℕ) (cs : List Cell) → find name_cmp q cs ≡ lookup (is_at (name_cmp q)) cs
 find_is q [] = refl
 find_is q (c ∷ cs) = ap (λ o. cond (is_at (name_cmp q) c.0) (Some c.1) o) (find_is q cs)
 
+-- layouts that are the same have equal cells
 pub cells_from_same : (profile : Profile) (a b : Contents) (m n v w x y : ℕ) → IsLayout a.limits profile a.cells m v x → IsLayout b.limits profile b.cells n w y → SameLayout profile (meaning_of a) (meaning_of b) → a.cells ≡ b.cells
 cells_from_same profile a b m n v w x y k l s =
     same_entries name_cmp nat_list_cmp_total exact_bytes a.cells b.cells (sorted_list a.cells k.ascending) (sorted_list b.cells l.ascending)
@@ -71,6 +79,7 @@ cells_from_same profile a b m n v w x y k l s =
     (λ e. ap (λ o. count_of profile e (unwrap_or o [])) (sym left) ∙ s.counts q e ∙ ap (λ o. count_of profile e (unwrap_or o [])) right)
     ∙ by_cmp q b.cells ∙ sym (find_is q b.cells))
 
+-- equal units and cells are the same layout
 pub same_from_cells : (profile : Profile) (a b : Contents) → a.unit ≡ b.unit → a.cells ≡ b.cells → SameLayout profile (meaning_of a) (meaning_of b)
 same_from_cells profile a b u e = record {
   unit = u;
@@ -96,12 +105,15 @@ differ profile u v a b m n w x y z e f own both k l apart =
     let lp : IsLayout b.limits profile b.cells n x z = subst (λ p. IsLayout b.limits p b.cells n x z) (sym (own ∙ both)) lb in
     (λ h. absurd (true≢false (sym h)), λ s. absurd (apart s.unit (cells_from_same profile a b m n w x y z kp lp s)))
 
+-- one entry of two equal lists
 one_entry : (o p : Option Cell) (c d : Cell) → o ≡ p → o ≡ Some c → p ≡ Some d → c ≡ d
 one_entry o p c d e f g = ap (λ q. unwrap_or q c) (sym f ∙ e ∙ g)
 
+-- equal lists have equal cells at each place
 pub same_at : (cs ds : List Cell) (i : ℕ) (c d : Cell) → slice_get cs i ≡ Some c → slice_get ds i ≡ Some d → cs ≡ ds → c ≡ d
 same_at cs ds i c d f g e = one_entry (slice_get cs i) (slice_get ds i) c d (ap (λ (es : List Cell). slice_get es i) e) f g
 
+-- equal cells have no unlike names
 pub unlike_itself : (c d : Cell) → c ≡ d → true ≡ not (pointwise ◌==◌ c.0 d.0) → ⊥
 unlike_itself c d e h =
     let alike : pointwise ◌==◌ c.0 d.0 ≡ true = ap (λ k. pointwise ◌==◌ c.0 k) (sym (ap (λ (p : Cell). p.0) e)) ∙ nat_list_eq_equiv.refl c.0 in

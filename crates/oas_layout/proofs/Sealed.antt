@@ -20,9 +20,11 @@ use Rattle.oas_layout.specs.Bag.{items, IsBag}
 use Rattle.oas_layout.specs.Meaning.{cells_sum}
 use Rattle.oas_layout.specs.Contents.{Cell, Contents, names, expanded, IsCounted, IsLayout, IsSealed}
 
+-- the order of names, by bytes
 abbrev pub name_cmp : List ℕ → List ℕ → Ordering
 name_cmp = slice_cmp nat_cmp
 
+-- of two names in order that are not equal the first is below the second
 less : (a b : List ℕ) → is_lt (name_cmp b a) ≡ false → pointwise ◌==◌ a b ≡ false → name_cmp a b ≡ Less
 less a b up apart =
     let tie : is_eq (name_cmp a b) ≡ false = sym (texts_ties a b) ∙ apart in
@@ -38,13 +40,16 @@ pub strictly : (ks : List (List ℕ)) → IsSorted name_cmp ks → IsDistinct (p
 strictly ks s d =
     sorted_from_all_adjacent nat_list_cmp_total ks [] (λ k h. less (get_or ks k []) (get_or ks (k + 1) []) (s k [] (omega arith) h) (apart_from_distinct (pointwise ◌==◌) ks k (k + 1) [] d (omega arith) h))
 
+-- a sum over the cells, as std has it
 cells_sum-is : (f : List ℕ × List Element → ℕ) (cs : List Cell) → cells_sum f (expanded cs) ≡ sum_by (λ (c : Cell). f (c.0, items c.1)) cs
 cells_sum-is f [] = refl
 cells_sum-is f (c ∷ cs) = ap (λ (n : ℕ). f (c.0, items c.1) + n) (cells_sum-is f cs) ∙ sym (sum_by-cons (λ (c : Cell). f (c.0, items c.1)) c cs)
 
+-- a sum over the cells knows no order of them
 cells_sum-permutation : (f : List ℕ × List Element → ℕ) (cs ds : List Cell) → IsPermutation cs ds → cells_sum f (expanded ds) ≡ cells_sum f (expanded cs)
 cells_sum-permutation f cs ds p = cells_sum-is f ds ∙ sum_by-IsPermutation (λ (c : Cell). f (c.0, items c.1)) cs ds p ∙ sym (cells_sum-is f cs)
 
+-- nor do the counters
 pub IsCounted-permutation : (limits : Limits) (profile : Profile) (cs ds : List Cell) (count weight spelled : ℕ) → IsCounted limits profile cs count weight spelled → IsPermutation cs ds → IsCounted limits profile ds count weight spelled
 IsCounted-permutation limits profile cs ds count weight spelled k p = record {
   count_is = k.count_is ∙ sym (cells_sum-permutation _ cs ds p);
@@ -56,6 +61,7 @@ IsCounted-permutation limits profile cs ds count weight spelled k p = record {
   bags = recursion_from_All (λ c. IsBag profile c.1) ds (All-permutation (λ c. IsBag profile c.1) cs ds p (All-from_recursion (λ c. IsBag profile c.1) cs k.bags));
 }
 
+-- the sorted cells are those of the draft
 pub sealed_is : (v : Contents) (unit : Ratio) (limits : Limits) (profile : Profile) (cs ds : List Cell) (spelled : ℕ) → record { unit = unit; limits = limits; profile = profile; cells = cs; spelled = spelled } ≡ v → IsPermutation cs ds → IsStrictlySortedBy name_cmp (names ds) → IsSealed v (record { unit = unit; limits = limits; profile = profile; cells = ds; spelled = spelled })
 sealed_is v unit limits profile cs ds spelled view p s =
     subst (λ (u : Contents). IsSealed u (record { unit = unit; limits = limits; profile = profile; cells = ds; spelled = spelled })) view (record { unit = refl; limits = refl; profile = refl; spelled = refl; cells = p; ascending = s })

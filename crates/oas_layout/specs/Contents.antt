@@ -31,6 +31,7 @@ pub record Contents : Type 0 where
   pub cells : List Cell
   pub spelled : ℕ
 
+-- the names of the cells
 abbrev pub names : List Cell → List (List ℕ)
 names cs = keys_of cs
 

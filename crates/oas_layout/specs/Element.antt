@@ -25,6 +25,7 @@ kind (Polygon layer datatype points) = 3
 kind (Path layer datatype half_width start end points) = 4
 kind (Circle layer datatype radius x y) = 5
 
+-- the first comparison, and where it ties the second
 infixr 20 ◌then◌
 abbrev pub ◌then◌ : Ordering → Ordering → Ordering
 r then s = ordering_then r s

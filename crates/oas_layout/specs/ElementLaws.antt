@@ -24,6 +24,7 @@ use Rattle.oas_layout.specs.contracts.element.ElementOrd.TheImpl.Laws as laws
 abbrev pub derived_cmp : Element → Element → Ordering
 derived_cmp = order.ghosts.cmp
 
+-- which is total
 pub derived_total : IsTotalOrder derived_cmp
 derived_total = laws.total-law
 
@@ -31,6 +32,7 @@ derived_total = laws.total-law
 abbrev pub turns_cmp : Turns → Turns → Ordering
 turns_cmp s t = nat_cmp (turn_count s) (turn_count t)
 
+-- the derived order of quarter turns is that of their numbers
 same_turns : (s t : Turns) → turns_order.ghosts.cmp s t ≡ turns_cmp s t
 same_turns T0 T0 = refl
 same_turns T1 T1 = refl
@@ -49,6 +51,7 @@ order_is_stated (Path layer datatype half_width start end points) (Path layer' d
 order_is_stated (Circle layer datatype radius x y) (Circle layer' datatype' radius' x' y') = refl
 order_is_stated a b = refl
 
+-- quarter turns that tie are one
 turns_exact : CmpEqualImpliesEq turns_cmp
 turns_exact T0 T0 h = refl
 turns_exact T1 T1 h = refl
@@ -56,6 +59,7 @@ turns_exact T2 T2 h = refl
 turns_exact T3 T3 h = refl
 turns_exact s t h = cc
 
+-- so are truth values
 bool_exact : CmpEqualImpliesEq bool_cmp
 bool_exact false false h = refl
 bool_exact true true h = refl
@@ -87,9 +91,11 @@ exact_elements a b h = cc
 pub stated_cmp : derived_cmp ≡ element_cmp
 stated_cmp i a b = order_is_stated a b i
 
+-- the order of elements is total
 pub element_total : IsTotalOrder element_cmp
 element_total = subst (λ R. IsTotalOrder R) stated_cmp derived_total
 
+-- elements that tie in the derived order are one
 pub exact_derived : CmpEqualImpliesEq derived_cmp
 exact_derived a b h = exact_elements a b (sym (order_is_stated a b) ∙ h)
 
@@ -97,6 +103,7 @@ exact_derived a b h = exact_elements a b (sym (order_is_stated a b) ∙ h)
 abbrev pub derived_eq : Element → Element → Bool
 derived_eq = equality.ghosts.eq
 
+-- which is true exactly of equal elements
 pub derived_eq-Decides : (a b : Element) → Decides (derived_eq a b) (a ≡ b)
 derived_eq-Decides a b =
     let tie : derived_eq a b ≡ is_eq (derived_cmp a b) = laws.matches_eq-law a b in

@@ -14,9 +14,11 @@ is_coordinate x = not (int_lt x (negsuc (2 ^ 60 - 1))) && not (int_lt (pos (2 ^ 
 abbrev pub reaches : ℤ → ℕ → Bool
 reaches x side = is_coordinate x && is_coordinate (x +ℤ pos side)
 
+-- both parts are coordinates
 abbrev pub is_grid_point : Point → Bool
 is_grid_point p = is_coordinate p.x && is_coordinate p.y
 
+-- positions, points, far corners and extensions are coordinates, and half-widths and radii at most 2^60
 abbrev pub fits_grid : Element → Bool
 fits_grid (Placement cell x y turns flip) = is_coordinate x && is_coordinate y
 fits_grid (Text string textlayer texttype x y) = is_coordinate x && is_coordinate y

@@ -48,11 +48,14 @@ abbrev pub EqualCounts : Profile → Type 0
 EqualCounts profile =
     (xs ys : List Element) → AllByRecursion (IsNormal profile) xs → AllByRecursion (IsNormal profile) ys → Ascends element_cmp xs → Ascends element_cmp ys → ((q : Element) → count_of profile q xs ≡ count_of profile q ys) → xs ≡ ys
 
+-- each layout is the same as itself
 abbrev pub IsReflexive : Profile → Type 0
 IsReflexive profile = (a : Meaning) → SameLayout profile a a
 
+-- sameness goes in either direction
 abbrev pub IsSymmetric : Profile → Type 0
 IsSymmetric profile = (a b : Meaning) → SameLayout profile a b → SameLayout profile b a
 
+-- and over a third layout
 abbrev pub IsTransitive : Profile → Type 0
 IsTransitive profile = (a b c : Meaning) → SameLayout profile a b → SameLayout profile b c → SameLayout profile a c

@@ -28,18 +28,22 @@ use Rattle.oas_layout.specs.Same.{rectangle_corners, IsDrawn, SameElement, is_dr
 
 -- ---- the test says when elements are the same
 
+-- the order ties exactly equal elements
 equal-Decides : (a b : Element) → Decides (eq_by_cmp element_cmp a b) (a ≡ b)
 equal-Decides a b = (λ e. exact_elements a b ((Equal-is (element_cmp a b)).0 e), λ e. ap (λ x. is_eq (element_cmp a x)) (sym e) ∙ ap is_eq (tied_itself element_total a))
 
+-- three tests, one after the other
 three : (a b c : Bool) (P Q R : Type 0) → Decides a P → Decides b Q → Decides c R → Decides (a && (b && c)) (P × Q × R)
 three true true c P Q R p q r = (λ e. (p.0 refl, q.0 refl, r.0 e), λ h. r.1 h.2)
 three true false c P Q R p q r = (λ e. absurd (true≢false (sym e)), λ h. absurd (true≢false (sym (q.1 h.1))))
 three false b c P Q R p q r = (λ e. absurd (true≢false (sym e)), λ h. absurd (true≢false (sym (p.1 h.0))))
 
+-- the test of `IsDrawn` is true exactly of it
 drawn-Decides : (profile : Profile) (points : List Point) (corners : Corners) → Decides (is_drawn profile points corners) (IsDrawn profile points corners)
 drawn-Decides One points corners = (λ e. true≢false (sym e), λ no. absurd no)
 drawn-Decides Two points corners = is_box-Decides points corners
 
+-- the test of `SameElement` is true exactly of it
 pub same_element-Decides : (profile : Profile) (a b : Element) → Decides (same_element profile a b) (SameElement profile a b)
 same_element-Decides profile (Polygon layer datatype points) (Polygon layer' datatype' points') =
     three _ _ _ _ _ _ (Decides-eqb layer layer') (Decides-eqb datatype datatype') (is_same_ring-SameRing points points')
@@ -55,21 +59,26 @@ same_element-Decides profile a b = equal-Decides a b
 
 -- ---- rectangles and their corners
 
+-- the rectangle that a ring is drawn round is the one that is found
 drawn-is : (profile : Profile) (points : List Point) (corners : Corners) → IsDrawn profile points corners → drawn_box profile points ≡ Some corners
 drawn-is One points corners h = absurd h
 drawn-is Two points corners h = box_of-is points corners h
 
+-- and back
 drawn-box : (profile : Profile) (points : List Point) (corners : Corners) → drawn_box profile points ≡ Some corners → IsDrawn profile points corners
 drawn-box One points corners e = cc
 drawn-box Two points corners e = box_of-box points corners e
 
+-- rings that are the same are drawn round the same rectangle
 drawn-alike : (profile : Profile) (p q : List Point) → SameRing p q → drawn_box profile p ≡ drawn_box profile q
 drawn-alike One p q s = refl
 drawn-alike Two p q s = box_of-alike p q s
 
+-- a side, from both its ends
 side_back : (x : ℤ) (n : ℕ) → unsigned_abs ((x +ℤ pos n) -ℤ x) ≡ n
 side_back x n = grind (arith, ints)
 
+-- an end, from the other and the side
 side_there : (l h : ℤ) → l <ℤ h → l +ℤ pos (unsigned_abs (h -ℤ l)) ≡ h
 side_there l h p = grind (arith, ints)
 
@@ -77,6 +86,7 @@ side_there l h p = grind (arith, ints)
 rectangle_back : (layer datatype width height : ℕ) (x y : ℤ) → rectangle_of layer datatype (rectangle_corners width height x y) ≡ Rectangle layer datatype width height x y
 rectangle_back layer datatype width height x y = λ i. Rectangle layer datatype (side_back x width i) (side_back y height i) x y
 
+-- the corners of the rectangle with these corners
 corners_back : (c : Corners) → c.low.x <ℤ c.high.x → c.low.y <ℤ c.high.y → rectangle_corners (unsigned_abs (c.high.x -ℤ c.low.x)) (unsigned_abs (c.high.y -ℤ c.low.y)) c.low.x c.low.y ≡ c
 corners_back c wide tall = λ i. record { low = c.low; high = record { x = side_there c.low.x c.high.x wide i; y = side_there c.low.y c.high.y tall i } }
 
@@ -94,11 +104,13 @@ drawn_from_kept Two points c layer layer' datatype datatype' width height x y e 
 
 -- ---- the same have one kept form
 
+-- a polygon that is drawn round a rectangle is kept as it
 kept_rectangle : (profile : Profile) (layer datatype layer' datatype' width height : ℕ) (x y : ℤ) (points : List Point) → layer ≡ layer' → datatype ≡ datatype' → IsDrawn profile points (rectangle_corners width height x y) → normal profile (Polygon layer datatype points) ≡ Rectangle layer' datatype' width height x y
 kept_rectangle profile layer datatype layer' datatype' width height x y points e f d =
     ap (normal_polygon layer datatype (least_of points)) (drawn-is profile points (rectangle_corners width height x y) d)
     ∙ rectangle_back layer datatype width height x y ∙ (λ i. Rectangle (e i) (f i) width height x y)
 
+-- elements that are the same have one kept form
 pub normal-alike : (profile : Profile) (a b : Element) → SameElement profile a b → normal profile a ≡ normal profile b
 normal-alike profile (Polygon layer datatype points) (Polygon layer' datatype' points') s =
     λ i. normal_polygon (s.0 i) (s.1 i) ((least_of-same_ring points points').0 s.2 i) (drawn-alike profile points points' s.2 i)
@@ -119,6 +131,7 @@ no_other : (a : Element) (layer datatype : ℕ) (points : List Point) (o : Optio
 no_other a layer datatype points None two three e = three (ap kind e)
 no_other a layer datatype points (Some c) two three e = two (ap kind e)
 
+-- polygons with one kept form are the same
 polygons : (profile : Profile) (layer datatype layer' datatype' : ℕ) (p q : List Point) (o r : Option Corners) → drawn_box profile p ≡ o → drawn_box profile q ≡ r → normal_polygon layer datatype (least_of p) o ≡ normal_polygon layer' datatype' (least_of q) r → (layer ≡ layer') × (datatype ≡ datatype') × SameRing p q
 polygons profile layer datatype layer' datatype' p q None None e f h = (cc, cc, (least_of-same_ring p q).1 cc)
 polygons profile layer datatype layer' datatype' p q None (Some d) e f h = let no : ⊥ = cc in absurd no
@@ -131,11 +144,13 @@ polygons Two layer datatype layer' datatype' p q (Some c) (Some d) e f h =
     let same : IsBox p d = subst (IsBox p) (corners_back d k.wide k.tall) there in
     (cc, cc, same_ring_twice p (corners_of d) q same.round (same_ring_back q (corners_of d) k.round))
 
+-- a polygon that is kept as a rectangle is drawn round it
 polygon_rectangle : (profile : Profile) (layer datatype layer' datatype' width height : ℕ) (x y : ℤ) (points : List Point) (o : Option Corners) → drawn_box profile points ≡ o → normal_polygon layer datatype (least_of points) o ≡ Rectangle layer' datatype' width height x y → (layer ≡ layer') × (datatype ≡ datatype') × IsDrawn profile points (rectangle_corners width height x y)
 polygon_rectangle profile layer datatype layer' datatype' width height x y points None e h = let no : ⊥ = cc in absurd no
 polygon_rectangle profile layer datatype layer' datatype' width height x y points (Some c) e h =
     (cc, cc, drawn_from_kept profile points c layer layer' datatype datatype' width height x y e h)
 
+-- elements with one kept form are the same
 pub same_from_normal : (profile : Profile) (a b : Element) → normal profile a ≡ normal profile b → SameElement profile a b
 same_from_normal profile (Polygon layer datatype points) (Polygon layer' datatype' points') h =
     polygons profile layer datatype layer' datatype' points points' _ _ refl refl h
@@ -163,11 +178,13 @@ same_element-is profile a b =
 
 -- ---- the kept form
 
+-- a kept polygon is kept as it is
 kept_again : (profile : Profile) (layer datatype : ℕ) (points : List Point) (o : Option Corners) → drawn_box profile points ≡ o → normal profile (normal_polygon layer datatype (least_of points) o) ≡ normal_polygon layer datatype (least_of points) o
 kept_again profile layer datatype points None e =
     λ i. normal_polygon layer datatype (least_of-least_of points i) ((drawn-alike profile (least_of points) points (same_ring_back points (least_of points) (least_of-IsLeastReadingOf points).same) ∙ e) i)
 kept_again profile layer datatype points (Some c) e = refl
 
+-- a kept form is its own kept form
 pub normal-normal : (profile : Profile) (e : Element) → normal profile (normal profile e) ≡ normal profile e
 normal-normal profile (Polygon layer datatype points) = kept_again profile layer datatype points _ refl
 normal-normal profile e = refl
@@ -181,6 +198,7 @@ pub weight_of-normal : (e : Element) → weight_of (normal One e) ≡ weight_of 
 weight_of-normal (Polygon layer datatype points) = ap (λ (n : ℕ). 1 + n) (length-least_of points)
 weight_of-normal e = refl
 
+-- a kept polygon weighs no more than it did
 kept_weight : (layer datatype : ℕ) (points : List Point) (o : Option Corners) → weight_of (normal_polygon layer datatype (least_of points) o) ≤ 1 + length points
 kept_weight layer datatype points None = omega (arith, length-least_of points)
 kept_weight layer datatype points (Some c) = omega arith
@@ -195,10 +213,12 @@ kept_polygon : (profile : Profile) (layer datatype : ℕ) (points : List Point) 
 kept_polygon profile layer datatype points None e h = (cc, refl)
 kept_polygon profile layer datatype points (Some c) e h = let no : ⊥ = cc in absurd no
 
+-- a polygon that is kept as it is is in its least reading
 pub normal-least : (profile : Profile) (layer datatype : ℕ) (points : List Point) → IsNormal profile (Polygon layer datatype points) → IsLeastReading points
 normal-least profile layer datatype points h =
     subst IsLeastReading (kept_polygon profile layer datatype points (drawn_box profile points) refl h).0 (least_of-IsLeastReadingOf points).least
 
+-- and under profile two goes round no rectangle
 pub normal-no_box : (layer datatype : ℕ) (points : List Point) (corners : Corners) → IsNormal Two (Polygon layer datatype points) → IsBox points corners → ⊥
 normal-no_box layer datatype points corners h b =
     let none : box_of points ≡ None = (kept_polygon Two layer datatype points (box_of points) refl h).1 in
@@ -215,8 +235,10 @@ normal-polygon Two layer datatype points least none =
 pub same_normal : (profile : Profile) (a b : Element) → IsNormal profile a → IsNormal profile b → same_element profile a b ≡ eq_by_cmp element_cmp a b
 same_normal profile a b h k = same_element-is profile a b ∙ (λ i. eq_by_cmp element_cmp (h i) (k i))
 
+-- in place of an element its kept form may be counted
 pub same_with-normal : (profile : Profile) (q e : Element) → same_element profile q (normal profile e) ≡ same_element profile q e
 same_with-normal profile q e = same_element-is profile q (normal profile e) ∙ ap (λ x. eq_by_cmp element_cmp (normal profile q) x) (normal-normal profile e) ∙ sym (same_element-is profile q e)
 
+-- and counted with
 pub same_from-normal : (profile : Profile) (q e : Element) → same_element profile (normal profile q) e ≡ same_element profile q e
 same_from-normal profile q e = same_element-is profile (normal profile q) e ∙ ap (λ x. eq_by_cmp element_cmp x (normal profile e)) (normal-normal profile q) ∙ sym (same_element-is profile q e)

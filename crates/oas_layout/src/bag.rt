@@ -1,6 +1,8 @@
 //! The elements of a cell, each held once beside its count.
 
-ghost use Rattle.std.specs.Prelude.{◌≡◌, ◌+◌, ◌<◌, ◌^◌, [], OnOk, OnErr, IfErr, IsTrue, ◌↔◌};
+ghost use Rattle.std.specs.Prelude.{◌≡◌, ◌+◌, ◌<◌, ◌^◌, [], unwrap_or, OnOk, OnErr, IfErr, IsTrue, ◌↔◌};
+ghost use Rattle.std.specs.BTreeMap.{get, insert_entry, IsOrdered, IsUnchanged};
+ghost use Rattle.oas_layout.specs.ElementLaws.{derived_cmp};
 ghost use Rattle.oas_layout.specs.Bag.{count_at, with_more, IsTally};
 
 use crate::element::Element;
@@ -37,13 +39,6 @@ impl Bag {
         }
     }
 
-    /// How often an element is there.
-    pub(crate) fn count(&self, element: &Element) -> u64
-        ensures { result ≡ count_at self.now element.now }
-    {
-        self.held.get(element).copied().unwrap_or(0)
-    }
-
     /// The elements ascending, each with its count.
     pub(crate) fn elements(&self) -> Elements<'_>
         ensures { result ≡ self.now }
@@ -69,10 +64,25 @@ impl Bag {
         ensures back { IfErr result (λ e. e ≡ element) }
         ensures err { OnErr result (self.new ≡ self.old) }
     {
-        let had = self.count(&element);
-        if let Err(e) = self.held.insert(element, had + times) {
-            return Err(e.value.0);
+        if let Err(element) = count_up(&mut self.held, element, times) {
+            return Err(element);
         }
         Ok(())
     }
+}
+
+/// Adds an element so many times to those that are there, in one search for its place, or hands it back.
+fn count_up(held: &mut BTreeMap<Element, u64>, element: Element, times: u64) -> Result<(), Element>
+    requires { unwrap_or (get derived_cmp held.old element) 0 + times < 2 ^ 64 }
+    ensures entries { OnOk result (held.new.entries ≡ insert_entry derived_cmp held.old.entries element (unwrap_or (get derived_cmp held.old element) 0 + times)) }
+    ensures ordered { OnOk result (IsOrdered derived_cmp held.new) }
+    ensures back { IfErr result (λ e. e ≡ element) }
+    ensures err { OnErr result (IsUnchanged held.old held.new) }
+{
+    let entry = match held.entry(element) {
+        Ok(entry) => entry,
+        Err(refused) => return Err(refused.value),
+    };
+    *entry.or_insert(0) += times;
+    Ok(())
 }

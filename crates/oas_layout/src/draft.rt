@@ -86,7 +86,7 @@ impl Draft {
         if weight >= self.limits.weight() - self.spelled {
             return Err((Why::TooHeavy, name));
         }
-        let before = self.cells.len();
+        let before = self.cells();
         let bag = Bag::new(self.alloc);
         if let Err(e) = self.cells.insert(name, bag) {
             return Err((Why::Memory, e.value.0));

@@ -110,8 +110,8 @@ impl Layout {
         if self.unit != other.unit {
             return false;
         }
-        let count = self.cells.len();
-        if count != other.cells.len() {
+        let count = self.cells();
+        if count != other.cells() {
             return false;
         }
         for i in 0..count {

@@ -37,6 +37,3 @@ pub use elements::Elements;
 pub use layout::Layout;
 pub use limits::Limits;
 pub use profile::Profile;
-
-#[cfg(test)]
-mod tests;

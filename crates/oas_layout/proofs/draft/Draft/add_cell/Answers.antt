@@ -19,6 +19,6 @@ returns-clause-ok c =
     let name = ap length c.as_bytes.ensures.bytes in
     let none : cell_refusal d c.args.name ≡ None = cell_refusal-none d c.args.name c.if-contains_key.ensures (omega (arith, c.if-weight-self.false, c.weight.ensures, name)) in (
       ap (λ (v : Contents). cell_refusal v c.args.name) (sym c.self.view_is) ∙ none,
-      c.len-before.ensures.len ∙ ap (λ (v : Contents). length v.cells) c.self.view_is,
+      c.cells-before.ensures,
       pushed_is c.args.self.now c.self.inside.unit c.self.inside.limits c.self.inside.profile c.self.inside.cells.entries _ c.self.inside.spelled _ c.args.name c.self.view_is (pushed c) name,
     )

@@ -3,10 +3,10 @@ use Rattle.oas_layout.specs.Contents.{Cell, Contents}
 use Rattle.oas_layout.proofs.SameLemmas.{differ, same_at, same_reads, same_from_cells, unlike_itself}
 use Rattle.oas_layout.proofs.layout.Layout.same.Goals as goal
 
-pub returns-then-count-len : goal.returns-then-count-len
-returns-then-count-len c =
+pub returns-then-count-cells : goal.returns-then-count-cells
+returns-then-count-cells c =
     differ c.args.self.now.profile _ _ c.args.self.now c.args.other.now _ _ _ _ _ _ c.self.view_is c.other.view_is refl c.requires c.self.invariant c.other.invariant
-    (λ _ e. c.if-count-len.true (c.len-count.ensures.len ∙ ap (λ (v : Contents). length v.cells) c.self.view_is ∙ ap length e ∙ sym (ap (λ (v : Contents). length v.cells) c.other.view_is) ∙ sym c.len.ensures.len))
+    (λ _ e. c.if-count-cells.true (c.cells-count.ensures ∙ ap length e ∙ sym c.cells.ensures))
 
 pub returns-then-ne-2 : goal.returns-then-ne-2
 returns-then-ne-2 c =
@@ -20,8 +20,6 @@ returns-then-not-same c =
 
 pub returns : goal.returns
 returns c =
-    let left = ap (λ (v : Contents). length v.cells) c.self.view_is in
-    let right = ap (λ (v : Contents). length v.cells) c.other.view_is in
     let unit : c.self.inside.unit ≡ c.other.inside.unit = search rules in
     let units : c.args.self.now.unit ≡ c.args.other.now.unit = sym (ap (λ (v : Contents). v.unit) c.self.view_is) ∙ unit ∙ ap (λ (v : Contents). v.unit) c.other.view_is in
-    (λ _. same_from_cells c.args.self.now.profile c.args.self.now c.args.other.now units (same_reads c.args.self.now.cells c.args.other.now.cells (omega (arith, left, right, c.len-count.ensures.len, c.len.ensures.len, c.if-count-len.false)) (λ k below. c.loop-i.invariant k (omega (arith, below, left, c.len-count.ensures.len, c.loop-i-test.false)))), λ _. refl)
+    (λ _. same_from_cells c.args.self.now.profile c.args.self.now c.args.other.now units (same_reads c.args.self.now.cells c.args.other.now.cells (omega (arith, c.cells-count.ensures, c.cells.ensures, c.if-count-cells.false)) (λ k below. c.loop-i.invariant k (omega (arith, below, c.cells-count.ensures, c.loop-i-test.false)))), λ _. refl)

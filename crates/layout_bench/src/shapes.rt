@@ -1,0 +1,54 @@
+//! The elements to be added.
+
+use oas_layout::Element;
+use oas_ring::{Point, Points};
+use std::alloc::{AllocError, Global};
+
+/// Numbers below 2^40 that come in no order.
+#[derive(Drop)]
+pub struct Numbers {
+    state: u64,
+}
+
+impl Numbers {
+    pub fn new() -> Numbers {
+        Numbers {
+            state: 88172645463325252,
+        }
+    }
+
+    pub fn next(&mut self) -> i64 {
+        self.state = self
+            .state
+            .wrapping_mul(6364136223846793005)
+            .wrapping_add(1442695040888963407);
+        (self.state >> 24) as i64
+    }
+}
+
+/// A rectangle of 10 by 20 at x.
+pub fn rectangle(x: i64) -> Element {
+    Element::Rectangle {
+        layer: 1,
+        datatype: 0,
+        width: 10,
+        height: 20,
+        x,
+        y: 0,
+    }
+}
+
+/// A polygon of six points, from x on, that is not in its least reading.
+pub fn polygon(alloc: Global, x: i64) -> Result<Element, AllocError> {
+    let far = x.wrapping_add(10);
+    let half = x.wrapping_add(5);
+    let mut list = Vec::with_capacity(alloc, 6)?;
+    for (x, y) in [(far, 0), (far, 5), (half, 5), (half, 10), (x, 10), (x, 0)] {
+        list.push(Point { x, y })?;
+    }
+    Ok(Element::Polygon {
+        layer: 1,
+        datatype: 0,
+        points: Points::new(list),
+    })
+}
