@@ -175,6 +175,7 @@ module _ {limits : Limits} {origin mid : Script} {unit : Real} {c : Collected} (
       } where
         not_none : ◌≡◌ {A = Option Record} (Some r) None → ⊥
         not_none e = cc
+
         same_some : {q : Record} → ◌≡◌ {A = Option Record} (Some r) (Some q) → r ≡ q
         same_some e = cc
 

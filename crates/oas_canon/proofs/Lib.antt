@@ -20,3 +20,4 @@ pub mod Sorting
 pub mod Spelling
 pub mod Whole
 pub mod Weights
+pub mod PlaceLaws

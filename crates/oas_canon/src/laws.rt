@@ -1,5 +1,6 @@
 //! Laws of the definitions, each the contract of a function that does nothing.
 ghost use Rattle.oas_canon.specs.FileLaws.{OneReading};
+ghost use Rattle.oas_canon.specs.Places.{OnePlace, NoPlace};
 ghost use Rattle.oas_canon.specs.Canonical.{OneCanonicalForm, CanonicalBytes, FormIsBytes, SameExactly, CanonicalAgain, FormIsAccepted};
 ghost use Rattle.oas_canon.specs.Layouts.{CanonicalLength, CanonicalWeight};
 
@@ -46,4 +47,10 @@ pub fn canonical_length()
 /// The canonical form of an accepted file has as many elements as the file, and its weight.
 pub fn canonical_weight()
     ensures { CanonicalWeight }
+{}
+
+/// A file is refused at one place at most, and at none where it is accepted.
+pub fn one_place()
+    ensures one { OnePlace }
+    ensures none { NoPlace }
 {}
