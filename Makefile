@@ -3,7 +3,7 @@
 PREFIX ?= /usr/local
 JOBS ?= 2
 
-.PHONY: all install test bench clean
+.PHONY: all install test test-large bench clean
 
 # The program: proves every crate that it stands on, builds it, and leaves it as ./oascanon.
 all:
@@ -16,6 +16,10 @@ install: all
 # The gate: every proof from nothing, the edits that must fail, the tests, the stored runs.
 test:
 	rt ci
+
+# Files at the limits, given to the built program: too large for the gate.
+test-large: all
+	tests/large ./oascanon
 
 # Speed and memory, beside a baseline in the same run.
 bench: all

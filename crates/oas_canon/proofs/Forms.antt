@@ -135,7 +135,7 @@ form_is_bytes limits c m l h k held s = let f = canonical_form limits l held in 
 
 -- ---- the headline over the definitions
 
-means_one : (b : List ℕ) (m n : Layout) → Means b m → Means b n → m ≡ n
+pub means_one : (b : List ℕ) (m n : Layout) → Means b m → Means b n → m ≡ n
 means_one b m n p q =
     let both = one_reading p.unit q.unit p.records q.records b p.file q.file in
     let cs : m.cells ≡ n.cells = sym p.is ∙ ap cells both.1 ∙ q.is in

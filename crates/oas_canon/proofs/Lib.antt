@@ -18,3 +18,4 @@ pub mod PuttingLemmas
 pub mod Sorting
 pub mod Spelling
 pub mod Whole
+pub mod Weights

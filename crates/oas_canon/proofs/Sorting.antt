@@ -40,7 +40,7 @@ sorted_tail R x xs s k d z lt =
     subst (λ n. is_lt (R (get_or (x ∷ xs) n d) (get_or xs k d)) ≡ false) e (s (suc k) d (omega arith) (omega arith))
 
 module _ {X : Type 0} {R : X → X → Ordering} (o : IsTotalOrder R) where
-  not_above : (x y : X) → is_lt (R y x) ≡ false → is_gt (R x y) ≡ false
+  pub not_above : (x y : X) → is_lt (R y x) ≡ false → is_gt (R x y) ≡ false
   not_above x y h = by (R x y) (ap is_lt (sym (o.antisymm y x)) ∙ h) where
     by : (r : Ordering) → is_lt (ordering_reverse r) ≡ false → is_gt r ≡ false
     by Less t = refl
@@ -108,7 +108,7 @@ distinct_from (x ∷ xs) d = (all xs (IsDistinct-head alike x xs d), distinct_fr
 alike_flips : (x y : List ℕ) → alike x y ≡ alike y x
 alike_flips x y = (eq_by_cmp_equiv nat_list_cmp_total).symm x y
 
-distinct_moved : (xs ys : List (List ℕ)) → IsPermutation xs ys → IsDistinct xs → IsDistinct ys
+pub distinct_moved : (xs ys : List (List ℕ)) → IsPermutation xs ys → IsDistinct xs → IsDistinct ys
 distinct_moved xs ys p d = distinct_from ys (IsDistinct-IsPermutation alike alike_flips xs ys p (distinct_to xs d))
 
 -- two neighbours that are equal
@@ -131,7 +131,7 @@ distinct_sorted xs s = distinct_from xs (IsDistinct-from_sorted name_cmp xs s)
 
 -- ---- cells whose rectangles were sorted
 
-resorted_names : (cs ds : Cells) → AreResorted cs ds → keys_of ds ≡ keys_of cs
+pub resorted_names : (cs ds : Cells) → AreResorted cs ds → keys_of ds ≡ keys_of cs
 resorted_names [] [] h = refl
 resorted_names [] (d ∷ ds) h = absurd h
 resorted_names (c ∷ cs) [] h = absurd h
@@ -254,6 +254,12 @@ module _ (l : Layout) (es : Cells) (h : AreSorted l.cells es) where
 
   pub defined_twice : HasTwins (keys_of es) → IsDistinct (keys_of l.cells) → ⊥
   defined_twice t d = twins_differ (keys_of es) (distinct_moved (keys_of l.cells) (keys_of es) names_moved d) t
+
+  pub seal_count : count_of_all es ≡ count_of_all l.cells
+  seal_count = moved_count h.between es h.moved ∙ resorted_count l.cells h.between h.resorted
+
+  pub seal_weight : weight_of es ≡ weight_of l.cells
+  seal_weight = moved_weight h.between es h.moved ∙ resorted_weight l.cells h.between h.resorted
 
   pub seal_light : IsLight l → IsLight sealed
   seal_light k = record {

@@ -3,8 +3,9 @@ use Rattle.std.specs.Prelude.{◌≡◌, ℕ, ◌+◌, ◌*◌, ◌<◌, ◌≤�
 use Rattle.std.specs.List.{AllByRecursion}
 use Rattle.std.specs.List.Sorted.{IsPermutation, IsSorted}
 use Rattle.std.specs.Map.{keys_of}
-use Rattle.oas_canon.specs.Meaning.{Cells, Layout, rectangle_cmp, name_cmp, weight_of}
-use Rattle.oas_canon.specs.Canonical.{Ascends, Fits, IsOrdered, canonical_bytes}
+use Rattle.oas_canon.specs.declared.limits.Limits.{Limits}
+use Rattle.oas_canon.specs.Meaning.{Cells, Layout, Accepted, Means, rectangle_cmp, name_cmp, count_of_all, weight_of}
+use Rattle.oas_canon.specs.Canonical.{Ascends, Fits, IsOrdered, IsCanonicalOf, canonical_bytes}
 
 -- its coordinates have a spelling, and its canonical file has fewer than 2^64 bytes
 pub record IsLight (l : Layout) : Type 0 where
@@ -40,3 +41,9 @@ pub record HasTwins (names : List (List ℕ)) : Type 0 where
 
 abbrev pub CanonicalLength : Type 0
 CanonicalLength = (l : Layout) → length (canonical_bytes l) ≤ 320 + 64 * weight_of l.cells
+
+-- ---- what the canonical form keeps
+
+-- the canonical form of an accepted file has as many elements as it, and its weight
+abbrev pub CanonicalWeight : Type 0
+CanonicalWeight = (limits : Limits) (b c : List ℕ) (m n : Layout) → Accepted limits b → IsCanonicalOf limits b c → Means b m → Means c n → (count_of_all n.cells ≡ count_of_all m.cells) × (weight_of n.cells ≡ weight_of m.cells)

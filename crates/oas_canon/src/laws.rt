@@ -1,7 +1,7 @@
 //! Laws of the definitions, each the contract of a function that does nothing.
 ghost use Rattle.oas_canon.specs.FileLaws.{OneReading};
 ghost use Rattle.oas_canon.specs.Canonical.{OneCanonicalForm, CanonicalBytes, FormIsBytes, SameExactly, CanonicalAgain, FormIsAccepted};
-ghost use Rattle.oas_canon.specs.Layouts.{CanonicalLength};
+ghost use Rattle.oas_canon.specs.Layouts.{CanonicalLength, CanonicalWeight};
 
 /// One byte list has at most one unit and record list.
 pub fn one_reading()
@@ -41,4 +41,9 @@ pub fn form_is_accepted()
 /// The canonical bytes of a layout number at most 320 and 64 for each unit of its weight.
 pub fn canonical_length()
     ensures { CanonicalLength }
+{}
+
+/// The canonical form of an accepted file has as many elements as the file, and its weight.
+pub fn canonical_weight()
+    ensures { CanonicalWeight }
 {}

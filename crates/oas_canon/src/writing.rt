@@ -16,6 +16,9 @@ use crate::rectangles::Rectangle;
 use oas_num::{Outlet, Refusal, Sink, SinkFault, Why, put_signed, put_unsigned, unsigned_len};
 use std::io::Write;
 
+#[cfg(test)]
+mod tests;
+
 /// The magic, the id of START, and the version string `1.0`.
 const START: [u8; 18] = *b"%SEMI-OASIS\r\n\x01\x031.0";
 

@@ -1,5 +1,5 @@
 -- A reader's source at a byte that it has.
-use Rattle.std.proofs.Common.{◌≡◌, ◌≢◌, ℕ, zero, suc, ◌+◌, ◌-◌, ◌<◌, ◌≤◌, Bool, true, false, ltb, List, [], ◌∷◌, ◌++◌, length, take, drop, get_or, Option, Some, None, Result, Ok, Err, refl, sym, ap, ◌∙◌, inl, inr, arith}
+use Rattle.std.proofs.Common.{◌≡◌, ◌≢◌, ℕ, zero, suc, ◌+◌, ◌-◌, min, ◌<◌, ◌≤◌, Bool, true, false, ltb, List, [], ◌∷◌, ◌++◌, length, take, drop, get_or, Option, Some, None, Result, Ok, Err, refl, sym, ap, ◌∙◌, inl, inr, arith}
 use Rattle.std.specs.Prelude.{slice_range}
 use Rattle.std.specs.Io.KnownBytes.{Consumes}
 use Rattle.std.proofs.Math.Seq.{drop-cons}
@@ -10,7 +10,7 @@ use Rattle.oas_num.specs.declared.sources.SourceFault.TheVariants.{TooLong}
 use Rattle.oas_num.specs.declared.readers.Ending.{Ending}
 use Rattle.oas_num.specs.declared.readers.Ending.TheVariants as endings
 use Rattle.oas_num.specs.Script.{Script, Rest, Gave, Takes, NoneLeft, IsTooLong, Next}
-use Rattle.oas_num.specs.Readers.{rest_of, rest_from, reader_script, IsSoundReader}
+use Rattle.oas_num.specs.Readers.{rest_of, rest_from, reader_script, WaitsOnly, IsSoundReader}
 
 ltb_suc : (a b : ℕ) → ltb (suc a) (suc b) ≡ ltb a b
 ltb_suc a b =
@@ -75,13 +75,10 @@ module _ (s : Script) (known : Option (List ℕ)) (window : List ℕ) (start end
   none_left None b held = tt
   none_left (Some known) b held = (refl, lt-ltb 0 (suc (length (held ++ known))) (omega arith))
 
-  is_too_long : limit ≤ at → IsTooLong (reader_script known window start end at limit endings.TooLong)
+  pub is_too_long : limit ≤ at → IsTooLong (reader_script known window start end at limit endings.TooLong)
   is_too_long le =
       let e : limit - at ≡ 0 = omega arith in
       record { settled = refl; all = omega arith; none = rw (e, one_held) (none_left known (get_or window start 0) (slice_range window (start + 1) end)) }
-
-  pub sound_too_long : limit ≤ at → 0 < length window → IsSoundReader known window start end at limit endings.TooLong
-  sound_too_long le some = record { ordered = omega arith; within = r.within; some = some; below = r.below; ends = is_too_long le }
 
   gave_same : (a : Option Rest) (b : Option (List ℕ)) (held : List ℕ) (room : ℕ) → Gave a [] (rest_from b held room) → Gave a [] (rest_from b held room)
   gave_same a b held room h = h
@@ -115,3 +112,72 @@ module _ (s : Script) (known : Option (List ℕ)) (window : List ℕ) (start end
           },
         );
       })
+
+-- The window has a byte, the source is still what it was, and so much of the window may be given.
+pub record HasNext (s : Script) (known : Option (List ℕ)) (window : List ℕ) (start end filled before limit : ℕ) (ending : Ending) : Type 0 where
+  pub ready : IsReady s known window start filled (before + start) limit ending
+  pub ordered : start ≤ end
+  pub under : end ≡ min filled (limit - before)
+
+pub waits_open : (ending : Ending) (start end : ℕ) → WaitsOnly ending start end → start < end → ending ≡ endings.Open
+waits_open endings.Open start end h lt = refl
+waits_open endings.Ended start end h lt = absurd (omega (arith, h))
+waits_open endings.Failed start end h lt = absurd (omega (arith, h))
+waits_open endings.TooLong start end h lt = absurd (omega (arith, h))
+
+-- as it stood
+pub still_has : (s : Script) (known : Option (List ℕ)) (window : List ℕ) (start end filled before limit : ℕ) (ending : Ending) → reader_script known window start filled (before + start) limit ending ≡ s → IsSoundReader known window start end filled before limit ending → ending ≡ endings.Open → start ≢ filled → HasNext s known window start end filled before limit ending
+still_has s known window start end filled before limit ending is h opened ne =
+    let lt : start < filled = omega (arith, h.ordered, h.under, ne) in
+    record { ready = stays s known window start filled (before + start) limit ending is opened lt h.within h.below; ordered = h.ordered; under = h.under }
+
+-- with a byte that may be given
+pub has_byte : (s : Script) (known : Option (List ℕ)) (window : List ℕ) (start end filled before limit : ℕ) (ending : Ending) → reader_script known window start filled (before + start) limit ending ≡ s → IsSoundReader known window start end filled before limit ending → start < end → HasNext s known window start end filled before limit ending
+has_byte s known window start end filled before limit ending is h lt =
+    let ne : start ≢ filled = λ (e : start ≡ filled). omega (arith, h.under, lt, e) in
+    still_has s known window start end filled before limit ending is h (waits_open ending start end h.waits lt) ne
+
+-- filled anew
+pub has_filled : (s : Script) (known new : Option (List ℕ)) (window buf : List ℕ) (start end filled before limit n last : ℕ) (ending : Ending) → reader_script known window start filled (before + start) limit ending ≡ s → IsSoundReader known window start end filled before limit ending → ending ≡ endings.Open → start ≡ filled → Consumes known new (take n buf) → n ≢ 0 → n ≤ length buf → last ≡ min n (limit - (before + start)) → HasNext s new buf 0 last n (before + start) limit ending
+has_filled s known new window buf start end filled before limit n last ending is h opened same c some within e =
+    let z : (before + start) + 0 ≡ before + start = omega arith in
+    record {
+      ready = rw z (fills s known new window buf start filled (before + start) limit n ending is opened same h.below c some within);
+      ordered = omega arith;
+      under = e;
+    }
+
+module _ (s : Script) (known : Option (List ℕ)) (window : List ℕ) (start end filled before limit : ℕ) (ending : Ending) (h : HasNext s known window start end filled before limit ending) where
+  -- the byte is given
+  pub gives_next : (byte : ℕ) → start < end → byte ≡ get_or window start 0 → byte < 256 → Next s (Ok (Some byte)) (reader_script known window (start + 1) filled (before + (start + 1)) limit ending)
+  gives_next byte lt is small =
+      let e : before + (start + 1) ≡ (before + start) + 1 = omega arith in
+      let room : before + start < limit = omega (arith, h.under, lt) in
+      rw e (gives s known window start filled (before + start) limit ending h.ready byte room is small)
+
+  pub sound_next : start < end → IsSoundReader known window (start + 1) end filled before limit ending
+  sound_next lt =
+      rw h.ready.is_open (record {
+        ordered = omega (arith, lt);
+        within = h.ready.within;
+        some = omega (arith, h.ready.some, h.ready.within);
+        below = omega (arith, h.under, lt);
+        under = h.under;
+        waits = tt;
+        ends = tt;
+      })
+
+  -- the limit was met, and the byte stands after it
+  pub meets_limit : end ≤ start → Next s (Err TooLong) (reader_script known window start filled (before + start) limit endings.TooLong)
+  meets_limit le = too_long s known window start filled (before + start) limit ending h.ready (omega (arith, h.under, h.ready.some, le))
+
+  pub sound_limit : end ≤ start → IsSoundReader known window start end filled before limit endings.TooLong
+  sound_limit le = record {
+    ordered = h.ordered;
+    within = h.ready.within;
+    some = omega (arith, h.ready.some, h.ready.within);
+    below = h.ready.below;
+    under = h.under;
+    waits = le;
+    ends = is_too_long s known window start filled (before + start) limit ending h.ready (omega (arith, h.under, h.ready.some, le));
+  }

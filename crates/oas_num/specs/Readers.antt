@@ -1,5 +1,5 @@
 -- What a reader's source gave, and what it is still to give.
-use Rattle.std.specs.Prelude.{◌≡◌, ℕ, ◌-◌, ◌<◌, ◌≤◌, Bool, true, false, List, [], ◌++◌, length, take, drop, Option, Some, None, Result, Ok, Err, nat_lt, slice_range}
+use Rattle.std.specs.Prelude.{◌≡◌, ℕ, ◌+◌, ◌-◌, min, ◌<◌, ◌≤◌, Bool, true, false, List, [], ◌++◌, length, take, drop, Option, Some, None, Result, Ok, Err, nat_lt, slice_range}
 use Rattle.oas_num.specs.declared.sources.SourceFault.{SourceFault}
 use Rattle.oas_num.specs.declared.sources.SourceFault.TheVariants.{Device, TooLong}
 use Rattle.oas_num.specs.declared.readers.Ending.{Ending}
@@ -45,10 +45,19 @@ EndsSo endings.Ended s = IsAtEnd s
 EndsSo endings.Failed s = HasFailed s
 EndsSo endings.TooLong s = IsTooLong s
 
--- what is true of every reader's source
-pub record IsSoundReader (known : Option (List ℕ)) (window : List ℕ) (start end at limit : ℕ) (ending : Ending) : Type 0 where
+-- once the ending is found no byte waits to be given
+abbrev pub WaitsOnly : Ending → ℕ → ℕ → Type 0
+WaitsOnly endings.Open start end = Unit {0}
+WaitsOnly endings.Ended start end = end ≤ start
+WaitsOnly endings.Failed start end = end ≤ start
+WaitsOnly endings.TooLong start end = end ≤ start
+
+-- what is true of every reader's source: of the window's bytes, which end at `filled`, those before `end` may be given
+pub record IsSoundReader (known : Option (List ℕ)) (window : List ℕ) (start end filled before limit : ℕ) (ending : Ending) : Type 0 where
   pub ordered : start ≤ end
-  pub within : end ≤ length window
+  pub within : filled ≤ length window
   pub some : 0 < length window
-  pub below : at ≤ limit
-  pub ends : EndsSo ending (reader_script known window start end at limit ending)
+  pub below : before + start ≤ limit
+  pub under : end ≡ min filled (limit - before)
+  pub waits : WaitsOnly ending start end
+  pub ends : EndsSo ending (reader_script known window start filled (before + start) limit ending)

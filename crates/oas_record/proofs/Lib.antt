@@ -3,3 +3,6 @@ pub mod PassLemmas
 pub mod EndLemmas
 pub mod HeadLemmas
 pub mod ReferenceLemmas
+pub mod FieldLemmas
+pub mod ElementLemmas
+pub mod RecordLemmas

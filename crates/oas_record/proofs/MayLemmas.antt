@@ -1,10 +1,13 @@
 -- The reasons of a part are reasons of the record.
 use Rattle.std.proofs.Common.{ℕ, List, inl, inr}
 use Rattle.oas_num.specs.declared.refusals.Why.{Why}
-use Rattle.oas_num.specs.declared.refusals.Why.TheVariants.{Truncated, IntegerRange, StringByte, EmptyName, FloatReal, RealType, InputTooLong, Read, Memory, Version, Unit as UnitIsRefused}
+use Rattle.oas_num.specs.declared.refusals.Why.TheVariants.{Truncated, IntegerRange, StringByte, EmptyName, FloatReal, RealType, ListKind, PointCount, RepetitionKind, CoordinateRange, InputTooLong, Read, Memory, Version, Unit as UnitIsRefused}
 use Rattle.oas_num.specs.Reading.{ByteMay, IntegerMay, NameMay, LabelMay, ClassMay}
 use Rattle.oas_num.specs.Reals.{RealMay}
 use Rattle.oas_num.specs.Texts.{IsLabelByte}
+use Rattle.oas_shape.specs.declared.list_use.ListUse.{ListUse}
+use Rattle.oas_shape.specs.PointLists.{PointListMay}
+use Rattle.oas_shape.specs.Repetitions.{RepFieldMay}
 use Rattle.oas_record.specs.Heads.{MagicMay, VersionMay, UnitMay, StartMay}
 use Rattle.oas_record.specs.May.{RecordMay}
 
@@ -48,6 +51,26 @@ RecordMay-real IntegerRange last h = h
 RecordMay-real FloatReal last h = h
 RecordMay-real RealType last h = h
 RecordMay-real _ last h = absurd h
+
+pub RecordMay-points : (purpose : ListUse) (why : Why) (last : List ℕ) → PointListMay purpose why last → RecordMay why last
+RecordMay-points purpose Truncated last h = tt
+RecordMay-points purpose Read last h = tt
+RecordMay-points purpose InputTooLong last h = tt
+RecordMay-points purpose Memory last h = tt
+RecordMay-points purpose IntegerRange last h = h
+RecordMay-points purpose ListKind last h = (purpose, h)
+RecordMay-points purpose PointCount last h = (purpose, h)
+RecordMay-points purpose _ last h = absurd h
+
+pub RecordMay-repetition : (why : Why) (last : List ℕ) → RepFieldMay why last → RecordMay why last
+RecordMay-repetition Truncated last h = tt
+RecordMay-repetition Read last h = tt
+RecordMay-repetition InputTooLong last h = tt
+RecordMay-repetition Memory last h = tt
+RecordMay-repetition IntegerRange last h = h
+RecordMay-repetition RepetitionKind last h = h
+RecordMay-repetition CoordinateRange last h = h
+RecordMay-repetition _ last h = absurd h
 
 -- ---- of the front
 

@@ -1,8 +1,11 @@
 //! The laws of the grammar: each function's contract is one, and its body is empty.
+ghost use Rattle.std.specs.Prelude.{◌≡◌, Bool, List, ℕ};
 ghost use Rattle.oas_num.specs.Grammar.{OneFront};
 ghost use Rattle.oas_num.specs.Combinators.{OneSpelling, IsWithin};
 ghost use Rattle.oas_num.specs.Style.{Style, Any, Shortest};
 ghost use Rattle.oas_record.specs.Heads.{head_in};
+ghost use Rattle.oas_record.specs.Records.{record_in, records_in};
+ghost use Rattle.oas_record.specs.declared.records.Record.{Record};
 
 /// The front of a file. In the shortest style the unit is in lowest terms, the flag and the table-offsets are zeros (own
 /// rule).
@@ -10,4 +13,24 @@ pub fn heads()
     ensures front { (style : Style) → OneFront (head_in style) }
     ensures one { OneSpelling (head_in Shortest) }
     ensures within { IsWithin (head_in Shortest) (head_in Any) }
+{}
+
+/// Records: none begins another. In the shortest style there are CELL by name, elements with all their fields and no
+/// repetition, and END with zeros in its padding (own rule).
+pub fn records()
+    ensures front { (style : Style) (in_end : Bool) → OneFront (record_in style in_end) }
+    ensures one { (in_end : Bool) → OneSpelling (record_in Shortest in_end) }
+    ensures within { (in_end : Bool) → IsWithin (record_in Shortest in_end) (record_in Any in_end) }
+{}
+
+/// What follows START: records and END. No such bytes begin others, and in the shortest style a list has one spelling.
+pub fn lists()
+    ensures front { (style : Style) (in_end : Bool) → OneFront (records_in style in_end) }
+    ensures one { (in_end : Bool) → OneSpelling (records_in Shortest in_end) }
+    ensures within { (in_end : Bool) → IsWithin (records_in Shortest in_end) (records_in Any in_end) }
+{}
+
+/// One byte list has at most one list of records.
+pub fn one_list()
+    ensures { (style : Style) (in_end : Bool) (rs ss : List Record) (r s : Record) (bytes : List ℕ) → records_in style in_end (rs, r) bytes → records_in style in_end (ss, s) bytes → (rs ≡ ss) × (r ≡ s) }
 {}

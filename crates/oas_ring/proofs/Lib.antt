@@ -1,3 +1,2 @@
 pub mod ReadingLemmas
 pub mod RaceLemmas
-pub mod RectangleLemmas

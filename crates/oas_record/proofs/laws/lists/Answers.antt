@@ -1,0 +1,5 @@
+use Rattle.oas_record.specs.RecordLaws.{OneFront-records, OneSpelling-records, IsWithin-records}
+use Rattle.oas_record.proofs.laws.lists.Goals as goal
+
+pub returns : goal.returns
+returns c = record { front = OneFront-records; one = OneSpelling-records; within = IsWithin-records }

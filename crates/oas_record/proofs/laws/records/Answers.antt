@@ -1,0 +1,5 @@
+use Rattle.oas_record.specs.RecordLaws.{OneFront-record, OneSpelling-record, IsWithin-record}
+use Rattle.oas_record.proofs.laws.records.Goals as goal
+
+pub returns : goal.returns
+returns c = record { front = OneFront-record; one = OneSpelling-record; within = IsWithin-record }

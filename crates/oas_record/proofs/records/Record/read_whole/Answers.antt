@@ -1,0 +1,29 @@
+use Rattle.std.proofs.Common.{arith}
+use Rattle.std.proofs.lemmas.Result.{err_from_is_err_and}
+use Rattle.oas_record.proofs.RecordLemmas.{id_fails, refused_by_id, end_fails, end_parts_read, end_refused, end_read, inner_done}
+use Rattle.oas_record.proofs.records.Record.read_whole.Goals as goal
+
+pub returns-in_err-id : goal.returns-in_err-id
+returns-in_err-id g c =
+    let p = err_from_is_err_and c.from_residual.result c.from_residual.ensures.1 in
+    rw (p.1, p.2) (id_fails _ c.in_err-id.ensures)
+
+pub returns-in-Some : goal.returns-in-Some
+returns-in-Some g c = refused_by_id _ c.in-Some.ensures c.in_ok-id.ensures
+
+pub returns-in_err-read_end : goal.returns-in_err-read_end
+returns-in_err-read_end g c =
+    let p = err_from_is_err_and c.from_residual-in_err-read_end.result c.from_residual-in_err-read_end.ensures.1 in
+    rw (p.1, p.2) (end_fails _ c.if-id-eq2.true c.in_ok-id.ensures c.in_err-read_end.ensures)
+
+pub returns-then-length-ne-END_LENGTH : goal.returns-then-length-ne-END_LENGTH
+returns-then-length-ne-END_LENGTH g c = end_refused _ (λ e. c.if-length-ne-END_LENGTH.true (omega (arith, e, c.at-start.ensures, c.at.ensures))) (end_parts_read _ c.if-id-eq2.true c.in_ok-id.ensures c.in_ok-read_end.ensures)
+
+pub returns-then-id-eq2 : goal.returns-then-id-eq2
+returns-then-id-eq2 g c = end_read _ (omega (arith, c.if-length-ne-END_LENGTH.false, c.at-start.ensures, c.at.ensures)) (end_parts_read _ c.if-id-eq2.true c.in_ok-id.ensures c.in_ok-read_end.ensures)
+
+pub returns-then-id-le16 : goal.returns-then-id-le16
+returns-then-id-le16 g c = inner_done _ _ _ _ _ _ c.if-id-eq2.false c.in_ok-id.ensures (c.read_structure.ensures _)
+
+pub returns-else-id-le16 : goal.returns-else-id-le16
+returns-else-id-le16 g c = inner_done _ _ _ _ _ _ c.if-id-eq2.false c.in_ok-id.ensures (c.read_element.ensures _)

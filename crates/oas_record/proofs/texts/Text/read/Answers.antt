@@ -1,0 +1,35 @@
+use Rattle.std.proofs.Common.{inl, arith}
+use Rattle.std.proofs.lemmas.Result.{err_from_is_err_and}
+use Rattle.oas_num.specs.Style.{Any}
+use Rattle.oas_num.proofs.GrammarLemmas.{◌▸◌, fails_at, fails_last, is_read}
+use Rattle.oas_record.specs.Texts.{text_of, IsTextInfo, text_fields}
+use Rattle.oas_record.specs.FieldLaws.{OneFront-layers}
+use Rattle.oas_record.proofs.ElementLemmas.{info_fails, with_info, odd_info}
+use Rattle.oas_record.proofs.FieldLemmas.{OneFront-text_if}
+use Rattle.oas_record.proofs.texts.Text.read.Goals as goal
+
+pub returns-in_err-info : goal.returns-in_err-info
+returns-in_err-info g c =
+    let p = err_from_is_err_and c.from_residual.result c.from_residual.ensures.1 in
+    rw (p.1, p.2) (info_fails text_of IsTextInfo (text_fields Any) c.in_err-info.ensures)
+
+pub returns-then-info-ge128 : goal.returns-then-info-ge128
+returns-then-info-ge128 g c = odd_info text_of IsTextInfo (text_fields Any) (λ lt. omega (arith, lt, c.if-info-ge128.true)) (inl (omega (arith, c.if-info-ge128.true))) c.in_ok-info.ensures
+
+pub returns-in_err-string : goal.returns-in_err-string
+returns-in_err-string g c =
+    let p = err_from_is_err_and c.from_residual-in_err-string.result c.from_residual-in_err-string.ensures.1 in
+    rw (p.1, p.2) (fails_at (with_info text_of IsTextInfo (text_fields Any) (omega (arith, c.if-info-ge128.false)) c.in_ok-info.ensures) (λ _ _ h. h) c.in_err-string.ensures)
+
+pub returns-in_err-layers : goal.returns-in_err-layers
+returns-in_err-layers g c =
+    let p = err_from_is_err_and c.from_residual-in_err-layers.result c.from_residual-in_err-layers.ensures.1 in
+    rw (p.1, p.2) (fails_at (with_info text_of IsTextInfo (text_fields Any) (omega (arith, c.if-info-ge128.false)) c.in_ok-info.ensures ▸ (OneFront-text_if _ _, c.in_ok-string.ensures)) (λ _ _ h. h) c.in_err-layers.ensures)
+
+pub returns-in_err-spot : goal.returns-in_err-spot
+returns-in_err-spot g c =
+    let p = err_from_is_err_and c.from_residual-in_err-spot.result c.from_residual-in_err-spot.ensures.1 in
+    rw (p.1, p.2) (fails_last (with_info text_of IsTextInfo (text_fields Any) (omega (arith, c.if-info-ge128.false)) c.in_ok-info.ensures ▸ (OneFront-text_if _ _, c.in_ok-string.ensures) ▸ (OneFront-layers Any _, c.in_ok-layers.ensures)) (λ _ _ h. h) c.in_err-spot.ensures)
+
+pub returns : goal.returns
+returns g c = is_read (with_info text_of IsTextInfo (text_fields Any) (omega (arith, c.if-info-ge128.false)) c.in_ok-info.ensures ▸ (OneFront-text_if _ _, c.in_ok-string.ensures) ▸ (OneFront-layers Any _, c.in_ok-layers.ensures)) c.in_ok-spot.ensures

@@ -1,0 +1,35 @@
+-- How a polygon is spelled, after its id (SEMI P39, POLYGON record).
+use Rattle.std.specs.Prelude.{◌≡◌, ℕ, ◌<◌, List, Option}
+use Rattle.oas_num.specs.Grammar.{IsPair, IsImage, IsThere}
+use Rattle.oas_num.specs.Style.{Style}
+use Rattle.oas_shape.specs.declared.list_use.ListUse.TheVariants as uses
+use Rattle.oas_shape.specs.Polylines.{Polyline}
+use Rattle.oas_shape.specs.PointLists.{point_list_in}
+use Rattle.oas_record.specs.declared.polygons.Polygon.{Polygon}
+use Rattle.oas_record.specs.declared.spots.Spot.{Spot}
+use Rattle.oas_record.specs.Info.{has, info_in}
+use Rattle.oas_record.specs.Fields.{Layers, layers_in, spot_in}
+
+abbrev pub PolygonFields : Type 0
+PolygonFields = Layers × (Option Polyline × Spot)
+
+-- bits 7 and 6 are 0
+abbrev pub IsPolygonInfo : ℕ → Type 0
+IsPolygonInfo info = info < 64
+
+-- point list, x, y, datatype and layer are given
+abbrev pub IsCanonicalPolygon : ℕ → Type 0
+IsCanonicalPolygon info = info ≡ 0x3B
+
+-- 00PXYRDL
+abbrev pub polygon_fields : Style → ℕ → PolygonFields → List ℕ → Type 0
+polygon_fields style info =
+    IsPair (layers_in style info) (λ _.
+    IsPair (IsThere (has info 32) (point_list_in style uses.Polygon)) (λ _.
+    spot_in style (has info 16) (has info 8) (has info 4)))
+
+abbrev pub polygon_of : ℕ × PolygonFields → Polygon
+polygon_of p = record { layer = p.1.0.0; datatype = p.1.0.1; points = p.1.1.0; spot = p.1.1.1 }
+
+abbrev pub polygon_in : Style → Polygon → List ℕ → Type 0
+polygon_in style = IsImage polygon_of (IsPair (info_in IsPolygonInfo IsCanonicalPolygon style) (polygon_fields style))

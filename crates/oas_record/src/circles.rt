@@ -1,0 +1,40 @@
+ghost use Rattle.oas_num.specs.Reading.{Reads};
+ghost use Rattle.oas_num.specs.Style.{Any};
+ghost use Rattle.oas_record.specs.Circles.{circle_in};
+ghost use Rattle.oas_record.specs.May.{RecordMay};
+
+use crate::spots::{Spot, read_layers, read_spot};
+use oas_num::{Source, Why, next_byte, read_unsigned_if};
+use std::alloc::Global;
+
+/// A circle (SEMI P39, CIRCLE record), id 27: the info byte `00rXYRDL`, then layer, datatype, radius, x, y and repetition,
+/// each where its bit is 1. x and y are those of the centre.
+#[derive(Debug, Drop)]
+pub struct Circle {
+    pub layer: Option<u64>,
+    pub datatype: Option<u64>,
+    /// In grid steps.
+    pub radius: Option<u64>,
+    pub spot: Spot,
+}
+
+impl Circle {
+    /// What follows the id.
+    pub(crate) fn read<S: Source>(alloc: Global, source: &mut S) -> Result<Circle, Why>
+        ensures { Reads (circle_in Any) RecordMay (S.script source.old) result (S.script source.new) }
+    {
+        let info = next_byte(source)?;
+        if info >= 64 {
+            return Err(Why::InfoByte);
+        }
+        let layers = read_layers(info, source)?;
+        let radius = read_unsigned_if(info & 32 != 0, source)?;
+        let spot = read_spot(alloc, info & 16 != 0, info & 8 != 0, info & 4 != 0, source)?;
+        Ok(Circle {
+            layer: layers.0,
+            datatype: layers.1,
+            radius,
+            spot,
+        })
+    }
+}

@@ -1,0 +1,58 @@
+ghost use Rattle.oas_num.specs.Grammar.{IsThere};
+ghost use Rattle.oas_num.specs.Reading.{Reads};
+ghost use Rattle.oas_num.specs.Style.{Any};
+ghost use Rattle.oas_record.specs.Polygons.{polygon_in};
+ghost use Rattle.oas_record.specs.May.{RecordMay};
+ghost use Rattle.oas_shape.specs.PointLists.{point_list_in};
+
+use crate::spots::{Spot, read_layers, read_spot};
+use oas_num::{Source, Why, next_byte};
+use oas_shape::{ListUse, PointList};
+use std::alloc::Global;
+
+/// A polygon (SEMI P39, POLYGON record), id 21: the info byte `00PXYRDL`, then layer, datatype, point list, x, y and
+/// repetition, each where its bit is 1. x and y are those of the first vertex.
+#[derive(Debug, Drop)]
+pub struct Polygon {
+    pub layer: Option<u64>,
+    pub datatype: Option<u64>,
+    pub points: Option<PointList>,
+    pub spot: Spot,
+}
+
+/// A point list, where there is one.
+pub(crate) fn read_points_if<S: Source>(
+    alloc: Global,
+    there: bool,
+    list_use: ListUse,
+    source: &mut S,
+) -> Result<Option<PointList>, Why>
+    ensures { Reads (IsThere there (point_list_in Any list_use)) RecordMay (S.script source.old) result (S.script source.new) }
+{
+    if there {
+        Ok(Some(PointList::read(alloc, source, list_use)?))
+    } else {
+        Ok(None)
+    }
+}
+
+impl Polygon {
+    /// What follows the id.
+    pub(crate) fn read<S: Source>(alloc: Global, source: &mut S) -> Result<Polygon, Why>
+        ensures { Reads (polygon_in Any) RecordMay (S.script source.old) result (S.script source.new) }
+    {
+        let info = next_byte(source)?;
+        if info >= 64 {
+            return Err(Why::InfoByte);
+        }
+        let layers = read_layers(info, source)?;
+        let points = read_points_if(alloc, info & 32 != 0, ListUse::Polygon, source)?;
+        let spot = read_spot(alloc, info & 16 != 0, info & 8 != 0, info & 4 != 0, source)?;
+        Ok(Polygon {
+            layer: layers.0,
+            datatype: layers.1,
+            points,
+            spot,
+        })
+    }
+}

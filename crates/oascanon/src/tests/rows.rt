@@ -1,0 +1,219 @@
+//! The worked rows through `run_canon`, over a slice.
+
+use super::table::ROWS;
+use crate::run::run_canon;
+use oas_num::{INPUT_MAX, SliceSource};
+use std::alloc::Global;
+use std::process::Abort;
+use std::test::Fail;
+
+/// A file of one cell with one rectangle, of 301 bytes, which is canonical as it stands.
+pub const RECTANGLE: &str = "HEAD CELL RECT TAIL";
+
+/// The hex of a word, and how often it stands; any other piece is hex itself.
+fn meaning_of<'a>(piece: &'a str) -> (&'a str, usize) {
+    match piece {
+        "MAGIC" => ("2553454D492D4F415349530D0A", 1),
+        "START" => ("0103312E30", 1),
+        "OFFSETS" => ("00", 13),
+        "CELL" => ("0E0141", 1),
+        "RECT" => ("147B01000A140000", 1),
+        "-" => ("", 1),
+        _ => match piece.split_once('*') {
+            Some((hex, times)) => (hex, times.parse::<usize>().unwrap_or(0)),
+            None => (piece, 1),
+        },
+    }
+}
+
+/// Appends the bytes of a piece that is no HEAD and no TAIL.
+fn add_piece(alloc: Global, bytes: &mut Vec<u8>, piece: &str) -> Result<(), Fail> {
+    let (text, times) = meaning_of(piece);
+    let one = hex::decode(alloc, text)?;
+    for _ in 0..times {
+        bytes.extend_from_slice(one.as_slice())?;
+    }
+    Ok(())
+}
+
+/// The bytes of a file that is given in pieces.
+pub fn bytes_of(alloc: Global, pieces: &str) -> Result<Vec<u8>, Fail> {
+    let mut bytes = Vec::new(alloc);
+    for piece in pieces.split_whitespace() {
+        let parts = match piece {
+            "HEAD" => ["MAGIC", "START", "00E807", "OFFSETS"],
+            "TAIL" => ["02FC01", "00*252", "00", "-"],
+            _ => [piece, "-", "-", "-"],
+        };
+        for part in parts {
+            add_piece(alloc, &mut bytes, part)?;
+        }
+    }
+    Ok(bytes)
+}
+
+/// Runs `canon` on the bytes, under a limit, and asserts what comes of it: a refusal, as `NUMBER at OFFSET`, with no output,
+/// or the output.
+pub fn expect(
+    rt: &impl Abort,
+    alloc: Global,
+    name: &str,
+    input: &[u8],
+    limit: u64,
+    wanted: Result<&[u8], &str>,
+) -> Result<(), Fail> {
+    let mut from = SliceSource::new(input, limit);
+    let mut out: Vec<u8> = Vec::new(alloc);
+    let mut err: Vec<u8> = Vec::new(alloc);
+    let status = run_canon(alloc, "standard input", &mut from, &mut out, &mut err);
+    match wanted {
+        Ok(bytes) => {
+            assert_eq!(rt; status, 0, "at {name}");
+            assert_eq!(rt; out.as_slice(), bytes, "at {name}");
+            assert!(rt; err.is_empty(), "at {name}");
+        }
+        Err(refusal) => {
+            assert_eq!(rt; status, 1, "at {name}");
+            assert!(rt; out.is_empty(), "at {name}");
+            let line = format!(in alloc; "standard input: refused {refusal}\n")?;
+            assert_eq!(rt; err.as_slice(), line.as_bytes(), "at {name}");
+        }
+    }
+    Ok(())
+}
+
+/// Asserts what one row says.
+fn expect_row(rt: &impl Abort, alloc: Global, row: &str) -> Result<(), Fail> {
+    let (name, rest) = row.split_once(" | ").ok_or("a row has a file")?;
+    let (file, answer) = rest.split_once(" | ").ok_or("a row has an answer")?;
+    let input = bytes_of(alloc, file)?;
+    if let Some((number, at)) = answer.split_once('@') {
+        let refusal = format!(in alloc; "{number} at {at}")?;
+        return expect(
+            rt,
+            alloc,
+            name,
+            input.as_slice(),
+            INPUT_MAX,
+            Err(refusal.as_str()),
+        );
+    }
+    if answer == "same" {
+        return expect(
+            rt,
+            alloc,
+            name,
+            input.as_slice(),
+            INPUT_MAX,
+            Ok(input.as_slice()),
+        );
+    }
+    let output = bytes_of(alloc, answer)?;
+    expect(
+        rt,
+        alloc,
+        name,
+        input.as_slice(),
+        INPUT_MAX,
+        Ok(output.as_slice()),
+    )?;
+    expect(
+        rt,
+        alloc,
+        name,
+        output.as_slice(),
+        INPUT_MAX,
+        Ok(output.as_slice()),
+    )
+}
+
+#[test]
+fn each_row(rt: HostRuntime) -> Result<(), Fail> {
+    let mut count = 0u64;
+    for row in ROWS.lines() {
+        if !row.starts_with('#') {
+            expect_row(&rt, rt.alloc(), row)?;
+            count = count.saturating_add(1);
+        }
+    }
+    assert_eq!(rt; count, 166);
+    Ok(())
+}
+
+/// The first offset of the record that stands at an offset of the rectangle file, which is where a file that ends there is
+/// refused.
+pub fn record_at(offset: usize) -> usize {
+    match offset {
+        0..=12 => 0,
+        13..=33 => 13,
+        34..=36 => 34,
+        37..=44 => 37,
+        45..=300 => 45,
+        _ => 301,
+    }
+}
+
+#[test]
+fn each_prefix(rt: HostRuntime) -> Result<(), Fail> {
+    let alloc = rt.alloc();
+    let file = bytes_of(alloc, RECTANGLE)?;
+    assert_eq!(rt; file.len(), 301);
+    for len in 0..301usize {
+        let (front, _) = file.as_slice().split_at(len);
+        let at = record_at(len);
+        let refusal = format!(in alloc; "2 at {at}")?;
+        expect(
+            &rt,
+            alloc,
+            "a prefix",
+            front,
+            INPUT_MAX,
+            Err(refusal.as_str()),
+        )?;
+    }
+    Ok(())
+}
+
+#[test]
+fn each_limit(rt: HostRuntime) -> Result<(), Fail> {
+    let alloc = rt.alloc();
+    let file = bytes_of(alloc, RECTANGLE)?;
+    let mut longer = bytes_of(alloc, RECTANGLE)?;
+    longer.push(0)?;
+    for limit in 0..301usize {
+        let at = record_at(limit);
+        let refusal = format!(in alloc; "31 at {at}")?;
+        expect(
+            &rt,
+            alloc,
+            "a limit",
+            file.as_slice(),
+            limit as u64,
+            Err(refusal.as_str()),
+        )?;
+    }
+    expect(
+        &rt,
+        alloc,
+        "the limit",
+        file.as_slice(),
+        301,
+        Ok(file.as_slice()),
+    )?;
+    expect(
+        &rt,
+        alloc,
+        "one byte more",
+        longer.as_slice(),
+        301,
+        Err("31 at 301"),
+    )?;
+    expect(
+        &rt,
+        alloc,
+        "and a limit more",
+        longer.as_slice(),
+        302,
+        Err("30 at 301"),
+    )
+}
