@@ -1,6 +1,6 @@
 -- The whole read: its head, its records and its end.
-use Rattle.std.proofs.Common.{◌≡◌, ◌≢◌, ℕ, zero, suc, ◌*◌, ◌/◌, ◌%◌, ◌^◌, ◌<◌, Bool, true, false, List, [], ◌∷◌, ◌++◌, Option, Some, None, refl, sym, ap, subst, ◌∙◌, append_assoc, arith, inl, inr}
-use Rattle.std.proofs.lemmas.List.{append-nil, append_cancel_left}
+use Rattle.std.proofs.Common.{length, ◌≡◌, ◌≢◌, ℕ, zero, suc, ◌*◌, ◌/◌, ◌%◌, ◌^◌, ◌<◌, Bool, true, false, List, [], ◌∷◌, ◌++◌, Option, Some, None, refl, sym, ap, subst, ◌∙◌, append_assoc, arith, inl, inr}
+use Rattle.std.proofs.lemmas.List.{append-nil, append_cancel_left, length-append}
 use Rattle.std.proofs.lemmas.Bool.{cases_lt}
 use Rattle.std.specs.Prelude.{ℤ, pos, neg_ℤ, nat_abs}
 use Rattle.std.specs.List.{AllByRecursion}
@@ -30,7 +30,8 @@ use Rattle.oas_canon.specs.FileLaws.{IsApart-end, OneFront-end}
 use Rattle.oas_canon.specs.Gathering.{IsHead, HasBegun, HasAll, MissesEnd}
 use Rattle.oas_canon.specs.Meaning.{Layout, Cells, leading, cells, count_of_all, weight_of, AreInRange}
 use Rattle.oas_canon.specs.Reasons.{MagicMay, StartMay}
-use Rattle.oas_canon.specs.Run.{IsRefused, IsDrafted}
+use Rattle.oas_canon.specs.Run.{IsRefused, IsPlaced, IsDrafted}
+use Rattle.oas_canon.specs.Places.{AfterLast}
 use Rattle.oas_canon.proofs.Fronts.{decides_format, file_goes_on}
 
 -- ---- the head
@@ -196,7 +197,7 @@ file_all {last = last} f end = record {
   };
 }
 
-module _ {limits : Limits} {old mid : Script} {u : Real} {c : Collected} (m : HasAll limits old u mid c) where
+module _ {limits : Limits} {old mid : Script} {u : Real} {end_at : ℕ} {c : Collected} (m : HasAll limits old u end_at mid c) where
   -- nothing stands after END
   last_step : (tail : List Record) (rest last byte_more : List ℕ) (byte : ℕ) → IsEach (IsRecord Any) tail rest → IsEnd Any tt last → m.last ++ (byte ∷ byte_more) ≡ rest ++ last → ⊥
   last_step [] rest last more byte each end e =
@@ -242,7 +243,29 @@ module _ {limits : Limits} {old mid : Script} {u : Real} {c : Collected} (m : Ha
   }
   not_ended _ h = absurd h
 
-  pub drafted : {new : Script} {unit : Ratio} {draft : Layout} → Reduces u.num u.den unit → draft.unit ≡ unit → draft.cells ≡ held c → Takes mid [] new → IsAtEnd new → IsDrafted limits old draft new
+  -- the place of a byte after END
+  pub not_ended_at : {new : Script} (at : ℕ) (why : Why) → at ≡ mid.given → MissesEnd mid why new → IsPlaced limits old (record { at = at; why = why }) new
+  not_ended_at {new = new} at TrailingBytes is h = record {
+    bytes = (m.bytes ++ m.last) ++ (h.0 ∷ []);
+    takes = Takes-then old mid new (m.bytes ++ m.last) (h.0 ∷ []) m.takes h.1;
+    placed = λ fresh _ more ended. AfterLast (record {
+      left = m.last ++ (h.0 ∷ more);
+      records = m.records;
+      start = length m.bytes;
+      before = record { unit = u; before = m.bytes; front = m.front; allowed = m.stands.allowed; place = refl; joined = append_assoc (m.bytes ++ m.last) (h.0 ∷ []) more ∙ append_assoc m.bytes m.last (h.0 ∷ more) };
+      last = m.last;
+      byte = h.0;
+      rest = more;
+      end = m.end;
+      joined = refl;
+      place = omega (arith, is, m.takes.given, fresh, length-append m.bytes m.last);
+    });
+  }
+  not_ended_at {new = new} at Read is h = record { bytes = (m.bytes ++ m.last) ++ []; takes = Takes-then old mid new (m.bytes ++ m.last) [] m.takes h.0; placed = λ fresh of_file. absurd cc }
+  not_ended_at {new = new} at InputTooLong is h = record { bytes = (m.bytes ++ m.last) ++ []; takes = Takes-then old mid new (m.bytes ++ m.last) [] m.takes h.0; placed = λ fresh of_file. absurd cc }
+  not_ended_at at _ is h = absurd h
+
+  pub drafted : {new : Script} {unit : Ratio} {draft : Layout} → Reduces u.num u.den unit → draft.unit ≡ unit → draft.cells ≡ held c → Takes mid [] new → IsAtEnd new → IsDrafted limits old draft end_at new
   drafted {new = new} {unit = unit} {draft = draft} reduces same_unit same_cells takes ended =
       let s = are_spelled m.records m.front.body m.front.each in
       let is : cells m.records ≡ draft.cells = sym m.stands.is ∙ sym same_cells in
@@ -256,6 +279,12 @@ module _ {limits : Limits} {old mid : Script} {u : Real} {c : Collected} (m : Ha
         allowed = m.stands.allowed;
         reduced = subst (λ (r : Ratio). Reduces u.num u.den r) (sym same_unit) reduces;
         is = is;
+        before = m.bytes;
+        last = m.last;
+        front = m.front;
+        ending = m.end;
+        joined = refl;
+        place = m.place;
         within = record {
           unit = subst IsUnitHeld (sym same_unit) (unit_held u unit m.front.start m.front.begun reduces);
           names = subst (λ (cs : Cells). AllByRecursion (λ (d : List ℕ × List Rectangle). IsName d.0) cs) is s.names;

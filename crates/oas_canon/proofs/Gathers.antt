@@ -1,5 +1,5 @@
 -- One record more, or a refusal there.
-use Rattle.std.proofs.Common.{◌≡◌, ◌≢◌, ℕ, ◌+◌, ◌<◌, List, [], ◌∷◌, ◌++◌, length, Some, None, Ok, Err, IsTrue, inl, inr, ◌⊎◌, refl, sym, ap, subst, ◌∙◌, arith}
+use Rattle.std.proofs.Common.{Option, append_assoc, ◌≡◌, ◌≢◌, ℕ, ◌+◌, ◌<◌, List, [], ◌∷◌, ◌++◌, length, Some, None, Ok, Err, IsTrue, inl, inr, ◌⊎◌, refl, sym, ap, subst, ◌∙◌, arith}
 use Rattle.std.specs.List.{AllByRecursion}
 use Rattle.oas_num.specs.declared.refusals.Why.{Why}
 use Rattle.oas_num.specs.declared.refusals.Why.TheVariants.{Truncated, Read, InputTooLong, Write, Memory}
@@ -18,8 +18,11 @@ use Rattle.oas_canon.specs.Collecting.{add_last, held, Begins, Outside, NoCell, 
 use Rattle.oas_canon.specs.Gathering.{HasBegun, HasGathered, HasAll}
 use Rattle.oas_canon.specs.Reasons.{StepMay}
 use Rattle.oas_canon.specs.Steps.{IsStep}
-use Rattle.oas_canon.specs.Run.{decides, IsRefused}
-use Rattle.oas_canon.proofs.Fronts.{front_more, file_goes_on, step_refused}
+use Rattle.oas_canon.specs.Run.{decides, is_of_file, IsRefused, IsPlaced}
+use Rattle.oas_canon.specs.Places.{ByRecord}
+use Rattle.oas_num.specs.declared.refusals.Refusal.{Refusal}
+use Rattle.oas_canon.proofs.Placing.{step_placed}
+use Rattle.oas_canon.proofs.Fronts.{OneFront-step, front_more, file_goes_on, step_refused}
 use Rattle.oas_canon.proofs.Growing.{allowed_front, allowed_pad, allowed_cell, allowed_shape, cells-pad, cells-cell, cells-shape, count-append, weight-append, count-last, weight-last, leading-first}
 
 -- ---- what was collected stands for one record more
@@ -137,6 +140,9 @@ module _ {limits : Limits} {origin mid : Script} {unit : Real} {c : Collected} (
   pub gather_fails : {new : Script} {why : Why} → Fails IsStep StepMay mid why new → IsRefused limits origin why new
   gather_fails {why = why} f = step_refused limits m.front m.takes f (step_reasons why f.reason.last f.reason.holds)
 
+  pub gather_fails_at : {new : Script} (refusal : Refusal) → refusal.at ≡ mid.given → Fails IsStep StepMay mid refusal.why new → IsPlaced limits origin refusal new
+  gather_fails_at refusal at f = step_placed refusal m.front m.stands.allowed m.takes at f
+
   module _ {new : Script} {r : Record} (read : ReadsValue IsStep mid (Some r) new) where
     both : Takes origin (m.bytes ++ read.bytes) new
     both = Takes-then origin mid new m.bytes read.bytes m.takes read.takes
@@ -147,6 +153,31 @@ module _ {limits : Limits} {origin mid : Script} {unit : Real} {c : Collected} (
     -- a record is read and taken
     pub gather_more : (after : Collected) → Collects limits c r (Ok tt) after → HasGathered limits origin unit new after
     gather_more after h = record { records = m.records ++ r ∷ []; bytes = m.bytes ++ read.bytes; takes = both; front = front; stands = stands_more m.stands after r h }
+
+    undecided : (why : Why) → why ≡ Memory → IsTrue (is_of_file why) → ⊥
+    undecided why e is = let k : IsTrue (is_of_file Memory) = subst (λ (w : Why). IsTrue (is_of_file w)) e is in cc
+
+    -- the place of one that is refused
+    pub gather_placed : (after : Collected) (refusal : Refusal) → refusal.at ≡ mid.given → Collects limits c r (Err refusal.why) after → IsPlaced limits origin refusal new
+    gather_placed after refusal at h = by_cause (refused_more m.stands after r refusal.why h) where
+      by_cause : (refusal.why ≡ Memory) ⊎ ((refusal.why ≢ Write) × (refusal.why ≢ Truncated) × (refusal.why ≢ Read) × (refusal.why ≢ InputTooLong) × (Allowed limits (m.records ++ r ∷ []) → ⊥)) → IsPlaced limits origin refusal new
+      by_cause (inl e) = record { bytes = m.bytes ++ read.bytes; takes = both; placed = λ fresh is. absurd (undecided refusal.why e is) }
+      by_cause (inr n) = record {
+        bytes = m.bytes ++ read.bytes;
+        takes = both;
+        placed = λ fresh is more ended. ByRecord (record {
+          left = read.bytes ++ more;
+          records = m.records;
+          before = record { unit = unit; before = m.bytes; front = m.front; allowed = m.stands.allowed; place = omega (arith, at, m.takes.given, fresh); joined = append_assoc m.bytes read.bytes more };
+          no_end = record { none = λ v front rest s e. not_none (OneFront-step.one (Some r) None read.bytes front more rest read.spelled s e).1 };
+          no_record = record { none = λ q front rest s e. n.4 (subst (λ (k : Record). Allowed limits (m.records ++ k ∷ [])) (sym (same_some (OneFront-step.one (Some r) (Some q) read.bytes front more rest read.spelled s.spelled e).1)) s.allowed) };
+        });
+      } where
+        not_none : ◌≡◌ {A = Option Record} (Some r) None → ⊥
+        not_none e = cc
+
+        same_some : {q : Record} → ◌≡◌ {A = Option Record} (Some r) (Some q) → r ≡ q
+        same_some e = cc
 
     -- or refused
     pub gather_refuses : (after : Collected) (why : Why) → Collects limits c r (Err why) after → IsRefused limits origin why new
@@ -176,8 +207,9 @@ module _ {limits : Limits} {origin mid : Script} {unit : Real} {c : Collected} (
       }
 
   -- END is read
-  pub gather_ends : {new : Script} → ReadsValue IsStep mid None new → HasAll limits origin unit new c
-  gather_ends {new = new} read = record {
+  pub gather_ends : {new : Script} (at : ℕ) → at ≡ mid.given → ReadsValue IsStep mid None new → HasAll limits origin unit at new c
+  gather_ends {new = new} at is read = record {
+    place = is ∙ m.takes.given;
     records = m.records;
     bytes = m.bytes;
     last = read.bytes;

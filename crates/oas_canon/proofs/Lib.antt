@@ -1,4 +1,5 @@
 pub mod Fronts
+pub mod Placing
 pub mod Growing
 pub mod Pins
 pub mod Heads
@@ -20,3 +21,4 @@ pub mod Spelling
 pub mod Whole
 pub mod Weights
 pub mod Held
+pub mod PlaceLaws

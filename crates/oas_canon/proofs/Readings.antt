@@ -26,9 +26,10 @@ pub placed_ok : {V : Type 0} (at : ℕ) (outcome : Result V Why) (v : V) → Ok 
 placed_ok at (Ok w) v e = cc
 placed_ok at (Err why) v e = absurd cc
 
-pub placed_err : {V : Type 0} (at : ℕ) (outcome : Result V Why) (refusal : Refusal) → Err refusal ≡ placed_at at outcome → outcome ≡ Err refusal.why
+pub placed_err : {V : Type 0} (at : ℕ) (outcome : Result V Why) (refusal : Refusal) → Err refusal ≡ placed_at at outcome → (refusal.at ≡ at) × (outcome ≡ Err refusal.why)
 placed_err at (Ok w) refusal e = absurd cc
-placed_err {V} at (Err why) refusal e = let same : ◌≡◌ {A = Refusal} (record { at = at; why = why }) refusal = cc in ap (λ (s : Refusal). let r : Result V Why = Err s.why in r) same
+placed_err {V} at (Err why) refusal e = let same : ◌≡◌ {A = Refusal} (record { at = at; why = why }) refusal = cc in
+    (ap (λ (s : Refusal). s.at) (sym same), ap (λ (s : Refusal). let r : Result V Why = Err s.why in r) same)
 
 closed_some : (a : List ℕ) → IsClosed a → 0 < length a
 closed_some [] h = absurd h

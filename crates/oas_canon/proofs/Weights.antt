@@ -1,5 +1,5 @@
 -- Layouts that are the same have as many elements, and weigh as much.
-use Rattle.std.proofs.Common.{◌≡◌, ℕ, suc, zero, ◌+◌, ◌<◌, List, [], ◌∷◌, ◌++◌, Bool, true, false, get_or, length, refl, sym, ◌∙◌, ap, subst, arith, true≢false}
+use Rattle.std.proofs.Common.{◌≡◌, ℕ, suc, zero, ◌+◌, List, [], ◌∷◌, Bool, true, false, get_or, refl, sym, ◌∙◌, ap, subst, arith, true≢false}
 use Rattle.std.specs.List.{AllByRecursion}
 use Rattle.std.specs.List.Sorted.{IsPermutation, IsSorted}
 use Rattle.std.specs.Map.{keys_of}
@@ -15,7 +15,7 @@ use Rattle.oas_canon.specs.declared.rectangles.Rectangle.{Rectangle}
 use Rattle.oas_canon.specs.contracts.rectangles.RectangleOrd.TheImpl.Laws as order
 use Rattle.oas_canon.specs.FileLaws.{one_reading}
 use Rattle.oas_canon.specs.Meaning.{Cells, Layout, SameLayout, Accepted, Means, rectangle_cmp, name_cmp, IsDistinct, cells, count_of_all, weight_of}
-use Rattle.oas_canon.specs.Canonical.{Ascends, IsCanonicalOf}
+use Rattle.oas_canon.specs.Canonical.{Ascends}
 use Rattle.oas_canon.specs.Layouts.{AreResorted, AreSorted, HasTwins, CanonicalWeight}
 use Rattle.oas_canon.proofs.OrderedLayouts.{same_cells}
 use Rattle.oas_canon.proofs.Sorting.{not_above, twins_differ, distinct_moved, resorted_names, seal_is, seal_count, seal_weight}

@@ -15,12 +15,13 @@ use Rattle.oas_canon.specs.FileLaws.{OneFront-file}
 use Rattle.oas_canon.specs.Layouts.{IsLight}
 use Rattle.oas_canon.specs.Meaning.{Layout, Cells, cells, Accepted, IsDistinct}
 use Rattle.oas_canon.specs.Putting.{IsWritten, IsCutOff}
-use Rattle.oas_canon.specs.Run.{decides, IsDrafted, IsRefused, IsSealed, Seals, IsRead, ReadsLayout, IsDone, IsCut, IsDecided, IsWithinSource, Exactly, placed_at}
+use Rattle.oas_canon.specs.Places.{RefusedAt, ByEnd}
+use Rattle.oas_canon.specs.Run.{decides, is_of_file, IsPlaced, IsDrafted, IsRefused, IsSealed, Seals, IsRead, ReadsLayout, IsDone, IsCut, IsDecided, IsWithinSource, Exactly, placed_at}
 use Rattle.oas_canon.proofs.Forms.{canonical_form}
 
 -- ---- a draft is sealed
 
-module _ {limits : Limits} {old new : Script} {draft : Layout} (d : IsDrafted limits old draft new) where
+module _ {limits : Limits} {old new : Script} {draft : Layout} {end : ℕ} (d : IsDrafted limits old draft end new) where
   pub draft_light : limits.weight ≤ 2 ^ 30 → IsLight draft
   draft_light le = record { fits = d.within.fits; light = omega (arith, d.within.light, le) }
 
@@ -72,9 +73,28 @@ module _ {limits : Limits} {old new : Script} {draft : Layout} (d : IsDrafted li
     reading = λ f. let e = t.0 in cc;
   }
 
-  pub layout_read : {L : Type 0} (layout : L → Layout) (at : ℕ) (sealed : Result L Why) → Seals layout draft sealed → ReadsLayout layout limits old (placed_at at sealed) new
-  layout_read layout at (Ok l) s = sealed_read s
-  layout_read layout at (Err why) s = seal_refused why s
+  -- a cell that is defined twice is refused at END
+  seal_placed : (why : Why) → (why ≡ Memory) ⊎ ((why ≡ DuplicateCell) × (IsDistinct (keys_of draft.cells) → ⊥)) → IsPlaced limits old (record { at = end; why = why }) new
+  seal_placed why (inl e) = record { bytes = d.bytes; takes = d.takes; placed = λ fresh is. absurd (not_memory why e is) } where
+    not_memory : (why : Why) → why ≡ Memory → IsTrue (is_of_file why) → ⊥
+    not_memory why e is = let k : IsTrue (is_of_file Memory) = subst (λ (w : Why). IsTrue (is_of_file w)) e is in cc
+  seal_placed why (inr t) = record {
+    bytes = d.bytes;
+    takes = d.takes;
+    placed = λ fresh is more ended.
+        let same : d.bytes ≡ d.bytes ++ more = sym (append-nil d.bytes) ∙ ap (λ (c : List ℕ). d.bytes ++ c) (sym (ended d.ended)) in
+        subst (λ (b : List ℕ). RefusedAt limits b end) same (ByEnd (record {
+          left = d.last;
+          records = d.records;
+          before = record { unit = d.unit; before = d.before; front = d.front; allowed = d.allowed; place = omega (arith, d.place, fresh); joined = d.joined };
+          end = d.ending;
+          torn = λ w. t.1 (subst (λ (cs : Cells). IsDistinct (keys_of cs)) d.is w.distinct);
+        }));
+  }
+
+  pub layout_read : {L : Type 0} (layout : L → Layout) (sealed : Result L Why) → Seals layout draft sealed → ReadsLayout layout limits old (placed_at end sealed) new
+  layout_read layout (Ok l) s = sealed_read s
+  layout_read layout (Err why) s = (seal_refused why s, seal_placed why s)
 
 -- ---- a layout is written
 

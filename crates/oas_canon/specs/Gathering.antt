@@ -1,5 +1,5 @@
 -- What the parts of a read do: of the head, of the records, of the end of the input.
-use Rattle.std.specs.Prelude.{ℕ, List, [], ◌∷◌, ◌++◌, Result, Ok, Err}
+use Rattle.std.specs.Prelude.{◌≡◌, ℕ, ◌+◌, List, [], ◌∷◌, ◌++◌, length, Result, Ok, Err}
 use Rattle.oas_num.specs.declared.refusals.Why.{Why}
 use Rattle.oas_num.specs.declared.refusals.Why.TheVariants.{TrailingBytes, Read, InputTooLong}
 use Rattle.oas_num.specs.declared.refusals.Refusal.{Refusal}
@@ -12,7 +12,7 @@ use Rattle.oas_canon.specs.declared.limits.Limits.{Limits}
 use Rattle.oas_canon.specs.declared.records.Record.{Record}
 use Rattle.oas_canon.specs.File.{FrontOf, IsEnd}
 use Rattle.oas_canon.specs.Collecting.{StandsFor}
-use Rattle.oas_canon.specs.Run.{IsRefused}
+use Rattle.oas_canon.specs.Run.{Refuses}
 
 -- ---- the head
 
@@ -26,7 +26,7 @@ pub record IsHead (old : Script) (unit : Ratio) (new : Script) : Type 0 where
 
 abbrev pub ReadsHead : Script → Result Ratio Refusal → Script → Type 0
 ReadsHead old (Ok unit) new = IsHead old unit new
-ReadsHead old (Err refusal) new = (limits : Limits) → IsRefused limits old refusal.why new
+ReadsHead old (Err refusal) new = (limits : Limits) → Refuses limits old refusal new
 
 -- ---- the records
 
@@ -47,19 +47,20 @@ pub record HasGathered (limits : Limits) (origin : Script) (unit : Real) (now : 
   pub front : FrontOf unit records bytes
   pub stands : StandsFor limits c records
 
--- all records and END were taken
-pub record HasAll (limits : Limits) (origin : Script) (unit : Real) (now : Script) (c : Collected) : Type 0 where
+-- all records and END were taken, which begins at that offset
+pub record HasAll (limits : Limits) (origin : Script) (unit : Real) (at : ℕ) (now : Script) (c : Collected) : Type 0 where
   pub records : List Record
   pub bytes : List ℕ
   pub last : List ℕ
   pub takes : Takes origin (bytes ++ last) now
   pub front : FrontOf unit records bytes
   pub end : IsEnd Any tt last
+  pub place : at ≡ origin.given + length bytes
   pub stands : StandsFor limits c records
 
 abbrev pub Gathers : Limits → Script → Collected → Result ℕ Refusal → Script → Collected → Type 0
-Gathers limits old before (Ok at) new after = (b : HasBegun limits old before) → HasAll limits b.origin b.unit new after
-Gathers limits old before (Err refusal) new after = (b : HasBegun limits old before) → IsRefused limits b.origin refusal.why new
+Gathers limits old before (Ok at) new after = (b : HasBegun limits old before) → HasAll limits b.origin b.unit at new after
+Gathers limits old before (Err refusal) new after = (b : HasBegun limits old before) → Refuses limits b.origin refusal new
 
 -- ---- the end of the input
 
@@ -72,4 +73,4 @@ MissesEnd old _ new = ⊥
 
 abbrev pub FindsEnd : Script → Result Unit Refusal → Script → Type 0
 FindsEnd old (Ok done) new = Takes old [] new × IsAtEnd new
-FindsEnd old (Err refusal) new = MissesEnd old refusal.why new
+FindsEnd old (Err refusal) new = (refusal.at ≡ old.given) × MissesEnd old refusal.why new

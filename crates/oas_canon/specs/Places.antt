@@ -5,7 +5,7 @@ use Rattle.oas_num.specs.declared.reals.Real.{Real}
 use Rattle.oas_num.specs.Style.{Any}
 use Rattle.oas_canon.specs.declared.records.Record.{Record}
 use Rattle.oas_canon.specs.File.{magic, IsStart, IsRecord, IsEnd, FrontOf}
-use Rattle.oas_canon.specs.Meaning.{Allowed, Whole}
+use Rattle.oas_canon.specs.Meaning.{Allowed, Whole, Accepted}
 
 -- no spelling is a front of what is left
 pub record NoneStands {V : Type 0} (spells : V → List ℕ → Type 0) (left : List ℕ) : Type 0 where
@@ -73,3 +73,11 @@ pub data RefusedAt (limits : Limits) (b : List ℕ) (at : ℕ) : Type 0 where
   ByRecord : AtRecord limits b at → RefusedAt limits b at
   AfterLast : AfterEnd limits b at → RefusedAt limits b at
   ByEnd : AtEnd limits b at → RefusedAt limits b at
+
+-- a file is refused at one place at most
+abbrev pub OnePlace : Type 0
+OnePlace = (limits : Limits) (b : List ℕ) (p q : ℕ) → RefusedAt limits b p → RefusedAt limits b q → p ≡ q
+
+-- and at none where it is accepted
+abbrev pub NoPlace : Type 0
+NoPlace = (limits : Limits) (b : List ℕ) (p : ℕ) → Accepted limits b → RefusedAt limits b p → ⊥

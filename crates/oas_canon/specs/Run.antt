@@ -1,5 +1,5 @@
 -- What a run over a source and a writer does.
-use Rattle.std.specs.Prelude.{◌≡◌, ◌≢◌, ℕ, Bool, true, false, List, ◌++◌, length, Option, Some, None, Result, Ok, Err, IsTrue, ◌⊎◌}
+use Rattle.std.specs.Prelude.{◌≡◌, ◌≢◌, ℕ, ◌+◌, Bool, true, false, List, [], ◌++◌, length, Option, Some, None, Result, Ok, Err, IsTrue, ◌⊎◌}
 use Rattle.std.specs.Io.KnownBytes.{Appends}
 use Rattle.oas_num.specs.declared.refusals.Why.{Why}
 use Rattle.oas_num.specs.declared.refusals.Refusal.{Refusal}
@@ -9,8 +9,10 @@ use Rattle.oas_canon.specs.declared.limits.Limits.{Limits}
 use Rattle.std.specs.Map.{keys_of}
 use Rattle.oas_num.specs.declared.reals.Real.{Real}
 use Rattle.oas_num.specs.Ratio.{Reduces}
+use Rattle.oas_num.specs.Style.{Any}
 use Rattle.oas_canon.specs.declared.records.Record.{Record}
-use Rattle.oas_canon.specs.File.{FileOf}
+use Rattle.oas_canon.specs.File.{FileOf, FrontOf, IsEnd}
+use Rattle.oas_canon.specs.Places.{RefusedAt}
 use Rattle.oas_canon.specs.Meaning.{Layout, cells, Allowed, IsDistinct, Accepted, Means, SameLayout}
 use Rattle.oas_canon.specs.Canonical.{IsWithinLimits, IsHeld, IsOrdered, IsCanonicalOf}
 
@@ -31,7 +33,7 @@ placed_at at (Err why) = Err (record { at = at; why = why })
 -- ---- a draft is read, and sealed
 
 -- all that the source gave is a file with records that are allowed, of which the draft is the meaning, but that a cell may be defined twice
-pub record IsDrafted (limits : Limits) (old : Script) (draft : Layout) (new : Script) : Type 0 where
+pub record IsDrafted (limits : Limits) (old : Script) (draft : Layout) (end : ℕ) (new : Script) : Type 0 where
   pub bytes : List ℕ
   pub takes : Takes old bytes new
   pub ended : IsAtEnd new
@@ -42,6 +44,12 @@ pub record IsDrafted (limits : Limits) (old : Script) (draft : Layout) (new : Sc
   pub reduced : Reduces unit.num unit.den draft.unit
   pub is : cells records ≡ draft.cells
   pub within : IsWithinLimits limits draft
+  pub before : List ℕ
+  pub last : List ℕ
+  pub front : FrontOf unit records before
+  pub ending : IsEnd Any tt last
+  pub joined : bytes ≡ before ++ last
+  pub place : end ≡ old.given + length before
 
 -- no accepted file begins with what was taken, or the source has ended and what was taken is none, or a device or the memory failed
 pub record IsRefused (limits : Limits) (old : Script) (why : Why) (new : Script) : Type 0 where
@@ -53,9 +61,26 @@ pub record IsRefused (limits : Limits) (old : Script) (why : Why) (new : Script)
   pub too_long : why ≡ InputTooLong → IsTooLong new
   pub reading : why ≢ Write
 
-abbrev pub ReadsDraft : {L : Type 0} → (L → Layout) → Limits → Script → Result L Refusal → Script → Type 0
-ReadsDraft layout limits old (Ok draft) new = IsDrafted limits old (layout draft) new
-ReadsDraft layout limits old (Err refusal) new = IsRefused limits old refusal.why new
+-- the reason lies in the file, and not in a device, a limit of the source, or the memory
+abbrev pub is_of_file : Why → Bool
+is_of_file Read = false
+is_of_file InputTooLong = false
+is_of_file Write = false
+is_of_file Memory = false
+is_of_file _ = true
+
+-- Of a source that had given nothing before: the refusal's offset is a place at which each file is refused that goes on so; where the source has ended, it goes on by nothing.
+pub record IsPlaced (limits : Limits) (old : Script) (refusal : Refusal) (new : Script) : Type 0 where
+  pub bytes : List ℕ
+  pub takes : Takes old bytes new
+  pub placed : old.given ≡ 0 → IsTrue (is_of_file refusal.why) → (more : List ℕ) → (IsAtEnd new → more ≡ []) → RefusedAt limits (bytes ++ more) refusal.at
+
+abbrev pub Refuses : Limits → Script → Refusal → Script → Type 0
+Refuses limits old refusal new = IsRefused limits old refusal.why new × IsPlaced limits old refusal new
+
+abbrev pub ReadsDraft : {L : Type 0} → (L → Layout) → (L → ℕ) → Limits → Script → Result L Refusal → Script → Type 0
+ReadsDraft layout end limits old (Ok draft) new = IsDrafted limits old (layout draft) (end draft) new
+ReadsDraft layout end limits old (Err refusal) new = Refuses limits old refusal new
 
 -- the layout of a draft in which no cell is defined twice, in order
 pub record IsSealed (draft l : Layout) : Type 0 where
@@ -84,7 +109,7 @@ pub record IsRead (limits : Limits) (old : Script) (l : Layout) (new : Script) :
 
 abbrev pub ReadsLayout : {L : Type 0} → (L → Layout) → Limits → Script → Result L Refusal → Script → Type 0
 ReadsLayout layout limits old (Ok l) new = IsRead limits old (layout l) new
-ReadsLayout layout limits old (Err refusal) new = IsRefused limits old refusal.why new
+ReadsLayout layout limits old (Err refusal) new = Refuses limits old refusal new
 
 -- ---- the whole
 

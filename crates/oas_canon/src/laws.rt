@@ -1,5 +1,6 @@
 //! Laws of the definitions, each the contract of a function that does nothing.
 ghost use Rattle.oas_canon.specs.FileLaws.{OneReading};
+ghost use Rattle.oas_canon.specs.Places.{OnePlace, NoPlace};
 ghost use Rattle.oas_canon.specs.Canonical.{OneCanonicalForm, CanonicalBytes, FormIsBytes, SameExactly, CanonicalAgain, FormIsAccepted};
 ghost use Rattle.oas_canon.specs.Layouts.{CanonicalLength, CanonicalWeight, FormIsItsBytes, FormLength};
 
@@ -56,4 +57,10 @@ pub fn form_is_its_bytes()
 /// The canonical form of an accepted file has at most 320 bytes and 64 for each unit of the file's weight.
 pub fn form_length()
     ensures { FormLength }
+{}
+
+/// A file is refused at one place at most, and at none where it is accepted.
+pub fn one_place()
+    ensures one { OnePlace }
+    ensures none { NoPlace }
 {}

@@ -58,7 +58,7 @@ pub fn read_draft<S: Source>(
     source: &mut S,
     limits: &Limits,
 ) -> Result<(Draft, u64), Refusal>
-    ensures { ReadsDraft (λ read. layout_of read.0) limits.now (S.script source.old) result (S.script source.new) }
+    ensures { ReadsDraft (λ read. layout_of read.0) (λ read. read.1) limits.now (S.script source.old) result (S.script source.new) }
 {
     let unit = read_head(alloc, source)?;
     let mut collected = Collected::new(alloc);

@@ -1,5 +1,5 @@
 -- The laws of elements and layouts, as statements.
-use Rattle.std.specs.Prelude.{◌≡◌, ◌↔◌, ℕ, ◌+◌, List, IsTrue, if◌then◌else◌}
+use Rattle.std.specs.Prelude.{◌≡◌, ◌↔◌, ℕ, ◌+◌, List, Some, slice_get, IsTrue, if◌then◌else◌}
 use Rattle.std.specs.List.{AllByRecursion}
 use Rattle.oas_ring.specs.declared.point.Point.{Point}
 use Rattle.oas_ring.specs.declared.rectangles.Corners.{Corners}
@@ -42,6 +42,11 @@ AddingCounts profile =
 -- the number beside an element is its count
 abbrev pub HeldCounts : Profile → Type 0
 HeldCounts profile = (es : List (Element × ℕ)) (q : Element) → IsBag profile es → count_of profile q (items es) ≡ count_at es (normal profile q)
+
+-- no two places of what is held have the same element
+abbrev pub HeldApart : Profile → Type 0
+HeldApart profile =
+    (es : List (Element × ℕ)) (i j : ℕ) (p q : Element × ℕ) → IsBag profile es → slice_get es i ≡ Some p → slice_get es j ≡ Some q → SameElement profile p.0 q.0 → i ≡ j
 
 -- ascending lists of kept elements with equal counts are equal
 abbrev pub EqualCounts : Profile → Type 0

@@ -2,7 +2,7 @@
 
 ghost use Rattle.std.specs.Prelude.{◌≡◌};
 ghost use Rattle.oas_layout.specs.declared.profile.Profile.{Profile};
-ghost use Rattle.oas_layout.specs.Laws.{TestsSame, KeptIsSame, SameIfKeptEqual, KeptIsKept, KeptPolygons, AddingCounts, HeldCounts, EqualCounts, IsReflexive, IsSymmetric, IsTransitive};
+ghost use Rattle.oas_layout.specs.Laws.{TestsSame, KeptIsSame, SameIfKeptEqual, KeptIsKept, KeptPolygons, AddingCounts, HeldApart, HeldCounts, EqualCounts, IsReflexive, IsSymmetric, IsTransitive};
 
 /// An element is the same as the form in which it is kept, and two elements are the same exactly if these are equal.
 pub fn kept_forms()
@@ -18,9 +18,10 @@ pub fn adding_counts()
     ensures { (profile : Profile) → AddingCounts profile }
 {}
 
-/// The number beside a held element is its count.
+/// Of what a bag holds no two are the same element, and the number beside each is its count.
 pub fn held_counts()
-    ensures { (profile : Profile) → HeldCounts profile }
+    ensures apart { (profile : Profile) → HeldApart profile }
+    ensures counts { (profile : Profile) → HeldCounts profile }
 {}
 
 /// Two ascending lists of elements in their kept forms, in which every element counts the same, are equal.

@@ -5,7 +5,7 @@ use Rattle.oas_canon.proofs.canonical.canonicalize.Goals as goal
 pub returns-in_err-layout-clause-exactly : goal.returns-in_err-layout-clause-exactly
 returns-in_err-layout-clause-exactly g c =
     let p = err_from_is_err_and c.from_residual.result c.from_residual.ensures.1 in
-    rw (p.1, p.2) (exactly_refused _ (rw c.standard.ensures at c.in_err-layout.ensures))
+    rw (p.1, p.2) (exactly_refused _ (rw c.standard.ensures at c.in_err-layout.ensures.0))
 
 pub returns-clause-done : goal.returns-clause-done
 returns-clause-done g c = done (rw c.standard.ensures at c.in_ok-layout.ensures) _ _ _ _ c.write_canonical.ensures.written

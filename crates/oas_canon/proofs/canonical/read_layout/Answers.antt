@@ -5,4 +5,4 @@ pub seal-requires : goal.seal-requires
 seal-requires g c = draft_light c.in_ok-draft.ensures c.requires
 
 pub returns : goal.returns
-returns g c = rw c.placed.ensures (layout_read c.in_ok-draft.ensures (λ l. l) _ _ c.seal.ensures)
+returns g c = rw c.placed.ensures (layout_read c.in_ok-draft.ensures (λ l. l) _ c.seal.ensures)
