@@ -1,5 +1,5 @@
 -- Reading spellings that are made of spellings, one field after another.
-use Rattle.std.proofs.Common.{◌≡◌, ◌≢◌, ℕ, Bool, true, false, List, [], ◌∷◌, ◌++◌, length, Option, Some, None, IsTrue, ◌+◌, ◌<◌, ◌≤◌, suc, refl, sym, ap, subst, ◌∙◌, append_assoc, arith}
+use Rattle.std.proofs.Common.{◌≡◌, ◌≢◌, ℕ, Bool, true, false, List, [], ◌∷◌, ◌++◌, length, Option, Some, None, IsTrue, ◌<◌, refl, sym, ap, subst, ◌∙◌, append_assoc, arith}
 use Rattle.std.proofs.lemmas.List.{append-nil}
 use Rattle.oas_num.specs.declared.refusals.Why.{Why}
 use Rattle.oas_num.specs.declared.refusals.Why.TheVariants.{Truncated, Read, InputTooLong, Memory}
@@ -7,7 +7,7 @@ use Rattle.oas_num.specs.Script.{Script, Takes}
 use Rattle.oas_num.specs.Grammar.{OneFront, IsPair, IsSuch, IsImage, IsThere, IsEach, IsCount}
 use Rattle.oas_num.specs.GrammarLaws.{after_same}
 use Rattle.oas_num.specs.Combinators.{IsKeyed}
-use Rattle.oas_num.specs.Reading.{NoneFits, NoneWithin, EndsWith, ReadsValue, Fails}
+use Rattle.oas_num.specs.Reading.{ReadsValue, Fails}
 use Rattle.oas_num.proofs.ReadLemmas.{Takes-none, Takes-then, Wants, Fails-after}
 
 -- The fields so far were read, and a spelling of the rest makes the whole.

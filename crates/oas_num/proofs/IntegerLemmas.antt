@@ -1,5 +1,5 @@
 -- The loop over the bytes of an integer.
-use Rattle.std.proofs.Common.{◌≡◌, ℕ, ◌+◌, ◌*◌, ◌%◌, ◌^◌, ◌<◌, ◌≤◌, suc, List, [], ◌∷◌, ◌++◌, length, ◌⊎◌, inl, inr, refl, sym, ap, ◌∙◌, append_assoc, add-one, arith}
+use Rattle.std.proofs.Common.{◌≡◌, ℕ, ◌+◌, ◌*◌, ◌%◌, ◌^◌, ◌<◌, ◌≤◌, suc, List, [], ◌∷◌, ◌++◌, length, inl, inr, refl, ap, ◌∙◌, append_assoc, add-one, arith}
 use Rattle.std.proofs.lemmas.List.{length-append}
 use Rattle.std.proofs.Math.Nat.{pow-suc, pow-le-pow_right}
 use Rattle.std.proofs.lemmas.Nat.{mul-le}
@@ -9,7 +9,7 @@ use Rattle.oas_num.specs.Script.{Script, Takes}
 use Rattle.oas_num.specs.Integers.{IsOpen, IsClosed, IsUnsigned, value_of}
 use Rattle.oas_num.specs.IntegerLaws.{open_front}
 use Rattle.oas_num.specs.Grammar.{IsByte}
-use Rattle.oas_num.specs.Reading.{ReadsValue, Fails, NoneFits, EndsWith, ByteMay, IntegerMay, IsOutOfRange}
+use Rattle.oas_num.specs.Reading.{ReadsValue, Fails, ByteMay, IntegerMay}
 use Rattle.oas_num.proofs.ReadLemmas.{Takes-none, Takes-then, Wants, Fails-after}
 
 value_of-push : (front : List ℕ) (b : ℕ) → value_of (front ++ b ∷ []) ≡ value_of front + b % 128 * 128 ^ length front

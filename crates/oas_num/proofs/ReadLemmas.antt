@@ -1,10 +1,9 @@
 -- One read after another.
-use Rattle.std.proofs.Common.{◌≡◌, ◌≢◌, ℕ, ◌+◌, ◌<◌, ◌≤◌, List, [], ◌∷◌, ◌++◌, length, Option, Some, None, refl, sym, ap, ◌∙◌, append_assoc, arith}
+use Rattle.std.proofs.Common.{◌≡◌, ℕ, List, [], ◌++◌, Option, Some, None, refl, sym, ap, ◌∙◌, append_assoc, arith}
 use Rattle.std.proofs.lemmas.List.{length-append}
 use Rattle.oas_num.specs.declared.refusals.Why.{Why}
 use Rattle.oas_num.specs.Script.{Script, Rest, Gave, Takes}
-use Rattle.oas_num.specs.Grammar.{IsByte}
-use Rattle.oas_num.specs.Reading.{NoneFits, NoneWithin, EndsWith, ReadsValue, Fails}
+use Rattle.oas_num.specs.Reading.{NoneFits, NoneWithin, Fails}
 
 Gave-none : (r : Option Rest) → Gave r [] r
 Gave-none None = tt

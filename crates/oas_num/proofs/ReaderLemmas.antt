@@ -1,16 +1,14 @@
 -- A reader's source at a byte that it has.
-use Rattle.std.proofs.Common.{◌≡◌, ◌≢◌, ℕ, zero, suc, ◌+◌, ◌-◌, min, ◌<◌, ◌≤◌, Bool, true, false, ltb, List, [], ◌∷◌, ◌++◌, length, take, drop, get_or, Option, Some, None, Result, Ok, Err, refl, sym, ap, ◌∙◌, inl, inr, arith}
+use Rattle.std.proofs.Common.{◌≡◌, ◌≢◌, ℕ, suc, ◌+◌, ◌-◌, min, ◌<◌, ◌≤◌, true, false, ltb, List, [], ◌∷◌, ◌++◌, length, take, get_or, Option, Some, None, Ok, Err, refl, sym, ap, ◌∙◌, inl, inr, arith}
 use Rattle.std.specs.Prelude.{slice_range}
 use Rattle.std.specs.Io.KnownBytes.{Consumes}
 use Rattle.std.proofs.Math.Seq.{drop-cons}
 use Rattle.std.proofs.lemmas.Bool.{cases_lt, lt-ltb, le-ltb}
-use Rattle.std.proofs.lemmas.List.{length-append}
-use Rattle.oas_num.specs.declared.sources.SourceFault.{SourceFault}
 use Rattle.oas_num.specs.declared.sources.SourceFault.TheVariants.{TooLong}
 use Rattle.oas_num.specs.declared.readers.Ending.{Ending}
 use Rattle.oas_num.specs.declared.readers.Ending.TheVariants as endings
-use Rattle.oas_num.specs.Script.{Script, Rest, Gave, Takes, NoneLeft, IsTooLong, Next}
-use Rattle.oas_num.specs.Readers.{rest_of, rest_from, reader_script, WaitsOnly, IsSoundReader}
+use Rattle.oas_num.specs.Script.{Script, Rest, Gave, NoneLeft, IsTooLong, Next}
+use Rattle.oas_num.specs.Readers.{rest_from, reader_script, WaitsOnly, IsSoundReader}
 
 ltb_suc : (a b : ℕ) → ltb (suc a) (suc b) ≡ ltb a b
 ltb_suc a b =

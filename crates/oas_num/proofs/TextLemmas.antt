@@ -1,19 +1,18 @@
 -- The parts of a string, one after another.
-use Rattle.std.proofs.Common.{◌≡◌, ◌≢◌, ℕ, ◌+◌, ◌<◌, ◌≤◌, ◌^◌, List, [], ◌∷◌, ◌++◌, length, Result, Ok, Err, refl, sym, ap, ◌∙◌, arith}
+use Rattle.std.proofs.Common.{◌≡◌, ◌≢◌, ℕ, ◌+◌, ◌<◌, ◌^◌, List, [], ◌∷◌, ◌++◌, length, Result, Ok, Err, refl, sym, ap, ◌∙◌, arith}
 use Rattle.std.proofs.lemmas.List.{length_push}
 use Rattle.oas_num.specs.declared.refusals.Why.{Why}
 use Rattle.oas_num.specs.declared.refusals.Why.TheVariants.{Truncated, IntegerRange, EmptyName, StringByte, Read, InputTooLong, Memory}
 use Rattle.oas_num.specs.Script.{Script}
-use Rattle.oas_num.specs.Grammar.{OneFront, IsSuch, IsImage, IsCount, IsByte}
+use Rattle.oas_num.specs.Grammar.{IsSuch, IsCount, IsByte}
 use Rattle.oas_num.specs.GrammarLaws.{OneFront-byte}
-use Rattle.oas_num.specs.Combinators.{IsKeyed}
 use Rattle.oas_num.specs.Integers.{IsUnsigned}
 use Rattle.oas_num.specs.IntegerLaws.{OneFront-IsUnsigned}
 use Rattle.oas_num.specs.Style.{Any}
-use Rattle.oas_num.specs.Texts.{IsNameByte, IsLabelByte, IsName, IsLabel, IsText, IsPositive, IsPassed, SpellsName, SpellsLabel, SpellsPadding, padding_of, padding_length}
-use Rattle.oas_num.specs.TextLaws.{OneFront-positive, OneFront-passed, text_of}
+use Rattle.oas_num.specs.Texts.{IsNameByte, IsLabelByte, IsName, IsLabel, IsText, IsPositive, IsPassed, SpellsName, SpellsLabel, SpellsPadding, padding_length}
+use Rattle.oas_num.specs.TextLaws.{OneFront-positive, text_of}
 use Rattle.oas_num.specs.Reading.{Reads, ReadsValue, Fails, ByteMay, IntegerMay, NameMay, LabelMay, ClassMay, TextMay}
-use Rattle.oas_num.proofs.GrammarLemmas.{Midway, begins, key_read, key_fails, such_read, such_fails, refused, is_read, fails_last, Listed, listed_none, listed_more, listed_fails, listed_all}
+use Rattle.oas_num.proofs.GrammarLemmas.{Midway, begins, key_read, key_fails, such_read, such_fails, refused, is_read, fails_last, Listed, listed_none, listed_more, listed_fails}
 use Rattle.oas_num.proofs.ReadLemmas.{Takes-none, Fails-after}
 use Rattle.oas_num.proofs.IntegerLemmas.{IntegerMay-byte}
 use Rattle.oas_num.specs.declared.texts.Padding.{Padding}

@@ -1,6 +1,5 @@
 -- Laws of spellings made of spellings: of none does one begin another; each value has one; the one is within the other.
-use Rattle.std.proofs.Common.{◌≡◌, ℕ, Bool, true, false, List, [], ◌∷◌, ◌++◌, length, Option, Some, None, refl, sym, ap, subst, ◌∙◌, append_assoc}
-use Rattle.std.proofs.lemmas.List.{append_cancel_left}
+use Rattle.std.proofs.Common.{◌≡◌, ℕ, Bool, true, false, List, [], ◌∷◌, ◌++◌, Option, Some, None, refl, sym, ap, subst, ◌∙◌, append_assoc}
 use Rattle.oas_num.specs.Grammar.{OneFront, IsPair, IsSuch, IsImage, IsThere, IsEach, IsCount, IsByte}
 use Rattle.oas_num.specs.GrammarLaws.{OneFront-pair, after_same}
 use Rattle.oas_num.specs.Combinators.{IsExactly, IsNever, IsEither, IsKeyed, IsApart, OneSpelling, IsWithin}

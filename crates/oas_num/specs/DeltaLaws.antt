@@ -1,5 +1,5 @@
 -- The laws of deltas: no spelling begins another; a g-delta has one spelling in the shortest style, which is one of its spellings.
-use Rattle.std.proofs.Common.{refl, ℤ, pos, negsuc, nat_abs, ◌<◌, ◌^◌, ◌++◌, ◌≡◌, ℕ, ◌+◌, ◌*◌, ◌/◌, ◌%◌, List, Some, sym, ap, ◌∙◌, arith}
+use Rattle.std.proofs.Common.{refl, ℤ, pos, negsuc, nat_abs, ◌<◌, ◌^◌, ◌≡◌, ℕ, ◌+◌, ◌*◌, ◌/◌, ◌%◌, List, Some, sym, ap, ◌∙◌, arith}
 use Rattle.oas_num.specs.declared.deltas.Delta1.{Delta1}
 use Rattle.oas_num.specs.declared.deltas.GDelta.{GDelta}
 use Rattle.oas_num.specs.Grammar.{OneFront, IsPair, IsThere}

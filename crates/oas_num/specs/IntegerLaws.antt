@@ -1,5 +1,5 @@
 -- One spelling of an integer begins no other.
-use Rattle.std.proofs.Common.{◌≡◌, ℕ, ◌<◌, ◌≤◌, ◌^◌, List, [], ◌∷◌, ◌++◌, length, ◌⊎◌, inl, inr, refl, sym, ap, ◌∙◌, arith}
+use Rattle.std.proofs.Common.{◌≡◌, ℕ, List, [], ◌∷◌, ◌++◌, inl, inr, refl, sym, ap, ◌∙◌, arith}
 use Rattle.oas_num.specs.declared.integers.Unsigned.{Unsigned}
 use Rattle.oas_num.specs.declared.integers.Signed.{Signed}
 use Rattle.oas_num.specs.Grammar.{OneFront}

@@ -1,5 +1,5 @@
 -- How integers are spelled.
-use Rattle.std.specs.Prelude.{◌≡◌, ℕ, ℤ, pos, neg_ℤ, ◌/◌, ◌==◌, if◌then◌else◌, ◌+◌, ◌*◌, ◌%◌, ◌^◌, ◌<◌, ◌≤◌, List, [], ◌∷◌, ◌++◌, length, ◌⊎◌}
+use Rattle.std.specs.Prelude.{◌≡◌, ℕ, ℤ, pos, neg_ℤ, ◌/◌, ◌==◌, if◌then◌else◌, ◌+◌, ◌*◌, ◌%◌, ◌^◌, ◌<◌, ◌≤◌, List, [], ◌∷◌, length, ◌⊎◌}
 use Rattle.oas_num.specs.declared.integers.Unsigned.{Unsigned}
 use Rattle.oas_num.specs.declared.integers.Signed.{Signed}
 use Rattle.oas_num.specs.Grammar.{IsImage}

@@ -1,5 +1,5 @@
 -- What a reader's source gave, and what it is still to give.
-use Rattle.std.specs.Prelude.{◌≡◌, ℕ, ◌+◌, ◌-◌, min, ◌<◌, ◌≤◌, Bool, true, false, List, [], ◌++◌, length, take, drop, Option, Some, None, Result, Ok, Err, nat_lt, slice_range}
+use Rattle.std.specs.Prelude.{◌≡◌, ℕ, ◌+◌, ◌-◌, min, ◌<◌, ◌≤◌, false, List, ◌++◌, length, take, Option, Some, None, Result, Ok, Err, nat_lt, slice_range}
 use Rattle.oas_num.specs.declared.sources.SourceFault.{SourceFault}
 use Rattle.oas_num.specs.declared.sources.SourceFault.TheVariants.{Device, TooLong}
 use Rattle.oas_num.specs.declared.readers.Ending.{Ending}

@@ -1,16 +1,16 @@
 -- The laws of reals in any style.
-use Rattle.std.proofs.Common.{◌≡◌, ℕ, ◌+◌, ◌<◌, ◌≤◌, List, [], Bool, true, false, Option, Some, None, refl, sym, ap, subst, ◌∙◌, inl, inr, arith}
-use Rattle.std.specs.Prelude.{◌==◌, ◌%◌, ◌/◌, not, if◌then◌else◌}
+use Rattle.std.proofs.Common.{◌≡◌, ℕ, ◌+◌, ◌<◌, ◌≤◌, List, Bool, true, false, Option, Some, None, refl, sym, ◌∙◌, arith}
+use Rattle.std.specs.Prelude.{◌==◌, ◌%◌, if◌then◌else◌}
 use Rattle.oas_num.specs.declared.reals.Real.{Real}
-use Rattle.oas_num.specs.Grammar.{OneFront, IsPair, IsSuch, IsThere, IsImage}
+use Rattle.oas_num.specs.Grammar.{OneFront, IsPair, IsSuch, IsThere}
 use Rattle.oas_num.specs.GrammarLaws.{OneFront-pair, OneFront-such, OneFront-image, OneFront-there}
-use Rattle.oas_num.specs.Combinators.{OneSpelling, IsWithin, IsKeyed}
+use Rattle.oas_num.specs.Combinators.{OneSpelling, IsWithin}
 use Rattle.oas_num.specs.CombinatorLaws.{OneSpelling-keyed, OneSpelling-pair, OneFront-within}
 use Rattle.oas_num.specs.Integers.{IsUnsigned}
 use Rattle.oas_num.specs.IntegerLaws.{OneFront-IsUnsigned}
 use Rattle.oas_num.specs.Style.{Style, Any, Shortest, IsShortest}
 use Rattle.oas_num.specs.StyleLaws.{OneSpelling-unsigned}
-use Rattle.oas_num.specs.Reals.{has_num, has_den, IsFraction, Parts, SpellsParts, SpellsReal, real_of, real_in, kind_of, IsPart, ShortestParts, part_of}
+use Rattle.oas_num.specs.Reals.{has_num, has_den, IsFraction, SpellsParts, SpellsReal, real_of, real_in, kind_of, IsPart, ShortestParts, part_of}
 
 pub OneFront-kind : OneFront (IsSuch IsFraction IsUnsigned)
 OneFront-kind = OneFront-such IsFraction IsUnsigned OneFront-IsUnsigned

@@ -6,7 +6,7 @@ use Rattle.oas_num.specs.declared.reals.Real.{Real}
 use Rattle.oas_num.specs.Grammar.{IsPair, IsSuch, IsImage, IsThere}
 use Rattle.oas_num.specs.Combinators.{IsKeyed}
 use Rattle.oas_num.specs.Integers.{IsUnsigned}
-use Rattle.oas_num.specs.Style.{Style, Any, Shortest, IsShortest, unsigned_in}
+use Rattle.oas_num.specs.Style.{Style, Any, Shortest, IsShortest}
 use Rattle.oas_num.specs.Reading.{IsOutOfRange}
 
 -- types 2 and 3 have no numerator

@@ -1,5 +1,5 @@
 -- What a source gave, and what it is still to give.
-use Rattle.std.specs.Prelude.{◌≡◌, ℕ, ◌+◌, ◌-◌, ◌<◌, ◌≤◌, min, Bool, true, false, List, [], ◌∷◌, ◌++◌, length, take, drop, Option, Some, None, Result, Ok, Err, IfSome, if◌then◌else◌, nat_lt, ◌==◌}
+use Rattle.std.specs.Prelude.{◌≡◌, ℕ, ◌+◌, ◌<◌, ◌≤◌, min, Bool, true, false, List, [], ◌∷◌, ◌++◌, length, take, drop, Option, Some, None, Result, Ok, Err, IfSome, if◌then◌else◌, nat_lt, ◌==◌}
 use Rattle.oas_num.specs.declared.sources.SourceFault.{SourceFault}
 use Rattle.oas_num.specs.declared.sources.SourceFault.TheVariants.{Device, TooLong}
 

@@ -1,9 +1,9 @@
 -- The laws of numbers in any style.
-use Rattle.std.proofs.Common.{◌≡◌, ℕ, ℤ, pos, negsuc, zero, suc, ◌+◌, ◌*◌, ◌/◌, ◌%◌, ◌<◌, ◌≤◌, ◌^◌, List, length, inl, inr, [], ◌∷◌, ◌++◌, refl, sym, ap, subst, ◌∙◌, arith}
-use Rattle.std.specs.Prelude.{◌==◌, if◌then◌else◌, neg_ℤ}
+use Rattle.std.proofs.Common.{◌≡◌, ℕ, ℤ, pos, negsuc, zero, suc, ◌+◌, ◌*◌, ◌/◌, ◌%◌, ◌<◌, ◌^◌, List, inl, inr, [], ◌∷◌, ◌++◌, refl, sym, ap, ◌∙◌, arith}
+use Rattle.std.specs.Prelude.{neg_ℤ}
 use Rattle.std.proofs.lemmas.Bool.{cases_lt}
 use Rattle.oas_num.specs.Grammar.{OneFront}
-use Rattle.oas_num.specs.Integers.{IsUnsigned, IsSigned, signed_of, value_of}
+use Rattle.oas_num.specs.Integers.{IsUnsigned, signed_of, value_of}
 use Rattle.oas_num.specs.IntegerLaws.{OneFront-IsUnsigned, OneFront-IsSigned}
 use Rattle.oas_num.specs.Writing.{shortest}
 use Rattle.oas_num.specs.WritingLaws.{shortest_spells, shortest_least, shortest_only}

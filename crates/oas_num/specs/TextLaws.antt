@@ -1,5 +1,5 @@
 -- The laws of strings in any style.
-use Rattle.std.proofs.Common.{◌≡◌, ℕ, ◌<◌, ◌≤◌, ◌^◌, List, [], ◌∷◌, ◌++◌, length, refl, arith}
+use Rattle.std.proofs.Common.{ℕ, ◌<◌, List, [], ◌∷◌, ◌++◌, length, refl, arith}
 use Rattle.oas_num.specs.Grammar.{OneFront, IsSuch, IsEach, IsCount, IsByte}
 use Rattle.oas_num.specs.GrammarLaws.{OneFront-such, OneFront-count, OneFront-image, OneFront-byte}
 use Rattle.oas_num.specs.Combinators.{OneSpelling, IsWithin}

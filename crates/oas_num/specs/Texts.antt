@@ -1,5 +1,5 @@
 -- How strings are spelled.
-use Rattle.std.specs.Prelude.{◌≡◌, ℕ, ◌<◌, ◌≤◌, ◌^◌, List, [], ◌∷◌, ◌++◌, length}
+use Rattle.std.specs.Prelude.{ℕ, ◌<◌, ◌≤◌, ◌^◌, List, [], ◌∷◌, length}
 use Rattle.oas_num.specs.declared.texts.Padding.{Padding}
 use Rattle.oas_num.specs.Grammar.{IsSuch, IsImage, IsCount, IsByte}
 use Rattle.oas_num.specs.Combinators.{IsKeyed}

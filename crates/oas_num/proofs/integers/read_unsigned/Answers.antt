@@ -1,4 +1,4 @@
-use Rattle.std.proofs.Common.{◌≡◌, ℕ, ◌+◌, ◌*◌, ◌^◌, ◌<◌, ◌≤◌, ap, arith}
+use Rattle.std.proofs.Common.{ℕ, ◌+◌, ◌*◌, ap, arith}
 use Rattle.std.proofs.lemmas.Result.{err_from_is_err_and}
 use Rattle.oas_num.proofs.IntegerLemmas.{digit_fits, weight_fits, last_fits, small_digit, goes_on, found, byte_fails, out_of_range, at_ninth}
 use Rattle.oas_num.proofs.integers.read_unsigned.Goals as goal

@@ -1,6 +1,6 @@
 use Rattle.oas_num.specs.Integers.{IsSigned}
 use Rattle.std.proofs.lemmas.Result.{err_from_is_err_and}
-use Rattle.oas_num.proofs.GrammarLemmas.{wrapped_read, wrapped_fails}
+use Rattle.oas_num.proofs.GrammarLemmas.{wrapped_fails}
 use Rattle.oas_num.specs.declared.integers.Signed.{Signed}
 use Rattle.oas_num.proofs.integers.SignedSpelled.read.Goals as goal
 
