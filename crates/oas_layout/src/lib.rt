@@ -37,3 +37,6 @@ pub use elements::Elements;
 pub use layout::Layout;
 pub use limits::Limits;
 pub use profile::Profile;
+
+#[cfg(test)]
+mod tests;
