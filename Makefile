@@ -24,6 +24,8 @@ test-large: all
 # Speed and memory, beside a baseline in the same run.
 bench: all
 	bench/run
+	cd crates/layout_bench && rt run --jobs $(JOBS) </dev/null >/dev/null
+	bench/layouts
 
 clean:
 	rm -rf crates/*/out oascanon
