@@ -2,6 +2,7 @@ pub mod Script
 pub mod Readers
 pub mod Refusals
 pub mod Grammar
+pub mod Begun
 pub mod GrammarLaws
 pub mod Combinators
 pub mod CombinatorLaws
