@@ -8,6 +8,7 @@ pub use Rattle.oas_bytes.specs.declared.sinks.SinkFault
 pub use Rattle.oas_bytes.specs.declared.outlets.Outlet
 pub mod Refusals
 pub mod Grammar
+pub mod Begun
 pub mod GrammarLaws
 pub mod Combinators
 pub mod CombinatorLaws
