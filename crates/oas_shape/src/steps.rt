@@ -89,16 +89,16 @@ fn read_alternating<S: Source>(
     count: u64,
     source: &mut S,
 ) -> Result<Vec<GDelta>, Why>
-    ensures { ReadsAs (λ steps. steps.items) (IsImage (alternating x_first) (IsCount SpellsDelta1 count)) (ListMay SpellsDelta1 IntegerMay) (S.script source.old) result (S.script source.new) }
+    ensures { ReadsAs (λ turns. turns.items) (IsImage (alternating x_first) (IsCount SpellsDelta1 count)) (ListMay SpellsDelta1 IntegerMay) (S.script source.old) result (S.script source.new) }
 {
-    let mut steps = Vec::new(alloc);
+    let mut turns = Vec::new(alloc);
     let mut along_x = x_first;
     for _ in 0..count {
         let delta = Delta1::read(alloc, source)?;
-        steps.push(along(along_x, delta))?;
+        turns.push(along(along_x, delta))?;
         along_x = !along_x;
     }
-    Ok(steps)
+    Ok(turns)
 }
 
 /// So far along one axis.

@@ -4,7 +4,7 @@ use Rattle.oas_shape.proofs.StepLemmas.{alternated_none, alternated_more, altern
 use Rattle.oas_shape.proofs.steps.read_alternating.Goals as goal
 
 pub loop-init : goal.loop-init
-loop-init g c = rw c.new-steps.ensures.items (alternated_none _ _)
+loop-init g c = rw c.new-turns.ensures.items (alternated_none _ _)
 
 pub returns-in_err-delta : goal.returns-in_err-delta
 returns-in_err-delta g c =
