@@ -29,13 +29,21 @@ PointListMay-integer purpose _ last h = absurd h
 abbrev IsParts : ListUse → ℕ × (ℕ × List GDelta) → List ℕ → Type 0
 IsParts purpose = IsPair (IsSuch IsListKind IsUnsigned) (after_kind purpose)
 
+-- what was read of the deltas
+abbrev DeltasTook : ℕ → ℕ → Why → List ℕ → Type 0
+DeltasTook kind count why bytes = Decides false (deltas_in kind count) (DeltasMay kind why) bytes
+
+-- what was read of the list
+abbrev ListTook : ListUse → Why → List ℕ → Type 0
+ListTook purpose why bytes = Decides false (IsParts purpose) (PointListMay purpose why) bytes
+
 -- a count, and then deltas that were refused
 abbrev CountTook : ListUse → ℕ → Why → List ℕ → Type 0
 CountTook purpose kind why bytes =
-    (count : ℕ) × (front : List ℕ) × (back : List ℕ) × IsSuch (IsFitting purpose kind) IsUnsigned count front × Decides false (deltas_in kind count) (DeltasMay kind why) back × (bytes ≡ front ++ back)
+    (count : ℕ) × (front : List ℕ) × (back : List ℕ) × IsSuch (IsFitting purpose kind) IsUnsigned count front × DeltasTook kind count why back × (bytes ≡ front ++ back)
 
 -- a list of which the deltas were refused
-list_took : (purpose : ListUse) (kind : ℕ) (why : Why) (first back : List ℕ) → IsSuch IsListKind IsUnsigned kind first → CountTook purpose kind why back → Decides false (IsParts purpose) (PointListMay purpose why) (first ++ back)
+list_took : (purpose : ListUse) (kind : ℕ) (why : Why) (first back : List ℕ) → IsSuch IsListKind IsUnsigned kind first → CountTook purpose kind why back → ListTook purpose why (first ++ back)
 list_took purpose kind why first back kind_is took =
     let count = took.0 in
     let second = took.1 in
@@ -110,11 +118,9 @@ module _ (purpose : ListUse) where
   deltas_fail {old = old} {mid = mid} {late = late} {new = new} {kind = kind} {count = count} {why = why} le fits first second f =
       let kind_read = such_read IsListKind IsUnsigned old mid kind (omega arith) first in
       let count_read = such_read (IsFitting purpose kind) IsUnsigned mid late count fits second in
-      let took : Why → List ℕ → Type 0 = λ why bytes. Decides false (deltas_in kind count) (DeltasMay kind why) bytes in
-      let deltas : FailsPiece (deltas_in kind count) took late why new = as_piece (λ bytes d. d) f in
+      let deltas : FailsPiece (deltas_in kind count) (DeltasTook kind count) late why new = as_piece (λ bytes d. d) f in
       let after : FailsPiece (after_kind purpose kind) (CountTook purpose kind) mid why new =
       second_fails (IsSuch (IsFitting purpose kind) IsUnsigned) (deltas_in kind) (OneFront-fitting purpose kind) count_read (λ bytes d. (count, count_read.bytes, bytes, count_read.spelled, d, refl)) deltas in
-      let whole : Why → List ℕ → Type 0 = λ why bytes. Decides false (IsParts purpose) (PointListMay purpose why) bytes in
-      let parts : FailsPiece (IsParts purpose) whole old why new =
+      let parts : FailsPiece (IsParts purpose) (ListTook purpose) old why new =
       second_fails (IsSuch IsListKind IsUnsigned) (after_kind purpose) OneFront-kind kind_read (λ bytes t. list_took purpose kind why kind_read.bytes bytes kind_read.spelled t) after in
       image_fails (polyline_of purpose) (from_piece (λ bytes d. d) parts)

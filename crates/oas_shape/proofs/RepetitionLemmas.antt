@@ -8,7 +8,7 @@ use Rattle.oas_num.specs.declared.deltas.GDelta.{GDelta}
 use Rattle.oas_num.specs.Script.{Script}
 use Rattle.oas_num.specs.Begun.{Decides}
 use Rattle.oas_num.specs.BegunLaws.{HasSome-pair, Begins-none}
-use Rattle.oas_num.specs.Grammar.{IsPair, IsSuch, IsThere}
+use Rattle.oas_num.specs.Grammar.{IsPair, IsSuch, IsImage, IsThere}
 use Rattle.oas_num.specs.Integers.{IsUnsigned}
 use Rattle.oas_num.specs.IntegerLaws.{OneFront-IsUnsigned}
 use Rattle.oas_num.specs.Style.{Any}
@@ -154,14 +154,20 @@ new_fails : {old new : Script} {kind : ℕ} {why : Why} → kind ≢ 0 → Fails
 new_fails {kind = kind} isnt f = let e = ne_eqb kind 0 isnt in rw e (image_fails New f)
 
 new_spelled : (kind : ℕ) (repetition : Repetition) (bytes : List ℕ) → kind ≢ 0 → repetition_by kind repetition bytes → field_by kind (New repetition) bytes
-new_spelled kind repetition bytes isnt h = let e = ne_eqb kind 0 isnt in rw e (record { from = repetition; is = refl; spelled = h })
+new_spelled kind repetition bytes isnt h = let e = ne_eqb kind 0 isnt in
+    let p : IsImage New (repetition_by kind) (New repetition) bytes = record { from = repetition; is = refl; spelled = h } in
+    rw e p
 
 -- a type and its fields
 abbrev IsParts : ℕ × RepField → List ℕ → Type 0
 IsParts = IsPair (IsSuch IsRepetitionKind IsUnsigned) field_by
 
+-- what was read of the field
+abbrev FieldTook : Why → List ℕ → Type 0
+FieldTook why bytes = Decides false IsParts (RepFieldMay why) bytes
+
 -- a field of which the type was read, and the rest refused
-field_took : (kind : ℕ) (why : Why) (first back : List ℕ) → kind ≢ 0 → IsSuch IsRepetitionKind IsUnsigned kind first → FieldsTook kind why back → Decides false IsParts (RepFieldMay why) (first ++ back)
+field_took : (kind : ℕ) (why : Why) (first back : List ℕ) → kind ≢ 0 → IsSuch IsRepetitionKind IsUnsigned kind first → FieldsTook kind why back → FieldTook why (first ++ back)
 field_took kind why first back isnt kind_is took = elim took [
   | inl d ↦ record {
     front = first ++ d.front;
@@ -183,7 +189,6 @@ field_took kind why first back isnt kind_is took = elim took [
 pub fields_fail : {old mid new : Script} {kind : ℕ} {why : Why} → kind ≤ 11 → kind ≢ 0 → ReadsValue IsUnsigned old kind mid → FailsPiece (repetition_by kind) (FieldsTook kind) mid why new → Fails (rep_field_in Any) RepFieldMay old why new
 fields_fail {old = old} {mid = mid} {new = new} {kind = kind} {why = why} le isnt read f =
     let kind_read = such_read IsRepetitionKind IsUnsigned old mid kind (omega arith) read in
-    let whole : Why → List ℕ → Type 0 = λ why bytes. Decides false IsParts (RepFieldMay why) bytes in
-    let parts : FailsPiece IsParts whole old why new =
+    let parts : FailsPiece IsParts FieldTook old why new =
     second_fails (IsSuch IsRepetitionKind IsUnsigned) field_by OneFront-kind kind_read (λ bytes t. field_took kind why kind_read.bytes bytes isnt kind_read.spelled t) (new_fails isnt f) in
     image_fails field_of (from_piece (λ bytes d. d) parts)
