@@ -70,7 +70,7 @@ step_reason : (along : Along) (grid : ℕ) (ds : List GDelta) (old new : Script)
 step_reason along grid ds old new Truncated f = record { reason = f.reason; none = (f.truncated refl).0 }
 step_reason along grid ds old new Read f = f.reason
 step_reason along grid ds old new InputTooLong f = f.reason
-step_reason along grid ds old new IntegerRange f = record { reason = f.reason; none = none_within (f.format tt) }
+step_reason along grid ds old new IntegerRange f = record { reason = f.reason; none = none_within (f.format refl) }
 step_reason along grid ds old new _ f = absurd f.reason.holds
 
 step_fails : (along : Along) (grid : ℕ) (ds : List GDelta) {old new : Script} {why : Why} → Fails (displacement_in along) IntegerMay old why new → FailsPiece (displacement_in along) (StepMay along grid ds) old why new

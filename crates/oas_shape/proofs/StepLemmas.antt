@@ -1,20 +1,21 @@
 -- Deltas that were read one after another.
-use Rattle.std.proofs.Common.{◌≡◌, ◌≢◌, ℕ, ◌<◌, ◌≤◌, subst, inl, inr, arith, Bool, not, List, [], ◌∷◌, ◌++◌, length, refl, sym, ap, ◌∙◌, ◌+◌}
-use Rattle.std.specs.Prelude.{pos, if◌then◌else◌, Result, Ok, Err}
+use Rattle.std.proofs.Common.{◌≡◌, ◌≢◌, ℕ, ◌<◌, ◌≤◌, subst, inl, inr, arith, Bool, true, false, not, List, [], ◌∷◌, ◌++◌, length, refl, sym, ap, ◌∙◌, ◌+◌}
+use Rattle.std.specs.Prelude.{pos, if◌then◌else◌, Result, Ok, Err, ◌==◌, ◌⊎◌}
 use Rattle.std.proofs.lemmas.List.{length_push, append-nil}
 use Rattle.std.proofs.lemmas.Bool.{ne_eqb}
 use Rattle.oas_num.specs.declared.deltas.Delta1.{Delta1}
 use Rattle.oas_num.specs.declared.deltas.GDelta.{GDelta}
-use Rattle.oas_num.specs.Deltas.{SpellsDelta1, step}
+use Rattle.oas_num.specs.Deltas.{SpellsDelta1, SpellsDelta2, SpellsDelta3, SpellsGDelta, step}
 use Rattle.oas_num.specs.Script.{Script}
 use Rattle.oas_num.specs.declared.refusals.Why.{Why}
 use Rattle.oas_num.specs.declared.refusals.Why.TheVariants.{Memory}
 use Rattle.oas_num.specs.Grammar.{IsImage, IsCount}
+use Rattle.oas_num.specs.Combinators.{IsEither}
 use Rattle.oas_num.specs.DeltaLaws.{Delta1-one_front, Delta1-some}
 use Rattle.oas_num.specs.Reading.{ReadsValue, ReadsAs, Fails, ListMay, IntegerMay}
 use Rattle.oas_num.proofs.GrammarLemmas.{begins, fails_last, image_fails, Listed, listed_none, listed_more, listed_fails, listed_all, listed_no_memory}
 use Rattle.oas_shape.proofs.ReadingLemmas.{image_read}
-use Rattle.oas_shape.specs.PointLists.{alternating, deltas_in, IsDelta, DeltasMay}
+use Rattle.oas_shape.specs.PointLists.{alternating, step2, step3, stepg, deltas_in, IsDelta, DeltasMay}
 use Rattle.oas_shape.specs.PointListLaws.{HasSome-deltas}
 
 -- whether the next 1-delta goes along x
@@ -102,12 +103,29 @@ by_kind view kind known count {there = there} old new (Err why) e allows read =
     let f : Fails (deltas_in known count) (DeltasMay known) old why new = fails_last (begins (deltas_in known count) (HasSome-deltas known count) old) allows read in
     subst (λ (k : ℕ). Fails (deltas_in k count) (DeltasMay k) old why new) (sym e) f
 
+-- the same by the tests of the type
+abbrev deltas_by : Bool → Bool → Bool → Bool → ℕ → List GDelta → List ℕ → Type 0
+deltas_by is0 is1 is2 is3 count =
+    IsEither is0 (IsImage (alternating true) (IsCount SpellsDelta1 count))
+    (IsEither is1 (IsImage (alternating false) (IsCount SpellsDelta1 count))
+    (IsEither is2 (IsCount (IsImage step2 SpellsDelta2) count)
+    (IsEither is3 (IsCount (IsImage step3 SpellsDelta3) count)
+    (IsCount (IsImage stepg SpellsGDelta) count))))
+
+abbrev may_by : Bool → Bool → Bool → Bool → Why → List ℕ → Type 0
+may_by is0 is1 is2 is3 why last = IntegerMay why last ⊎ ((why ≡ Memory) × ((d : GDelta) × deltas_by is0 is1 is2 is3 1 (d ∷ []) last))
+
+none_of : {X : Type 0} (view : X → List GDelta) (is0 is1 is2 is3 : Bool) (count : ℕ) (old new : Script) (result : Result X Why) → is0 ≡ false → is1 ≡ false → is2 ≡ false → is3 ≡ false
+    → ReadsAs view (deltas_by false false false false count) (may_by false false false false) old result new → ReadsAs view (deltas_by is0 is1 is2 is3 count) (may_by is0 is1 is2 is3) old result new
+none_of view false false false false count old new result a b c d read = read
+none_of view true is1 is2 is3 count old new result a b c d read = absurd cc
+none_of view false true is2 is3 count old new result a b c d read = absurd cc
+none_of view false false true is3 count old new result a b c d read = absurd cc
+none_of view false false false true count old new result a b c d read = absurd cc
+
 -- types 4 and 5 have deltas of one kind
 pub by_last : {X : Type 0} (view : X → List GDelta) (kind count : ℕ) {there : Why → List ℕ → Type 0} (old new : Script) (result : Result X Why) → kind ≢ 0 → kind ≢ 1 → kind ≢ 2 → kind ≢ 3
     → ((why : Why) (last : List ℕ) → there why last → DeltasMay 4 why last) → ReadsAs view (deltas_in 4 count) there old result new → ReadsAs view (deltas_in kind count) (DeltasMay kind) old result new
 by_last view kind count old new result a b c d allows read =
-    let e0 = ne_eqb kind 0 a in
-    let e1 = ne_eqb kind 1 b in
-    let e2 = ne_eqb kind 2 c in
-    let e3 = ne_eqb kind 3 d in
-    rw (e0, e1, e2, e3) (by_kind view 4 4 count old new result refl allows read)
+    none_of view (kind == 0) (kind == 1) (kind == 2) (kind == 3) count old new result (ne_eqb kind 0 a) (ne_eqb kind 1 b) (ne_eqb kind 2 c) (ne_eqb kind 3 d)
+    (by_kind view 4 4 count old new result refl allows read)

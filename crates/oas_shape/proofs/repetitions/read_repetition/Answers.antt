@@ -4,22 +4,22 @@ use Rattle.oas_shape.proofs.RepetitionLemmas.{by_fields, by_list}
 use Rattle.oas_shape.proofs.repetitions.read_repetition.Goals as goal
 
 pub returns-in-1 : goal.returns-in-1
-returns-in-1 g c = by_fields _ 1 _ _ _ c.in-1.is c.read_matrix-in-1.ensures
+returns-in-1 g c = by_fields _ 1 _ _ _ c.in-1.is c.read_matrix.ensures
 
 pub returns-in-2 : goal.returns-in-2
-returns-in-2 g c = by_fields _ 2 _ _ _ c.in-2.is c.read_columns-in-2.ensures
+returns-in-2 g c = by_fields _ 2 _ _ _ c.in-2.is c.read_columns.ensures
 
 pub returns-in-3 : goal.returns-in-3
-returns-in-3 g c = by_fields _ 3 _ _ _ c.in-3.is c.read_rows-in-3.ensures
+returns-in-3 g c = by_fields _ 3 _ _ _ c.in-3.is c.read_rows.ensures
 
 pub returns-in-8 : goal.returns-in-8
-returns-in-8 g c = by_fields _ 8 _ _ _ c.in-8.is c.read_lattice-in-8.ensures
+returns-in-8 g c = by_fields _ 8 _ _ _ c.in-8.is c.read_lattice.ensures
 
 pub returns-in-9 : goal.returns-in-9
-returns-in-9 g c = by_fields _ 9 _ _ _ c.in-9.is c.read_line-in-9.ensures
+returns-in-9 g c = by_fields _ 9 _ _ _ c.in-9.is c.read_line.ensures
 
 pub returns-in-4 : goal.returns-in-4
-returns-in-4 g c = by_list _ 4 X false _ _ _ c.in-4.is refl c.read_listed-in-4.ensures
+returns-in-4 g c = by_list _ 4 X false _ _ _ c.in-4.is refl c.read_listed.ensures
 
 pub returns-in-5 : goal.returns-in-5
 returns-in-5 g c = by_list _ 5 X true _ _ _ c.in-5.is refl c.read_listed-in-5.ensures
