@@ -252,7 +252,7 @@ is_read {whole = whole} {A = A} {build = build} {old = old} {mid = mid} {new = n
 
 -- a value of which that holds
 module _ {V : Type 0} (P : V → Type 0) (A : V → List ℕ → Type 0) where
-  pub such_read : (old new : Script) (v : V) → P v → ReadsValue A old v new → ReadsValue (IsSuch P A) old v new
+  unfoldable pub such_read : (old new : Script) (v : V) → P v → ReadsValue A old v new → ReadsValue (IsSuch P A) old v new
   such_read old new v holds read = record { bytes = read.bytes; spelled = record { holds = holds; spelled = read.spelled }; takes = read.takes }
 
   pub such_fails : (may : Why → List ℕ → Type 0) (old new : Script) (why : Why) → FailsPiece A may old why new → FailsPiece (IsSuch P A) may old why new

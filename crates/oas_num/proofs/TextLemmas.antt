@@ -103,7 +103,7 @@ with_name_length {old = old} {new = new} {count = count} some read =
     (such_read IsPositive IsUnsigned old new count (omega arith) read)
 
 pub name_text_fails : {old mid new : Script} {count : ℕ} {why : Why} → count ≢ 0 → ReadsValue IsUnsigned old count mid → Fails (IsText IsNameByte count) (TextMay IsNameByte) mid why new → Fails SpellsName NameMay old why new
-unfolding with_name_length key_read begins
+unfolding with_name_length key_read begins such_read
 name_text_fails {count = count} {why = why} some read f =
     let m = with_name_length some read in
     text_fails m f (name_reason why count m.bytes f.bytes read.spelled (Begins-after SpellsName (IsText IsNameByte count) m.bytes (λ text. text) m.makes) f.reason)
