@@ -48,7 +48,7 @@ pub use sinks::{Counter, Sink, SinkFault, put_gdelta, put_signed, put_unsigned, 
 pub use slices::SliceSource;
 pub use sources::{INPUT_MAX, Source, SourceFault};
 pub use spelling::{Spelled, next_byte, read_if, read_list};
-pub use texts::{Label, Name, Padding, next_within, read_text};
+pub use texts::{Label, Name, Padding, TextClass, next_within, read_text};
 
 #[cfg(test)]
 mod tests;
