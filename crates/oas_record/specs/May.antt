@@ -41,8 +41,8 @@ IsOddInfo info = ¬ IsCircleInfo info ⊎ (¬ IsPolygonInfo info ⊎ (¬ IsTextI
 -- The tables below say of each reason what the bytes are that decided: those with which what was read ends. What was read
 -- before them begins a spelling.
 
--- where a read of what follows an id may fail, END's left out. A repetition is taken as one piece from where its offsets
--- begin, so `RepFieldMay` stands also beside the reasons of integers.
+-- Where a read of what follows an id may fail, END's left out. Of a repetition with a list of displacements all of it so far
+-- may be what decided, so `RepFieldMay` stands beside the reasons that integers have.
 abbrev pub FieldMay : Why → List ℕ → Type 0
 FieldMay Truncated last = IsUnended last ⊎ RepFieldMay Truncated last
 FieldMay Read last = IsUnended last ⊎ RepFieldMay Read last
