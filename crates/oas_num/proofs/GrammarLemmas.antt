@@ -25,10 +25,10 @@ module _ {V W : Type 0} (A : V → List ℕ → Type 0) (B : V → W → List �
   Wants-first = record { wants = λ v p r rest s e. (v.0, s.front, s.back ++ r, s.first, sym (append_assoc s.front s.back r) ∙ ap (λ (c : List ℕ). c ++ r) (sym s.joined) ∙ e) }
 
 module _ {V : Type 0} (A : V → List ℕ → Type 0) where
-  Wants-itself : Wants A [] A
+  pub Wants-itself : Wants A [] A
   Wants-itself = record { wants = λ v p r rest s e. (v, p, r, s, e) }
 
-  pub begins : HasSome A → (s : Script) → Midway A A (λ v. v) s s
+  unfoldable pub begins : HasSome A → (s : Script) → Midway A A (λ v. v) s s
   begins some s = record { bytes = []; takes = Takes-none s; wants = Wants-itself; makes = λ w q h. h; some = some }
 
 -- the rest of a spelling after its first part
@@ -252,7 +252,7 @@ is_read {whole = whole} {A = A} {build = build} {old = old} {mid = mid} {new = n
 
 -- a value of which that holds
 module _ {V : Type 0} (P : V → Type 0) (A : V → List ℕ → Type 0) where
-  pub such_read : (old new : Script) (v : V) → P v → ReadsValue A old v new → ReadsValue (IsSuch P A) old v new
+  unfoldable pub such_read : (old new : Script) (v : V) → P v → ReadsValue A old v new → ReadsValue (IsSuch P A) old v new
   such_read old new v holds read = record { bytes = read.bytes; spelled = record { holds = holds; spelled = read.spelled }; takes = read.takes }
 
   pub such_fails : (may : Why → List ℕ → Type 0) (old new : Script) (why : Why) → FailsPiece A may old why new → FailsPiece (IsSuch P A) may old why new
@@ -279,7 +279,7 @@ wrapped_fails {A = A} {may = may} {old = old} {new = new} {why = why} of some f 
 -- a value that is keyed by what is read before it, as a string by its length
 module _ {K V T : Type 0} (whole : T → List ℕ → Type 0) (key : V → K) (A : K → List ℕ → Type 0) (B : K → V → List ℕ → Type 0) (build : V → T) where
   -- the key is read
-  pub key_read : (old mid new : Script) (k : K) → OneFront A → ((v : V) (q : List ℕ) → B k v q → key v ≡ k) → HasSome (B k) → Midway whole (IsKeyed key A B) build old mid → ReadsValue A mid k new → Midway whole (B k) build old new
+  unfoldable pub key_read : (old mid new : Script) (k : K) → OneFront A → ((v : V) (q : List ℕ) → B k v q → key v ≡ k) → HasSome (B k) → Midway whole (IsKeyed key A B) build old mid → ReadsValue A mid k new → Midway whole (B k) build old new
   key_read old mid new k law keys some m read = record {
     some = some;
     bytes = m.bytes ++ read.bytes;

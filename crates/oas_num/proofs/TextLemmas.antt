@@ -103,6 +103,7 @@ with_name_length {old = old} {new = new} {count = count} some read =
     (such_read IsPositive IsUnsigned old new count (omega arith) read)
 
 pub name_text_fails : {old mid new : Script} {count : ℕ} {why : Why} → count ≢ 0 → ReadsValue IsUnsigned old count mid → Fails (IsText IsNameByte count) (TextMay IsNameByte) mid why new → Fails SpellsName NameMay old why new
+unfolding with_name_length key_read begins such_read
 name_text_fails {count = count} {why = why} some read f =
     let m = with_name_length some read in
     text_fails m f (name_reason why count m.bytes f.bytes read.spelled (Begins-after SpellsName (IsText IsNameByte count) m.bytes (λ text. text) m.makes) f.reason)
@@ -142,6 +143,7 @@ with_label_length {old = old} {new = new} {count = count} read =
     key_read SpellsLabel length IsUnsigned (λ count. IsText IsLabelByte count) (λ v. v) old old new count OneFront-IsUnsigned (λ v q h. h.len) (HasSome-text classes.Label count) (begins SpellsLabel (HasSome-label Any) old) read
 
 pub label_text_fails : {old mid new : Script} {count : ℕ} {why : Why} → ReadsValue IsUnsigned old count mid → Fails (IsText IsLabelByte count) (TextMay IsLabelByte) mid why new → Fails SpellsLabel LabelMay old why new
+unfolding with_label_length key_read begins
 label_text_fails {count = count} {why = why} read f =
     let m = with_label_length read in
     text_fails m f (label_reason why count m.bytes f.bytes read.spelled (Begins-after SpellsLabel (IsText IsLabelByte count) m.bytes (λ text. text) m.makes) f.reason)
