@@ -22,10 +22,10 @@ OneFront-number_if there = OneFront-there there IsUnsigned OneFront-IsUnsigned
 
 -- what a test says
 pub allowed_by : {P : Type 0} {test : Bool} → (IsTrue test ↔ P) → test ≡ true → P
-allowed_by says is = says.0 (rw is tt)
+allowed_by says is = says.0 is
 
 pub refused_by : {P : Type 0} {test : Bool} → (IsTrue test ↔ P) → test ≡ false → ¬ P
-refused_by {test = test} says isnt p = let is : IsTrue test = says.1 p in absurd (rw isnt at is)
+refused_by says isnt p = let is = says.1 p in absurd cc
 
 -- A record of an info byte and fields: 0 is allowed, and after each info byte some fields are spelled.
 module _ {U F : Type 0} (of : ℕ × F → U) (allowed : ℕ → Type 0) (fields : ℕ → F → List ℕ → Type 0) (zero_is : allowed 0) (some : (info : ℕ) → HasSome (fields info)) where

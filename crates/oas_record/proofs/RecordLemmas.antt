@@ -1,8 +1,9 @@
 -- Reading a record: its id, and what follows it.
-use Rattle.std.proofs.Common.{◌≡◌, ◌≢◌, ℕ, ◌+◌, ◌<◌, Bool, List, [], ◌++◌, length, Some, Result, Ok, Err, refl, sym, ap, subst, ◌∙◌, append_assoc, arith}
+use Rattle.std.proofs.Common.{◌≡◌, ◌≢◌, ℕ, ◌+◌, ◌<◌, Bool, true, List, [], ◌++◌, length, Some, Result, Ok, Err, refl, sym, ap, subst, ◌∙◌, append_assoc, arith}
 use Rattle.oas_num.specs.declared.refusals.Why.{Why}
 use Rattle.oas_num.specs.declared.refusals.Why.TheVariants.{Truncated, RecordLeftOut, UnknownRecord, OutOfPlace, EndLength, Read, InputTooLong}
 use Rattle.oas_num.specs.Script.{Script}
+use Rattle.oas_num.specs.GrammarLaws.{after_same}
 use Rattle.oas_num.specs.Integers.{IsUnsigned}
 use Rattle.oas_num.specs.IntegerLaws.{OneFront-IsUnsigned}
 use Rattle.oas_num.specs.Begun.{HasSome}
@@ -24,9 +25,13 @@ use Rattle.oas_record.proofs.AfterLemmas.{read_2}
 
 -- ---- the id
 
+-- the id, and what follows it
+id_joined : (in_end : Bool) (v : Record) (p r rest : List ℕ) (b : parts_in Any in_end v p) → p ++ r ≡ rest → b.front ++ (b.back ++ r) ≡ rest
+id_joined in_end v p r rest b e = sym (append_assoc b.front b.back r) ∙ ap (λ (c : List ℕ). c ++ r) (sym b.joined) ∙ e
+
 -- a record begins with its id
 record_wants : (in_end : Bool) → Wants (record_in Any in_end) [] IsUnsigned
-record_wants in_end = record { wants = λ v p r rest s e. let b = s.parts in (id_of v, b.front, b.back ++ r, b.first, sym (append_assoc b.front b.back r) ∙ ap (λ (c : List ℕ). c ++ r) (sym b.joined) ∙ e) }
+record_wants in_end = record { wants = λ v p r rest s e. let b = s.parts in (id_of v, b.front, b.back ++ r, b.first, id_joined in_end v p r rest b e) }
 
 pub id_fails : {old new : Script} {why : Why} (in_end : Bool) → FailsPiece IsUnsigned IntegerMay old why new → Fails (record_in Any in_end) (RecordMay in_end) old why new
 id_fails {old = old} {new = new} {why = why} in_end f =
@@ -43,8 +48,8 @@ unknown_id in_end id why isnt read reason a b c = record {
   reason = record { front = []; last = read.bytes; joined = refl; begun = Begins-none (record_in Any in_end) (HasSome-record in_end); holds = reason };
   format = λ _. record {
     none = λ v p r more s e.
-        let w = (record_wants in_end).wants v p r (read.bytes ++ more) s e in
-        let one = OneFront-IsUnsigned.one w.0 id w.1 read.bytes w.2 more w.3 read.spelled w.4 in
+        let b = s.parts in
+        let one = OneFront-IsUnsigned.one (id_of v) id b.front read.bytes (b.back ++ r) more b.first read.spelled (id_joined in_end v p r (read.bytes ++ more) b e) in
         isnt (subst IsKnown one.1 (known_id v));
   };
   truncated = λ is. absurd (a is);
@@ -87,11 +92,13 @@ with_end {id = id} in_end is read = with_id in_end (subst (λ k. HasSome (after_
 
 -- what follows it
 end_wants : {old mid : Script} {id : ℕ} (in_end : Bool) → id ≡ 2 → (read : ReadsValue IsUnsigned old id mid) → Wants (record_in Any in_end) read.bytes (end_in Any in_end)
-end_wants in_end is read = record {
+end_wants {id = id} in_end is read = record {
   wants = λ v p r rest s e.
-      let w = (with_end in_end is read).wants.wants v p r rest s.parts e in
-      let h = subst (λ k. after_id Any in_end k w.0 w.1) is w.3 in
-      (h.from, w.1, w.2, h.spelled, w.4);
+      let b = s.parts in
+      let joined = id_joined in_end v p r (read.bytes ++ rest) b e in
+      let one = OneFront-IsUnsigned.one (id_of v) id b.front read.bytes (b.back ++ r) rest b.first read.spelled joined in
+      let h = subst (λ k. after_id Any in_end k v b.back) (one.1 ∙ is) b.second in
+      (h.from, b.back, r, h.spelled, after_same b.front read.bytes (b.back ++ r) rest one.0 joined);
 }
 
 pub end_fails : {old mid new : Script} {id : ℕ} {why : Why} (in_end : Bool) → id ≡ 2 → ReadsValue IsUnsigned old id mid → Fails (end_in Any in_end) EndMay mid why new → Fails (record_in Any in_end) (RecordMay in_end) old why new
