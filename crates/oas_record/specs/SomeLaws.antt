@@ -1,10 +1,11 @@
 -- Each part of the grammar spells something, each kind of record after any info byte.
-use Rattle.std.proofs.Common.{◌≡◌, ◌≢◌, ℕ, Bool, true, false, List, [], ◌∷◌, ◌++◌, length, Some, None, inl, refl, arith}
+use Rattle.std.proofs.Common.{◌≡◌, ◌≢◌, ℕ, Bool, true, false, List, [], ◌∷◌, ◌++◌, Some, None, inl, inr, refl, arith}
 use Rattle.std.specs.Prelude.{◌==◌, ◌/◌, ◌%◌}
 use Rattle.std.proofs.lemmas.Nat.Gcd.{dvd_refl}
+use Rattle.std.proofs.lemmas.Bool.{eq-eqb}
 use Rattle.oas_num.specs.Begun.{HasSome}
 use Rattle.oas_num.specs.Grammar.{IsPair, IsSuch, IsImage, IsThere, IsByte}
-use Rattle.oas_num.specs.Combinators.{IsExactly}
+use Rattle.oas_num.specs.Combinators.{IsExactly, IsEither}
 use Rattle.oas_num.specs.Ratio.{Ratio, Reduces}
 use Rattle.oas_num.specs.Integers.{IsUnsigned, IsSigned}
 use Rattle.oas_num.specs.Writing.{shortest}
@@ -23,15 +24,16 @@ use Rattle.oas_record.specs.References.{cell_number, cell_name, cell_in, text_nu
 use Rattle.oas_record.specs.Fields.{layers_in, spot_of, spot_in}
 use Rattle.oas_record.specs.NameRecords.{cell_name_in, text_string_in}
 use Rattle.oas_record.specs.Ends.{nothing, IsNumber, IsOffsets, offsets_if, end_parts, end_in}
-use Rattle.oas_record.specs.Heads.{magic, IsMagic, version, version_in, SpellsUnit, IsFlag, flag_in, twelve_zeros, offsets_in, start_parts, head_of, start_in}
+use Rattle.oas_record.specs.Heads.{magic, IsMagic, version, version_in, SpellsUnit, IsFlag, flag_in, twelve_zeros, offsets_in, start_parts, head_of, start_in, head_after, head_in}
 use Rattle.oas_record.specs.HeadLaws.{offsets_within, itself}
-use Rattle.oas_record.specs.Placements.{IsPlacementInfo, IsCanonicalPlacement, quarter_fields, quarters_of, quarters_in, degree_fields, degrees_of, degrees_in}
-use Rattle.oas_record.specs.Texts.{text_fields}
-use Rattle.oas_record.specs.Rectangles.{rectangle_fields}
-use Rattle.oas_record.specs.Polygons.{polygon_fields}
-use Rattle.oas_record.specs.Paths.{IsScheme, numbers_in, extensions_of, extensions_in, path_fields}
-use Rattle.oas_record.specs.Circles.{circle_fields}
-use Rattle.oas_record.specs.Records.{parts_in, record_in}
+use Rattle.oas_record.specs.Placements.{IsPlacementInfo, quarter_fields, quarters_of, quarters_in, degree_fields, degrees_of, degrees_in}
+use Rattle.oas_record.specs.Texts.{IsTextInfo, text_fields, text_of, text_record_in}
+use Rattle.oas_record.specs.Rectangles.{IsRectangleInfo, rectangle_fields, rectangle_of, rectangle_in}
+use Rattle.oas_record.specs.Polygons.{IsPolygonInfo, polygon_fields, polygon_of, polygon_in}
+use Rattle.oas_record.specs.Paths.{IsScheme, numbers_in, extensions_of, extensions_in, IsPathInfo, path_fields, path_of, path_in}
+use Rattle.oas_record.specs.Circles.{IsCircleInfo, circle_fields, circle_of, circle_in}
+use Rattle.oas_record.specs.Records.{pad, end, xy_absolute, xy_relative, cell_name as cell_record, text_string, a_cell, placement, text, rectangle, polygon, path, circle, after_id, parts_in, record_in}
+use Rattle.oas_record.specs.May.{IsKnown}
 use Rattle.oas_num.specs.BegunLaws.{HasSome-pair, HasSome-image, HasSome-there, HasSome-either, HasSome-exactly}
 use Rattle.oas_num.specs.IntegerLaws.{zero_spelled, HasSome-IsUnsigned, HasSome-IsSigned}
 use Rattle.oas_shape.specs.PointListLaws.{HasSome-point_list}
@@ -218,3 +220,49 @@ HasSome-start =
     (HasSome-pair _ _ HasSome-version
     (HasSome-pair _ _ HasSome-unit
     (HasSome-pair (flag_in Any) (λ flag. offsets_in Any (flag == 0)) HasSome-flag (HasSome-offsets_if (HasSome-flag.value == 0))))))
+
+pub HasSome-head : HasSome (head_in Any)
+HasSome-head = HasSome-image head_after (IsPair IsMagic (λ _. start_in Any)) (HasSome-pair IsMagic (λ _. start_in Any) HasSome-magic HasSome-start)
+
+-- ---- ids
+
+-- one of two by an id
+either_some : {V : Type 0} (id n : ℕ) (A B : V → List ℕ → Type 0) (test : Bool) → (id == n) ≡ test → HasSome A → (id ≢ n → HasSome B) → HasSome (IsEither test A B)
+either_some id n A B true is first rest = record { value = first.value; bytes = first.bytes; spelled = first.spelled }
+either_some id n A B false is first rest = let some = rest (λ e. let same = eq-eqb id n e in absurd cc) in record { value = some.value; bytes = some.bytes; spelled = some.spelled }
+
+by_id : {V : Type 0} {A B : V → List ℕ → Type 0} (id n : ℕ) → HasSome A → (id ≢ n → HasSome B) → HasSome (IsEither (id == n) A B)
+by_id {A = A} {B = B} id n first rest = either_some id n A B (id == n) refl first rest
+
+-- a known id is one of these
+none_other : (id : ℕ) → IsKnown id → id ≢ 0 → id ≢ 2 → id ≢ 3 → id ≢ 4 → id ≢ 5 → id ≢ 6 → id ≢ 13 → id ≢ 14 → id ≢ 15 → id ≢ 16 → id ≢ 17 → id ≢ 18 → id ≢ 19 → id ≢ 20 → id ≢ 21 → id ≢ 22 → id ≢ 27 → ⊥
+none_other id known a b c d e f g h i j k l m n o p q =
+    elim known [
+      | inl is ↦ a is
+      | inr r ↦ elim r [
+        | inl is ↦ omega (arith, is.0, is.1, b, c, d, e, f)
+        | inr r ↦ elim r [ inl is ↦ omega (arith, is.0, is.1, g, h, i, j, k, l, m, n, o, p) | inr is ↦ q is ]
+      ]
+    ]
+
+-- after each id that the profile has
+pub HasSome-after_id : (in_end : Bool) (id : ℕ) → IsKnown id → HasSome (after_id Any in_end id)
+HasSome-after_id in_end id known =
+    by_id id 0 (HasSome-image pad (IsExactly []) (HasSome-exactly [])) (λ a.
+    by_id id 2 (HasSome-image end (end_in Any in_end) (HasSome-end in_end)) (λ b.
+    by_id id 3 (HasSome-image cell_record (cell_name_in Any false) (HasSome-cell_name false)) (λ c.
+    by_id id 4 (HasSome-image cell_record (cell_name_in Any true) (HasSome-cell_name true)) (λ d.
+    by_id id 5 (HasSome-image text_string (text_string_in Any false) (HasSome-text_string false)) (λ e.
+    by_id id 6 (HasSome-image text_string (text_string_in Any true) (HasSome-text_string true)) (λ f.
+    by_id id 13 (HasSome-image a_cell (cell_in Any true) (HasSome-cell true)) (λ g.
+    by_id id 14 (HasSome-image a_cell (cell_in Any false) (HasSome-cell false)) (λ h.
+    by_id id 15 (HasSome-image xy_absolute (IsExactly []) (HasSome-exactly [])) (λ i.
+    by_id id 16 (HasSome-image xy_relative (IsExactly []) (HasSome-exactly [])) (λ j.
+    by_id id 17 (HasSome-image placement (quarters_in Any) (HasSome-kind quarters_of IsPlacementInfo (quarter_fields Any) (omega arith) HasSome-quarter_fields)) (λ k.
+    by_id id 18 (HasSome-image placement (degrees_in Any) (HasSome-kind degrees_of IsPlacementInfo (degree_fields Any) (omega arith) HasSome-degree_fields)) (λ l.
+    by_id id 19 (HasSome-image text (text_record_in Any) (HasSome-kind text_of IsTextInfo (text_fields Any) (omega arith) HasSome-text_fields)) (λ m.
+    by_id id 20 (HasSome-image rectangle (rectangle_in Any) (HasSome-kind rectangle_of IsRectangleInfo (rectangle_fields Any) (omega arith) HasSome-rectangle_fields)) (λ n.
+    by_id id 21 (HasSome-image polygon (polygon_in Any) (HasSome-kind polygon_of IsPolygonInfo (polygon_fields Any) (omega arith) HasSome-polygon_fields)) (λ o.
+    by_id id 22 (HasSome-image path (path_in Any) (HasSome-kind path_of IsPathInfo (path_fields Any) (omega arith) HasSome-path_fields)) (λ p.
+    by_id id 27 (HasSome-image circle (circle_in Any) (HasSome-kind circle_of IsCircleInfo (circle_fields Any) (omega arith) HasSome-circle_fields)) (λ q.
+    absurd (none_other id known a b c d e f g h i j k l m n o p q))))))))))))))))))
