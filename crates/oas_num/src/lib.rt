@@ -5,9 +5,13 @@
 //! - A [`Source`] gives its bytes in order, at most as many as its limit, and says truly why it gives no more. What it
 //!   gave and is still to give is a `Script` (specs/Script.antt), and a call of `next` is a `Next` between two of them.
 //! - A read of a [`Spelled`] type takes exactly a spelling of the value that it answers. It refuses by a reason of format
-//!   only where no spelling is a front of the bytes that stand there, however they go on; its bytes then end with those
-//!   that the type's table `may` allows for that reason. The contract is `Reads` (specs/Reading.antt).
+//!   only where no spelling is a front of the bytes that stand there, however they go on. Its bytes then end with those
+//!   that decided, which the type's table `may` allows for that reason, and those before them begin a spelling. The end of
+//!   the input is answered, too, only where what was read begins one, up to an integer that is cut off; and memory is
+//!   asked for only for what was read. The contract is `Reads` (specs/Reading.antt), and `ReadsPiece` for a byte and an
+//!   integer, of which all bytes decide.
 //! - No spelling of a type begins another, and none spells two values: `OneFront` (specs/Grammar.antt), a law of the trait.
+//!   Each type has a spelling: `HasSome` (specs/Begun.antt), another.
 //! - The grammar of spellings is made of few parts (specs/Grammar.antt, specs/Combinators.antt), with three laws each:
 //!   `OneFront`, `OneSpelling` (in the shortest style a value has one spelling) and `IsWithin` (the shortest spellings are
 //!   spellings). It is written over a `Style` (specs/Style.antt): any spelling that the standard has, or the shortest.
