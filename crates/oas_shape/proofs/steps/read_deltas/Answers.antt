@@ -1,4 +1,4 @@
-use Rattle.std.specs.Prelude.{pos, true, false}
+use Rattle.std.proofs.Common.{pos, true, false, arith}
 use Rattle.oas_num.specs.Deltas.{step, SpellsDelta2, SpellsDelta3, SpellsGDelta}
 use Rattle.oas_shape.specs.PointLists.{step2, step3, stepg}
 use Rattle.oas_shape.proofs.StepLemmas.{alternating_may, steps_may, by_kind, by_last}
@@ -17,4 +17,4 @@ pub returns-in-3 : goal.returns-in-3
 returns-in-3 g c = by_kind _ _ 3 _ _ _ _ c.in-3.is (steps_may step3 SpellsDelta3 3 (λ d last h. (d, h))) c.read_steps-in-3.ensures
 
 pub returns-in_default : goal.returns-in_default
-returns-in_default g c = by_last _ _ _ _ _ _ c.in_default.not-0 c.in_default.not-1 c.in_default.not-2 c.in_default.not-3 (steps_may stepg SpellsGDelta 4 (λ d last h. (d, h))) c.read_steps-in_default.ensures
+returns-in_default g c = by_last _ c.args.kind _ _ _ _ (omega arith) (omega arith) (omega arith) (omega arith) (steps_may stepg SpellsGDelta 4 (λ d last h. (d, h))) c.read_steps-in_default.ensures
