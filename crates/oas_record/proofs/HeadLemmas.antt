@@ -9,7 +9,6 @@ use Rattle.oas_num.specs.declared.reals.Real.{Real}
 use Rattle.oas_num.specs.Script.{Script, Takes}
 use Rattle.oas_num.specs.Ratio.{Ratio}
 use Rattle.oas_num.specs.Grammar.{IsPair, IsSuch, IsByte}
-use Rattle.oas_num.specs.GrammarLaws.{after_same}
 use Rattle.oas_num.specs.Integers.{IsUnsigned}
 use Rattle.oas_num.specs.IntegerLaws.{OneFront-IsUnsigned}
 use Rattle.oas_num.specs.Style.{Any}

@@ -6,7 +6,7 @@ use Rattle.std.proofs.lemmas.Bool.{eq-eqb}
 use Rattle.oas_num.specs.Begun.{HasSome}
 use Rattle.oas_num.specs.Grammar.{IsPair, IsSuch, IsImage, IsThere, IsByte}
 use Rattle.oas_num.specs.Combinators.{IsExactly, IsEither}
-use Rattle.oas_num.specs.Ratio.{Ratio, Reduces}
+use Rattle.oas_num.specs.Ratio.{Ratio}
 use Rattle.oas_num.specs.Integers.{IsUnsigned, IsSigned}
 use Rattle.oas_num.specs.Writing.{shortest}
 use Rattle.oas_num.specs.Style.{Any}
@@ -19,7 +19,7 @@ use Rattle.oas_shape.specs.declared.list_use.ListUse.TheVariants as uses
 use Rattle.oas_shape.specs.PointLists.{point_list_in}
 use Rattle.oas_shape.specs.Repetitions.{rep_field_in}
 use Rattle.oas_record.specs.declared.records.Record.TheVariants as record_of
-use Rattle.oas_record.specs.Info.{has, info_in}
+use Rattle.oas_record.specs.Info.{has}
 use Rattle.oas_record.specs.References.{cell_number, cell_name, cell_in, text_number, text_label, text_in}
 use Rattle.oas_record.specs.Fields.{layers_in, spot_of, spot_in}
 use Rattle.oas_record.specs.NameRecords.{cell_name_in, text_string_in}
