@@ -7,13 +7,12 @@ use Rattle.oas_num.specs.declared.refusals.Why.TheVariants.{Read, InputTooLong, 
 use Rattle.oas_num.specs.declared.refusals.Refusal.{Refusal}
 use Rattle.oas_num.specs.declared.reals.Real.{Real}
 use Rattle.oas_num.specs.Combinators.{IsExactly}
-use Rattle.oas_num.specs.Script.{Script, Takes}
+use Rattle.oas_num.specs.Script.{Script}
 use Rattle.oas_num.specs.Style.{Any}
 use Rattle.oas_num.specs.Reading.{Fails, ReadsValue}
 use Rattle.oas_num.proofs.ReadLemmas.{Takes-then}
 use Rattle.oas_canon.specs.declared.collecting.Collected.{Collected}
 use Rattle.oas_canon.specs.declared.limits.Limits.{Limits}
-use Rattle.oas_canon.specs.declared.rectangles.Rectangle.{Rectangle}
 use Rattle.oas_canon.specs.declared.records.Record.{Record}
 use Rattle.oas_canon.specs.declared.records.Record.TheVariants.{Pad, Cell, Rectangle as Shape}
 use Rattle.oas_canon.specs.File.{magic, IsStart}

@@ -1,5 +1,5 @@
 -- Something of each kind is spelled: bytes by which a file can go on.
-use Rattle.std.proofs.Common.{ℕ, ◌<◌, List, [], ◌∷◌, ◌++◌, Option, Some, None, false, refl, arith}
+use Rattle.std.proofs.Common.{ℕ, ◌<◌, [], ◌∷◌, Some, None, false, refl, arith}
 use Rattle.oas_num.specs.Begun.{HasSome}
 use Rattle.oas_num.specs.BegunLaws.{HasSome-exactly, HasSome-pair, HasSome-image, HasSome-count}
 use Rattle.oas_num.specs.Integers.{IsUnsigned}
