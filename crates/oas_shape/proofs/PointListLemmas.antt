@@ -1,7 +1,7 @@
 -- The parts of a point list, one after another.
-use Rattle.std.proofs.Common.{◌≡◌, ℕ, ◌<◌, ◌≤◌, Bool, false, List, [], ◌++◌, inl, inr, refl, sym, ap, subst, ◌∙◌, append_assoc, arith}
+use Rattle.std.proofs.Common.{◌≡◌, ℕ, ◌<◌, ◌≤◌, false, List, [], ◌++◌, inl, inr, refl, sym, ap, subst, ◌∙◌, append_assoc, arith}
 use Rattle.oas_num.specs.declared.refusals.Why.{Why}
-use Rattle.oas_num.specs.declared.refusals.Why.TheVariants.{Truncated, IntegerRange, ListKind, PointCount, Read, InputTooLong, Memory}
+use Rattle.oas_num.specs.declared.refusals.Why.TheVariants.{Truncated, IntegerRange, ListKind, PointCount, Read, InputTooLong}
 use Rattle.oas_num.specs.declared.deltas.GDelta.{GDelta}
 use Rattle.oas_num.specs.Script.{Script}
 use Rattle.oas_num.specs.Begun.{Decides}
@@ -13,7 +13,7 @@ use Rattle.oas_num.specs.Reading.{ReadsValue, Fails, FailsPiece, IntegerMay}
 use Rattle.oas_num.proofs.GrammarLemmas.{Midway, begins, seen, ◌▹◌, fails_at_piece, such_read, such_fails_by, refused, image_fails}
 use Rattle.oas_shape.specs.declared.list_use.ListUse.{ListUse}
 use Rattle.oas_shape.specs.ListUses.{IsFitting}
-use Rattle.oas_shape.specs.PointLists.{IsListKind, deltas_in, polyline_of, after_kind, IsPointList, IsDelta, DeltasMay, IsListBegun, PointListMay}
+use Rattle.oas_shape.specs.PointLists.{IsListKind, deltas_in, polyline_of, after_kind, IsPointList, DeltasMay, IsListBegun, PointListMay}
 use Rattle.oas_shape.specs.PointListLaws.{OneFront-kind, OneFront-fitting, HasSome-kind, HasSome-deltas, HasSome-after_kind, HasSome-point_list}
 use Rattle.oas_shape.proofs.ReadingLemmas.{as_piece, from_piece, second_fails, pair_begins}
 

@@ -4,7 +4,6 @@ use Rattle.std.specs.Prelude.{Result, Ok, Err, ◌⊎◌}
 use Rattle.std.proofs.lemmas.Bool.{ne_eqb}
 use Rattle.oas_num.specs.declared.refusals.Why.{Why}
 use Rattle.oas_num.specs.declared.refusals.Why.TheVariants.{Truncated, IntegerRange, RepetitionKind, CoordinateRange, Read, InputTooLong, Memory}
-use Rattle.oas_num.specs.declared.deltas.GDelta.{GDelta}
 use Rattle.oas_num.specs.Script.{Script}
 use Rattle.oas_num.specs.Begun.{Decides}
 use Rattle.oas_num.specs.BegunLaws.{HasSome-pair, Begins-none}
@@ -20,7 +19,7 @@ use Rattle.oas_shape.specs.declared.offsets.Along.{Along}
 use Rattle.oas_shape.specs.declared.repetitions.Repetition.{Repetition}
 use Rattle.oas_shape.specs.declared.repetitions.RepField.{RepField}
 use Rattle.oas_shape.specs.declared.repetitions.RepField.TheVariants.{Again, New}
-use Rattle.oas_shape.specs.Repetitions.{IsRepetitionKind, AreTwo, matrix_of, IsMatrix, lattice_of, IsLattice, line_of, IsLine, IsOffsets, grid_of, listed_of, after_dim, IsListed, repetition_by, field_by, field_of, rep_field_in, listing_of, AreOffsetsSoFar, IsListedSoFar, AreFieldsSoFar, IsListSoFar, ListedTook, FieldsTook, RepFieldMay}
+use Rattle.oas_shape.specs.Repetitions.{IsRepetitionKind, AreTwo, matrix_of, IsMatrix, lattice_of, IsLattice, line_of, IsLine, IsOffsets, grid_of, listed_of, after_dim, IsListed, repetition_by, field_by, field_of, rep_field_in, listing_of, AreOffsetsSoFar, IsListedSoFar, IsListSoFar, ListedTook, FieldsTook, RepFieldMay}
 use Rattle.oas_shape.specs.RepetitionLaws.{OneFront-kind, OneFront-grid, HasSome-kind, HasSome-matrix, HasSome-lattice, HasSome-line, HasSome-listed, HasSome-after_dim, HasSome-field, HasSome-rep_field}
 use Rattle.oas_shape.proofs.ReadingLemmas.{image_read, as_piece, whole_piece, from_piece, second_fails, pair_begins}
 

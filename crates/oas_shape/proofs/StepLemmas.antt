@@ -1,5 +1,5 @@
 -- Deltas that were read one after another.
-use Rattle.std.proofs.Common.{◌≡◌, ◌≢◌, ℕ, ◌<◌, ◌≤◌, subst, inl, inr, arith, Bool, true, false, not, List, [], ◌∷◌, ◌++◌, length, refl, sym, ap, ◌∙◌, ◌+◌}
+use Rattle.std.proofs.Common.{◌≡◌, ◌≢◌, ℕ, ◌<◌, subst, inl, inr, arith, Bool, true, false, not, List, [], ◌∷◌, ◌++◌, length, refl, sym, ap, ◌∙◌, ◌+◌}
 use Rattle.std.specs.Prelude.{pos, if◌then◌else◌, Result, Ok, Err, ◌==◌, ◌⊎◌}
 use Rattle.std.proofs.lemmas.List.{length_push, append-nil}
 use Rattle.std.proofs.lemmas.Bool.{ne_eqb}
