@@ -1,6 +1,6 @@
 -- What the writer under an outlet took.
 use Rattle.std.proofs.Common.{◌≡◌, ℕ, ◌+◌, ◌*◌, ◌^◌, ◌≤◌, List, ◌++◌, length, Option, length-append, refl, sym, ap, ◌∙◌, append_assoc, arith, MutBor}
-use Rattle.oas_num.specs.declared.outlets.Outlet.{Outlet}
+use Rattle.oas_num.specs.Outlet.{Outlet}
 use Rattle.oas_num.specs.declared.refusals.Why.TheVariants.{Write as NotWritten}
 use Rattle.oas_num.specs.Writing.{PutsFront}
 use Rattle.oas_num.specs.Outlets.{failures_of, Opens, IsGiven, IsSent}

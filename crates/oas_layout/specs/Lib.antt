@@ -1,7 +1,5 @@
 pub mod Ascending
 pub mod Bag
-pub mod Boxes
-pub mod BoxesLaws
 pub mod Contents
 pub mod Element
 pub mod ElementLaws

@@ -4,14 +4,13 @@ use Rattle.std.specs.Ordering.{eq_by_cmp}
 use Rattle.oas_ring.specs.declared.point.Point.{Point}
 use Rattle.oas_ring.specs.declared.rectangles.Corners.{Corners}
 use Rattle.oas_ring.specs.Rings.{SameRing}
-use Rattle.oas_ring.specs.Rectangles.{IsBox}
+use Rattle.oas_ring.specs.Rectangles.{IsBox, is_box, box_of}
 use Rattle.oas_layout.specs.declared.profile.Profile.{Profile}
 use Rattle.oas_layout.specs.declared.profile.Profile.TheVariants.{One, Two}
 use Rattle.oas_layout.specs.declared.element.Element.{Element}
 use Rattle.oas_layout.specs.declared.element.Element.TheVariants.{Placement, Text, Rectangle, Polygon, Path, Circle}
 use Rattle.oas_layout.specs.Element.{element_cmp}
 use Rattle.oas_ring.specs.Readings.{is_same_ring, least_of}
-use Rattle.oas_layout.specs.Boxes.{is_box, box_of}
 
 -- the corners of a rectangle
 abbrev pub rectangle_corners : ℕ → ℕ → ℤ → ℤ → Corners

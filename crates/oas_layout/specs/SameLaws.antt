@@ -11,7 +11,7 @@ use Rattle.oas_ring.specs.declared.rectangles.Corners.{Corners}
 use Rattle.oas_ring.specs.Rings.{SameRing}
 use Rattle.oas_ring.specs.Readings.{IsLeastReading}
 use Rattle.oas_ring.specs.Points.{list_cmp}
-use Rattle.oas_ring.specs.Rectangles.{IsBox, corners_of}
+use Rattle.oas_ring.specs.Rectangles.{IsBox, corners_of, box_of}
 use Rattle.oas_ring.specs.RingsLaws.{same_ring_itself, same_ring_back, same_ring_twice}
 use Rattle.oas_layout.specs.declared.profile.Profile.{Profile}
 use Rattle.oas_layout.specs.declared.profile.Profile.TheVariants.{One, Two}
@@ -21,8 +21,7 @@ use Rattle.oas_layout.specs.Element.{element_cmp, kind}
 use Rattle.oas_layout.specs.ElementLaws.{element_total, exact_elements}
 use Rattle.oas_ring.specs.Readings.{least_of}
 use Rattle.oas_ring.specs.ReadingsLaws.{is_same_ring-SameRing, least_of-IsLeastReadingOf, least_of-is, least_of-same_ring, least_of-least_of, length-least_of}
-use Rattle.oas_layout.specs.Boxes.{box_of}
-use Rattle.oas_layout.specs.BoxesLaws.{is_box-Decides, box_of-is, box_of-box, box_of-none, box_of-alike}
+use Rattle.oas_ring.specs.RectanglesLaws.{is_box-Decides, box_of-is, box_of-box, box_of-none, box_of-alike}
 use Rattle.oas_layout.specs.Weight.{weight_of}
 use Rattle.oas_layout.specs.Same.{rectangle_corners, IsDrawn, SameElement, is_drawn, same_element, drawn_box, rectangle_of, normal_polygon, normal, IsNormal}
 

@@ -8,9 +8,9 @@ use Rattle.oas_num.specs.Grammar.{OneFront, IsPair, IsSuch, IsImage, IsThere, Is
 use Rattle.oas_num.specs.GrammarLaws.{after_same}
 use Rattle.oas_num.specs.Combinators.{IsKeyed}
 use Rattle.oas_num.specs.Begun.{HasSome, Begins, Before}
-use Rattle.oas_num.specs.BegunLaws.{HasSome-first, HasSome-second_of, HasSome-count, Begins-none, Before-begins, Before-as}
+use Rattle.oas_num.specs.BegunLaws.{HasSome-first, HasSome-second_of, HasSome-count, Before-begins, Before-as}
 use Rattle.oas_num.specs.Reading.{ReadsValue, FailsBy, Fails, FailsPiece}
-use Rattle.oas_num.proofs.ReadLemmas.{Takes-none, Takes-then, Wants, Fails-after, Begins-after, Before-after, piece_fails}
+use Rattle.oas_num.proofs.ReadLemmas.{Takes-none, Takes-then, Wants, Fails-after, Begins-after, Before-after}
 
 -- The fields so far were read, and a spelling of the rest, of which there is one, makes the whole.
 pub record Midway {V W : Type 0} (spells : V → List ℕ → Type 0) (next : W → List ℕ → Type 0) (build : W → V) (old now : Script) : Type 0 where

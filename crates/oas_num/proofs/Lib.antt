@@ -3,7 +3,5 @@ pub mod IntegerLemmas
 pub mod GrammarLemmas
 pub mod WritingLemmas
 pub mod TextLemmas
-pub mod ReaderLemmas
 pub mod RealLemmas
-pub mod OutletLemmas
 pub mod DeltaLemmas

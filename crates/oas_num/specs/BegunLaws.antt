@@ -1,5 +1,5 @@
 -- What is made of spellings is spelled, where they are.
-use Rattle.std.proofs.Common.{◌≡◌, ℕ, zero, suc, Bool, true, false, List, [], ◌∷◌, ◌++◌, length, ◌<◌, Option, Some, None, refl, sym, ap, subst, arith}
+use Rattle.std.proofs.Common.{ℕ, zero, suc, Bool, true, false, List, [], ◌∷◌, ◌++◌, ◌<◌, Some, None, refl, sym, ap, subst, arith}
 use Rattle.oas_num.specs.Grammar.{IsPair, IsSuch, IsImage, IsThere, IsEach, IsCount, IsByte}
 use Rattle.oas_num.specs.Combinators.{IsExactly, IsEither, IsKeyed, IsWithin}
 use Rattle.oas_num.specs.Begun.{HasSome, Begins, Before}

@@ -1,5 +1,11 @@
-pub mod Script
-pub mod Readers
+pub use Rattle.oas_bytes.specs.Script
+pub use Rattle.oas_bytes.specs.Readers
+pub use Rattle.oas_bytes.specs.Outlets
+pub use Rattle.oas_bytes.specs.OutletLaws
+pub use Rattle.oas_bytes.specs.declared.sources.SourceFault
+pub use Rattle.oas_bytes.specs.declared.readers.Ending
+pub use Rattle.oas_bytes.specs.declared.sinks.SinkFault
+pub use Rattle.oas_bytes.specs.declared.outlets.Outlet
 pub mod Refusals
 pub mod Grammar
 pub mod Begun
@@ -18,8 +24,6 @@ pub mod Reals
 pub mod RealLaws
 pub mod Writing
 pub mod WritingLaws
-pub mod Outlets
-pub mod OutletLaws
 pub mod Ratio
 pub mod RatioLaws
 pub mod Deltas

@@ -8,7 +8,7 @@ use Rattle.oas_num.specs.GrammarLaws.{OneFront-such, OneFront-count, OneFront-im
 use Rattle.oas_num.specs.Combinators.{OneSpelling, IsWithin}
 use Rattle.oas_num.specs.CombinatorLaws.{OneFront-keyed, OneSpelling-keyed, OneSpelling-such, OneSpelling-count, OneSpelling-byte, IsWithin-keyed, IsWithin-such, IsWithin-itself}
 use Rattle.oas_num.specs.Style.{Style, Any, Shortest, unsigned_in}
-use Rattle.oas_num.specs.StyleLaws.{OneFront-unsigned, OneSpelling-unsigned, IsWithin-unsigned, shortest-IsShortest, unsigned_spelled, HasSome-unsigned}
+use Rattle.oas_num.specs.StyleLaws.{OneFront-unsigned, OneSpelling-unsigned, IsWithin-unsigned, shortest-IsShortest, unsigned_spelled}
 use Rattle.oas_num.specs.BegunLaws.{HasSome-byte, HasSome-count, HasSome-image, HasSome-keyed, HasSome-within}
 use Rattle.oas_num.specs.Writing.{shortest}
 use Rattle.oas_num.specs.Texts.{IsNameByte, IsLabelByte, IsIn, IsOf, IsName, IsLabel, IsText, IsPositive, IsPassed, SpellsPadding, padding_of, padding_length, name_in, label_in}

@@ -4,8 +4,8 @@ ghost use Rattle.oas_num.specs.Integers.{signed_of};
 
 use crate::integers::{read_signed, read_unsigned, read_unsigned_if};
 use crate::refusals::Why;
-use crate::sources::Source;
 use crate::spelling::Spelled;
+use oas_bytes::Source;
 use std::alloc::Global;
 
 /// A 1-delta (SEMI P39, Deltas): how far along one axis. Which axis that is, the list says in which it stands.
@@ -174,7 +174,7 @@ fn component(coded: u64) -> i64
 #[cfg(test)]
 mod tests {
     use super::*;
-    use crate::slices::SliceSource;
+    use oas_bytes::SliceSource;
 
     /// Five in each direction, in the order of their numbers.
     const FIVE: [(i64, i64); 8] = [

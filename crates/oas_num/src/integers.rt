@@ -4,8 +4,8 @@ ghost use Rattle.oas_num.specs.Integers.{IsUnsigned, IsSigned};
 ghost use Rattle.oas_num.specs.Reading.{ReadsPiece, IntegerMay};
 
 use crate::refusals::Why;
-use crate::sources::Source;
 use crate::spelling::{Spelled, next_byte};
+use oas_bytes::Source;
 use std::alloc::Global;
 
 /// A number below 2^64 (SEMI P39, Unsigned integers): groups of seven bits, the least significant first. Longer spellings

@@ -3,8 +3,8 @@ ghost use Rattle.oas_num.specs.Reals.{part_of};
 
 use crate::integers::{read_unsigned, read_unsigned_if};
 use crate::refusals::Why;
-use crate::sources::Source;
 use crate::spelling::Spelled;
+use oas_bytes::Source;
 use std::alloc::Global;
 
 /// A fraction as it stands in a file (SEMI P39, Reals, types 0 to 5). Zero parts are read: the field in which they stand

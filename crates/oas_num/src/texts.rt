@@ -11,8 +11,8 @@ ghost use Rattle.oas_num.specs.Texts.{IsIn, IsText, IsName, IsLabel, IsPassed};
 
 use crate::integers::read_unsigned;
 use crate::refusals::Why;
-use crate::sources::Source;
 use crate::spelling::{Spelled, next_byte};
+use oas_bytes::Source;
 use std::alloc::{AllocError, Global};
 use std::cmp::Ordering;
 use std::hash::{Hash, Hasher};

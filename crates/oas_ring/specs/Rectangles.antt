@@ -1,9 +1,11 @@
 -- Rings that go round a rectangle.
-use Rattle.std.specs.Prelude.{◌<ℤ◌, List, [], ◌∷◌}
+use Rattle.std.specs.Prelude.{◌<ℤ◌, int_lt, Bool, ◌&&◌, List, [], ◌∷◌, Option, None, Some, if◌then◌else◌}
 use Rattle.std.specs.Int.{int_min, int_max}
 use Rattle.oas_ring.specs.declared.point.Point.{Point}
 use Rattle.oas_ring.specs.declared.rectangles.Corners.{Corners}
+use Rattle.oas_ring.specs.Points.{point_at}
 use Rattle.oas_ring.specs.Rings.{SameRing}
+use Rattle.oas_ring.specs.Readings.{is_same_ring}
 
 -- the four corners of a rectangle, in order round it
 abbrev pub corners_of : Corners → List Point
@@ -21,3 +23,13 @@ corners_between a b = record {
   low = record { x = int_min a.x b.x; y = int_min a.y b.y };
   high = record { x = int_max a.x b.x; y = int_max a.y b.y };
 }
+
+-- the test of `IsBox`
+abbrev pub is_box : List Point → Corners → Bool
+is_box p c = int_lt c.low.x c.high.x && (int_lt c.low.y c.high.y && is_same_ring p (corners_of c))
+
+-- the rectangle that the ring goes round, if there is one
+abbrev pub box_of : List Point → Option Corners
+box_of p =
+    let c = corners_between (point_at p 0) (point_at p 2) in
+    if is_box p c then Some c else None

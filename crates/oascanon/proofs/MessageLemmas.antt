@@ -1,8 +1,8 @@
 -- What the error output has once an outlet before it was told a line, and closed.
 use Rattle.std.proofs.Common.{◌≡◌, ℕ, List, [], ◌∷◌, ◌++◌, length, Option, Result, Ok, Err, inl, inr, refl, sym, ap, ◌∙◌, append_assoc, append-nil, arith, MutBor}
-use Rattle.oas_num.specs.declared.outlets.Outlet.{Outlet}
+use Rattle.oas_num.specs.Outlet.{Outlet}
 use Rattle.oas_num.specs.declared.refusals.Refusal.{Refusal}
-use Rattle.oas_num.specs.declared.sinks.SinkFault.{SinkFault}
+use Rattle.oas_num.specs.SinkFault.{SinkFault}
 use Rattle.oas_num.specs.OutletLaws.{given_since, takes_front, stays}
 use Rattle.oas_num.specs.Outlets.{Opens, IsGiven, failures_of}
 use Rattle.oas_num.specs.Writing.{Writes}

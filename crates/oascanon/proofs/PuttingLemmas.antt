@@ -1,6 +1,6 @@
 -- Putting one part of a line after another.
 use Rattle.std.proofs.Common.{◌≡◌, ℕ, List, ◌++◌, Result, refl, sym, ◌∙◌, append_assoc}
-use Rattle.oas_num.specs.declared.sinks.SinkFault.{SinkFault}
+use Rattle.oas_num.specs.SinkFault.{SinkFault}
 use Rattle.oas_num.specs.Writing.{Puts, PutsFront, Writes}
 use Rattle.oas_num.proofs.WritingLemmas.{Puts-then, PutsFront-then, Writes-then}
 

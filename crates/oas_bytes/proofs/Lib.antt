@@ -1,0 +1,3 @@
+pub mod ReaderLemmas
+pub mod WritingLemmas
+pub mod OutletLemmas

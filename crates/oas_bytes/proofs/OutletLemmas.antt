@@ -1,0 +1,129 @@
+-- What an outlet was given, call by call.
+use Rattle.std.proofs.Common.{◌≡◌, ℕ, ◌+◌, ◌<◌, ◌^◌, min, List, [], ◌∷◌, ◌++◌, length, take, drop, Option, Bool, true, false, refl, sym, ap, ◌∙◌, append_assoc, append-nil, take-append-drop, length-append, ◌-◌, arith}
+use Rattle.std.proofs.lemmas.List.{length-take-le}
+use Rattle.std.specs.Io.KnownBytes.{Appends, Keeps}
+use Rattle.oas_bytes.specs.declared.outlets.Outlet.{Outlet}
+use Rattle.oas_bytes.specs.Writing.{Puts, PutsFront}
+use Rattle.oas_bytes.specs.Outlets.{unsent, failures_of, IsGiven}
+use Rattle.oas_bytes.specs.OutletLaws.{Appends-then, Appends-kept}
+use Rattle.oas_bytes.proofs.WritingLemmas.{Puts-then}
+
+-- a full window is the only one of an outlet that has failed
+pub works_below : (n : ℕ) (failed : Bool) → (failed ≡ true → n ≡ 8192) → n < 8192 → failed ≡ false
+works_below n true full lt = absurd (omega (arith, full refl))
+works_below n false full lt = refl
+
+length-sum : (a b : List ℕ) → length (a ++ b) ≡ length a + length b
+length-sum a b = omega (arith, length-append {A = ℕ})
+
+count_more : (start old new : ℕ) (a b : List ℕ) (n : ℕ) → length (a ++ b) ≡ length a + n → old ≡ min (start + length a) (2 ^ 64 - 1) → new ≡ min (old + n) (2 ^ 64 - 1) → new ≡ min (start + length (a ++ b)) (2 ^ 64 - 1)
+count_more start old new a b n len e f = omega (arith, len, e, f)
+
+module _ {W : Type 0} where
+  unsent_works : (o : Outlet W) → o.failed ≡ false → unsent o ≡ o.window
+  unsent_works o e = rw e refl
+
+  no_fault : (o : Outlet W) → o.failed ≡ false → failures_of o ≡ 0
+  no_fault o e = rw e refl
+
+  one_fault : (o : Outlet W) → o.failed ≡ true → failures_of o ≡ 1
+  one_fault o e = rw e refl
+
+  module _ (contents : W → Option (List ℕ)) (o p : Outlet W) (same_writer : p.writer.ghost_name ≡ o.writer.ghost_name) (works : o.failed ≡ false) where
+    -- a byte more in the window
+    pub byte_kept : (byte : ℕ) → p.writer.now ≡ o.writer.now → p.window ≡ o.window ++ byte ∷ [] → p.taken ≡ o.taken → p.failed ≡ false → Puts (IsGiven contents) failures_of o (byte ∷ []) p
+    byte_kept byte same window taken still = record {
+      after = λ start before h. record {
+        same_writer = same_writer ∙ h.same_writer;
+        sent = h.sent;
+        kept = h.kept ++ byte ∷ [];
+        split = sym (append_assoc (unsent start) before (byte ∷ [])) ∙ ap (λ (t : List ℕ). t ++ byte ∷ []) h.split ∙ append_assoc h.sent h.kept (byte ∷ []);
+        took = rw same h.took;
+        counted = taken ∙ h.counted;
+        waits = λ w. ap (λ (t : List ℕ). t ++ byte ∷ []) (h.waits works ∙ unsent_works o works) ∙ sym window ∙ sym (unsent_works p still);
+      };
+      no_fewer = omega (arith, no_fault o works);
+    }
+
+    -- the writer took the window
+    pub window_sent : p.failed ≡ false → p.window ≡ [] → Appends (contents o.writer.now) (contents p.writer.now) o.window → p.taken ≡ min (o.taken + length o.window) (2 ^ 64 - 1) → Puts (IsGiven contents) failures_of o [] p
+    window_sent still window took taken = record {
+      after = λ start before h.
+          let all : h.kept ≡ o.window = h.waits works ∙ unsent_works o works in
+          record {
+            same_writer = same_writer ∙ h.same_writer;
+            sent = h.sent ++ o.window;
+            kept = [];
+            split = ap (λ (t : List ℕ). unsent start ++ t) (append-nil before) ∙ h.split ∙ ap (λ (t : List ℕ). h.sent ++ t) all ∙ sym (append-nil (h.sent ++ o.window));
+            took = Appends-then _ _ _ h.sent o.window h.took took;
+            counted = count_more start.taken o.taken p.taken h.sent o.window (length o.window) (length-sum h.sent o.window) h.counted taken;
+            waits = λ w. sym (unsent_works p still ∙ window);
+          };
+      no_fewer = omega (arith, no_fault o works);
+    }
+
+    -- the writer took a part of the window, and failed
+    pub window_lost : (count : ℕ) → p.failed ≡ true → count < length o.window → Appends (contents o.writer.now) (contents p.writer.now) (take count o.window) → p.taken ≡ min (o.taken + count) (2 ^ 64 - 1) → PutsFront (IsGiven contents) failures_of o [] p
+    window_lost count failed lt took taken = record {
+      front = [];
+      back = [];
+      joined = refl;
+      puts = record {
+        after = λ start before h.
+            let all : h.kept ≡ o.window = h.waits works ∙ unsent_works o works in
+            let parts : h.kept ≡ take count o.window ++ drop count o.window = all ∙ sym (take-append-drop count o.window) in
+            let some : length (take count o.window) ≡ count = length-take-le count o.window (omega (arith, lt)) in
+            record {
+              same_writer = same_writer ∙ h.same_writer;
+              sent = h.sent ++ take count o.window;
+              kept = drop count o.window;
+              split = ap (λ (t : List ℕ). unsent start ++ t) (append-nil before) ∙ h.split ∙ ap (λ (t : List ℕ). h.sent ++ t) parts ∙ sym (append_assoc h.sent (take count o.window) (drop count o.window));
+              took = Appends-then _ _ _ h.sent (take count o.window) h.took took;
+              counted = count_more start.taken o.taken p.taken h.sent (take count o.window) count (length-sum h.sent (take count o.window) ∙ ap (λ (n : ℕ). length h.sent + n) some) h.counted taken;
+              waits = λ w. cc;
+            };
+        no_fewer = omega (arith, no_fault o works);
+      };
+      failed = omega (arith, one_fault p failed);
+    }
+
+    -- the window was taken, and what the writer then kept is what it had
+    kept_still : Keeps (contents o.writer.now) (contents p.writer.now) → unsent o ≡ [] → p.taken ≡ o.taken → (p.failed ≡ false → unsent p ≡ []) → (start : Outlet W) (before : List ℕ) → IsGiven contents start before o → IsGiven contents start (before ++ []) p
+    kept_still keeps none taken still start before h = record {
+      same_writer = same_writer ∙ h.same_writer;
+      sent = h.sent;
+      kept = h.kept;
+      split = ap (λ (t : List ℕ). unsent start ++ t) (append-nil before) ∙ h.split;
+      took = Appends-kept _ _ _ h.sent h.took keeps;
+      counted = taken ∙ h.counted;
+      waits = λ w. h.waits works ∙ none ∙ sym (still w);
+    }
+
+    -- a flush
+    pub flushed : Keeps (contents o.writer.now) (contents p.writer.now) → unsent o ≡ [] → p.taken ≡ o.taken → p.failed ≡ false → p.window ≡ o.window → Puts (IsGiven contents) failures_of o [] p
+    flushed keeps none taken still window = record {
+      after = kept_still keeps none taken (λ w. unsent_works p still ∙ window ∙ sym (unsent_works o works) ∙ none);
+      no_fewer = omega (arith, no_fault o works);
+    }
+
+    pub flush_failed : Keeps (contents o.writer.now) (contents p.writer.now) → unsent o ≡ [] → p.taken ≡ o.taken → p.failed ≡ true → PutsFront (IsGiven contents) failures_of o [] p
+    flush_failed keeps none taken failed = record {
+      front = [];
+      back = [];
+      joined = refl;
+      puts = record {
+        after = kept_still keeps none taken (λ w. cc);
+        no_fewer = omega (arith, no_fault o works);
+      };
+      failed = omega (arith, one_fault p failed);
+    }
+
+  -- a call that fails after one that did not
+  pub fails_after : (contents : W → Option (List ℕ)) (o m p : Outlet W) → Puts (IsGiven contents) failures_of o [] m → PutsFront (IsGiven contents) failures_of m [] p → PutsFront (IsGiven contents) failures_of o [] p
+  fails_after contents o m p a b = record {
+    front = b.front;
+    back = b.back;
+    joined = b.joined;
+    puts = Puts-then (IsGiven contents) failures_of o m p [] b.front a b.puts;
+    failed = b.failed;
+  }

@@ -1,0 +1,181 @@
+-- A reader's source at a byte that it has.
+use Rattle.std.proofs.Common.{◌≡◌, ◌≢◌, ℕ, suc, ◌+◌, ◌-◌, min, ◌<◌, ◌≤◌, true, false, ltb, List, [], ◌∷◌, ◌++◌, length, take, get_or, Option, Some, None, Ok, Err, refl, sym, ap, ◌∙◌, inl, inr, arith}
+use Rattle.std.specs.Prelude.{slice_range}
+use Rattle.std.specs.Io.KnownBytes.{Consumes}
+use Rattle.std.proofs.Math.Seq.{drop-cons}
+use Rattle.std.proofs.lemmas.Bool.{cases_lt, lt-ltb, le-ltb}
+use Rattle.oas_bytes.specs.declared.sources.SourceFault.TheVariants.{TooLong}
+use Rattle.oas_bytes.specs.declared.readers.Ending.{Ending}
+use Rattle.oas_bytes.specs.declared.readers.Ending.TheVariants as endings
+use Rattle.oas_bytes.specs.Script.{Script, Rest, Gave, NoneLeft, IsTooLong, Next}
+use Rattle.oas_bytes.specs.Readers.{rest_from, reader_script, WaitsOnly, IsSoundReader}
+
+ltb_suc : (a b : ℕ) → ltb (suc a) (suc b) ≡ ltb a b
+ltb_suc a b =
+    elim (cases_lt a b) [
+      | inl lt ↦ rw (lt-ltb a b lt, lt-ltb (suc a) (suc b) (omega arith)) refl
+      | inr le ↦ rw (le-ltb a b le, le-ltb (suc a) (suc b) (omega arith)) refl
+    ]
+
+-- The window has a byte, and the source is still what it was.
+pub record IsReady (s : Script) (known : Option (List ℕ)) (window : List ℕ) (start end at limit : ℕ) (ending : Ending) : Type 0 where
+  pub some : start < end
+  pub within : end ≤ length window
+  pub below : at ≤ limit
+  pub is_open : ending ≡ endings.Open
+  pub given : s.given ≡ at
+  pub limit_is : s.limit ≡ limit
+  pub unreliable : s.reliable ≡ false
+  pub failures : s.failures ≡ 0
+  pub settled : s.settled ≡ None
+  pub rest : Gave s.rest [] (rest_from known (slice_range window start end) (limit - at))
+
+rest_same : (known : Option (List ℕ)) (held : List ℕ) (room : ℕ) → Gave (rest_from known held room) [] (rest_from known held room)
+rest_same None held room = tt
+rest_same (Some known) held room = (refl, refl)
+
+pub stays : (s : Script) (known : Option (List ℕ)) (window : List ℕ) (start end at limit : ℕ) (ending : Ending) → reader_script known window start end at limit ending ≡ s → ending ≡ endings.Open → start < end → end ≤ length window → at ≤ limit → IsReady s known window start end at limit ending
+stays s known window start end at limit ending is opened lt within below =
+    rw (← is, opened) (record { some = lt; within = within; below = below; is_open = refl; given = refl; limit_is = refl; unreliable = refl; failures = refl; settled = refl; rest = rest_same known (slice_range window start end) (limit - at) })
+
+rest_filled : (known new : Option (List ℕ)) (n room : ℕ) (buf : List ℕ) → Consumes known new (take n buf) → Gave (rest_from known [] room) [] (rest_from new (take n buf) room)
+rest_filled None new n room buf h = tt
+rest_filled (Some xs) None n room buf h = absurd h
+rest_filled (Some xs) (Some ys) n room buf h = (ap (take room) h, ap (λ (left : List ℕ). ltb room (length left)) (sym h))
+
+no_range : (window : List ℕ) (start : ℕ) → slice_range window start start ≡ []
+no_range window start = let e : start - start ≡ 0 = omega arith in rw e refl
+
+pub fills : (s : Script) (known new : Option (List ℕ)) (window buf : List ℕ) (start end at limit n : ℕ) (ending : Ending) → reader_script known window start end at limit ending ≡ s → ending ≡ endings.Open → start ≡ end → at ≤ limit → Consumes known new (take n buf) → n ≢ 0 → n ≤ length buf → IsReady s new buf 0 n at limit ending
+fills s known new window buf start end at limit n ending is opened same below h some within =
+    rw (← is, opened, same) (record {
+      some = omega arith;
+      within = within;
+      below = below;
+      is_open = refl;
+      given = refl;
+      limit_is = refl;
+      unreliable = refl;
+      failures = refl;
+      settled = refl;
+      rest = let z : n - 0 ≡ n = omega arith in rw (no_range window end, z) (rest_filled known new n (limit - at) buf h);
+    })
+
+module _ (s : Script) (known : Option (List ℕ)) (window : List ℕ) (start end at limit : ℕ) (ending : Ending) (r : IsReady s known window start end at limit ending) where
+  one_held : slice_range window start end ≡ get_or window start 0 ∷ slice_range window (start + 1) end
+  one_held =
+      let e : end - start ≡ suc (end - suc start) = omega arith in
+      let lt : start < length window = omega arith in
+      let n : start + 1 ≡ suc start = omega arith in
+      rw (n, e, drop-cons window start 0 lt) refl
+
+  none_left : (known : Option (List ℕ)) (b : ℕ) (held : List ℕ) → NoneLeft (rest_from known (b ∷ held) 0) true
+  none_left None b held = tt
+  none_left (Some known) b held = (refl, lt-ltb 0 (suc (length (held ++ known))) (omega arith))
+
+  pub is_too_long : limit ≤ at → IsTooLong (reader_script known window start end at limit endings.TooLong)
+  is_too_long le =
+      let e : limit - at ≡ 0 = omega arith in
+      record { settled = refl; all = omega arith; none = rw (e, one_held) (none_left known (get_or window start 0) (slice_range window (start + 1) end)) }
+
+  gave_same : (a : Option Rest) (b : Option (List ℕ)) (held : List ℕ) (room : ℕ) → Gave a [] (rest_from b held room) → Gave a [] (rest_from b held room)
+  gave_same a b held room h = h
+
+  pub too_long : limit ≤ at → Next s (Err TooLong) (reader_script known window start end at limit endings.TooLong)
+  too_long le = record {
+    again = rw r.settled tt;
+    within = r.below;
+    answers = (record { given = omega (arith, r.given); limit = sym r.limit_is; reliable = sym r.unreliable; failures = omega (arith, r.failures); rest = r.rest }, is_too_long le);
+  }
+
+  gave_one : (a : Option Rest) (b : Option (List ℕ)) (byte : ℕ) (held : List ℕ) (room : ℕ) → Gave a [] (rest_from b (byte ∷ held) (suc room)) → Gave a (byte ∷ []) (rest_from b held room)
+  gave_one None b byte held room h = tt
+  gave_one (Some a) None byte held room h = absurd h
+  gave_one (Some a) (Some b) byte held room h = (h.0, sym (ltb_suc room (length (held ++ b))) ∙ h.1)
+
+  pub gives : (byte : ℕ) → at < limit → byte ≡ get_or window start 0 → byte < 256 → Next s (Ok (Some byte)) (reader_script known window (start + 1) end (at + 1) limit ending)
+  gives byte lt is small =
+      let e : limit - at ≡ suc (limit - (at + 1)) = omega arith in
+      rw r.is_open (record {
+        again = rw r.settled tt;
+        within = omega arith;
+        answers = (
+          small,
+          record {
+            given = omega (arith, r.given);
+            limit = sym r.limit_is;
+            reliable = sym r.unreliable;
+            failures = omega (arith, r.failures);
+            rest = rw is (gave_one s.rest known (get_or window start 0) (slice_range window (start + 1) end) (limit - (at + 1)) (rw (e, one_held) at r.rest));
+          },
+        );
+      })
+
+-- The window has a byte, the source is still what it was, and so much of the window may be given.
+pub record HasNext (s : Script) (known : Option (List ℕ)) (window : List ℕ) (start end filled before limit : ℕ) (ending : Ending) : Type 0 where
+  pub ready : IsReady s known window start filled (before + start) limit ending
+  pub ordered : start ≤ end
+  pub under : end ≡ min filled (limit - before)
+
+pub waits_open : (ending : Ending) (start end : ℕ) → WaitsOnly ending start end → start < end → ending ≡ endings.Open
+waits_open endings.Open start end h lt = refl
+waits_open endings.Ended start end h lt = absurd (omega (arith, h))
+waits_open endings.Failed start end h lt = absurd (omega (arith, h))
+waits_open endings.TooLong start end h lt = absurd (omega (arith, h))
+
+-- as it stood
+pub still_has : (s : Script) (known : Option (List ℕ)) (window : List ℕ) (start end filled before limit : ℕ) (ending : Ending) → reader_script known window start filled (before + start) limit ending ≡ s → IsSoundReader known window start end filled before limit ending → ending ≡ endings.Open → start ≢ filled → HasNext s known window start end filled before limit ending
+still_has s known window start end filled before limit ending is h opened ne =
+    let lt : start < filled = omega (arith, h.ordered, h.under, ne) in
+    record { ready = stays s known window start filled (before + start) limit ending is opened lt h.within h.below; ordered = h.ordered; under = h.under }
+
+-- with a byte that may be given
+pub has_byte : (s : Script) (known : Option (List ℕ)) (window : List ℕ) (start end filled before limit : ℕ) (ending : Ending) → reader_script known window start filled (before + start) limit ending ≡ s → IsSoundReader known window start end filled before limit ending → start < end → HasNext s known window start end filled before limit ending
+has_byte s known window start end filled before limit ending is h lt =
+    let ne : start ≢ filled = λ (e : start ≡ filled). omega (arith, h.under, lt, e) in
+    still_has s known window start end filled before limit ending is h (waits_open ending start end h.waits lt) ne
+
+-- filled anew
+pub has_filled : (s : Script) (known new : Option (List ℕ)) (window buf : List ℕ) (start end filled before limit n last : ℕ) (ending : Ending) → reader_script known window start filled (before + start) limit ending ≡ s → IsSoundReader known window start end filled before limit ending → ending ≡ endings.Open → start ≡ filled → Consumes known new (take n buf) → n ≢ 0 → n ≤ length buf → last ≡ min n (limit - (before + start)) → HasNext s new buf 0 last n (before + start) limit ending
+has_filled s known new window buf start end filled before limit n last ending is h opened same c some within e =
+    let z : (before + start) + 0 ≡ before + start = omega arith in
+    record {
+      ready = rw z (fills s known new window buf start filled (before + start) limit n ending is opened same h.below c some within);
+      ordered = omega arith;
+      under = e;
+    }
+
+module _ (s : Script) (known : Option (List ℕ)) (window : List ℕ) (start end filled before limit : ℕ) (ending : Ending) (h : HasNext s known window start end filled before limit ending) where
+  -- the byte is given
+  pub gives_next : (byte : ℕ) → start < end → byte ≡ get_or window start 0 → byte < 256 → Next s (Ok (Some byte)) (reader_script known window (start + 1) filled (before + (start + 1)) limit ending)
+  gives_next byte lt is small =
+      let e : before + (start + 1) ≡ (before + start) + 1 = omega arith in
+      let room : before + start < limit = omega (arith, h.under, lt) in
+      rw e (gives s known window start filled (before + start) limit ending h.ready byte room is small)
+
+  pub sound_next : start < end → IsSoundReader known window (start + 1) end filled before limit ending
+  sound_next lt =
+      rw h.ready.is_open (record {
+        ordered = omega (arith, lt);
+        within = h.ready.within;
+        some = omega (arith, h.ready.some, h.ready.within);
+        below = omega (arith, h.under, lt);
+        under = h.under;
+        waits = tt;
+        ends = tt;
+      })
+
+  -- the limit was met, and the byte stands after it
+  pub meets_limit : end ≤ start → Next s (Err TooLong) (reader_script known window start filled (before + start) limit endings.TooLong)
+  meets_limit le = too_long s known window start filled (before + start) limit ending h.ready (omega (arith, h.under, h.ready.some, le))
+
+  pub sound_limit : end ≤ start → IsSoundReader known window start end filled before limit endings.TooLong
+  sound_limit le = record {
+    ordered = h.ordered;
+    within = h.ready.within;
+    some = omega (arith, h.ready.some, h.ready.within);
+    below = h.ready.below;
+    under = h.under;
+    waits = le;
+    ends = is_too_long s known window start filled (before + start) limit ending h.ready (omega (arith, h.under, h.ready.some, le));
+  }

@@ -1,0 +1,5 @@
+pub mod Script
+pub mod Readers
+pub mod Writing
+pub mod Outlets
+pub mod OutletLaws

@@ -1,0 +1,56 @@
+-- What an outlet was given, and what its writer took of it.
+use Rattle.std.specs.Prelude.{◌≡◌, ℕ, ◌+◌, ◌-◌, ◌^◌, min, List, [], ◌++◌, length, Option, Result, Err, true, false, if◌then◌else◌}
+use Rattle.std.specs.Borrow.{MutBor}
+use Rattle.std.specs.Io.KnownBytes.{Appends}
+use Rattle.oas_bytes.specs.declared.outlets.Outlet.{Outlet}
+use Rattle.oas_bytes.specs.declared.sinks.SinkFault.{SinkFault}
+use Rattle.oas_bytes.specs.declared.sinks.SinkFault.TheVariants.{Device}
+
+module _ {W : Type 0} where
+  -- it has met a fault
+  abbrev pub HasFailed : Outlet W → Type 0
+  HasFailed o = o.failed ≡ true
+
+  -- the bytes that the writer is still to take: after a fault none
+  abbrev pub unsent : Outlet W → List ℕ
+  unsent o = if o.failed then [] else o.window
+
+  abbrev pub failures_of : Outlet W → ℕ
+  failures_of o = if o.failed then 1 else 0
+
+  -- it stands before this writer, and was given nothing yet
+  pub record Opens (writer : MutBor W) (o : Outlet W) : Type 0 where
+    pub same_writer : o.writer.ghost_name ≡ writer.ghost_name
+    pub same : o.writer.now ≡ writer.now
+    pub none_taken : o.taken ≡ 0
+    pub none_unsent : unsent o ≡ []
+    pub works : o.failed ≡ false
+
+  -- Between two of its states it was given these bytes. Of those and what was unsent before the writer took `sent`; `kept`
+  -- is what is unsent now, or after a fault what was lost.
+  pub record IsGiven (contents : W → Option (List ℕ)) (start : Outlet W) (bytes : List ℕ) (now : Outlet W) : Type 0 where
+    pub same_writer : now.writer.ghost_name ≡ start.writer.ghost_name
+    pub sent : List ℕ
+    pub kept : List ℕ
+    pub split : unsent start ++ bytes ≡ sent ++ kept
+    pub took : Appends (contents start.writer.now) (contents now.writer.now) sent
+    pub counted : now.taken ≡ min (start.taken + length sent) (2 ^ 64 - 1)
+    pub waits : now.failed ≡ false → kept ≡ unsent now
+
+  -- the writer has taken all that it was given
+  pub record IsSent (o : Outlet W) : Type 0 where
+    pub works : o.failed ≡ false
+    pub none : unsent o ≡ []
+
+  -- a call after a fault answers it and changes nothing, and a call that meets one keeps it
+  pub record Answers (old : Outlet W) (answer : Result Unit SinkFault) (new : Outlet W) : Type 0 where
+    pub again : HasFailed old → (answer ≡ Err Device) × (new ≡ old)
+    pub fault : answer ≡ Err Device → HasFailed new
+
+-- Of these bytes a writer took the front, so many of them; the count stays at u64::MAX.
+pub record TakesFront {W : Type 0} (contents : W → Option (List ℕ)) (old new : W) (bytes : List ℕ) (taken : ℕ) : Type 0 where
+  pub front : List ℕ
+  pub back : List ℕ
+  pub joined : bytes ≡ front ++ back
+  pub took : Appends (contents old) (contents new) front
+  pub counted : taken ≡ min (length front) (2 ^ 64 - 1)

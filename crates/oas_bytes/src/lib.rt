@@ -1,0 +1,25 @@
+//! Where bytes come from and where they go to.
+//!
+//! What this crate promises to the crates above it:
+//!
+//! - A [`Source`] gives its bytes in order, at most as many as its limit, and says truly why it gives no more. What it
+//!   gave and is still to give is a `Script` (specs/Script.antt), and a call of `next` is a `Next` between two of them.
+//! - A [`SliceSource`] has no device behind it, and cannot fail; a [`ReaderSource`] gives the bytes of a reader, however the
+//!   reader cuts them (specs/Readers.antt).
+//! - A [`Sink`] is given bytes, and `Writes` (specs/Writing.antt) says which, also where it failed: then a front of them.
+//! - An [`Outlet`] is a sink over a borrowed writer: what the writer took is a front of what was put, and after `close` all
+//!   of it: `IsGiven` and `TakesFront` (specs/Outlets.antt), with their laws in specs/OutletLaws.antt.
+#![tactic(auto)]
+
+mod outlets;
+mod readers;
+mod sinks;
+mod slices;
+mod sources;
+mod windows;
+
+pub use outlets::Outlet;
+pub use readers::{Ending, ReaderSource};
+pub use sinks::{Counter, Sink, SinkFault};
+pub use slices::SliceSource;
+pub use sources::{INPUT_MAX, Source, SourceFault};

@@ -1,0 +1,130 @@
+ghost use Rattle.std.specs.Prelude.{◌≡◌, List, ℕ, IfOk, [], None};
+ghost use Rattle.oas_bytes.specs.Readers.{reader_script};
+ghost use Rattle.oas_bytes.specs.Script.{Next};
+
+use crate::sources::{Source, SourceFault};
+use std::alloc::{AllocError, Global};
+use std::io::Read;
+use std::marker::Model;
+
+#[cfg(test)]
+mod tests;
+
+/// How a reader's bytes ended.
+#[derive(Clone, Copy, Debug, PartialEq, Eq)]
+pub enum Ending {
+    Open,
+    Ended,
+    Failed,
+    TooLong,
+}
+
+/// The bytes of a reader, through a window of 65,536 bytes that `new` reserves.
+#[derive(Drop)]
+pub struct ReaderSource<R: Read> {
+    reader: R,
+    window: Vec<u8>,
+    // The next byte's place in the window.
+    start: usize,
+    // Where those bytes end that may be given under the limit.
+    end: usize,
+    // Where the reader's bytes end.
+    filled: usize,
+    // How many bytes were given before those in the window.
+    before: u64,
+    limit: u64,
+    ending: Ending,
+}
+
+impl<R: Read> Model for ReaderSource<R> {
+    ghost use Rattle.oas_bytes.specs.Script.{Script};
+
+    ghost Value = { Script };
+
+    ghost use Rattle.std.specs.Prelude.{◌+◌};
+    ghost use Rattle.oas_bytes.specs.Readers.{reader_script, IsSoundReader};
+
+    ghost view = { λ s. reader_script (R.remaining s.reader) s.window.items s.start s.filled (s.before + s.start) s.limit s.ending };
+
+    ghost invariant = { λ s. IsSoundReader (R.remaining s.reader) s.window.items s.start s.end s.filled s.before s.limit s.ending };
+}
+
+impl<R: Read + Drop> ReaderSource<R> {
+    /// The reader's bytes, of which at most `limit` are given.
+    pub fn new(alloc: Global, reader: R, limit: u64) -> Result<Self, AllocError>
+        ensures { IfOk result (λ s. s ≡ reader_script (R.remaining reader) [] 0 0 0 limit Ending.Open) }
+    {
+        let window = vec![in alloc; 0; 65536]?;
+        Ok(ReaderSource {
+            reader,
+            window,
+            start: 0,
+            end: 0,
+            filled: 0,
+            before: 0,
+            limit,
+            ending: Ending::Open,
+        })
+    }
+
+    /// What comes where no byte of the window may be given any more, or none stands there.
+    #[cold]
+    #[inline(never)]
+    fn next_window(&mut self) -> Result<Option<u8>, SourceFault>
+        ensures { Next self.old result self.new }
+    {
+        match self.ending {
+            Ending::Open => {}
+            Ending::Ended => return Ok(None),
+            Ending::Failed => return Err(SourceFault::Device),
+            Ending::TooLong => return Err(SourceFault::TooLong),
+        }
+        if self.start == self.filled {
+            self.before += self.start as u64;
+            self.start = 0;
+            self.end = 0;
+            self.filled = 0;
+            match self.reader.read(&mut self.window) {
+                Ok(0) => {
+                    self.ending = Ending::Ended;
+                    return Ok(None);
+                }
+                Ok(n) => {
+                    self.filled = n;
+                    self.end = n.min((self.limit - self.before) as usize);
+                }
+                Err(_) => {
+                    self.ending = Ending::Failed;
+                    return Err(SourceFault::Device);
+                }
+            }
+        }
+        if self.start >= self.end {
+            self.ending = Ending::TooLong;
+            return Err(SourceFault::TooLong);
+        }
+        let byte = self.window[self.start];
+        self.start += 1;
+        Ok(Some(byte))
+    }
+}
+
+impl<R: Read + Drop> Source for ReaderSource<R> {
+    ghost script = { λ s. s };
+
+    #[inline]
+    fn next(&mut self) -> Result<Option<u8>, SourceFault> {
+        if self.start >= self.end {
+            return self.next_window();
+        }
+        let byte = self.window[self.start];
+        self.start += 1;
+        Ok(Some(byte))
+    }
+
+    fn at(&self) -> u64 {
+        // The sum is at most the limit, which the proof knows to fit once it is read.
+        let _limit = self.limit;
+        self.before + self.start as u64
+    }
+}

@@ -1,0 +1,71 @@
+ghost use Rattle.std.specs.Prelude.{◌≡◌, List, ℕ, [], ◌∷◌, ◌+◌, min, ◌-◌, ◌^◌, length};
+ghost use Rattle.oas_bytes.specs.Writing.{Writes};
+
+use thiserror::Error;
+
+#[cfg(test)]
+mod tests;
+
+/// Why a byte was not taken.
+#[derive(Clone, Copy, Debug, Drop, PartialEq, Eq, Error)]
+pub enum SinkFault {
+    /// The device failed: it answered an error, or took no byte of some.
+    #[error("the output device failed")]
+    Device,
+}
+
+/// Takes bytes, one after another.
+pub trait Sink {
+    /// Between two of its states it was given these bytes.
+    ghost given: { Self → List ℕ → Self → Type 0 };
+
+    /// How often it failed.
+    ghost failures: { Self → ℕ };
+
+    /// Takes a byte.
+    fn put(&mut self, byte: u8) -> Result<(), SinkFault>
+        ensures { Writes given failures self.old (byte ∷ []) result self.new };
+
+    /// Takes bytes in order.
+    fn put_all(&mut self, bytes: &[u8]) -> Result<(), SinkFault>
+        ensures { Writes given failures self.old bytes.now result self.new }
+    {
+        for byte in bytes {
+            self.put(*byte)?;
+        }
+        Ok(())
+    }
+}
+
+/// Counts the bytes that it is given. At `u64::MAX` it stays there.
+#[derive(Clone, Copy, Debug)]
+pub struct Counter {
+    count: u64,
+}
+
+impl Counter {
+    /// One that was given nothing.
+    pub fn new() -> Counter
+        ensures { result.count ≡ 0 }
+    {
+        Counter { count: 0 }
+    }
+
+    /// How many bytes it was given.
+    pub fn count(&self) -> u64
+        ensures { result ≡ self.now.count }
+    {
+        self.count
+    }
+}
+
+impl Sink for Counter {
+    ghost given = { λ s bytes t. t.count ≡ min (s.count + length bytes) (2 ^ 64 - 1) };
+
+    ghost failures = { λ _. 0 };
+
+    fn put(&mut self, _byte: u8) -> Result<(), SinkFault> {
+        self.count = self.count.saturating_add(1);
+        Ok(())
+    }
+}

@@ -1,0 +1,60 @@
+ghost use Rattle.std.specs.Prelude.{◌≡◌, List, ℕ};
+
+use crate::sources::{Source, SourceFault};
+use std::marker::Model;
+
+/// The bytes of a slice.
+#[derive(Drop)]
+pub struct SliceSource<'a> {
+    bytes: &'a [u8],
+    at: usize,
+    limit: u64,
+}
+
+impl<'a> Model for SliceSource<'a> {
+    ghost use Rattle.oas_bytes.specs.Script.{Script};
+
+    ghost Value = { Script };
+
+    ghost use Rattle.std.specs.Prelude.{◌≤◌, length, min};
+    ghost use Rattle.oas_bytes.specs.Script.{slice_script};
+
+    ghost view = { λ s. slice_script s.bytes.now s.limit s.at };
+
+    ghost invariant = { λ s. s.at ≤ min s.limit (length s.bytes.now) };
+}
+
+impl<'a> SliceSource<'a> {
+    ghost use Rattle.oas_bytes.specs.Script.{slice_script};
+
+    /// The bytes, of which at most `limit` are given.
+    pub fn new(bytes: &'a [u8], limit: u64) -> Self
+        ensures { result ≡ slice_script bytes.now limit 0 }
+    {
+        SliceSource {
+            bytes,
+            at: 0,
+            limit,
+        }
+    }
+}
+
+impl<'a> Source for SliceSource<'a> {
+    ghost script = { λ s. s };
+
+    fn next(&mut self) -> Result<Option<u8>, SourceFault> {
+        if self.at >= self.bytes.len() {
+            return Ok(None);
+        }
+        if self.at as u64 >= self.limit {
+            return Err(SourceFault::TooLong);
+        }
+        let byte = self.bytes[self.at];
+        self.at += 1;
+        Ok(Some(byte))
+    }
+
+    fn at(&self) -> u64 {
+        self.at as u64
+    }
+}
