@@ -1,7 +1,8 @@
 //! Repetitions as they are read.
-ghost use Rattle.std.specs.Prelude.{◌≡◌, ◌<◌, IfOk};
+ghost use Rattle.std.specs.Prelude.{◌≡◌, ◌<◌, IfOk, IfErr};
 ghost use Rattle.oas_num.specs.Reading.{Reads, ReadsPiece, IntegerMay};
 ghost use Rattle.oas_num.specs.Style.{Any};
+ghost use Rattle.oas_shape.specs.Offsets.{HasList};
 ghost use Rattle.oas_shape.specs.Repetitions.{rep_field_in, RepFieldMay, FieldsTook, ListedTook, repetition_by, AreTwo, IsMatrix, IsColumns, IsRows, IsLattice, IsLine, IsListed, grid_of};
 
 use crate::offsets::{Along, OffsetList};
@@ -57,9 +58,10 @@ pub enum Repetition {
 }
 
 impl Repetition {
-    /// An equal one, with memory of its own.
+    /// An equal one, with memory of its own. Only a list takes any.
     pub fn try_clone(&self, alloc: Global) -> Result<Repetition, AllocError>
-        ensures { IfOk result (λ copy. copy ≡ self.now) }
+        ensures equal { IfOk result (λ copy. copy ≡ self.now) }
+        ensures refused { IfErr result (λ _. HasList self.now) }
     {
         Ok(match self {
             Repetition::Matrix {
