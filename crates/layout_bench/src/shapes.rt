@@ -6,18 +6,18 @@ use std::alloc::{AllocError, Global};
 
 /// Numbers below 2^40 that come in no order.
 #[derive(Drop)]
-pub struct Numbers {
+pub(crate) struct Numbers {
     state: u64,
 }
 
 impl Numbers {
-    pub fn new() -> Numbers {
+    pub(crate) fn new() -> Numbers {
         Numbers {
             state: 88172645463325252,
         }
     }
 
-    pub fn next(&mut self) -> i64 {
+    pub(crate) fn next(&mut self) -> i64 {
         self.state = self
             .state
             .wrapping_mul(6364136223846793005)
@@ -27,7 +27,7 @@ impl Numbers {
 }
 
 /// A rectangle of 10 by 20 at x.
-pub fn rectangle(x: i64) -> Element {
+pub(crate) fn rectangle(x: i64) -> Element {
     Element::Rectangle {
         layer: 1,
         datatype: 0,
@@ -39,7 +39,7 @@ pub fn rectangle(x: i64) -> Element {
 }
 
 /// A polygon of six points, from x on, that is not in its least reading.
-pub fn polygon(alloc: Global, x: i64) -> Result<Element, AllocError> {
+pub(crate) fn polygon(alloc: Global, x: i64) -> Result<Element, AllocError> {
     let far = x.wrapping_add(10);
     let half = x.wrapping_add(5);
     let mut list = Vec::with_capacity(alloc, 6)?;

@@ -4,12 +4,12 @@ use std::io::Write;
 
 /// Numbers of all lengths, the same at each run.
 #[derive(Drop)]
-pub struct Numbers {
+pub(crate) struct Numbers {
     state: u64,
 }
 
 impl Numbers {
-    pub fn new() -> Numbers {
+    pub(crate) fn new() -> Numbers {
         Numbers {
             state: 0x9e37_79b9_7f4a_7c15,
         }
@@ -25,7 +25,7 @@ impl Numbers {
     }
 
     /// A number of 1 to 64 bits.
-    pub fn next(&mut self) -> u64 {
+    pub(crate) fn next(&mut self) -> u64 {
         let bits = self.step();
         let shift = self.step() % 64;
         bits >> shift
@@ -34,9 +34,9 @@ impl Numbers {
 
 /// A writer that keeps the count of its bytes, and a digest of a few of them.
 #[derive(Drop)]
-pub struct Tally {
-    pub count: u64,
-    pub digest: u64,
+pub(crate) struct Tally {
+    pub(crate) count: u64,
+    pub(crate) digest: u64,
 }
 
 impl Write for Tally {
@@ -56,7 +56,11 @@ impl Write for Tally {
 
 /// Puts the numbers, `times` times over.
 #[inline(never)]
-pub fn put_numbers<K: Sink>(numbers: &[u64], times: u64, sink: &mut K) -> Result<(), SinkFault> {
+pub(crate) fn put_numbers<K: Sink>(
+    numbers: &[u64],
+    times: u64,
+    sink: &mut K,
+) -> Result<(), SinkFault> {
     for _ in 0..times {
         for number in numbers {
             put_unsigned(sink, *number)?;
@@ -67,7 +71,7 @@ pub fn put_numbers<K: Sink>(numbers: &[u64], times: u64, sink: &mut K) -> Result
 
 /// Reads so many numbers, and adds them up.
 #[inline(never)]
-pub fn sum<S: Source>(source: &mut S, count: u64) -> Result<u64, Why> {
+pub(crate) fn sum<S: Source>(source: &mut S, count: u64) -> Result<u64, Why> {
     let mut total = 0u64;
     for _ in 0..count {
         total = total.wrapping_add(read_unsigned(source)?);
