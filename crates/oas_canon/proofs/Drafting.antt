@@ -58,6 +58,11 @@ after_magic front left is file =
     ap (λ (c : List ℕ). c ++ left) (sym is) ∙ s.joined ∙ ap (λ (c : List ℕ). c ++ s.back) s.first ∙ ap (λ (c : List ℕ). magic ++ c) s.second.joined in
     (s.second.front, s.second.back, s.second.first, sym (append_cancel_left magic left (s.second.front ++ s.second.back) whole))
 
+not_writing : (last : List ℕ) → StartMay Write last → ⊥
+not_writing last (inl h) = h
+not_writing last (inr (inl h)) = h.holds
+not_writing last (inr (inr h)) = h.holds
+
 pub start_refused : {old mid new : Script} {why : Why} (limits : Limits) → ReadsValue (IsExactly magic) old tt mid → Fails (IsStart Any) StartMay mid why new → IsRefused limits old why new
 start_refused {old = old} {mid = mid} {new = new} {why = why} limits m f = record {
   bytes = m.bytes ++ f.bytes;
@@ -71,7 +76,7 @@ start_refused {old = old} {mid = mid} {new = new} {why = why} limits m f = recor
       ((λ a. let s = after_magic m.bytes f.bytes m.spelled a.file in t.0.none a.unit s.0 s.1 s.2 s.3), t.1);
   device = f.device;
   too_long = f.too_long;
-  reading = no_write why (λ w. StartMay w f.reason.last) f.reason.holds (λ h. h);
+  reading = no_write why (λ w. StartMay w f.reason.last) f.reason.holds (not_writing f.reason.last);
 }
 
 pub head_read : {old mid new : Script} {u : Real} {unit : Ratio} → ReadsValue (IsExactly magic) old tt mid → ReadsValue (IsStart Any) mid u new → Reduces u.num u.den unit → IsHead old unit new

@@ -130,11 +130,13 @@ pub gathered_none : {limits : Limits} {now : Script} {c : Collected} (b : HasBeg
 gathered_none b = record { records = []; bytes = b.bytes; takes = b.takes; front = b.front; stands = b.stands }
 
 module _ {limits : Limits} {origin mid : Script} {unit : Real} {c : Collected} (m : HasGathered limits origin unit mid c) where
+  not_writing : (last : List ℕ) → StepMay Write last → ⊥
+  not_writing last (inl h) = h
+  not_writing last (inr (inl h)) = h
+  not_writing last (inr (inr h)) = h.decided.holds
+
   step_reasons : (why : Why) (last : List ℕ) → StepMay why last → why ≢ Write
-  step_reasons Write last h = absurd h
-  step_reasons why last h = λ e. no_write why last e h where
-    no_write : (why : Why) (last : List ℕ) → why ≡ Write → StepMay why last → ⊥
-    no_write why last e h = subst (λ (w : Why). StepMay w last) e h
+  step_reasons why last h e = not_writing last (subst (λ (w : Why). StepMay w last) e h)
 
   -- a record can't be read
   pub gather_fails : {new : Script} {why : Why} → Fails IsStep StepMay mid why new → IsRefused limits origin why new

@@ -3,9 +3,9 @@ use Rattle.std.specs.Prelude.{not}
 use Rattle.std.specs.Cmp.Lexicographic.{pointwise}
 use Rattle.std.proofs.lemmas.Slice.Eq.{slice_eq-Decides}
 use Rattle.std.proofs.lemmas.Bool.Decides.{Decides-eqb}
-use Rattle.std.proofs.Common.{Decides, eqb, ◌≡◌, ◌≢◌, ℕ, Bool, true, false, List, [], refl, sym, ap, ◌∙◌}
+use Rattle.std.proofs.Common.{Decides, eqb, ◌≡◌, ◌≢◌, ℕ, Bool, true, false, List, [], inl, inr, refl, sym, ap, subst, ◌∙◌}
 use Rattle.oas_num.specs.declared.refusals.Why.{Why}
-use Rattle.oas_num.specs.declared.refusals.Why.TheVariants.{Truncated, IntegerRange, StringByte, FloatReal, RealType, Version, Unit as BadUnit, OffsetFlag, OutOfPlace, Read, InputTooLong, Memory}
+use Rattle.oas_num.specs.declared.refusals.Why.TheVariants.{Version, Unit as BadUnit, OffsetFlag, OutOfPlace}
 use Rattle.oas_num.specs.declared.reals.Real.{Real}
 use Rattle.oas_num.specs.Script.{Script}
 use Rattle.oas_num.specs.Grammar.{IsPair, IsCount}
@@ -16,57 +16,40 @@ use Rattle.oas_num.specs.RealLaws.{OneFront-SpellsReal}
 use Rattle.oas_num.specs.Style.{Any}
 use Rattle.oas_num.specs.Texts.{SpellsLabel}
 use Rattle.oas_num.specs.TextLaws.{OneFront-label}
-use Rattle.oas_num.specs.Reading.{Fails, ReadsValue, IntegerMay, LabelMay}
+use Rattle.oas_num.specs.Begun as begun
+use Rattle.oas_num.specs.Reading.{Fails, FailsPiece, ReadsValue, IntegerMay, LabelMay}
 use Rattle.oas_num.proofs.ReadLemmas.{Takes-none, Fails-after}
-use Rattle.oas_num.proofs.GrammarLemmas.{Midway, ◌▸◌, fails_at, such_read, such_fails_by, refused}
+use Rattle.oas_num.proofs.GrammarLemmas.{Midway, ◌▸◌, fails_at, such_read}
 use Rattle.oas_canon.specs.File.{IsNumber, IsAbove, unit_in, version, IsVersion, StartParts, IsStartParts, start_parts, IsStart, offsets_in, IsTwelve}
 use Rattle.oas_canon.specs.FileLaws.{OneFront-number, OneFront-version, OneFront-unit}
-use Rattle.oas_canon.specs.Reasons.{VersionMay, StartMay, OffsetsMay}
-use Rattle.oas_canon.proofs.Pins.{pinned_read, pinned_fails, pinned_refused}
+use Rattle.oas_canon.specs.Reasons.{VersionMay, UnitMay, StartMay}
+use Rattle.oas_canon.proofs.Pins.{piece_reason, whole_fails, pinned_read, pinned_fails, pinned_refused}
+use Rattle.oas_canon.proofs.Somes.{HasSome-start_parts}
 
 -- ---- reasons
 
 pub StartMay-integer : (why : Why) (last : List ℕ) → IntegerMay why last → StartMay why last
-StartMay-integer Truncated last h = tt
-StartMay-integer IntegerRange last h = h
-StartMay-integer Read last h = tt
-StartMay-integer InputTooLong last h = tt
-StartMay-integer _ last h = absurd h
+StartMay-integer (OutOfPlace id) last h = absurd h
+StartMay-integer OffsetFlag last h = absurd h
+StartMay-integer _ last h = inl h
 
-pub VersionMay-label : (why : Why) (last : List ℕ) → LabelMay why last → VersionMay why last
-VersionMay-label Truncated last h = tt
-VersionMay-label IntegerRange last h = h
-VersionMay-label StringByte last h = h
-VersionMay-label Read last h = tt
-VersionMay-label InputTooLong last h = tt
-VersionMay-label Memory last h = tt
-VersionMay-label _ last h = absurd h
+pub VersionMay-label : (why : Why) (last : List ℕ) → begun.Decides false SpellsLabel (LabelMay why) last → VersionMay why last
+VersionMay-label Version last h = absurd h.holds
+VersionMay-label _ last h = h
 
 pub StartMay-version : (why : Why) (last : List ℕ) → VersionMay why last → StartMay why last
-StartMay-version Truncated last h = tt
-StartMay-version IntegerRange last h = h
-StartMay-version StringByte last h = h
-StartMay-version Version last h = h
-StartMay-version Read last h = tt
-StartMay-version InputTooLong last h = tt
-StartMay-version Memory last h = tt
-StartMay-version _ last h = absurd h
+StartMay-version (OutOfPlace id) last h = absurd h.holds
+StartMay-version OffsetFlag last h = absurd h.holds
+StartMay-version _ last h = inr (inl h)
 
-pub StartMay-real : (why : Why) (last : List ℕ) → RealMay why last → StartMay why last
-StartMay-real Truncated last h = tt
-StartMay-real IntegerRange last h = h
-StartMay-real FloatReal last h = h
-StartMay-real RealType last h = h
-StartMay-real Read last h = tt
-StartMay-real InputTooLong last h = tt
-StartMay-real _ last h = absurd h
+UnitMay-real : (why : Why) (last : List ℕ) → begun.Decides false SpellsReal (RealMay why) last → UnitMay why last
+UnitMay-real BadUnit last h = absurd h.holds
+UnitMay-real _ last h = h
 
-pub StartMay-offsets : (why : Why) (last : List ℕ) → OffsetsMay why last → StartMay why last
-StartMay-offsets Truncated last h = tt
-StartMay-offsets IntegerRange last h = h
-StartMay-offsets Read last h = tt
-StartMay-offsets InputTooLong last h = tt
-StartMay-offsets _ last h = absurd h
+StartMay-unit : (why : Why) (last : List ℕ) → UnitMay why last → StartMay why last
+StartMay-unit (OutOfPlace id) last h = absurd h.holds
+StartMay-unit OffsetFlag last h = absurd h.holds
+StartMay-unit _ last h = inr (inr h)
 
 -- ---- what a comparison of texts tells
 
@@ -94,7 +77,8 @@ twelve {numbers = numbers} read = record { bytes = read.bytes; spelled = record 
 
 pub twelve_fails : {old new : Script} {may : Why → List ℕ → Type 0} {why : Why} → Fails (IsCount IsUnsigned 12) may old why new → Fails IsTwelve may old why new
 twelve_fails {old = old} {new = new} {may = may} {why = why} f =
-    Fails-after IsTwelve (IsCount IsUnsigned 12) may may old old new why [] (λ _ h. h) (Takes-none old) (record { wants = λ v p r rest s e. (s.numbers, p, r, s.spelled, e) }) f
+    Fails-after IsTwelve (IsCount IsUnsigned 12) may may old old new why [] (λ _ h. h) (Takes-none old) (record { wants = λ v p r rest s e. (s.numbers, p, r, s.spelled, e) })
+    (λ g b. record { value = tt; rest = b.rest; spelled = record { numbers = b.value; spelled = b.spelled } }) f
 
 -- ---- START
 
@@ -114,22 +98,35 @@ starts s = record {
   takes = Takes-none s;
   wants = record { wants = λ v p r rest q e. (start_parts v, p, r, q, e) };
   makes = λ w q h. h;
+  some = HasSome-start_parts;
 }
 
-pub version_fails : {old new : Script} {why : Why} → Fails SpellsLabel LabelMay old why new → Fails (IsVersion Any) VersionMay old why new
-version_fails f = pinned_fails version VersionMay-label f
+pub version_fails : {old new : Script} {why : Why} → Fails SpellsLabel LabelMay old why new → FailsPiece (IsVersion Any) VersionMay old why new
+version_fails {why = why} f = pinned_fails version f (VersionMay-label why f.bytes f.reason)
 
 pub version_read : {old new : Script} {text : List ℕ} → text ≡ version → ReadsValue SpellsLabel old text new → ReadsValue (IsVersion Any) old tt new
 version_read same read = pinned_read version same read
 
-pub version_other : {old new : Script} {text : List ℕ} → text ≢ version → ReadsValue SpellsLabel old text new → Fails (IsVersion Any) VersionMay old Version new
+pub version_other : {old new : Script} {text : List ℕ} → text ≢ version → ReadsValue SpellsLabel old text new → FailsPiece (IsVersion Any) VersionMay old Version new
 version_other {text = text} other read = pinned_refused version (OneFront-label Any) read other (text, read.spelled, other) (record { ended = λ e. cc; device = λ e. cc; long = λ e. cc })
 
-pub id_fails : {old new : Script} {why : Why} → Fails IsUnsigned IntegerMay old why new → Fails (IsStart Any) StartMay old why new
-id_fails f = fails_at (starts _) (λ _ _ h. h) (pinned_fails 1 StartMay-integer f)
+pub id_fails : {old new : Script} {why : Why} → FailsPiece IsUnsigned IntegerMay old why new → Fails (IsStart Any) StartMay old why new
+id_fails {why = why} f = fails_at (starts _) (λ _ _ h. h) (pinned_fails 1 f (StartMay-integer why f.bytes (piece_reason f)))
 
 pub id_other : {old new : Script} {id : ℕ} → id ≢ 1 → ReadsValue IsUnsigned old id new → Fails (IsStart Any) StartMay old (OutOfPlace id) new
 id_other other read = fails_at (starts _) (λ _ _ h. h) (pinned_refused 1 OneFront-IsUnsigned read other (read.spelled, other) (record { ended = λ e. cc; device = λ e. cc; long = λ e. cc }))
+
+-- a real that isn't above zero
+unit_refused : {old new : Script} {u : Real} → ¬ IsAbove u → ReadsValue SpellsReal old u new → FailsPiece (unit_in Any) StartMay old BadUnit new
+unit_refused {u = u} other read = record {
+  bytes = read.bytes;
+  takes = read.takes;
+  reason = record { front = []; last = read.bytes; joined = refl; begun = refl; holds = inr (inr (u, read.spelled, other)) };
+  format = λ _. record { none = λ v p r more s e. let one = OneFront-SpellsReal.one v u p read.bytes r more s.spelled read.spelled e in other (subst IsAbove one.1 s.holds) };
+  truncated = λ is. cc;
+  device = λ is. cc;
+  too_long = λ is. cc;
+}
 
 module _ {s0 s1 : Script} {id : ℕ} (is : id ≡ 1) (id_read : ReadsValue IsUnsigned s0 id s1) where
   pub with_id : Midway (IsStart Any) AfterId (λ (p : Unit {0} × (Real × (Unit {0} × Unit {0}))). p.1.0) s0 s1
@@ -140,17 +137,17 @@ module _ {s0 s1 : Script} {id : ℕ} (is : id ≡ 1) (id_read : ReadsValue IsUns
     with_version = with_id ▸ (OneFront-version, version_read)
 
     pub unit_fails : {s3 : Script} {why : Why} → Fails SpellsReal RealMay s2 why s3 → Fails (IsStart Any) StartMay s0 why s3
-    unit_fails f = fails_at with_version (λ _ _ h. h) (such_fails_by IsAbove SpellsReal StartMay RealMay _ _ _ StartMay-real f)
+    unit_fails {why = why} f = fails_at with_version (λ _ _ h. h) (whole_fails [] (Takes-none s2) (record { wants = λ v p r rest s e. (v, p, r, s.spelled, e) }) f (StartMay-unit why f.bytes (UnitMay-real why f.bytes f.reason)))
 
     pub unit_other : {s3 : Script} {u : Real} → ¬ IsAbove u → ReadsValue SpellsReal s2 u s3 → Fails (IsStart Any) StartMay s0 BadUnit s3
-    unit_other {s3 = s3} {u = u} other read = fails_at with_version (λ _ _ h. h) (refused IsAbove SpellsReal StartMay s2 s3 BadUnit u OneFront-SpellsReal read other (u, read.spelled, other) (λ e. cc) (λ e. cc) (λ e. cc))
+    unit_other {s3 = s3} {u = u} other read = fails_at with_version (λ _ _ h. h) (unit_refused other read)
 
     module _ {s3 : Script} {u : Real} (above : IsAbove u) (unit_read : ReadsValue SpellsReal s2 u s3) where
       pub with_unit : Midway (IsStart Any) AfterUnit (λ (p : Unit {0} × Unit {0}). u) s0 s3
       with_unit = with_version ▸ (OneFront-unit, such_read IsAbove SpellsReal s2 s3 u above unit_read)
 
-      pub flag_fails : {s4 : Script} {why : Why} → Fails IsUnsigned IntegerMay s3 why s4 → Fails (IsStart Any) StartMay s0 why s4
-      flag_fails f = fails_at with_unit (λ _ _ h. h) (pinned_fails 0 StartMay-integer f)
+      pub flag_fails : {s4 : Script} {why : Why} → FailsPiece IsUnsigned IntegerMay s3 why s4 → Fails (IsStart Any) StartMay s0 why s4
+      flag_fails {why = why} f = fails_at with_unit (λ _ _ h. h) (pinned_fails 0 f (StartMay-integer why f.bytes (piece_reason f)))
 
       pub flag_other : {s4 : Script} {flag : ℕ} → flag ≢ 0 → ReadsValue IsUnsigned s3 flag s4 → Fails (IsStart Any) StartMay s0 OffsetFlag s4
       flag_other {flag = flag} other read = fails_at with_unit (λ _ _ h. h) (pinned_refused 0 OneFront-IsUnsigned read other (flag, read.spelled, other) (record { ended = λ e. cc; device = λ e. cc; long = λ e. cc }))

@@ -1,7 +1,9 @@
 pub mod Fronts
 pub mod Placing
+pub mod Reasoning
 pub mod Growing
 pub mod Pins
+pub mod Somes
 pub mod Heads
 pub mod StepLemmas
 pub mod CollectingLemmas

@@ -2,17 +2,15 @@
 use Rattle.std.proofs.Common.{ℕ, zero, suc, ◌<◌, List, [], ◌∷◌, get_or, arith}
 use Rattle.std.specs.List.{AllByRecursion}
 use Rattle.oas_num.specs.declared.refusals.Why.{Why}
-use Rattle.oas_num.specs.declared.refusals.Why.TheVariants.{Magic, Truncated, Read, InputTooLong}
+use Rattle.oas_num.specs.declared.refusals.Why.TheVariants.{Magic}
 use Rattle.oas_num.specs.Reading.{ByteMay}
 use Rattle.oas_canon.specs.File.{magic}
 use Rattle.oas_canon.specs.Reasons.{MagicMay}
 use Rattle.oas_canon.proofs.Pins.{IsOfBytes}
 
 pub MagicMay-byte : (why : Why) (last : List ℕ) → ByteMay why last → MagicMay why last
-MagicMay-byte Truncated last h = tt
-MagicMay-byte Read last h = tt
-MagicMay-byte InputTooLong last h = tt
-MagicMay-byte _ last h = absurd h
+MagicMay-byte Magic last h = absurd h
+MagicMay-byte _ last h = h
 
 pub of_magic : IsOfBytes Magic
 of_magic = record { ended = λ e. cc; device = λ e. cc; long = λ e. cc }

@@ -140,7 +140,7 @@ unit_spelled : (u : Ratio) → IsUnitHeld u → real_in Shortest (real u) (unit_
 unfolding unit_bytes
 unit_spelled u h = real_by u (u.den == 1) (u.num == 1) (λ e. eqb-true u.den 1 e) (λ e. eqb-true u.num 1 e) h.num h.den
 
-version_spelled : IsVersion Shortest tt (3 ∷ 49 ∷ 46 ∷ 48 ∷ [])
+pub version_spelled : IsVersion Shortest tt (3 ∷ 49 ∷ 46 ∷ 48 ∷ [])
 version_spelled = record {
   front = 3 ∷ [];
   back = version;

@@ -1,13 +1,15 @@
 -- Reading a record or END, part by part.
-use Rattle.std.proofs.Common.{◌≡◌, ◌≢◌, ℕ, ◌-◌, List, [], ◌∷◌, ◌++◌, length, Option, Some, None, refl, sym, ap, subst, ◌∙◌, append_assoc, arith}
+use Rattle.std.proofs.Common.{◌≡◌, ◌≢◌, ℕ, ◌-◌, List, [], ◌∷◌, ◌++◌, length, Option, Some, None, inl, inr, refl, sym, ap, subst, ◌∙◌, append_assoc, arith}
 use Rattle.std.proofs.lemmas.List.{append-nil}
 use Rattle.std.specs.Prelude.{ℤ, ◌==◌}
 use Rattle.oas_num.specs.declared.refusals.Why.{Why}
-use Rattle.oas_num.specs.declared.refusals.Why.TheVariants.{Truncated, IntegerRange, StringByte, EmptyName, InfoByte, ValidationScheme, EndLength, RecordLeftOut, UnknownRecord, OutOfPlace, Read, InputTooLong, Memory}
+use Rattle.oas_num.specs.declared.refusals.Why.TheVariants.{InfoByte, ValidationScheme, EndLength, RecordLeftOut, UnknownRecord, OutOfPlace}
 use Rattle.oas_num.specs.declared.texts.Padding.{Padding}
 use Rattle.oas_num.specs.Script.{Script, Takes}
-use Rattle.oas_num.specs.Grammar.{OneFront, IsPair, IsByte}
-use Rattle.oas_num.specs.GrammarLaws.{OneFront-image, OneFront-pair}
+use Rattle.oas_num.specs.Begun.{Begins}
+use Rattle.oas_num.specs.BegunLaws.{Begins-none}
+use Rattle.oas_num.specs.Grammar.{OneFront, IsPair, IsImage, IsByte}
+use Rattle.oas_num.specs.GrammarLaws.{OneFront-image, OneFront-pair, after_same}
 use Rattle.oas_num.specs.CombinatorLaws.{OneFront-exactly, OneFront-either}
 use Rattle.oas_num.specs.Integers.{IsUnsigned, IsSigned}
 use Rattle.oas_num.specs.IntegerLaws.{OneFront-IsUnsigned, OneFront-IsSigned}
@@ -15,32 +17,28 @@ use Rattle.oas_num.specs.Style.{Any, unsigned_in, signed_in}
 use Rattle.oas_num.specs.StyleLaws.{OneFront-unsigned}
 use Rattle.oas_num.specs.Texts.{SpellsName, SpellsPadding}
 use Rattle.oas_num.specs.TextLaws.{OneFront-padding}
-use Rattle.oas_num.specs.Reading.{Fails, ReadsValue, IntegerMay, NameMay, ByteMay}
-use Rattle.oas_num.proofs.ReadLemmas.{Takes-none, Takes-then, Fails-after}
+use Rattle.oas_num.specs.Reading.{Fails, FailsPiece, ReadsValue, ByteMay, IntegerMay, NameMay}
+use Rattle.oas_num.proofs.IntegerLemmas.{IntegerMay-byte}
+use Rattle.oas_num.proofs.ReadLemmas.{Takes-none, Takes-then, Wants, Fails-after, piece_fails}
 use Rattle.oas_num.proofs.GrammarLemmas.{Midway, begins, seen, ◌▸◌, fails_at, fails_last, is_read}
 use Rattle.oas_canon.specs.declared.rectangles.Rectangle.{Rectangle}
 use Rattle.oas_canon.specs.declared.records.Record.{Record}
 use Rattle.oas_canon.specs.declared.records.Record.TheVariants.{Pad, Cell, Rectangle as Shape}
-use Rattle.oas_canon.specs.File.{IsNumber, Fields, IsFields, rectangle_of, IsRest, id_of}
+use Rattle.oas_canon.specs.File.{IsNumber, IsFields, rectangle_of, shape_of, IsRest, id_of}
 use Rattle.oas_canon.specs.FileLaws.{OneFront-number, OneFront-rest}
 use Rattle.oas_canon.specs.Steps.{IsStep, IsRectangle, ending_of, IsEnding, end_of, LooseRest, step_of, IsLoose}
-use Rattle.oas_canon.specs.Reasons.{RectangleMay, EndMay, StepMay, IsNotRead, IsOmitted, IsRefusal}
-use Rattle.oas_canon.proofs.Pins.{IsOfBytes, pinned_read, pinned_fails, pinned_refused, byte_read, byte_refused}
+use Rattle.oas_canon.specs.Reasons.{RectangleMay, EndMay, IsOfEnd, StepMay, IsNotRead, IsOmitted, IsRefusal}
+use Rattle.oas_canon.proofs.Pins.{IsOfBytes, piece_reason, whole_fails, pinned_read, pinned_fails, pinned_refused, byte_read, byte_refused}
+use Rattle.oas_canon.proofs.Somes.{HasSome-rectangle, HasSome-ending, HasSome-step}
 
 -- ---- the fields of a RECTANGLE
 
-pub RectangleMay-byte : (why : Why) (last : List ℕ) → ByteMay why last → RectangleMay why last
-RectangleMay-byte Truncated last h = tt
-RectangleMay-byte Read last h = tt
-RectangleMay-byte InputTooLong last h = tt
-RectangleMay-byte _ last h = absurd h
-
 pub RectangleMay-integer : (why : Why) (last : List ℕ) → IntegerMay why last → RectangleMay why last
-RectangleMay-integer Truncated last h = tt
-RectangleMay-integer Read last h = tt
-RectangleMay-integer InputTooLong last h = tt
-RectangleMay-integer IntegerRange last h = h
-RectangleMay-integer _ last h = absurd h
+RectangleMay-integer InfoByte last h = absurd h
+RectangleMay-integer _ last h = h
+
+pub RectangleMay-byte : (why : Why) (last : List ℕ) → ByteMay why last → RectangleMay why last
+RectangleMay-byte why last h = RectangleMay-integer why last (IntegerMay-byte why last h)
 
 -- what follows the info byte, and then field by field
 abbrev AfterHeight : ℤ × ℤ → List ℕ → Type 0
@@ -59,7 +57,7 @@ abbrev AfterInfo : ℕ × (ℕ × (ℕ × (ℕ × (ℤ × ℤ)))) → List ℕ �
 AfterInfo = IsPair (unsigned_in Any) (λ _. AfterLayer)
 
 pub rectangle_starts : (s : Script) → Midway IsRectangle (IsFields Any) rectangle_of s s
-rectangle_starts s = seen IsRectangle rectangle_of (IsFields Any) (λ v. v) s s (begins IsRectangle s)
+rectangle_starts s = seen IsRectangle rectangle_of (IsFields Any) (λ v. v) s s (begins IsRectangle HasSome-rectangle s)
 
 pub info_other : {old new : Script} {info : ℕ} → info ≢ 123 → ReadsValue IsByte old info new → Fails IsRectangle RectangleMay old InfoByte new
 info_other {info = info} other read = fails_at (rectangle_starts _) (λ _ _ h. h) (byte_refused 123 read other (info, read.spelled.only, other) (record { ended = λ e. cc; device = λ e. cc; long = λ e. cc }))
@@ -90,21 +88,18 @@ module _ {s0 s1 : Script} {info : ℕ} (is : info ≡ 123) (info_read : ReadsVal
 -- ---- the rest of END
 
 pub EndMay-integer : (why : Why) (last : List ℕ) → IntegerMay why last → EndMay why last
-EndMay-integer Truncated last h = tt
-EndMay-integer Read last h = tt
-EndMay-integer InputTooLong last h = tt
-EndMay-integer IntegerRange last h = h
-EndMay-integer _ last h = absurd h
+EndMay-integer ValidationScheme last h = absurd h
+EndMay-integer _ last h = h
 
 pub ending_starts : (s : Script) → Midway IsEnding (IsPair SpellsPadding (λ _. IsNumber Any 0)) ending_of s s
-ending_starts s = seen IsEnding ending_of (IsPair SpellsPadding (λ _. IsNumber Any 0)) (λ v. v) s s (begins IsEnding s)
+ending_starts s = seen IsEnding ending_of (IsPair SpellsPadding (λ _. IsNumber Any 0)) (λ v. v) s s (begins IsEnding HasSome-ending s)
 
 module _ {s0 s1 : Script} {padding : Padding} (padding_read : ReadsValue SpellsPadding s0 padding s1) where
   pub with_padding : Midway IsEnding (IsNumber Any 0) (λ (done : Unit {0}). tt) s0 s1
   with_padding = ending_starts s0 ▸ (OneFront-padding, padding_read)
 
-  pub scheme_fails : {s2 : Script} {why : Why} → Fails IsUnsigned IntegerMay s1 why s2 → Fails IsEnding EndMay s0 why s2
-  scheme_fails f = fails_last with_padding (λ _ _ h. h) (pinned_fails 0 EndMay-integer f)
+  pub scheme_fails : {s2 : Script} {why : Why} → FailsPiece IsUnsigned IntegerMay s1 why s2 → Fails IsEnding EndMay s0 why s2
+  scheme_fails {why = why} f = fails_last with_padding (λ _ _ h. h) (pinned_fails 0 f (EndMay-integer why f.bytes (piece_reason f)))
 
   pub scheme_other : {s2 : Script} {scheme : ℕ} → scheme ≢ 0 → ReadsValue IsUnsigned s1 scheme s2 → Fails IsEnding EndMay s0 ValidationScheme s2
   scheme_other {scheme = scheme} other read = fails_last with_padding (λ _ _ h. h) (pinned_refused 0 OneFront-IsUnsigned read other (scheme, read.spelled, other) (record { ended = λ e. cc; device = λ e. cc; long = λ e. cc }))
@@ -131,94 +126,147 @@ OneFront-loose =
     (OneFront-image end_of _ (OneFront-image ending_of _ (OneFront-pair _ _ OneFront-padding (λ _. OneFront-number 0))))
     (OneFront-image Some _ (OneFront-rest id))))
 
-pub loose_fails : {may : Why → List ℕ → Type 0} {old new : Script} {why : Why} → Fails IsLoose may old why new → Fails IsStep may old why new
-loose_fails {may = may} {old = old} {new = new} {why = why} f =
-    Fails-after IsStep IsLoose may may old old new why [] (λ _ h. h) (Takes-none old) (record { wants = λ v p r rest s e. (v, p, r, loose_of v p s, e) }) f
+-- the id with which it begins
+step_id : Option Record → ℕ
+step_id (Some r) = id_of r
+step_id None = 2
 
-pub StepMay-integer : (why : Why) (last : List ℕ) → IntegerMay why last → StepMay why last
-StepMay-integer Truncated last h = tt
-StepMay-integer Read last h = tt
-StepMay-integer InputTooLong last h = tt
-StepMay-integer IntegerRange last h = h
-StepMay-integer _ last h = absurd h
+id_spelled : (step : Option Record) (a : List ℕ) → IsStep step a → (front : List ℕ) × (back : List ℕ) × IsUnsigned (step_id step) front × (a ≡ front ++ back)
+unfolding step_id
+id_spelled (Some r) a p = (p.front, p.back, p.first, p.joined)
+id_spelled None a p = (p.spelled.front, p.spelled.back, p.spelled.first, p.spelled.joined)
+
+id_first : Wants IsStep [] IsUnsigned
+id_first = record {
+  wants = λ step p r rest s e.
+      let q = id_spelled step p s in
+      (step_id step, q.0, q.1 ++ r, q.2, sym (append_assoc q.0 q.1 r) ∙ ap (λ (c : List ℕ). c ++ r) (sym q.3) ∙ e);
+}
+
+StepMay-integer : (why : Why) (last : List ℕ) → IntegerMay why last → StepMay why last
+StepMay-integer (RecordLeftOut id) last h = absurd h
+StepMay-integer (UnknownRecord id) last h = absurd h
+StepMay-integer (OutOfPlace id) last h = absurd h
+StepMay-integer InfoByte last h = absurd h
+StepMay-integer EndLength last h = absurd h
+StepMay-integer _ last h = inl h
 
 StepMay-name : (why : Why) (last : List ℕ) → NameMay why last → StepMay why last
-StepMay-name Truncated last h = tt
-StepMay-name Read last h = tt
-StepMay-name InputTooLong last h = tt
-StepMay-name Memory last h = tt
-StepMay-name IntegerRange last h = h
-StepMay-name EmptyName last h = h
-StepMay-name StringByte last h = h
-StepMay-name _ last h = absurd h
+StepMay-name (RecordLeftOut id) last h = absurd h
+StepMay-name (UnknownRecord id) last h = absurd h
+StepMay-name (OutOfPlace id) last h = absurd h
+StepMay-name InfoByte last h = absurd h
+StepMay-name EndLength last h = absurd h
+StepMay-name _ last h = inr (inl h)
 
 StepMay-rectangle : (why : Why) (last : List ℕ) → RectangleMay why last → StepMay why last
-StepMay-rectangle Truncated last h = tt
-StepMay-rectangle Read last h = tt
-StepMay-rectangle InputTooLong last h = tt
-StepMay-rectangle IntegerRange last h = h
+StepMay-rectangle (RecordLeftOut id) last h = absurd h
+StepMay-rectangle (UnknownRecord id) last h = absurd h
+StepMay-rectangle (OutOfPlace id) last h = absurd h
 StepMay-rectangle InfoByte last h = h
-StepMay-rectangle _ last h = absurd h
+StepMay-rectangle EndLength last h = absurd h
+StepMay-rectangle _ last h = inl h
 
-StepMay-end : (why : Why) (last : List ℕ) → EndMay why last → StepMay why last
-StepMay-end Truncated last h = tt
-StepMay-end Read last h = tt
-StepMay-end InputTooLong last h = tt
-StepMay-end IntegerRange last h = h
-StepMay-end ValidationScheme last h = h
-StepMay-end _ last h = absurd h
+StepMay-end : (why : Why) (last : List ℕ) → IsOfEnd (EndMay why) last → StepMay why last
+StepMay-end (RecordLeftOut id) last h = absurd h.decided.holds
+StepMay-end (UnknownRecord id) last h = absurd h.decided.holds
+StepMay-end (OutOfPlace id) last h = absurd h.decided.holds
+StepMay-end InfoByte last h = absurd h.decided.holds
+StepMay-end EndLength last h = absurd h.decided.holds
+StepMay-end _ last h = inr (inr h)
 
-pub step_starts : (s : Script) → Midway IsLoose (IsPair (unsigned_in Any) LooseRest) step_of s s
-step_starts s = seen IsLoose step_of (IsPair (unsigned_in Any) LooseRest) (λ v. v) s s (begins IsLoose s)
-
-pub id_fails : {s0 s1 : Script} {why : Why} → Fails IsUnsigned IntegerMay s0 why s1 → Fails IsStep StepMay s0 why s1
-id_fails f = loose_fails (fails_at (step_starts _) StepMay-integer f)
+pub id_fails : {s0 s1 : Script} {why : Why} → FailsPiece IsUnsigned IntegerMay s0 why s1 → Fails IsStep StepMay s0 why s1
+id_fails {s0 = s0} {why = why} f = piece_fails HasSome-step (whole_fails [] (Takes-none s0) id_first f (StepMay-integer why f.bytes (piece_reason f)))
 
 module _ {s0 s1 : Script} {id : ℕ} (id_read : ReadsValue IsUnsigned s0 id s1) where
-  module _ (k : ℕ) (is : id ≡ k) where
-    abbrev as_read : ReadsValue IsUnsigned s0 k s1
-    as_read = record { bytes = id_read.bytes; spelled = subst (λ (n : ℕ). IsUnsigned n id_read.bytes) is id_read.spelled; takes = id_read.takes }
+  id_is : (k : ℕ) → id ≡ k → IsUnsigned k id_read.bytes
+  id_is k is = subst (λ (n : ℕ). IsUnsigned n id_read.bytes) is id_read.spelled
 
-    with_id : Midway IsLoose (LooseRest k) (λ (step : Option Record). step) s0 s1
-    with_id = step_starts s0 ▸ (OneFront-IsUnsigned, as_read)
+  -- what follows the id
+  id_then : (k : ℕ) → id ≡ k → Wants IsStep id_read.bytes (LooseRest k)
+  id_then k is = record {
+    wants = λ step p r rest s e.
+        let l = loose_of step p s in
+        let q = l.spelled in
+        let joined : q.front ++ (q.back ++ r) ≡ id_read.bytes ++ rest = sym (append_assoc q.front q.back r) ∙ ap (λ (c : List ℕ). c ++ r) (sym q.joined) ∙ e in
+        let one = OneFront-IsUnsigned.one l.from.0 k q.front id_read.bytes (q.back ++ r) rest q.first (id_is k is) joined in
+        (l.from.1, q.back, r, subst (λ (n : ℕ). LooseRest n l.from.1 q.back) one.1 q.second, after_same q.front id_read.bytes (q.back ++ r) rest one.0 joined);
+  }
 
   pub pad_read : id ≡ 0 → ReadsValue IsStep s0 (Some Pad) s1
   pad_read is = record {
     bytes = id_read.bytes;
     takes = id_read.takes;
-    spelled = record { front = id_read.bytes; back = []; first = (as_read 0 is).spelled; second = record { from = tt; is = refl; spelled = refl }; joined = sym (append-nil id_read.bytes) };
+    spelled = record { front = id_read.bytes; back = []; first = id_is 0 is; second = record { from = tt; is = refl; spelled = refl }; joined = sym (append-nil id_read.bytes) };
   }
 
   -- CELL
+  name_then : id ≡ 14 → Wants IsStep id_read.bytes SpellsName
+  name_then is = record {
+    wants = λ step p r rest s e.
+        let w = (id_then 14 is).wants step p r rest s e in
+        let record_is : IsImage Some (IsRest Any 14) w.0 w.1 = w.3 in
+        let name_is : IsImage Cell SpellsName record_is.from w.1 = record_is.spelled in
+        (name_is.from, w.1, w.2, name_is.spelled, w.4);
+  }
+
+  name_begins : id ≡ 14 → (f : List ℕ) → Begins SpellsName f → Begins IsStep (id_read.bytes ++ f)
+  name_begins is f b = record {
+    value = Some (Cell b.value);
+    rest = b.rest;
+    spelled = record { front = id_read.bytes; back = f ++ b.rest; first = id_is 14 is; second = record { from = b.value; is = refl; spelled = b.spelled }; joined = append_assoc id_read.bytes f b.rest };
+  }
+
   pub name_fails : {s2 : Script} {why : Why} → id ≡ 14 → Fails SpellsName NameMay s1 why s2 → Fails IsStep StepMay s0 why s2
-  name_fails is f =
-      loose_fails (fails_last (seen IsLoose Cell SpellsName Some s0 s1 (seen IsLoose Some (IsRest Any 14) (λ (step : Option Record). step) s0 s1 (with_id 14 is))) StepMay-name f)
+  name_fails {s2 = s2} {why = why} is f = Fails-after IsStep SpellsName StepMay NameMay s0 s1 s2 why id_read.bytes (StepMay-name why) id_read.takes (name_then is) (name_begins is) f
 
   pub name_read : {s2 : Script} {name : List ℕ} → id ≡ 14 → ReadsValue SpellsName s1 name s2 → ReadsValue IsStep s0 (Some (Cell name)) s2
   name_read {s2 = s2} {name = name} is read = record {
     bytes = id_read.bytes ++ read.bytes;
     takes = Takes-then s0 s1 s2 id_read.bytes read.bytes id_read.takes read.takes;
-    spelled = record { front = id_read.bytes; back = read.bytes; first = (as_read 14 is).spelled; second = record { from = name; is = refl; spelled = read.spelled }; joined = refl };
+    spelled = record { front = id_read.bytes; back = read.bytes; first = id_is 14 is; second = record { from = name; is = refl; spelled = read.spelled }; joined = refl };
   }
 
   -- RECTANGLE
+  rectangle_then : id ≡ 20 → Wants IsStep id_read.bytes IsRectangle
+  rectangle_then is = record {
+    wants = λ step p r rest s e.
+        let w = (id_then 20 is).wants step p r rest s e in
+        let record_is : IsImage Some (IsRest Any 20) w.0 w.1 = w.3 in
+        let shape_is : IsImage shape_of (IsFields Any) record_is.from w.1 = record_is.spelled in
+        (rectangle_of shape_is.from, w.1, w.2, record { from = shape_is.from; is = refl; spelled = shape_is.spelled }, w.4);
+  }
+
+  rectangle_begins : id ≡ 20 → (f : List ℕ) → Begins IsRectangle f → Begins IsStep (id_read.bytes ++ f)
+  rectangle_begins is f b = record {
+    value = Some (Shape b.value);
+    rest = b.rest;
+    spelled = record { front = id_read.bytes; back = f ++ b.rest; first = id_is 20 is; second = record { from = b.spelled.from; is = ap Shape b.spelled.is; spelled = b.spelled.spelled }; joined = append_assoc id_read.bytes f b.rest };
+  }
+
   pub rectangle_fails : {s2 : Script} {why : Why} → id ≡ 20 → Fails IsRectangle RectangleMay s1 why s2 → Fails IsStep StepMay s0 why s2
-  rectangle_fails {s2 = s2} {why = why} is f =
-      let fields : Fails (IsFields Any) RectangleMay s1 why s2 =
-      Fails-after (IsFields Any) IsRectangle RectangleMay RectangleMay s1 s1 s2 why [] (λ _ h. h) (Takes-none s1) (record { wants = λ v p r rest s e. (rectangle_of v, p, r, record { from = v; is = refl; spelled = s }, e) }) f in
-      loose_fails (fails_last (seen IsLoose (λ (fields : Fields). Shape (rectangle_of fields)) (IsFields Any) Some s0 s1 (seen IsLoose Some (IsRest Any 20) (λ (step : Option Record). step) s0 s1 (with_id 20 is))) StepMay-rectangle fields)
+  rectangle_fails {s2 = s2} {why = why} is f = Fails-after IsStep IsRectangle StepMay RectangleMay s0 s1 s2 why id_read.bytes (StepMay-rectangle why) id_read.takes (rectangle_then is) (rectangle_begins is) f
 
   pub rectangle_read : {s2 : Script} {r : Rectangle} → id ≡ 20 → ReadsValue IsRectangle s1 r s2 → ReadsValue IsStep s0 (Some (Shape r)) s2
   rectangle_read {s2 = s2} {r = r} is read = record {
     bytes = id_read.bytes ++ read.bytes;
     takes = Takes-then s0 s1 s2 id_read.bytes read.bytes id_read.takes read.takes;
-    spelled = record { front = id_read.bytes; back = read.bytes; first = (as_read 20 is).spelled; second = record { from = read.spelled.from; is = ap Shape read.spelled.is; spelled = read.spelled.spelled }; joined = refl };
+    spelled = record { front = id_read.bytes; back = read.bytes; first = id_is 20 is; second = record { from = read.spelled.from; is = ap Shape read.spelled.is; spelled = read.spelled.spelled }; joined = refl };
   }
 
   -- END
+  end_then : id ≡ 2 → Wants IsStep id_read.bytes IsEnding
+  end_then is = record {
+    wants = λ step p r rest s e.
+        let w = (id_then 2 is).wants step p r rest s e in
+        let end_is : IsImage end_of IsEnding w.0 w.1 = w.3 in
+        (end_is.from, w.1, w.2, end_is.spelled, w.4);
+  }
+
   pub end_fails : {s2 : Script} {why : Why} → id ≡ 2 → Fails IsEnding EndMay s1 why s2 → Fails IsStep StepMay s0 why s2
-  end_fails is f =
-      loose_fails (fails_last (seen IsLoose end_of IsEnding (λ (step : Option Record). step) s0 s1 (with_id 2 is)) StepMay-end f)
+  end_fails {why = why} is f =
+      piece_fails HasSome-step
+      (whole_fails id_read.bytes id_read.takes (end_then is) f (StepMay-end why (id_read.bytes ++ f.bytes) (record { id = id_read.bytes; rest = f.bytes; spelled = id_is 2 is; joined = refl; decided = f.reason })))
 
   module _ {s2 : Script} (is : id ≡ 2) (read : ReadsValue IsEnding s1 tt s2) where
     both : Takes s0 (id_read.bytes ++ read.bytes) s2
@@ -230,7 +278,7 @@ module _ {s0 s1 : Script} {id : ℕ} (id_read : ReadsValue IsUnsigned s0 id s1) 
       takes = both;
       spelled = record {
         padding = read.spelled.from.0;
-        spelled = record { front = id_read.bytes; back = read.bytes; first = (as_read 2 is).spelled; second = read.spelled.spelled; joined = refl };
+        spelled = record { front = id_read.bytes; back = read.bytes; first = id_is 2 is; second = read.spelled.spelled; joined = refl };
         len = omega (arith, both.given, len);
       };
     }
@@ -239,7 +287,7 @@ module _ {s0 s1 : Script} {id : ℕ} (id_read : ReadsValue IsUnsigned s0 id s1) 
     loose = record {
       from = (2, None);
       is = refl;
-      spelled = record { front = id_read.bytes; back = read.bytes; first = (as_read 2 is).spelled; joined = refl; second = record { from = tt; is = refl; spelled = read.spelled } };
+      spelled = record { front = id_read.bytes; back = read.bytes; first = id_is 2 is; joined = refl; second = record { from = tt; is = refl; spelled = read.spelled } };
     }
 
     wrong : s2.given - s0.given ≢ 256 → (step : Option Record) (front rest more : List ℕ) → IsStep step front → front ++ rest ≢ (id_read.bytes ++ read.bytes) ++ more
@@ -249,11 +297,20 @@ module _ {s0 s1 : Script} {id : ℕ} (id_read : ReadsValue IsUnsigned s0 id s1) 
         let len : length (id_read.bytes ++ read.bytes) ≡ 256 = ap length (sym one.0) ∙ end.len in
         other (omega (arith, both.given, len))
 
+    long : s2.given - s0.given ≢ 256 → length (id_read.bytes ++ read.bytes) ≢ 256
+    long other len = other (omega (arith, both.given, len))
+
     pub end_wrong : s2.given - s0.given ≢ 256 → Fails IsStep StepMay s0 EndLength s2
     end_wrong other = record {
       bytes = id_read.bytes ++ read.bytes;
       takes = both;
-      reason = record { front = []; last = id_read.bytes ++ read.bytes; joined = refl; holds = tt };
+      reason = record {
+        front = [];
+        last = id_read.bytes ++ read.bytes;
+        joined = refl;
+        begun = Begins-none IsStep HasSome-step;
+        holds = (read.spelled.from.0, record { front = id_read.bytes; back = read.bytes; first = id_is 2 is; second = read.spelled.spelled; joined = refl }, long other);
+      };
       format = λ _. record { none = wrong other };
       truncated = λ e. cc;
       device = λ e. cc;
@@ -261,15 +318,6 @@ module _ {s0 s1 : Script} {id : ℕ} (id_read : ReadsValue IsUnsigned s0 id s1) 
     }
 
   -- any other id
-  step_id : Option Record → ℕ
-  step_id (Some r) = id_of r
-  step_id None = 2
-
-  id_spelled : (step : Option Record) (a : List ℕ) → IsStep step a → (front : List ℕ) × (back : List ℕ) × IsUnsigned (step_id step) front × (a ≡ front ++ back)
-  unfolding step_id
-  id_spelled (Some r) a p = (p.front, p.back, p.first, p.joined)
-  id_spelled None a p = (p.spelled.front, p.spelled.back, p.spelled.first, p.spelled.joined)
-
   no_step : IsNotRead id → (step : Option Record) → step_id step ≡ id → ⊥
   unfolding step_id
   no_step not (Some Pad) e = not.pad (sym e)
@@ -287,7 +335,7 @@ module _ {s0 s1 : Script} {id : ℕ} (id_read : ReadsValue IsUnsigned s0 id s1) 
   refused_id why not of reason = record {
     bytes = id_read.bytes;
     takes = id_read.takes;
-    reason = record { front = []; last = id_read.bytes; joined = refl; holds = reason };
+    reason = record { front = []; last = id_read.bytes; joined = refl; begun = Begins-none IsStep HasSome-step; holds = reason };
     format = λ _. record { none = none_fits not };
     truncated = λ is. absurd (of.ended is);
     device = λ is. absurd (of.device is);

@@ -18,6 +18,7 @@ use Rattle.oas_canon.specs.Putting.{IsWritten, IsCutOff}
 use Rattle.oas_canon.specs.Places.{RefusedAt, ByEnd}
 use Rattle.oas_canon.specs.Run.{decides, is_of_file, IsPlaced, IsDrafted, IsRefused, IsSealed, Seals, IsRead, ReadsLayout, IsDone, IsCut, IsDecided, IsWithinSource, Exactly, placed_at}
 use Rattle.oas_canon.proofs.Forms.{canonical_form}
+use Rattle.oas_canon.proofs.Reasoning.{seal_reasoned}
 
 -- ---- a draft is sealed
 
@@ -94,7 +95,7 @@ module _ {limits : Limits} {old new : Script} {draft : Layout} {end : ℕ} (d : 
 
   pub layout_read : {L : Type 0} (layout : L → Layout) (sealed : Result L Why) → Seals layout draft sealed → ReadsLayout layout limits old (placed_at end sealed) new
   layout_read layout (Ok l) s = sealed_read s
-  layout_read layout (Err why) s = (seal_refused why s, seal_placed why s)
+  layout_read layout (Err why) s = (seal_refused why s, seal_placed why s, seal_reasoned d why s)
 
 -- ---- a layout is written
 

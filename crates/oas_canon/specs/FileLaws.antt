@@ -193,7 +193,7 @@ pub zeros : (n : ℕ) → IsEach IsByte (replicate n 0) (replicate n 0)
 zeros zero = refl
 zeros (suc n) = (0 ∷ [], replicate n 0, record { only = refl; small = omega arith }, zeros n, refl)
 
-one_group : (n : ℕ) → n < 128 → IsUnsigned n (n ∷ [])
+pub one_group : (n : ℕ) → n < 128 → IsUnsigned n (n ∷ [])
 one_group n lt = record { closed = inl (lt, refl); short = omega arith; value = omega (arith, lt); fits = omega (arith, lt) }
 
 zero_numbers : (n : ℕ) → IsEach IsUnsigned (replicate n 0) (replicate n 0)
@@ -230,7 +230,7 @@ IsWithin-end = record {
   };
 }
 
-IsWithin-version : IsWithin (IsVersion Shortest) (IsVersion Any)
+pub IsWithin-version : IsWithin (IsVersion Shortest) (IsVersion Any)
 IsWithin-version = record { within = λ v a p. IsWithin-label.within version a p }
 
 IsWithin-start_parts : IsWithin (IsStartParts Shortest) (IsStartParts Any)

@@ -8,6 +8,7 @@ pub mod Drafts
 pub mod Collecting
 pub mod Steps
 pub mod Reasons
+pub mod Deciding
 pub mod Gathering
 pub mod Layouts
 pub mod Putting

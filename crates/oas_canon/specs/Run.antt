@@ -13,6 +13,7 @@ use Rattle.oas_num.specs.Style.{Any}
 use Rattle.oas_canon.specs.declared.records.Record.{Record}
 use Rattle.oas_canon.specs.File.{FileOf, FrontOf, IsEnd}
 use Rattle.oas_canon.specs.Places.{RefusedAt}
+use Rattle.oas_canon.specs.Deciding.{IsReasoned}
 use Rattle.oas_canon.specs.Meaning.{Layout, cells, Allowed, IsDistinct, Accepted, Means, SameLayout}
 use Rattle.oas_canon.specs.Canonical.{IsWithinLimits, IsHeld, IsOrdered, IsCanonicalOf}
 
@@ -76,7 +77,7 @@ pub record IsPlaced (limits : Limits) (old : Script) (refusal : Refusal) (new : 
   pub placed : old.given ≡ 0 → IsTrue (is_of_file refusal.why) → (more : List ℕ) → (IsAtEnd new → more ≡ []) → RefusedAt limits (bytes ++ more) refusal.at
 
 abbrev pub Refuses : Limits → Script → Refusal → Script → Type 0
-Refuses limits old refusal new = IsRefused limits old refusal.why new × IsPlaced limits old refusal new
+Refuses limits old refusal new = IsRefused limits old refusal.why new × IsPlaced limits old refusal new × IsReasoned limits old refusal new
 
 abbrev pub ReadsDraft : {L : Type 0} → (L → Layout) → (L → ℕ) → Limits → Script → Result L Refusal → Script → Type 0
 ReadsDraft layout end limits old (Ok draft) new = IsDrafted limits old (layout draft) (end draft) new

@@ -2,6 +2,7 @@
 ghost use Rattle.std.specs.Prelude.{◌≡◌, ◌⊎◌, ◌≤◌, ◌^◌, IfOk, IfErr};
 ghost use Rattle.oas_num.specs.declared.refusals.Why.TheVariants.{Write as NotWritten};
 ghost use Rattle.oas_canon.specs.Meaning.{standard};
+ghost use Rattle.oas_canon.specs.Deciding.{IsReasoned};
 ghost use Rattle.oas_canon.specs.Run.{ReadsLayout, IsDone, IsRefused, IsPlaced, IsCut, Exactly};
 
 use crate::layout::Layout;
@@ -42,6 +43,7 @@ pub fn canonicalize<S: Source, W: Write>(
     ensures done { IfOk result (λ n. IsDone standard (S.script from.old) (S.script from.new) (W.contents to.old) (W.contents to.new) n) }
     ensures refused { IfErr result (λ refusal. (refusal.why ≡ NotWritten) ⊎ IsRefused standard (S.script from.old) refusal.why (S.script from.new)) }
     ensures placed { IfErr result (λ refusal. (refusal.why ≡ NotWritten) ⊎ IsPlaced standard (S.script from.old) refusal (S.script from.new)) }
+    ensures decided { IfErr result (λ refusal. (refusal.why ≡ NotWritten) ⊎ IsReasoned standard (S.script from.old) refusal (S.script from.new)) }
     ensures nothing { IfErr result (λ refusal. (refusal.why ≡ NotWritten) ⊎ (to.new ≡ to.old)) }
     ensures cut { IfErr result (λ refusal. refusal.why ≡ NotWritten → IsCut standard (S.script from.old) (S.script from.new) (W.contents to.old) (W.contents to.new) refusal.at) }
     ensures exactly { Exactly standard (S.script from.old) result (S.script from.new) }

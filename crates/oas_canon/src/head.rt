@@ -1,9 +1,9 @@
 ghost use Rattle.std.specs.Prelude.{◌≡◌, IsTrue, ◌↔◌};
 ghost use Rattle.oas_num.specs.Combinators.{IsExactly};
-ghost use Rattle.oas_num.specs.Reading.{Reads};
+ghost use Rattle.oas_num.specs.Reading.{Reads, ReadsPiece, IntegerMay};
 ghost use Rattle.oas_num.specs.Style.{Any};
 ghost use Rattle.oas_canon.specs.File.{magic, IsVersion, IsAbove, IsTwelve, IsStart};
-ghost use Rattle.oas_canon.specs.Reasons.{MagicMay, VersionMay, StartMay, OffsetsMay};
+ghost use Rattle.oas_canon.specs.Reasons.{MagicMay, VersionMay, StartMay};
 
 use oas_num::{Label, Real, Source, Spelled, Why, next_byte, read_unsigned};
 use std::alloc::Global;
@@ -56,7 +56,7 @@ pub fn read_start<S: Source>(alloc: Global, source: &mut S) -> Result<Real, Why>
 
 /// Takes the version.
 fn read_version<S: Source>(alloc: Global, source: &mut S) -> Result<(), Why>
-    ensures { Reads (IsVersion Any) VersionMay (S.script source.old) result (S.script source.new) }
+    ensures { ReadsPiece (IsVersion Any) VersionMay (S.script source.old) result (S.script source.new) }
 {
     let text = Label::read(alloc, source)?;
     if text.as_bytes() != VERSION.as_slice() {
@@ -74,7 +74,7 @@ fn is_above(real: &Real) -> bool
 
 /// Takes the table-offsets, which nothing uses.
 fn read_offsets<S: Source>(source: &mut S) -> Result<(), Why>
-    ensures { Reads IsTwelve OffsetsMay (S.script source.old) result (S.script source.new) }
+    ensures { Reads IsTwelve IntegerMay (S.script source.old) result (S.script source.new) }
 {
     for _ in 0..OFFSETS {
         read_unsigned(source)?;

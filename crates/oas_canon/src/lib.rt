@@ -13,7 +13,8 @@
 //!
 //! The definitions, none of which follows the code: what a file is, in a style (specs/File.antt); which files are accepted,
 //! what they mean and when two meanings are the same layout (specs/Meaning.antt); what a canonical file is, as a judgement on
-//! finished bytes and as a function of the layout (specs/Canonical.antt); where a file is refused (specs/Places.antt).
+//! finished bytes and as a function of the layout (specs/Canonical.antt); where a file is refused (specs/Places.antt), and
+//! which bytes decide that it is (specs/Deciding.antt).
 //!
 //! Whether memory is there is outside every contract: what allocates may answer `Why::Memory`.
 #![tactic(auto)]

@@ -32,8 +32,12 @@ derived_total = laws.total-law
 abbrev pub turns_cmp : Turns → Turns → Ordering
 turns_cmp s t = nat_cmp (turn_count s) (turn_count t)
 
+-- what the derived `cmp` of quarter turns answers
+abbrev pub derived_turns_cmp : Turns → Turns → Ordering
+derived_turns_cmp = turns_order.ghosts.cmp
+
 -- the derived order of quarter turns is that of their numbers
-same_turns : (s t : Turns) → turns_order.ghosts.cmp s t ≡ turns_cmp s t
+pub same_turns : (s t : Turns) → derived_turns_cmp s t ≡ turns_cmp s t
 same_turns T0 T0 = refl
 same_turns T1 T1 = refl
 same_turns T2 T2 = refl

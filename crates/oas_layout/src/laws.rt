@@ -1,8 +1,24 @@
 //! Laws over the definitions alone.
 
-ghost use Rattle.std.specs.Prelude.{◌≡◌};
+ghost use Rattle.std.specs.Prelude.{◌≡◌, ◌↔◌, IsTrue};
+ghost use Rattle.std.specs.Cmp.{IsTotalOrder};
+ghost use Rattle.std.specs.declared.cmp.Ordering.TheVariants.{Equal};
+ghost use Rattle.oas_layout.specs.declared.element.Element.{Element};
+ghost use Rattle.oas_layout.specs.declared.element.Turns.{Turns};
+ghost use Rattle.oas_layout.specs.Element.{element_cmp};
+ghost use Rattle.oas_layout.specs.ElementLaws.{derived_cmp, derived_eq, derived_turns_cmp, turns_cmp};
 ghost use Rattle.oas_layout.specs.declared.profile.Profile.{Profile};
 ghost use Rattle.oas_layout.specs.Laws.{TestsSame, KeptIsSame, SameIfKeptEqual, KeptIsKept, KeptPolygons, AddingCounts, HeldApart, HeldCounts, EqualCounts, IsReflexive, IsSymmetric, IsTransitive};
+
+/// Elements are compared as `element_cmp` says, which is a total order in which no two tie, and `==` says that they are
+/// equal. Quarter turns are compared by their numbers.
+pub fn element_order()
+    ensures stated { (a b : Element) → derived_cmp a b ≡ element_cmp a b }
+    ensures total { IsTotalOrder element_cmp }
+    ensures exact { (a b : Element) → element_cmp a b ≡ Equal → a ≡ b }
+    ensures equal { (a b : Element) → IsTrue (derived_eq a b) ↔ (a ≡ b) }
+    ensures turns { (s t : Turns) → derived_turns_cmp s t ≡ turns_cmp s t }
+{}
 
 /// An element is the same as the form in which it is kept, and two elements are the same exactly if these are equal.
 pub fn kept_forms()

@@ -1,6 +1,9 @@
 //! A finished layout.
 
 ghost use Rattle.std.specs.Prelude.{◌≡◌, ◌<◌, ◌≤◌, ◌↔◌, IsTrue, length, Some, slice_get};
+ghost use Rattle.std.specs.List.Sorted.{IsStrictlySortedBy};
+ghost use Rattle.std.specs.Ordering.{nat_cmp};
+ghost use Rattle.std.specs.Cmp.Lexicographic.{slice_cmp};
 ghost use Rattle.oas_layout.specs.declared.profile.Profile.TheVariants.{One};
 ghost use Rattle.oas_layout.specs.Meaning.{element_count, cells_weight, SameLayout};
 ghost use Rattle.oas_layout.specs.Contents.{expanded, names, bags, meaning_of};
@@ -51,9 +54,10 @@ impl Layout {
         self.profile
     }
 
-    /// How many cells there are.
+    /// How many cells there are. Their names ascend.
     pub fn cells(&self) -> usize
-        ensures { result ≡ length self.now.cells }
+        ensures count { result ≡ length self.now.cells }
+        ensures ascending { IsStrictlySortedBy (slice_cmp nat_cmp) (names self.now.cells) }
     {
         self.cells.len()
     }
@@ -85,7 +89,7 @@ impl Layout {
         self.cells.get_index(i).unwrap()
     }
 
-    /// The name of a cell. Names ascend.
+    /// The name of a cell.
     pub fn cell_name(&self, i: usize) -> &Name
         requires { i < length self.now.cells }
         ensures { slice_get (names self.now.cells) i ≡ Some result.now }

@@ -1,38 +1,42 @@
 -- Reading spellings that are made of spellings, one field after another.
-use Rattle.std.proofs.Common.{◌≡◌, ◌≢◌, ℕ, Bool, true, false, List, [], ◌∷◌, ◌++◌, length, Option, Some, None, IsTrue, ◌<◌, refl, sym, ap, subst, ◌∙◌, append_assoc, arith}
-use Rattle.std.proofs.lemmas.List.{append-nil}
+use Rattle.std.proofs.Common.{◌≡◌, ◌≢◌, ℕ, ◌+◌, zero, suc, Bool, true, false, List, [], ◌∷◌, ◌++◌, length, Option, Some, None, IsTrue, ◌<◌, refl, sym, ap, subst, ◌∙◌, append_assoc, arith}
+use Rattle.std.proofs.lemmas.List.{append-nil, length-append}
 use Rattle.oas_num.specs.declared.refusals.Why.{Why}
 use Rattle.oas_num.specs.declared.refusals.Why.TheVariants.{Truncated, Read, InputTooLong, Memory}
 use Rattle.oas_num.specs.Script.{Script, Takes}
 use Rattle.oas_num.specs.Grammar.{OneFront, IsPair, IsSuch, IsImage, IsThere, IsEach, IsCount}
 use Rattle.oas_num.specs.GrammarLaws.{after_same}
 use Rattle.oas_num.specs.Combinators.{IsKeyed}
-use Rattle.oas_num.specs.Reading.{ReadsValue, Fails}
-use Rattle.oas_num.proofs.ReadLemmas.{Takes-none, Takes-then, Wants, Fails-after}
+use Rattle.oas_num.specs.Begun.{HasSome, Begins, Before}
+use Rattle.oas_num.specs.BegunLaws.{HasSome-first, HasSome-second_of, HasSome-count, Before-begins, Before-as}
+use Rattle.oas_num.specs.Reading.{ReadsValue, FailsBy, Fails, FailsPiece}
+use Rattle.oas_num.proofs.ReadLemmas.{Takes-none, Takes-then, Wants, Fails-after, Begins-after, Before-after}
 
--- The fields so far were read, and a spelling of the rest makes the whole.
+-- The fields so far were read, and a spelling of the rest, of which there is one, makes the whole.
 pub record Midway {V W : Type 0} (spells : V → List ℕ → Type 0) (next : W → List ℕ → Type 0) (build : W → V) (old now : Script) : Type 0 where
   pub bytes : List ℕ
   pub takes : Takes old bytes now
   pub wants : Wants spells bytes next
   pub makes : (w : W) (q : List ℕ) → next w q → spells (build w) (bytes ++ q)
+  pub some : HasSome next
 
 module _ {V W : Type 0} (A : V → List ℕ → Type 0) (B : V → W → List ℕ → Type 0) where
   pub Wants-first : Wants (IsPair A B) [] A
   Wants-first = record { wants = λ v p r rest s e. (v.0, s.front, s.back ++ r, s.first, sym (append_assoc s.front s.back r) ∙ ap (λ (c : List ℕ). c ++ r) (sym s.joined) ∙ e) }
 
 module _ {V : Type 0} (A : V → List ℕ → Type 0) where
-  Wants-itself : Wants A [] A
+  pub Wants-itself : Wants A [] A
   Wants-itself = record { wants = λ v p r rest s e. (v, p, r, s, e) }
 
-  pub begins : (s : Script) → Midway A A (λ v. v) s s
-  begins s = record { bytes = []; takes = Takes-none s; wants = Wants-itself; makes = λ w q h. h }
+  unfoldable pub begins : HasSome A → (s : Script) → Midway A A (λ v. v) s s
+  begins some s = record { bytes = []; takes = Takes-none s; wants = Wants-itself; makes = λ w q h. h; some = some }
 
 -- the rest of a spelling after its first part
 module _ {U V W : Type 0} (whole : U → List ℕ → Type 0) (A : V → List ℕ → Type 0) (B : V → W → List ℕ → Type 0) (build : V × W → U) where
   -- a field is read
-  pub reads : (old mid new : Script) (v : V) → OneFront A → Midway whole (IsPair A B) build old mid → ReadsValue A mid v new → Midway whole (B v) (λ w. build (v, w)) old new
-  reads old mid new v law m read = record {
+  pub reads : (old mid new : Script) (v : V) → OneFront A → HasSome (B v) → Midway whole (IsPair A B) build old mid → ReadsValue A mid v new → Midway whole (B v) (λ w. build (v, w)) old new
+  reads old mid new v law some m read = record {
+    some = some;
     bytes = m.bytes ++ read.bytes;
     takes = Takes-then old mid new m.bytes read.bytes m.takes read.takes;
     wants = record {
@@ -46,16 +50,39 @@ module _ {U V W : Type 0} (whole : U → List ℕ → Type 0) (A : V → List �
     makes = λ w q h. rw append_assoc (m.makes (v, w) (read.bytes ++ q) (record { front = read.bytes; back = q; first = read.spelled; second = h; joined = refl }));
   }
 
+  -- what begins a field begins the pair, where what follows it is spelled
+  pair_begun : ((v : V) → HasSome (B v)) → (a : List ℕ) → Begins A a → Begins (IsPair A B) a
+  pair_begun somes a b =
+      let more = somes b.value in
+      record {
+        value = (b.value, more.value);
+        rest = b.rest ++ more.bytes;
+        spelled = record { front = a ++ b.rest; back = more.bytes; first = b.spelled; second = more.spelled; joined = sym (append_assoc a b.rest more.bytes) };
+      }
+
+  none_begun : HasSome (IsPair A B) → (a : List ℕ) → Before true A a → Begins (IsPair A B) a
+  none_begun some a none = Before-begins true (IsPair A B) some a none
+
   -- a field that isn't the last fails
-  pub fails : (may there : Why → List ℕ → Type 0) (old mid new : Script) (why : Why) → ((last : List ℕ) → there why last → may why last) → Midway whole (IsPair A B) build old mid → Fails A there mid why new → Fails whole may old why new
-  fails may there old mid new why allows so_far f =
-      let g = Fails-after (IsPair A B) A may there mid mid new why [] allows (Takes-none mid) (Wants-first A B) f in
-      Fails-after whole (IsPair A B) may may old mid new why so_far.bytes (λ _ x. x) so_far.takes so_far.wants g
+  pub fails : {piece : Bool} (may there : Why → List ℕ → Type 0) (old mid new : Script) (why : Why) → ((last : List ℕ) → there why last → may why last) → ((a : List ℕ) → Before piece A a → Begins (IsPair A B) a) → Midway whole (IsPair A B) build old mid → FailsBy piece A there mid why new → Fails whole may old why new
+  fails may there old mid new why allows begun m f =
+      let g : Fails (IsPair A B) may mid why new = Fails-after (IsPair A B) A may there mid mid new why [] allows (Takes-none mid) (Wants-first A B) begun f in
+      Fails-after whole (IsPair A B) may may old mid new why m.bytes (λ _ x. x) m.takes m.wants (Begins-after whole (IsPair A B) m.bytes build m.makes) g
+
+  -- a field of one piece
+  pub fails_piece : (may there : Why → List ℕ → Type 0) (old mid new : Script) (why : Why) → ((last : List ℕ) → there why last → may why last) → Midway whole (IsPair A B) build old mid → FailsPiece A there mid why new → Fails whole may old why new
+  fails_piece may there old mid new why allows m f = fails may there old mid new why allows (none_begun m.some) m f
+
+  -- a field after which each value's rest is spelled
+  pub fails_some : {piece : Bool} (may there : Why → List ℕ → Type 0) (old mid new : Script) (why : Why) → ((v : V) → HasSome (B v)) → ((last : List ℕ) → there why last → may why last) → Midway whole (IsPair A B) build old mid → FailsBy piece A there mid why new → Fails whole may old why new
+  fails_some {piece} may there old mid new why somes allows m f =
+      fails may there old mid new why allows (λ a h. pair_begun somes a (Before-begins piece A (HasSome-first A B m.some) a h)) m f
 
 module _ {U V : Type 0} (whole : U → List ℕ → Type 0) (A : V → List ℕ → Type 0) (build : V → U) where
   -- the last field fails
-  pub last_fails : (may there : Why → List ℕ → Type 0) (old mid new : Script) (why : Why) → ((last : List ℕ) → there why last → may why last) → Midway whole A build old mid → Fails A there mid why new → Fails whole may old why new
-  last_fails may there old mid new why allows so_far f = Fails-after whole A may there old mid new why so_far.bytes allows so_far.takes so_far.wants f
+  pub last_fails : {piece : Bool} (may there : Why → List ℕ → Type 0) (old mid new : Script) (why : Why) → ((last : List ℕ) → there why last → may why last) → Midway whole A build old mid → FailsBy piece A there mid why new → Fails whole may old why new
+  last_fails {piece} may there old mid new why allows m f =
+      Fails-after whole A may there old mid new why m.bytes allows m.takes m.wants (Before-after whole A m.bytes build m.makes piece m.some) f
 
   -- the last field is read
   pub ends : (old mid new : Script) (v : V) → Midway whole A build old mid → ReadsValue A mid v new → ReadsValue whole old (build v) new
@@ -73,28 +100,35 @@ module _ {T U V : Type 0} (whole : T → List ℕ → Type 0) (f : U → V) (A :
     takes = m.takes;
     wants = record { wants = λ u p r rest s e. let w = m.wants.wants u p r rest s e in (w.3.from, w.1, w.2, w.3.spelled, w.4) };
     makes = λ u q h. m.makes (f u) q (record { from = u; is = refl; spelled = h });
+    some = let some = m.some in record { value = some.spelled.from; bytes = some.bytes; spelled = some.spelled.spelled };
   }
+
+-- what a value stands for fails with it
+pub image_fails : {U V : Type 0} {A : U → List ℕ → Type 0} {may : Why → List ℕ → Type 0} {piece : Bool} {old new : Script} {why : Why} (f : U → V) → FailsBy piece A may old why new → FailsBy piece (IsImage f A) may old why new
+image_fails {A = A} {may = may} {piece = piece} {old = old} {new = new} {why = why} f g =
+    Fails-after (IsImage f A) A may may old old new why [] (λ _ h. h) (Takes-none old) (record { wants = λ v p r rest s e. (s.from, p, r, s.spelled, e) })
+    (Before-as piece A (IsImage f A) (λ a b. record { value = f b.value; rest = b.rest; spelled = record { from = b.value; is = refl; spelled = b.spelled } })) g
 
 -- a value that is refused, by a reason that its bytes show
 module _ {V : Type 0} (P : V → Type 0) (A : V → List ℕ → Type 0) where
   pub refused : (may : Why → List ℕ → Type 0) (old new : Script) (why : Why) (v : V) → OneFront A → (read : ReadsValue A old v new) → ¬ P v → may why read.bytes
-      → why ≢ Truncated → why ≢ Read → why ≢ InputTooLong → Fails (IsSuch P A) may old why new
+      → why ≢ Truncated → why ≢ Read → why ≢ InputTooLong → FailsPiece (IsSuch P A) may old why new
   refused may old new why v law read isnt reason a b c = record {
     bytes = read.bytes;
     takes = read.takes;
-    reason = record { front = []; last = read.bytes; joined = refl; holds = reason };
+    reason = record { front = []; last = read.bytes; joined = refl; begun = refl; holds = reason };
     format = λ _. record { none = λ w p r more s e. let one = law.one w v p read.bytes r more s.spelled read.spelled e in isnt (subst P one.1 s.holds) };
     truncated = λ is. absurd (a is);
     device = λ is. absurd (b is);
     too_long = λ is. absurd (c is);
   }
 
--- memory was refused
-pub no_memory : {V : Type 0} (A : V → List ℕ → Type 0) (may : Why → List ℕ → Type 0) (old new : Script) (bytes : List ℕ) → may Memory [] → Takes old bytes new → Fails A may old Memory new
-no_memory A may old new bytes allows takes = record {
-  bytes = bytes;
+-- memory was refused for what was read last
+pub no_memory : {V : Type 0} (A : V → List ℕ → Type 0) (may : Why → List ℕ → Type 0) (old new : Script) (front last : List ℕ) → Begins A front → may Memory last → Takes old (front ++ last) new → Fails A may old Memory new
+no_memory A may old new front last begun allows takes = record {
+  bytes = front ++ last;
   takes = takes;
-  reason = record { front = bytes; last = []; joined = sym (append-nil bytes); holds = allows };
+  reason = record { front = front; last = last; joined = refl; begun = begun; holds = allows };
   format = λ is. absurd cc;
   truncated = λ is. absurd cc;
   device = λ is. absurd cc;
@@ -135,33 +169,81 @@ module _ {V : Type 0} (A : V → List ℕ → Type 0) where
       let one = law.one w v f.0 e.0 (f.1 ++ r) (e.1 ++ rest) f.2 e.2 joined in
       each_wants law vs ws e.1 f.1 r rest (omega arith) e.3 f.3 (after_same f.0 e.0 (f.1 ++ r) (e.1 ++ rest) one.0 joined)
 
+  IsEach-join : (vs ws : List V) (a b : List ℕ) → IsEach A vs a → IsEach A ws b → IsEach A (vs ++ ws) (a ++ b)
+  IsEach-join [] ws a b each more = subst (λ (c : List ℕ). IsEach A ws (c ++ b)) (sym each) more
+  IsEach-join (v ∷ vs) ws a b each more =
+      (each.0, each.1 ++ b, each.2, IsEach-join vs ws each.1 b each.3 more, ap (λ (c : List ℕ). c ++ b) each.4 ∙ append_assoc each.0 each.1 b)
+
+-- how many are missing after one more
+missing : (n m : ℕ) → n < m → (k : ℕ) × (m ≡ n + suc k)
+missing zero zero lt = absurd (omega arith)
+missing zero (suc m) lt = (m, omega arith)
+missing (suc n) zero lt = absurd (omega arith)
+missing (suc n) (suc m) lt = let k = missing n m (omega arith) in (k.0, omega (arith, k.1))
+
 -- so many items
 module _ {V : Type 0} (A : V → List ℕ → Type 0) (count : ℕ) where
-  pub listed_fails : (may there : Why → List ℕ → Type 0) (old mid new : Script) (why : Why) (vs : List V) → OneFront A → ((last : List ℕ) → there why last → may why last) → length vs < count → Listed A old mid vs → Fails A there mid why new → Fails (IsCount A count) may old why new
-  listed_fails may there old mid new why vs law allows lt l f =
+  -- the items that are still missing are spelled as the one that was begun
+  pub count_begun : (vs : List V) (front a : List ℕ) → length vs < count → IsEach A vs front → Begins A a → Begins (IsCount A count) (front ++ a)
+  count_begun vs front a lt each b =
+      let left = missing (length vs) count lt in
+      let more = HasSome-count A left.0 (record { value = b.value; bytes = a ++ b.rest; spelled = b.spelled }) in
+      let joined : (front ++ a) ++ (b.rest ++ more.bytes) ≡ front ++ ((a ++ b.rest) ++ more.bytes) =
+      append_assoc front a (b.rest ++ more.bytes) ∙ ap (λ (c : List ℕ). front ++ c) (sym (append_assoc a b.rest more.bytes)) in
+      let items : List V = vs ++ b.value ∷ more.value in
+      let all : IsEach A items (front ++ ((a ++ b.rest) ++ more.bytes)) =
+      IsEach-join A vs (b.value ∷ more.value) front ((a ++ b.rest) ++ more.bytes) each (a ++ b.rest, more.bytes, b.spelled, more.spelled.each, refl) in
+      record {
+        value = items;
+        rest = b.rest ++ more.bytes;
+        spelled = record { len = omega (arith, length-append vs (b.value ∷ more.value), more.spelled.len, left.1); each = subst (λ (c : List ℕ). IsEach A items c) (sym joined) all };
+      }
+
+  pub listed_fails : {piece : Bool} (may there : Why → List ℕ → Type 0) (old mid new : Script) (why : Why) (vs : List V) → OneFront A → HasSome A → ((last : List ℕ) → there why last → may why last) → length vs < count → Listed A old mid vs → FailsBy piece A there mid why new → Fails (IsCount A count) may old why new
+  listed_fails {piece} may there old mid new why vs law some allows lt l f =
       Fails-after (IsCount A count) A may there old mid new why l.bytes allows l.takes
       (record { wants = λ x p r rest s e. each_wants A law vs x l.bytes p r rest (omega (arith, s.len, lt)) l.each s.each e })
+      (λ a h. count_begun vs l.bytes a lt l.each (Before-begins piece A some a h))
       f
 
   pub listed_all : (old new : Script) (vs : List V) → length vs ≡ count → Listed A old new vs → ReadsValue (IsCount A count) old vs new
   listed_all old new vs len l = record { bytes = l.bytes; spelled = record { len = len; each = l.each }; takes = l.takes }
 
   -- an item was read for which there is no memory
-  pub listed_no_memory : (may : Why → List ℕ → Type 0) (old mid new : Script) (vs : List V) (v : V) → may Memory [] → Listed A old mid vs → ReadsValue A mid v new → Fails (IsCount A count) may old Memory new
-  listed_no_memory may old mid new vs v allows l read = no_memory (IsCount A count) may old new (l.bytes ++ read.bytes) allows (Takes-then old mid new l.bytes read.bytes l.takes read.takes)
+  pub listed_no_memory : (may : Why → List ℕ → Type 0) (old mid new : Script) (vs : List V) (v : V) → ((last : List ℕ) → A v last → may Memory last) → length vs < count → Listed A old mid vs → ReadsValue A mid v new → Fails (IsCount A count) may old Memory new
+  listed_no_memory may old mid new vs v allows lt l read =
+      let begun : Begins (IsCount A count) (l.bytes ++ []) = count_begun vs l.bytes [] lt l.each (record { value = v; rest = read.bytes; spelled = read.spelled }) in
+      no_memory (IsCount A count) may old new l.bytes read.bytes (subst (λ (c : List ℕ). Begins (IsCount A count) c) (append-nil l.bytes) begun) (allows read.bytes read.spelled) (Takes-then old mid new l.bytes read.bytes l.takes read.takes)
 
--- The same, with what the facts show left out.
+-- The same, with what the facts show left out. First where what follows a field doesn't depend on its value.
 infixl 20 ◌▸◌
-pub ◌▸◌ : {U V W : Type 0} {whole : U → List ℕ → Type 0} {A : V → List ℕ → Type 0} {B : V → W → List ℕ → Type 0} {build : V × W → U} {old mid new : Script} {v : V}
-    → Midway whole (IsPair A B) build old mid → OneFront A × ReadsValue A mid v new → Midway whole (B v) (λ w. build (v, w)) old new
-◌▸◌ {whole = whole} {A = A} {B = B} {build = build} {old = old} {mid = mid} {new = new} {v = v} m read = reads whole A B build old mid new v read.0 m read.1
+pub ◌▸◌ : {U V W : Type 0} {whole : U → List ℕ → Type 0} {A : V → List ℕ → Type 0} {B : W → List ℕ → Type 0} {build : V × W → U} {old mid new : Script} {v : V}
+    → Midway whole (IsPair A (λ (_ : V). B)) build old mid → OneFront A × ReadsValue A mid v new → Midway whole B (λ w. build (v, w)) old new
+◌▸◌ {whole = whole} {A = A} {B = B} {build = build} {old = old} {mid = mid} {new = new} {v = v} m read = reads whole A (λ _. B) build old mid new v read.0 (HasSome-second_of A B m.some) m read.1
 
-pub fails_at : {U V W : Type 0} {whole : U → List ℕ → Type 0} {A : V → List ℕ → Type 0} {B : V → W → List ℕ → Type 0} {build : V × W → U} {old mid new : Script} {may there : Why → List ℕ → Type 0} {why : Why}
-    → Midway whole (IsPair A B) build old mid → ((why : Why) (last : List ℕ) → there why last → may why last) → Fails A there mid why new → Fails whole may old why new
-fails_at {whole = whole} {A = A} {B = B} {build = build} {old = old} {mid = mid} {new = new} {may = may} {there = there} {why = why} m allows f = fails whole A B build may there old mid new why (allows why) m f
+pub fails_at : {U V W : Type 0} {whole : U → List ℕ → Type 0} {A : V → List ℕ → Type 0} {B : W → List ℕ → Type 0} {build : V × W → U} {piece : Bool} {old mid new : Script} {may there : Why → List ℕ → Type 0} {why : Why}
+    → Midway whole (IsPair A (λ (_ : V). B)) build old mid → ((why : Why) (last : List ℕ) → there why last → may why last) → FailsBy piece A there mid why new → Fails whole may old why new
+fails_at {whole = whole} {A = A} {B = B} {build = build} {old = old} {mid = mid} {new = new} {may = may} {there = there} {why = why} m allows f =
+    fails_some whole A (λ _. B) build may there old mid new why (λ _. HasSome-second_of A B m.some) (allows why) m f
 
-pub fails_last : {U V : Type 0} {whole : U → List ℕ → Type 0} {A : V → List ℕ → Type 0} {build : V → U} {old mid new : Script} {may there : Why → List ℕ → Type 0} {why : Why}
-    → Midway whole A build old mid → ((why : Why) (last : List ℕ) → there why last → may why last) → Fails A there mid why new → Fails whole may old why new
+-- Then where it may: what follows is spelled for the value that was read, or for each, or the field is of one piece.
+infixl 20 ◌▹◌
+pub ◌▹◌ : {U V W : Type 0} {whole : U → List ℕ → Type 0} {A : V → List ℕ → Type 0} {B : V → W → List ℕ → Type 0} {build : V × W → U} {old mid new : Script} {v : V}
+    → Midway whole (IsPair A B) build old mid → OneFront A × HasSome (B v) × ReadsValue A mid v new → Midway whole (B v) (λ w. build (v, w)) old new
+◌▹◌ {whole = whole} {A = A} {B = B} {build = build} {old = old} {mid = mid} {new = new} {v = v} m read = reads whole A B build old mid new v read.0 read.1 m read.2
+
+pub fails_key : {U V W : Type 0} {whole : U → List ℕ → Type 0} {A : V → List ℕ → Type 0} {B : V → W → List ℕ → Type 0} {build : V × W → U} {piece : Bool} {old mid new : Script} {may there : Why → List ℕ → Type 0} {why : Why}
+    → Midway whole (IsPair A B) build old mid → ((v : V) → HasSome (B v)) → ((why : Why) (last : List ℕ) → there why last → may why last) → FailsBy piece A there mid why new → Fails whole may old why new
+fails_key {whole = whole} {A = A} {B = B} {build = build} {old = old} {mid = mid} {new = new} {may = may} {there = there} {why = why} m somes allows f =
+    fails_some whole A B build may there old mid new why somes (allows why) m f
+
+pub fails_at_piece : {U V W : Type 0} {whole : U → List ℕ → Type 0} {A : V → List ℕ → Type 0} {B : V → W → List ℕ → Type 0} {build : V × W → U} {old mid new : Script} {may there : Why → List ℕ → Type 0} {why : Why}
+    → Midway whole (IsPair A B) build old mid → ((why : Why) (last : List ℕ) → there why last → may why last) → FailsPiece A there mid why new → Fails whole may old why new
+fails_at_piece {whole = whole} {A = A} {B = B} {build = build} {old = old} {mid = mid} {new = new} {may = may} {there = there} {why = why} m allows f =
+    fails_piece whole A B build may there old mid new why (allows why) m f
+
+pub fails_last : {U V : Type 0} {whole : U → List ℕ → Type 0} {A : V → List ℕ → Type 0} {build : V → U} {piece : Bool} {old mid new : Script} {may there : Why → List ℕ → Type 0} {why : Why}
+    → Midway whole A build old mid → ((why : Why) (last : List ℕ) → there why last → may why last) → FailsBy piece A there mid why new → Fails whole may old why new
 fails_last {whole = whole} {A = A} {build = build} {old = old} {mid = mid} {new = new} {may = may} {there = there} {why = why} m allows f = last_fails whole A build may there old mid new why (allows why) m f
 
 pub is_read : {U V : Type 0} {whole : U → List ℕ → Type 0} {A : V → List ℕ → Type 0} {build : V → U} {old mid new : Script} {v : V}
@@ -170,30 +252,36 @@ is_read {whole = whole} {A = A} {build = build} {old = old} {mid = mid} {new = n
 
 -- a value of which that holds
 module _ {V : Type 0} (P : V → Type 0) (A : V → List ℕ → Type 0) where
-  pub such_read : (old new : Script) (v : V) → P v → ReadsValue A old v new → ReadsValue (IsSuch P A) old v new
+  unfoldable pub such_read : (old new : Script) (v : V) → P v → ReadsValue A old v new → ReadsValue (IsSuch P A) old v new
   such_read old new v holds read = record { bytes = read.bytes; spelled = record { holds = holds; spelled = read.spelled }; takes = read.takes }
 
-  pub such_fails : (may : Why → List ℕ → Type 0) (old new : Script) (why : Why) → Fails A may old why new → Fails (IsSuch P A) may old why new
+  pub such_fails : (may : Why → List ℕ → Type 0) (old new : Script) (why : Why) → FailsPiece A may old why new → FailsPiece (IsSuch P A) may old why new
   such_fails may old new why f =
-      Fails-after (IsSuch P A) A may may old old new why [] (λ _ h. h) (Takes-none old) (record { wants = λ v p r rest s e. (v, p, r, s.spelled, e) }) f
+      Fails-after (IsSuch P A) A may may old old new why [] (λ _ h. h) (Takes-none old) (record { wants = λ v p r rest s e. (v, p, r, s.spelled, e) }) (λ _ h. h) f
 
-  pub such_fails_by : (may there : Why → List ℕ → Type 0) (old new : Script) (why : Why) → ((why : Why) (last : List ℕ) → there why last → may why last) → Fails A there old why new → Fails (IsSuch P A) may old why new
+  pub such_fails_by : (may there : Why → List ℕ → Type 0) (old new : Script) (why : Why) → ((why : Why) (last : List ℕ) → there why last → may why last) → FailsPiece A there old why new → FailsPiece (IsSuch P A) may old why new
   such_fails_by may there old new why allows f =
-      Fails-after (IsSuch P A) A may there old old new why [] (allows why) (Takes-none old) (record { wants = λ v p r rest s e. (v, p, r, s.spelled, e) }) f
+      Fails-after (IsSuch P A) A may there old old new why [] (allows why) (Takes-none old) (record { wants = λ v p r rest s e. (v, p, r, s.spelled, e) }) (λ _ h. h) f
+
+  -- where what begins a value begins one of which that holds
+  pub such_fails_begun : (may there : Why → List ℕ → Type 0) (old new : Script) (why : Why) → ((why : Why) (last : List ℕ) → there why last → may why last) → ((a : List ℕ) → Begins A a → Begins (IsSuch P A) a) → Fails A there old why new → Fails (IsSuch P A) may old why new
+  such_fails_begun may there old new why allows begun f =
+      Fails-after (IsSuch P A) A may there old old new why [] (allows why) (Takes-none old) (record { wants = λ v p r rest s e. (v, p, r, s.spelled, e) }) begun f
 
 -- a value in a wrapper
 pub wrapped_read : {W V : Type 0} {A : V → List ℕ → Type 0} {old new : Script} {w : W} (of : W → V) → ReadsValue A old (of w) new → ReadsValue (λ u bytes. A (of u) bytes) old w new
 wrapped_read of read = record { bytes = read.bytes; spelled = read.spelled; takes = read.takes }
 
-pub wrapped_fails : {W V : Type 0} {A : V → List ℕ → Type 0} {may : Why → List ℕ → Type 0} {old new : Script} {why : Why} (of : W → V) → Fails A may old why new → Fails (λ (u : W) bytes. A (of u) bytes) may old why new
-wrapped_fails {A = A} {may = may} {old = old} {new = new} {why = why} of f =
-    Fails-after (λ u bytes. A (of u) bytes) A may may old old new why [] (λ _ h. h) (Takes-none old) (record { wants = λ v p r rest s e. (of v, p, r, s, e) }) f
+pub wrapped_fails : {W V : Type 0} {A : V → List ℕ → Type 0} {may : Why → List ℕ → Type 0} {old new : Script} {why : Why} (of : W → V) → HasSome (λ (u : W) bytes. A (of u) bytes) → FailsPiece A may old why new → Fails (λ (u : W) bytes. A (of u) bytes) may old why new
+wrapped_fails {A = A} {may = may} {old = old} {new = new} {why = why} of some f =
+    Fails-after (λ u bytes. A (of u) bytes) A may may old old new why [] (λ _ h. h) (Takes-none old) (record { wants = λ v p r rest s e. (of v, p, r, s, e) }) (λ a none. Before-begins true (λ u bytes. A (of u) bytes) some a none) f
 
 -- a value that is keyed by what is read before it, as a string by its length
 module _ {K V T : Type 0} (whole : T → List ℕ → Type 0) (key : V → K) (A : K → List ℕ → Type 0) (B : K → V → List ℕ → Type 0) (build : V → T) where
   -- the key is read
-  pub key_read : (old mid new : Script) (k : K) → OneFront A → ((v : V) (q : List ℕ) → B k v q → key v ≡ k) → Midway whole (IsKeyed key A B) build old mid → ReadsValue A mid k new → Midway whole (B k) build old new
-  key_read old mid new k law keys m read = record {
+  unfoldable pub key_read : (old mid new : Script) (k : K) → OneFront A → ((v : V) (q : List ℕ) → B k v q → key v ≡ k) → HasSome (B k) → Midway whole (IsKeyed key A B) build old mid → ReadsValue A mid k new → Midway whole (B k) build old new
+  key_read old mid new k law keys some m read = record {
+    some = some;
     bytes = m.bytes ++ read.bytes;
     takes = Takes-then old mid new m.bytes read.bytes m.takes read.takes;
     wants = record {
@@ -210,18 +298,19 @@ module _ {K V T : Type 0} (whole : T → List ℕ → Type 0) (key : V → K) (A
   }
 
   -- the key fails
-  pub key_fails : (may there : Why → List ℕ → Type 0) (old mid new : Script) (why : Why) → ((why : Why) (last : List ℕ) → there why last → may why last) → Midway whole (IsKeyed key A B) build old mid → Fails A there mid why new → Fails whole may old why new
+  pub key_fails : (may there : Why → List ℕ → Type 0) (old mid new : Script) (why : Why) → ((why : Why) (last : List ℕ) → there why last → may why last) → Midway whole (IsKeyed key A B) build old mid → FailsPiece A there mid why new → Fails whole may old why new
   key_fails may there old mid new why allows m f =
       let first : Wants (IsKeyed key A B) [] A = record { wants = λ v p r rest s e. (key v, s.front, s.back ++ r, s.first, sym (append_assoc s.front s.back r) ∙ ap (λ (c : List ℕ). c ++ r) (sym s.joined) ∙ e) } in
-      let g = Fails-after (IsKeyed key A B) A may there mid mid new why [] (allows why) (Takes-none mid) first f in
-      Fails-after whole (IsKeyed key A B) may may old mid new why m.bytes (λ _ x. x) m.takes m.wants g
+      let g : FailsPiece (IsKeyed key A B) may mid why new = Fails-after (IsKeyed key A B) A may there mid mid new why [] (allows why) (Takes-none mid) first (λ _ h. h) f in
+      last_fails whole (IsKeyed key A B) build may may old mid new why (λ _ x. x) m g
 
 -- a field that is there
 there_wants : {V : Type 0} (A : V → List ℕ → Type 0) (v : Option V) (p r rest : List ℕ) → IsThere true A v p → p ++ r ≡ rest → (w : V) × (q : List ℕ) × (more : List ℕ) × A w q × (q ++ more ≡ rest)
 there_wants A (Some v) p r rest s e = (v, p, r, s, e)
 there_wants A None p r rest s e = absurd s
 
-pub there_fails : {V : Type 0} {A : V → List ℕ → Type 0} {may : Why → List ℕ → Type 0} {old new : Script} {why : Why} (there : Bool) → IsTrue there → Fails A may old why new → Fails (IsThere there A) may old why new
-there_fails {A = A} {may = may} {old = old} {new = new} {why = why} true is f =
-    Fails-after (IsThere true A) A may may old old new why [] (λ _ h. h) (Takes-none old) (record { wants = λ v p r rest s e. there_wants A v p r rest s e }) f
+pub there_fails : {V : Type 0} {A : V → List ℕ → Type 0} {may : Why → List ℕ → Type 0} {piece : Bool} {old new : Script} {why : Why} (there : Bool) → IsTrue there → FailsBy piece A may old why new → FailsBy piece (IsThere there A) may old why new
+there_fails {A = A} {may = may} {piece = piece} {old = old} {new = new} {why = why} true is f =
+    Fails-after (IsThere true A) A may may old old new why [] (λ _ h. h) (Takes-none old) (record { wants = λ v p r rest s e. there_wants A v p r rest s e })
+    (Before-as piece A (IsThere true A) (λ a b. record { value = Some b.value; rest = b.rest; spelled = b.spelled })) f
 there_fails false is f = absurd cc

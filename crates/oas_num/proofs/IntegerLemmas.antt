@@ -1,6 +1,6 @@
 -- The loop over the bytes of an integer.
-use Rattle.std.proofs.Common.{◌≡◌, ℕ, ◌+◌, ◌*◌, ◌%◌, ◌^◌, ◌<◌, ◌≤◌, suc, List, [], ◌∷◌, ◌++◌, length, inl, inr, refl, ap, ◌∙◌, append_assoc, add-one, arith}
-use Rattle.std.proofs.lemmas.List.{length-append}
+use Rattle.std.proofs.Common.{◌≡◌, true, ℕ, ◌+◌, ◌*◌, ◌%◌, ◌^◌, ◌<◌, ◌≤◌, suc, List, [], ◌∷◌, ◌++◌, length, inl, inr, refl, ap, ◌∙◌, append_assoc, add-one, arith}
+use Rattle.std.proofs.lemmas.List.{length-append, append-nil}
 use Rattle.std.proofs.Math.Nat.{pow-suc, pow-le-pow_right}
 use Rattle.std.proofs.lemmas.Nat.{mul-le}
 use Rattle.oas_num.specs.declared.refusals.Why.{Why}
@@ -9,8 +9,9 @@ use Rattle.oas_num.specs.Script.{Script, Takes}
 use Rattle.oas_num.specs.Integers.{IsOpen, IsClosed, IsUnsigned, value_of}
 use Rattle.oas_num.specs.IntegerLaws.{open_front}
 use Rattle.oas_num.specs.Grammar.{IsByte}
-use Rattle.oas_num.specs.Reading.{ReadsValue, Fails, ByteMay, IntegerMay}
-use Rattle.oas_num.proofs.ReadLemmas.{Takes-none, Takes-then, Wants, Fails-after}
+use Rattle.oas_num.specs.Begun.{Decides}
+use Rattle.oas_num.specs.Reading.{ReadsValue, FailsPiece, ByteMay, IntegerMay, IsUnended}
+use Rattle.oas_num.proofs.ReadLemmas.{Takes-none, Takes-then, Wants, NoneFits-after, NoneWithin-after}
 
 value_of-push : (front : List ℕ) (b : ℕ) → value_of (front ++ b ∷ []) ≡ value_of front + b % 128 * 128 ^ length front
 value_of-push [] b = omega arith
@@ -39,11 +40,27 @@ open_wants front o = record {
       byte_first m.0 r rest m.2 m.3;
 }
 
+-- where no byte came, none is left of an integer either
+pub unended_none : {last : List ℕ} → last ≡ [] → IsUnended last
+unended_none none = rw none (record { open_front = tt; few = omega arith })
+
 pub IntegerMay-byte : (why : Why) (last : List ℕ) → ByteMay why last → IntegerMay why last
-IntegerMay-byte Truncated last h = tt
-IntegerMay-byte Read last h = tt
-IntegerMay-byte InputTooLong last h = tt
+IntegerMay-byte Truncated last h = unended_none h
+IntegerMay-byte Read last h = unended_none h
+IntegerMay-byte InputTooLong last h = unended_none h
 IntegerMay-byte _ last h = absurd h
+
+none_came : (front bytes : List ℕ) → IsOpen front → length front < 10 → Decides true IsByte (λ last. last ≡ []) bytes → Decides true IsUnsigned IsUnended (front ++ bytes)
+none_came front bytes o few d =
+    let none : bytes ≡ [] = d.joined ∙ (λ i. d.begun i ++ d.holds i) in
+    record { front = []; last = front ++ bytes; joined = refl; begun = refl; holds = rw (none, append-nil front) (record { open_front = o; few = few }) }
+
+-- the bytes of an integer that is cut off
+cut_off : (why : Why) (front bytes : List ℕ) → IsOpen front → length front < 10 → Decides true IsByte (ByteMay why) bytes → Decides true IsUnsigned (IntegerMay why) (front ++ bytes)
+cut_off Truncated front bytes o few d = none_came front bytes o few d
+cut_off Read front bytes o few d = none_came front bytes o few d
+cut_off InputTooLong front bytes o few d = none_came front bytes o few d
+cut_off _ front bytes o few d = absurd d.holds
 
 -- so many bytes of groups were read, and this is their value
 pub record Partway (old now : Script) (count value weight : ℕ) : Type 0 where
@@ -112,8 +129,18 @@ module _ (old mid : Script) (i v w : ℕ) (so_far : Partway old mid i v w) where
         };
       }
 
-  pub byte_fails : (new : Script) (why : Why) → Fails IsByte ByteMay mid why new → Fails IsUnsigned IntegerMay old why new
-  byte_fails new why f = Fails-after IsUnsigned IsByte IntegerMay ByteMay old mid new why so_far.front (IntegerMay-byte why) so_far.takes (open_wants so_far.front so_far.are_open) f
+  pub byte_fails : i ≤ 9 → (new : Script) (why : Why) → FailsPiece IsByte ByteMay mid why new → FailsPiece IsUnsigned IntegerMay old why new
+  byte_fails le new why f =
+      let wants = open_wants so_far.front so_far.are_open in
+      record {
+        bytes = so_far.front ++ f.bytes;
+        takes = Takes-then old mid new so_far.front f.bytes so_far.takes f.takes;
+        reason = cut_off why so_far.front f.bytes so_far.are_open (omega (arith, so_far.len)) f.reason;
+        format = λ is. NoneFits-after IsUnsigned IsByte so_far.front f.bytes wants (f.format is);
+        truncated = λ is. let g = f.truncated is in (NoneWithin-after IsUnsigned IsByte so_far.front f.bytes wants g.0, g.1);
+        device = f.device;
+        too_long = f.too_long;
+      }
 
 pub last_fits : (v w b : ℕ) → w ≡ 2 ^ 63 → v < 2 ^ 63 → b ≤ 1 → v + b * w < 2 ^ 64
 last_fits v w b e lt le = let m : b * w ≤ 1 * w = mul-le b w 1 w le (omega arith) in omega (arith, m, e, lt)
@@ -140,13 +167,13 @@ tenth front (d ∷ q) r more b n len above h s e =
       | inr t ↦ omega (arith, closed_long q t.2, s.short, length-append front (d ∷ q))
     ]
 
-pub out_of_range : (old mid new : Script) (i v w b : ℕ) → Partway old mid i v w → i ≡ 9 → ReadsValue IsByte mid b new → 1 < b → Fails IsUnsigned IntegerMay old IntegerRange new
+pub out_of_range : (old mid new : Script) (i v w b : ℕ) → Partway old mid i v w → i ≡ 9 → ReadsValue IsByte mid b new → 1 < b → FailsPiece IsUnsigned IntegerMay old IntegerRange new
 out_of_range old mid new i v w b so_far ninth read above =
     let only = read.spelled.only in
     record {
       bytes = so_far.front ++ b ∷ [];
       takes = Takes-then old mid new so_far.front (b ∷ []) so_far.takes (rw only at read.takes);
-      reason = record { front = []; last = so_far.front ++ b ∷ []; joined = refl; holds = record { front = so_far.front; tenth = b; joined = refl; nine = so_far.len ∙ ninth; open_front = so_far.are_open; above = above } };
+      reason = record { front = []; last = so_far.front ++ b ∷ []; joined = refl; begun = refl; holds = record { front = so_far.front; tenth = b; joined = refl; nine = so_far.len ∙ ninth; open_front = so_far.are_open; above = above } };
       format = λ _. record {
         none = λ u p r more s e.
             let m = open_front so_far.front p r (b ∷ more) so_far.are_open s.closed (e ∙ append_assoc so_far.front (b ∷ []) more) in

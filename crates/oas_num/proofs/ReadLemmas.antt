@@ -1,9 +1,11 @@
 -- One read after another.
-use Rattle.std.proofs.Common.{◌≡◌, ℕ, List, [], ◌++◌, Option, Some, None, refl, sym, ap, ◌∙◌, append_assoc, arith}
+use Rattle.std.proofs.Common.{◌≡◌, ℕ, Bool, true, List, [], ◌++◌, Option, Some, None, refl, sym, ap, subst, ◌∙◌, append_assoc, arith}
 use Rattle.std.proofs.lemmas.List.{length-append}
 use Rattle.oas_num.specs.declared.refusals.Why.{Why}
 use Rattle.oas_num.specs.Script.{Script, Rest, Gave, Takes}
-use Rattle.oas_num.specs.Reading.{NoneFits, NoneWithin, Fails}
+use Rattle.oas_num.specs.Begun.{HasSome, Begins, Before}
+use Rattle.oas_num.specs.BegunLaws.{Before-begins}
+use Rattle.oas_num.specs.Reading.{NoneFits, NoneWithin, FailsBy, FailsPiece, Fails}
 
 Gave-none : (r : Option Rest) → Gave r [] r
 Gave-none None = tt
@@ -32,14 +34,14 @@ pub record Wants {V W : Type 0} (spells : V → List ℕ → Type 0) (front : Li
   pub wants : (v : V) (p r rest : List ℕ) → spells v p → p ++ r ≡ front ++ rest → (w : W) × (q : List ℕ) × (more : List ℕ) × next w q × (q ++ more ≡ rest)
 
 module _ {V W : Type 0} (spells : V → List ℕ → Type 0) (next : W → List ℕ → Type 0) where
-  NoneFits-after : (front bytes : List ℕ) → Wants spells front next → NoneFits next bytes → NoneFits spells (front ++ bytes)
+  pub NoneFits-after : (front bytes : List ℕ) → Wants spells front next → NoneFits next bytes → NoneFits spells (front ++ bytes)
   NoneFits-after front bytes wants none = record {
     none = λ v p r more s e.
         let w = wants.wants v p r (bytes ++ more) s (e ∙ append_assoc front bytes more) in
         none.none w.0 w.1 w.2 more w.3 w.4;
   }
 
-  NoneWithin-after : (front bytes : List ℕ) → Wants spells front next → NoneWithin next bytes → NoneWithin spells (front ++ bytes)
+  pub NoneWithin-after : (front bytes : List ℕ) → Wants spells front next → NoneWithin next bytes → NoneWithin spells (front ++ bytes)
   NoneWithin-after front bytes wants none = record {
     none = λ v p r s e.
         let w = wants.wants v p r bytes s e in
@@ -47,13 +49,37 @@ module _ {V W : Type 0} (spells : V → List ℕ → Type 0) (next : W → List 
   }
 
   -- what fails there fails as a whole
-  pub Fails-after : (may there : Why → List ℕ → Type 0) (old mid new : Script) (why : Why) (front : List ℕ) → ((last : List ℕ) → there why last → may why last) → Takes old front mid → Wants spells front next → Fails next there mid why new → Fails spells may old why new
-  Fails-after may there old mid new why front allows takes wants f = record {
+  pub Fails-after : {piece to : Bool} (may there : Why → List ℕ → Type 0) (old mid new : Script) (why : Why) (front : List ℕ) → ((last : List ℕ) → there why last → may why last) → Takes old front mid → Wants spells front next → ((a : List ℕ) → Before piece next a → Before to spells (front ++ a)) → FailsBy piece next there mid why new → FailsBy to spells may old why new
+  Fails-after may there old mid new why front allows takes wants begun f = record {
     bytes = front ++ f.bytes;
     takes = Takes-then old mid new front f.bytes takes f.takes;
-    reason = let r = f.reason in record { front = front ++ r.front; last = r.last; joined = ap (λ (x : List ℕ). front ++ x) r.joined ∙ sym (append_assoc front r.front r.last); holds = allows r.last r.holds };
+    reason = let r = f.reason in record { front = front ++ r.front; last = r.last; joined = ap (λ (x : List ℕ). front ++ x) r.joined ∙ sym (append_assoc front r.front r.last); begun = begun r.front r.begun; holds = allows r.last r.holds };
     format = λ is. NoneFits-after front f.bytes wants (f.format is);
     truncated = λ is. let g = f.truncated is in (NoneWithin-after front f.bytes wants g.0, g.1);
     device = f.device;
     too_long = f.too_long;
   }
+
+  -- where a spelling of the one makes one of the other, so does what begins it
+  module _ (front : List ℕ) (build : W → V) (makes : (w : W) (q : List ℕ) → next w q → spells (build w) (front ++ q)) where
+    pub Begins-after : (a : List ℕ) → Begins next a → Begins spells (front ++ a)
+    Begins-after a b = record {
+      value = build b.value;
+      rest = b.rest;
+      spelled = subst (λ (c : List ℕ). spells (build b.value) c) (sym (append_assoc front a b.rest)) (makes b.value (a ++ b.rest) b.spelled);
+    }
+
+    pub Before-after : (piece : Bool) → HasSome next → (a : List ℕ) → Before piece next a → Begins spells (front ++ a)
+    Before-after piece some a before = Begins-after a (Before-begins piece next some a before)
+
+-- what is of one piece begins by nothing
+pub piece_fails : {V : Type 0} {A : V → List ℕ → Type 0} {may : Why → List ℕ → Type 0} {old new : Script} {why : Why} → HasSome A → FailsPiece A may old why new → Fails A may old why new
+piece_fails {A = A} some f = record {
+  bytes = f.bytes;
+  takes = f.takes;
+  reason = let r = f.reason in record { front = r.front; last = r.last; joined = r.joined; begun = Before-begins true A some r.front r.begun; holds = r.holds };
+  format = f.format;
+  truncated = f.truncated;
+  device = f.device;
+  too_long = f.too_long;
+}

@@ -2,12 +2,14 @@
 use Rattle.std.proofs.Common.{refl, ℤ, pos, negsuc, nat_abs, ◌<◌, ◌^◌, ◌≡◌, ℕ, ◌+◌, ◌*◌, ◌/◌, ◌%◌, List, Some, sym, ap, ◌∙◌, arith}
 use Rattle.oas_num.specs.declared.deltas.Delta1.{Delta1}
 use Rattle.oas_num.specs.declared.deltas.GDelta.{GDelta}
+use Rattle.oas_num.specs.Begun.{HasSome}
 use Rattle.oas_num.specs.Grammar.{OneFront, IsPair, IsThere}
 use Rattle.oas_num.specs.GrammarLaws.{OneFront-pair, OneFront-image, OneFront-there}
 use Rattle.oas_num.specs.Combinators.{OneSpelling, IsWithin}
 use Rattle.oas_num.specs.CombinatorLaws.{OneSpelling-pair}
 use Rattle.oas_num.specs.Integers.{IsUnsigned, signed_of}
-use Rattle.oas_num.specs.IntegerLaws.{OneFront-IsUnsigned, OneFront-IsSigned}
+use Rattle.oas_num.specs.IntegerLaws.{OneFront-IsUnsigned, OneFront-IsSigned, HasSome-IsUnsigned, HasSome-IsSigned}
+use Rattle.oas_num.specs.BegunLaws.{HasSome-image, HasSome-there, HasSome-within}
 use Rattle.oas_num.specs.Style.{Style, Any, Shortest, unsigned_in, code}
 use Rattle.oas_num.specs.StyleLaws.{OneFront-unsigned, OneSpelling-unsigned, code-signed_of, shortest-IsShortest}
 use Rattle.oas_num.specs.Writing.{shortest, shortest_gdelta}
@@ -106,3 +108,27 @@ shortest_gdelta-spells d x y = record {
   second = shortest-IsShortest (code d.dy) (omega (arith, code_small d.dy (2 ^ 63) y));
   joined = refl;
 }
+
+-- ---- some are spelled
+
+pub Delta1-some : HasSome SpellsDelta1
+Delta1-some = record { value = record { 0 = HasSome-IsSigned.value }; bytes = HasSome-IsSigned.bytes; spelled = HasSome-IsSigned.spelled }
+
+pub Delta2-some : HasSome SpellsDelta2
+Delta2-some = HasSome-image delta2_of IsUnsigned HasSome-IsUnsigned
+
+pub Delta3-some : HasSome SpellsDelta3
+Delta3-some = HasSome-image delta3_of IsUnsigned HasSome-IsUnsigned
+
+pub HasSome-second : (first : ℕ) → HasSome (IsThere (has_second first) IsUnsigned)
+HasSome-second first = HasSome-there (has_second first) IsUnsigned HasSome-IsUnsigned
+
+no_step : HasSome (gdelta_in Shortest)
+no_step = record { value = step (pos 0) (pos 0); bytes = shortest_gdelta (pos 0) (pos 0); spelled = shortest_gdelta-spells (step (pos 0) (pos 0)) (omega arith) (omega arith) }
+
+pub HasSome-gdelta : (style : Style) → HasSome (gdelta_in style)
+HasSome-gdelta Any = HasSome-within (gdelta_in Shortest) (gdelta_in Any) IsWithin-gdelta no_step
+HasSome-gdelta Shortest = no_step
+
+pub GDelta-some : HasSome SpellsGDelta
+GDelta-some = HasSome-gdelta Any

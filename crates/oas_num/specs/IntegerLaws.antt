@@ -1,9 +1,11 @@
--- One spelling of an integer begins no other.
+-- One spelling of an integer begins no other, and each kind of integer has some.
 use Rattle.std.proofs.Common.{◌≡◌, ℕ, List, [], ◌∷◌, ◌++◌, inl, inr, refl, sym, ap, ◌∙◌, arith}
 use Rattle.oas_num.specs.declared.integers.Unsigned.{Unsigned}
 use Rattle.oas_num.specs.declared.integers.Signed.{Signed}
+use Rattle.oas_num.specs.Begun.{HasSome}
 use Rattle.oas_num.specs.Grammar.{OneFront}
 use Rattle.oas_num.specs.GrammarLaws.{OneFront-image}
+use Rattle.oas_num.specs.BegunLaws.{HasSome-image}
 use Rattle.oas_num.specs.Integers.{IsOpen, IsClosed, IsUnsigned, IsSigned, SpellsUnsigned, SpellsSigned, signed_of, value_of}
 
 -- of two numbers at one place the bytes are the same
@@ -55,3 +57,20 @@ Signed-one_front = record {
       let same = OneFront-IsSigned.one v.0 w.0 a b x y p q e in
       (same.0, ap (λ n. let u : Signed = record { 0 = n } in u) same.1);
 }
+
+-- ---- zero is spelled
+
+pub zero_spelled : IsUnsigned 0 (0 ∷ [])
+zero_spelled = record { closed = inl (omega arith, refl); short = omega arith; value = refl; fits = omega arith }
+
+pub HasSome-IsUnsigned : HasSome IsUnsigned
+HasSome-IsUnsigned = record { value = 0; bytes = 0 ∷ []; spelled = zero_spelled }
+
+pub HasSome-IsSigned : HasSome IsSigned
+HasSome-IsSigned = HasSome-image signed_of IsUnsigned HasSome-IsUnsigned
+
+pub Unsigned-some : HasSome SpellsUnsigned
+Unsigned-some = record { value = record { 0 = 0 }; bytes = 0 ∷ []; spelled = zero_spelled }
+
+pub Signed-some : HasSome SpellsSigned
+Signed-some = record { value = record { 0 = signed_of 0 }; bytes = 0 ∷ []; spelled = record { from = 0; is = refl; spelled = zero_spelled } }

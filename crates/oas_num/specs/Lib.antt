@@ -12,6 +12,7 @@ pub mod Begun
 pub mod GrammarLaws
 pub mod Combinators
 pub mod CombinatorLaws
+pub mod BegunLaws
 pub mod Integers
 pub mod IntegerLaws
 pub mod Style

@@ -5,6 +5,7 @@ use Rattle.oas_num.specs.declared.refusals.Why.TheVariants.{Truncated, IntegerRa
 use Rattle.oas_num.specs.Script.{Script, Takes, IsAtEnd, HasFailed, IsTooLong}
 use Rattle.oas_num.specs.Integers.{IsOpen, IsUnsigned}
 use Rattle.oas_num.specs.Texts.{IsNameByte, IsLabelByte}
+use Rattle.oas_num.specs.Begun.{Decides}
 
 -- The bytes that were read decided, and not the source or the memory.
 abbrev pub is_format : Why → Bool
@@ -14,11 +15,18 @@ is_format InputTooLong = false
 is_format Memory = false
 is_format _ = true
 
+-- The tables below say of each reason what the bytes are that decided: those with which what was read ends.
+
+-- the first bytes of an integer of which more follow, or none
+pub record IsUnended (last : List ℕ) : Type 0 where
+  pub open_front : IsOpen last
+  pub few : length last < 10
+
 -- where a read of a byte may fail
 abbrev pub ByteMay : Why → List ℕ → Type 0
-ByteMay Truncated last = Unit {0}
-ByteMay Read last = Unit {0}
-ByteMay InputTooLong last = Unit {0}
+ByteMay Truncated last = last ≡ []
+ByteMay Read last = last ≡ []
+ByteMay InputTooLong last = last ≡ []
 ByteMay _ last = ⊥
 
 -- the first nine bytes of an integer, and a tenth above 1
@@ -30,62 +38,76 @@ pub record IsOutOfRange (bytes : List ℕ) : Type 0 where
   pub open_front : IsOpen front
   pub above : 1 < tenth
 
--- where a read of an integer may fail: last are the bytes with which what was read ends
+-- where a read of an integer may fail
 abbrev pub IntegerMay : Why → List ℕ → Type 0
-IntegerMay Truncated last = Unit {0}
-IntegerMay Read last = Unit {0}
-IntegerMay InputTooLong last = Unit {0}
+IntegerMay Truncated last = IsUnended last
+IntegerMay Read last = IsUnended last
+IntegerMay InputTooLong last = IsUnended last
 IntegerMay IntegerRange last = IsOutOfRange last
 IntegerMay _ last = ⊥
 
--- where a read of an n-string may fail
-abbrev pub NameMay : Why → List ℕ → Type 0
-NameMay Truncated last = Unit {0}
-NameMay Read last = Unit {0}
-NameMay InputTooLong last = Unit {0}
-NameMay Memory last = Unit {0}
-NameMay IntegerRange last = IsOutOfRange last
-NameMay EmptyName last = IsUnsigned 0 last
-NameMay StringByte last = (byte : ℕ) × (last ≡ byte ∷ []) × ¬ IsNameByte byte
-NameMay _ last = ⊥
+-- a byte outside a class
+abbrev pub IsOutside : (ℕ → Type 0) → List ℕ → Type 0
+IsOutside class last = (byte : ℕ) × (last ≡ byte ∷ []) × ¬ class byte
 
--- where a read of an a-string may fail
-abbrev pub LabelMay : Why → List ℕ → Type 0
-LabelMay Truncated last = Unit {0}
-LabelMay Read last = Unit {0}
-LabelMay InputTooLong last = Unit {0}
-LabelMay Memory last = Unit {0}
-LabelMay IntegerRange last = IsOutOfRange last
-LabelMay StringByte last = (byte : ℕ) × (last ≡ byte ∷ []) × ¬ IsLabelByte byte
-LabelMay _ last = ⊥
+-- a byte of a class, for which there is no memory
+abbrev pub IsInside : (ℕ → Type 0) → List ℕ → Type 0
+IsInside class last = (byte : ℕ) × (last ≡ byte ∷ []) × class byte
 
 -- where a read of a byte of a class may fail
 abbrev pub ClassMay : (ℕ → Type 0) → Why → List ℕ → Type 0
-ClassMay class Truncated last = Unit {0}
-ClassMay class Read last = Unit {0}
-ClassMay class InputTooLong last = Unit {0}
-ClassMay class StringByte last = (byte : ℕ) × (last ≡ byte ∷ []) × ¬ class byte
+ClassMay class Truncated last = last ≡ []
+ClassMay class Read last = last ≡ []
+ClassMay class InputTooLong last = last ≡ []
+ClassMay class StringByte last = IsOutside class last
 ClassMay class _ last = ⊥
 
 -- where a read of the bytes of a string may fail
 abbrev pub TextMay : (ℕ → Type 0) → Why → List ℕ → Type 0
-TextMay class Truncated last = Unit {0}
-TextMay class Read last = Unit {0}
-TextMay class InputTooLong last = Unit {0}
-TextMay class Memory last = Unit {0}
-TextMay class StringByte last = (byte : ℕ) × (last ≡ byte ∷ []) × ¬ class byte
+TextMay class Truncated last = last ≡ []
+TextMay class Read last = last ≡ []
+TextMay class InputTooLong last = last ≡ []
+TextMay class Memory last = IsInside class last
+TextMay class StringByte last = IsOutside class last
 TextMay class _ last = ⊥
 
--- where a read of a list may fail
-abbrev pub ListMay : (Why → List ℕ → Type 0) → Why → List ℕ → Type 0
-ListMay may why last = may why last ⊎ (why ≡ Memory)
-
--- The bytes end with some of which that holds.
-pub record EndsWith (P : List ℕ → Type 0) (bytes : List ℕ) : Type 0 where
+-- a length, and at least one byte of the string, for which there is no memory
+pub record IsTextBegun (last : List ℕ) : Type 0 where
+  pub count : ℕ
   pub front : List ℕ
-  pub last : List ℕ
-  pub joined : bytes ≡ front ++ last
-  pub holds : P last
+  pub text : List ℕ
+  pub length_is : IsUnsigned count front
+  pub some : 0 < length text
+  pub joined : last ≡ front ++ text
+
+-- where a read of an n-string may fail
+abbrev pub NameMay : Why → List ℕ → Type 0
+NameMay Truncated last = IsUnended last
+NameMay Read last = IsUnended last
+NameMay InputTooLong last = IsUnended last
+NameMay Memory last = IsTextBegun last
+NameMay IntegerRange last = IsOutOfRange last
+NameMay EmptyName last = IsUnsigned 0 last
+NameMay StringByte last = IsOutside IsNameByte last
+NameMay _ last = ⊥
+
+-- where a read of an a-string may fail
+abbrev pub LabelMay : Why → List ℕ → Type 0
+LabelMay Truncated last = IsUnended last
+LabelMay Read last = IsUnended last
+LabelMay InputTooLong last = IsUnended last
+LabelMay Memory last = IsTextBegun last
+LabelMay IntegerRange last = IsOutOfRange last
+LabelMay StringByte last = IsOutside IsLabelByte last
+LabelMay _ last = ⊥
+
+-- the bytes spell an item
+abbrev pub IsItem : {V : Type 0} → (V → List ℕ → Type 0) → List ℕ → Type 0
+IsItem {V} spells last = (v : V) × spells v last
+
+-- where a read of a list may fail: memory is asked for only for an item that was read
+abbrev pub ListMay : {V : Type 0} → (V → List ℕ → Type 0) → (Why → List ℕ → Type 0) → Why → List ℕ → Type 0
+ListMay spells may why last = may why last ⊎ ((why ≡ Memory) × IsItem spells last)
 
 -- No spelling is a front of the bytes, however they go on.
 pub record NoneFits {V : Type 0} (spells : V → List ℕ → Type 0) (bytes : List ℕ) : Type 0 where
@@ -102,19 +124,32 @@ pub record ReadsValue {V : Type 0} (spells : V → List ℕ → Type 0) (old : S
   pub takes : Takes old bytes new
 
 -- A read failed, for a reason that it may have.
-pub record Fails {V : Type 0} (spells : V → List ℕ → Type 0) (may : Why → List ℕ → Type 0) (old : Script) (why : Why) (new : Script) : Type 0 where
+pub record FailsBy {V : Type 0} (piece : Bool) (spells : V → List ℕ → Type 0) (may : Why → List ℕ → Type 0) (old : Script) (why : Why) (new : Script) : Type 0 where
   pub bytes : List ℕ
   pub takes : Takes old bytes new
-  pub reason : EndsWith (may why) bytes
+  pub reason : Decides piece spells (may why) bytes
   pub format : IsTrue (is_format why) → NoneFits spells bytes
   pub truncated : why ≡ Truncated → NoneWithin spells bytes × IsAtEnd new
   pub device : why ≡ Read → HasFailed new
   pub too_long : why ≡ InputTooLong → IsTooLong new
 
+-- What was read before the bytes that decided begins a spelling.
+abbrev pub Fails : {V : Type 0} → (V → List ℕ → Type 0) → (Why → List ℕ → Type 0) → Script → Why → Script → Type 0
+Fails spells may old why new = FailsBy false spells may old why new
+
+-- All that was read decided: the read is of one piece.
+abbrev pub FailsPiece : {V : Type 0} → (V → List ℕ → Type 0) → (Why → List ℕ → Type 0) → Script → Why → Script → Type 0
+FailsPiece spells may old why new = FailsBy true spells may old why new
+
 -- What a read does: exactly a spelling of the value is taken, or it fails.
 abbrev pub Reads : {V : Type 0} → (V → List ℕ → Type 0) → (Why → List ℕ → Type 0) → Script → Result V Why → Script → Type 0
 Reads spells may old (Ok v) new = ReadsValue spells old v new
 Reads spells may old (Err why) new = Fails spells may old why new
+
+-- The same, of one piece.
+abbrev pub ReadsPiece : {V : Type 0} → (V → List ℕ → Type 0) → (Why → List ℕ → Type 0) → Script → Result V Why → Script → Type 0
+ReadsPiece spells may old (Ok v) new = ReadsValue spells old v new
+ReadsPiece spells may old (Err why) new = FailsPiece spells may old why new
 
 -- The same, of a value that is seen in another form, as a vector as its items.
 abbrev pub ReadsAs : {X V : Type 0} → (X → V) → (V → List ℕ → Type 0) → (Why → List ℕ → Type 0) → Script → Result X Why → Script → Type 0

@@ -1,15 +1,18 @@
 -- The laws of reals in any style.
-use Rattle.std.proofs.Common.{◌≡◌, ℕ, ◌+◌, ◌<◌, ◌≤◌, List, Bool, true, false, Option, Some, None, refl, sym, ◌∙◌, arith}
+use Rattle.std.proofs.Common.{◌≡◌, ℕ, ◌+◌, ◌<◌, ◌≤◌, List, [], ◌∷◌, ◌++◌, Bool, true, false, Option, Some, None, refl, sym, ◌∙◌, arith}
 use Rattle.std.specs.Prelude.{◌==◌, ◌%◌, if◌then◌else◌}
 use Rattle.oas_num.specs.declared.reals.Real.{Real}
+use Rattle.oas_num.specs.Begun.{HasSome}
 use Rattle.oas_num.specs.Grammar.{OneFront, IsPair, IsSuch, IsThere}
 use Rattle.oas_num.specs.GrammarLaws.{OneFront-pair, OneFront-such, OneFront-image, OneFront-there}
 use Rattle.oas_num.specs.Combinators.{OneSpelling, IsWithin}
 use Rattle.oas_num.specs.CombinatorLaws.{OneSpelling-keyed, OneSpelling-pair, OneFront-within}
 use Rattle.oas_num.specs.Integers.{IsUnsigned}
-use Rattle.oas_num.specs.IntegerLaws.{OneFront-IsUnsigned}
+use Rattle.oas_num.specs.IntegerLaws.{OneFront-IsUnsigned, HasSome-IsUnsigned, zero_spelled}
 use Rattle.oas_num.specs.Style.{Style, Any, Shortest, IsShortest}
-use Rattle.oas_num.specs.StyleLaws.{OneSpelling-unsigned}
+use Rattle.oas_num.specs.StyleLaws.{OneSpelling-unsigned, shortest-IsShortest}
+use Rattle.oas_num.specs.Writing.{shortest}
+use Rattle.oas_num.specs.BegunLaws.{HasSome-such, HasSome-pair, HasSome-there, HasSome-within}
 use Rattle.oas_num.specs.Reals.{has_num, has_den, IsFraction, SpellsParts, SpellsReal, real_of, real_in, kind_of, IsPart, ShortestParts, part_of}
 
 pub OneFront-kind : OneFront (IsSuch IsFraction IsUnsigned)
@@ -86,3 +89,38 @@ IsWithin-real = record { within = real_within }
 pub OneFront-real : (style : Style) → OneFront (real_in style)
 OneFront-real Any = OneFront-SpellsReal
 OneFront-real Shortest = OneFront-within _ _ IsWithin-real OneFront-SpellsReal
+
+-- ---- some are spelled
+
+pub HasSome-kind : HasSome (IsSuch IsFraction IsUnsigned)
+HasSome-kind = HasSome-such IsFraction IsUnsigned 0 (0 ∷ []) zero_spelled (omega arith)
+
+pub HasSome-part : (here : Bool) → HasSome (IsThere here IsUnsigned)
+HasSome-part here = HasSome-there here IsUnsigned HasSome-IsUnsigned
+
+pub HasSome-parts : (kind : ℕ) → HasSome (SpellsParts kind)
+HasSome-parts kind = HasSome-pair (IsThere (has_num kind) IsUnsigned) (λ _. IsThere (has_den kind) IsUnsigned) (HasSome-part (has_num kind)) (HasSome-part (has_den kind))
+
+-- one, by type 0
+one : Real
+one = record { negative = false; num = 1; den = 1 }
+
+one_real : real_in Shortest one (shortest 0 ++ (shortest 1 ++ []))
+unfolding one
+one_real = record {
+  front = shortest 0;
+  back = shortest 1 ++ [];
+  first = shortest-IsShortest 0 (omega arith);
+  second = record { front = shortest 1; back = []; first = shortest-IsShortest 1 (omega arith); second = (refl, refl); joined = refl };
+  joined = refl;
+}
+
+one_is_spelled : HasSome (real_in Shortest)
+one_is_spelled = record { value = one; bytes = shortest 0 ++ (shortest 1 ++ []); spelled = one_real }
+
+pub HasSome-real : (style : Style) → HasSome (real_in style)
+HasSome-real Any = HasSome-within (real_in Shortest) (real_in Any) IsWithin-real one_is_spelled
+HasSome-real Shortest = one_is_spelled
+
+pub HasSome-SpellsReal : HasSome SpellsReal
+HasSome-SpellsReal = HasSome-real Any

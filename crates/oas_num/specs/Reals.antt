@@ -7,7 +7,7 @@ use Rattle.oas_num.specs.Grammar.{IsPair, IsSuch, IsImage, IsThere}
 use Rattle.oas_num.specs.Combinators.{IsKeyed}
 use Rattle.oas_num.specs.Integers.{IsUnsigned}
 use Rattle.oas_num.specs.Style.{Style, Any, Shortest, IsShortest}
-use Rattle.oas_num.specs.Reading.{IsOutOfRange}
+use Rattle.oas_num.specs.Reading.{IsOutOfRange, IsUnended}
 
 -- types 2 and 3 have no numerator
 abbrev pub has_num : ℕ → Bool
@@ -60,9 +60,9 @@ real_in Shortest = IsKeyed kind_of IsShortest ShortestParts
 
 -- where a read of a real may fail
 abbrev pub RealMay : Why → List ℕ → Type 0
-RealMay Truncated last = Unit {0}
-RealMay Read last = Unit {0}
-RealMay InputTooLong last = Unit {0}
+RealMay Truncated last = IsUnended last
+RealMay Read last = IsUnended last
+RealMay InputTooLong last = IsUnended last
 RealMay IntegerRange last = IsOutOfRange last
 RealMay FloatReal last = (kind : ℕ) × IsUnsigned kind last × (6 ≤ kind) × (kind < 8)
 RealMay RealType last = (kind : ℕ) × IsUnsigned kind last × (8 ≤ kind)

@@ -2,6 +2,7 @@
 use Rattle.std.proofs.Common.{◌≡◌, ℕ, ℤ, pos, negsuc, zero, suc, ◌+◌, ◌*◌, ◌/◌, ◌%◌, ◌<◌, ◌^◌, List, inl, inr, [], ◌∷◌, ◌++◌, refl, sym, ap, ◌∙◌, arith}
 use Rattle.std.specs.Prelude.{neg_ℤ}
 use Rattle.std.proofs.lemmas.Bool.{cases_lt}
+use Rattle.oas_num.specs.Begun.{HasSome}
 use Rattle.oas_num.specs.Grammar.{OneFront}
 use Rattle.oas_num.specs.Integers.{IsUnsigned, signed_of, value_of}
 use Rattle.oas_num.specs.IntegerLaws.{OneFront-IsUnsigned, OneFront-IsSigned}
@@ -77,3 +78,15 @@ OneFront-unsigned Shortest = OneFront-within _ _ IsWithin-unsigned OneFront-IsUn
 pub OneFront-signed : (style : Style) → OneFront (signed_in style)
 OneFront-signed Any = OneFront-IsSigned
 OneFront-signed Shortest = OneFront-within _ _ IsWithin-signed OneFront-IsSigned
+
+-- each number has a spelling, in any style
+pub unsigned_spelled : (style : Style) (n : ℕ) → n < 2 ^ 64 → unsigned_in style n (shortest n)
+unsigned_spelled Any n lt = shortest_spells n lt
+unsigned_spelled Shortest n lt = shortest-IsShortest n lt
+
+pub HasSome-unsigned : (style : Style) → HasSome (unsigned_in style)
+HasSome-unsigned style = record { value = 0; bytes = shortest 0; spelled = unsigned_spelled style 0 (omega arith) }
+
+pub HasSome-signed : (style : Style) → HasSome (signed_in style)
+HasSome-signed Any = record { value = pos 0; bytes = shortest 0; spelled = IsWithin-signed.within (pos 0) (shortest 0) (shortest-IsShortestSigned (pos 0) (omega arith)) }
+HasSome-signed Shortest = record { value = pos 0; bytes = shortest 0; spelled = shortest-IsShortestSigned (pos 0) (omega arith) }

@@ -1,13 +1,17 @@
 -- The laws of strings in any style.
 use Rattle.std.proofs.Common.{ℕ, ◌<◌, List, [], ◌∷◌, ◌++◌, length, refl, arith}
+use Rattle.oas_num.specs.declared.texts.TextClass.{TextClass}
+use Rattle.oas_num.specs.declared.texts.TextClass.TheVariants as classes
+use Rattle.oas_num.specs.Begun.{HasSome}
 use Rattle.oas_num.specs.Grammar.{OneFront, IsSuch, IsEach, IsCount, IsByte}
 use Rattle.oas_num.specs.GrammarLaws.{OneFront-such, OneFront-count, OneFront-image, OneFront-byte}
 use Rattle.oas_num.specs.Combinators.{OneSpelling, IsWithin}
 use Rattle.oas_num.specs.CombinatorLaws.{OneFront-keyed, OneSpelling-keyed, OneSpelling-such, OneSpelling-count, OneSpelling-byte, IsWithin-keyed, IsWithin-such, IsWithin-itself}
 use Rattle.oas_num.specs.Style.{Style, Any, Shortest, unsigned_in}
-use Rattle.oas_num.specs.StyleLaws.{OneFront-unsigned, OneSpelling-unsigned, IsWithin-unsigned, shortest-IsShortest}
+use Rattle.oas_num.specs.StyleLaws.{OneFront-unsigned, OneSpelling-unsigned, IsWithin-unsigned, shortest-IsShortest, unsigned_spelled}
+use Rattle.oas_num.specs.BegunLaws.{HasSome-byte, HasSome-count, HasSome-image, HasSome-keyed, HasSome-within}
 use Rattle.oas_num.specs.Writing.{shortest}
-use Rattle.oas_num.specs.Texts.{IsNameByte, IsLabelByte, IsOf, IsName, IsLabel, IsText, IsPositive, IsPassed, SpellsPadding, padding_of, padding_length, name_in, label_in}
+use Rattle.oas_num.specs.Texts.{IsNameByte, IsLabelByte, IsIn, IsOf, IsName, IsLabel, IsText, IsPositive, IsPassed, SpellsPadding, padding_of, padding_length, name_in, label_in}
 
 -- the bytes of a text
 pub OneFront-class : (class : ℕ → Type 0) → OneFront (IsSuch class IsByte)
@@ -83,3 +87,43 @@ OneFront-passed count = OneFront-image padding_of (IsCount IsByte count) (OneFro
 
 pub OneFront-padding : OneFront SpellsPadding
 OneFront-padding = OneFront-keyed padding_length (unsigned_in Any) IsPassed (OneFront-unsigned Any) OneFront-passed
+
+-- ---- some are spelled
+
+-- an exclamation mark is of both classes
+mark : (class : TextClass) → IsIn class 33
+mark classes.Name = (omega arith, omega arith)
+mark classes.Label = (omega arith, omega arith)
+
+pub HasSome-class : (class : TextClass) → HasSome (IsSuch (IsIn class) IsByte)
+HasSome-class class = record { value = 33; bytes = 33 ∷ []; spelled = record { holds = mark class; spelled = record { only = refl; small = omega arith } } }
+
+pub HasSome-text : (class : TextClass) (count : ℕ) → HasSome (IsText (IsIn class) count)
+HasSome-text class count = HasSome-count (IsSuch (IsIn class) IsByte) count (HasSome-class class)
+
+pub HasSome-positive : (style : Style) → HasSome (IsSuch IsPositive (unsigned_in style))
+HasSome-positive style = record { value = 1; bytes = shortest 1; spelled = record { holds = omega arith; spelled = unsigned_spelled style 1 (omega arith) } }
+
+short_name : HasSome (name_in Shortest)
+short_name = record {
+  value = 33 ∷ [];
+  bytes = shortest 1 ++ 33 ∷ [];
+  spelled = name_spelled (33 ∷ []) (record { some = omega arith; fits = omega arith; class = ((omega arith, omega arith), tt) });
+}
+
+pub HasSome-name : (style : Style) → HasSome (name_in style)
+HasSome-name Any = HasSome-within (name_in Shortest) (name_in Any) IsWithin-name short_name
+HasSome-name Shortest = short_name
+
+no_label : HasSome (label_in Shortest)
+no_label = record { value = []; bytes = shortest 0 ++ []; spelled = label_spelled [] (record { fits = omega arith; class = tt }) }
+
+pub HasSome-label : (style : Style) → HasSome (label_in style)
+HasSome-label Any = HasSome-within (label_in Shortest) (label_in Any) IsWithin-label no_label
+HasSome-label Shortest = no_label
+
+pub HasSome-passed : (count : ℕ) → HasSome (IsPassed count)
+HasSome-passed count = HasSome-image padding_of (IsCount IsByte count) (HasSome-count IsByte count HasSome-byte)
+
+pub HasSome-padding : HasSome SpellsPadding
+HasSome-padding = HasSome-keyed padding_length (unsigned_in Any) IsPassed (record { length = 0 }) (shortest 0) [] (unsigned_spelled Any 0 (omega arith)) (record { from = []; is = refl; spelled = record { len = refl; each = refl } })

@@ -1,6 +1,8 @@
 -- How strings are spelled.
 use Rattle.std.specs.Prelude.{ℕ, ◌<◌, ◌≤◌, ◌^◌, List, [], ◌∷◌, length}
 use Rattle.oas_num.specs.declared.texts.Padding.{Padding}
+use Rattle.oas_num.specs.declared.texts.TextClass.{TextClass}
+use Rattle.oas_num.specs.declared.texts.TextClass.TheVariants as classes
 use Rattle.oas_num.specs.Grammar.{IsSuch, IsImage, IsCount, IsByte}
 use Rattle.oas_num.specs.Combinators.{IsKeyed}
 use Rattle.oas_num.specs.Style.{Style, Any, unsigned_in}
@@ -16,6 +18,11 @@ IsNameByte byte = IsBetween 33 126 byte
 -- a byte of an a-string: printable, or a space
 abbrev pub IsLabelByte : ℕ → Type 0
 IsLabelByte byte = IsBetween 32 126 byte
+
+-- the bytes of a class
+abbrev pub IsIn : TextClass → ℕ → Type 0
+IsIn classes.Name = IsNameByte
+IsIn classes.Label = IsLabelByte
 
 -- each byte is of the class
 abbrev pub IsOf : (ℕ → Type 0) → List ℕ → Type 0

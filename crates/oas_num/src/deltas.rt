@@ -36,13 +36,15 @@ pub struct GDelta {
 impl Spelled for Delta1 {
     ghost use Rattle.oas_num.specs.Deltas.{SpellsDelta1};
     ghost use Rattle.oas_num.specs.Reading.{IntegerMay};
-    ghost use Rattle.oas_num.specs.DeltaLaws.{Delta1-one_front};
+    ghost use Rattle.oas_num.specs.DeltaLaws.{Delta1-one_front, Delta1-some};
 
     ghost spells = { SpellsDelta1 };
 
     ghost may = { IntegerMay };
 
     ghost one_front = { Delta1-one_front };
+
+    ghost some = { Delta1-some };
 
     fn read<S: Source>(_alloc: Global, source: &mut S) -> Result<Delta1, Why> {
         Ok(Delta1(read_signed(source)?))
@@ -52,13 +54,15 @@ impl Spelled for Delta1 {
 impl Spelled for Delta2 {
     ghost use Rattle.oas_num.specs.Deltas.{SpellsDelta2};
     ghost use Rattle.oas_num.specs.Reading.{IntegerMay};
-    ghost use Rattle.oas_num.specs.DeltaLaws.{Delta2-one_front};
+    ghost use Rattle.oas_num.specs.DeltaLaws.{Delta2-one_front, Delta2-some};
 
     ghost spells = { SpellsDelta2 };
 
     ghost may = { IntegerMay };
 
     ghost one_front = { Delta2-one_front };
+
+    ghost some = { Delta2-some };
 
     fn read<S: Source>(_alloc: Global, source: &mut S) -> Result<Delta2, Why> {
         let coded = read_unsigned(source)?;
@@ -69,13 +73,15 @@ impl Spelled for Delta2 {
 impl Spelled for Delta3 {
     ghost use Rattle.oas_num.specs.Deltas.{SpellsDelta3};
     ghost use Rattle.oas_num.specs.Reading.{IntegerMay};
-    ghost use Rattle.oas_num.specs.DeltaLaws.{Delta3-one_front};
+    ghost use Rattle.oas_num.specs.DeltaLaws.{Delta3-one_front, Delta3-some};
 
     ghost spells = { SpellsDelta3 };
 
     ghost may = { IntegerMay };
 
     ghost one_front = { Delta3-one_front };
+
+    ghost some = { Delta3-some };
 
     fn read<S: Source>(_alloc: Global, source: &mut S) -> Result<Delta3, Why> {
         let coded = read_unsigned(source)?;
@@ -86,13 +92,15 @@ impl Spelled for Delta3 {
 impl Spelled for GDelta {
     ghost use Rattle.oas_num.specs.Deltas.{SpellsGDelta};
     ghost use Rattle.oas_num.specs.Reading.{IntegerMay};
-    ghost use Rattle.oas_num.specs.DeltaLaws.{GDelta-one_front};
+    ghost use Rattle.oas_num.specs.DeltaLaws.{GDelta-one_front, GDelta-some};
 
     ghost spells = { SpellsGDelta };
 
     ghost may = { IntegerMay };
 
     ghost one_front = { GDelta-one_front };
+
+    ghost some = { GDelta-some };
 
     fn read<S: Source>(_alloc: Global, source: &mut S) -> Result<GDelta, Why> {
         let first = read_unsigned(source)?;

@@ -1,7 +1,7 @@
 ghost use Rattle.std.specs.Prelude.{◌≡◌, List, ℕ};
 ghost use Rattle.oas_num.specs.Grammar.{IsThere};
 ghost use Rattle.oas_num.specs.Integers.{IsUnsigned, IsSigned};
-ghost use Rattle.oas_num.specs.Reading.{Reads, IntegerMay};
+ghost use Rattle.oas_num.specs.Reading.{ReadsPiece, IntegerMay};
 
 use crate::refusals::Why;
 use crate::spelling::{Spelled, next_byte};
@@ -20,7 +20,7 @@ pub struct Signed(pub i64);
 
 /// Reads a number without a sign. It is refused at the byte that decides.
 pub fn read_unsigned<S: Source>(source: &mut S) -> Result<u64, Why>
-    ensures { Reads IsUnsigned IntegerMay (S.script source.old) result (S.script source.new) }
+    ensures { ReadsPiece IsUnsigned IntegerMay (S.script source.old) result (S.script source.new) }
 {
     let mut value: u64 = 0;
     let mut weight: u64 = 1;
@@ -41,7 +41,7 @@ pub fn read_unsigned<S: Source>(source: &mut S) -> Result<u64, Why>
 
 /// Reads a number with a sign.
 pub fn read_signed<S: Source>(source: &mut S) -> Result<i64, Why>
-    ensures { Reads IsSigned IntegerMay (S.script source.old) result (S.script source.new) }
+    ensures { ReadsPiece IsSigned IntegerMay (S.script source.old) result (S.script source.new) }
 {
     let coded = read_unsigned(source)?;
     let magnitude = (coded / 2) as i64;
@@ -54,7 +54,7 @@ pub fn read_signed<S: Source>(source: &mut S) -> Result<i64, Why>
 
 /// Reads a number without a sign, where there is one.
 pub fn read_unsigned_if<S: Source>(there: bool, source: &mut S) -> Result<Option<u64>, Why>
-    ensures { Reads (IsThere there IsUnsigned) IntegerMay (S.script source.old) result (S.script source.new) }
+    ensures { ReadsPiece (IsThere there IsUnsigned) IntegerMay (S.script source.old) result (S.script source.new) }
 {
     if there {
         Ok(Some(read_unsigned(source)?))
@@ -65,7 +65,7 @@ pub fn read_unsigned_if<S: Source>(there: bool, source: &mut S) -> Result<Option
 
 /// Reads a number with a sign, where there is one.
 pub fn read_signed_if<S: Source>(there: bool, source: &mut S) -> Result<Option<i64>, Why>
-    ensures { Reads (IsThere there IsSigned) IntegerMay (S.script source.old) result (S.script source.new) }
+    ensures { ReadsPiece (IsThere there IsSigned) IntegerMay (S.script source.old) result (S.script source.new) }
 {
     if there {
         Ok(Some(read_signed(source)?))
@@ -76,13 +76,15 @@ pub fn read_signed_if<S: Source>(there: bool, source: &mut S) -> Result<Option<i
 
 impl Spelled for Unsigned {
     ghost use Rattle.oas_num.specs.Integers.{SpellsUnsigned};
-    ghost use Rattle.oas_num.specs.IntegerLaws.{Unsigned-one_front};
+    ghost use Rattle.oas_num.specs.IntegerLaws.{Unsigned-one_front, Unsigned-some};
 
     ghost spells = { SpellsUnsigned };
 
     ghost may = { IntegerMay };
 
     ghost one_front = { Unsigned-one_front };
+
+    ghost some = { Unsigned-some };
 
     fn read<S: Source>(_alloc: Global, source: &mut S) -> Result<Unsigned, Why> {
         Ok(Unsigned(read_unsigned(source)?))
@@ -91,13 +93,15 @@ impl Spelled for Unsigned {
 
 impl Spelled for Signed {
     ghost use Rattle.oas_num.specs.Integers.{SpellsSigned};
-    ghost use Rattle.oas_num.specs.IntegerLaws.{Signed-one_front};
+    ghost use Rattle.oas_num.specs.IntegerLaws.{Signed-one_front, Signed-some};
 
     ghost spells = { SpellsSigned };
 
     ghost may = { IntegerMay };
 
     ghost one_front = { Signed-one_front };
+
+    ghost some = { Signed-some };
 
     fn read<S: Source>(_alloc: Global, source: &mut S) -> Result<Signed, Why> {
         Ok(Signed(read_signed(source)?))

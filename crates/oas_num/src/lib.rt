@@ -3,9 +3,13 @@
 //! What this crate promises to the crates above it:
 //!
 //! - A read of a [`Spelled`] type takes exactly a spelling of the value that it answers. It refuses by a reason of format
-//!   only where no spelling is a front of the bytes that stand there, however they go on; its bytes then end with those
-//!   that the type's table `may` allows for that reason. The contract is `Reads` (specs/Reading.antt).
+//!   only where no spelling is a front of the bytes that stand there, however they go on. Its bytes then end with those
+//!   that decided, which the type's table `may` allows for that reason, and those before them begin a spelling. The end of
+//!   the input is answered, too, only where what was read begins one, up to an integer that is cut off; and memory is
+//!   asked for only for what was read. The contract is `Reads` (specs/Reading.antt), and `ReadsPiece` for a byte and an
+//!   integer, of which all bytes decide.
 //! - No spelling of a type begins another, and none spells two values: `OneFront` (specs/Grammar.antt), a law of the trait.
+//!   Each type has a spelling: `HasSome` (specs/Begun.antt), another.
 //! - The grammar of spellings is made of few parts (specs/Grammar.antt, specs/Combinators.antt), with three laws each:
 //!   `OneFront`, `OneSpelling` (in the shortest style a value has one spelling) and `IsWithin` (the shortest spellings are
 //!   spellings). It is written over a `Style` (specs/Style.antt): any spelling that the standard has, or the shortest.
@@ -38,7 +42,7 @@ pub use oas_bytes::{
 pub use reals::Real;
 pub use refusals::{Refusal, Why};
 pub use spelling::{Spelled, next_byte, read_if, read_list};
-pub use texts::{Label, Name, Padding, next_within, read_text};
+pub use texts::{Label, Name, Padding, TextClass, next_within, read_text};
 pub use writing::{put_gdelta, put_signed, put_unsigned, unsigned_len};
 
 #[cfg(test)]

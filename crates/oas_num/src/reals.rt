@@ -21,13 +21,15 @@ pub struct Real {
 
 impl Spelled for Real {
     ghost use Rattle.oas_num.specs.Reals.{SpellsReal, RealMay};
-    ghost use Rattle.oas_num.specs.RealLaws.{OneFront-SpellsReal};
+    ghost use Rattle.oas_num.specs.RealLaws.{OneFront-SpellsReal, HasSome-SpellsReal};
 
     ghost spells = { SpellsReal };
 
     ghost may = { RealMay };
 
     ghost one_front = { OneFront-SpellsReal };
+
+    ghost some = { HasSome-SpellsReal };
 
     fn read<S: Source>(_alloc: Global, source: &mut S) -> Result<Real, Why> {
         let kind = read_unsigned(source)?;

@@ -1,13 +1,13 @@
-ghost use Rattle.std.specs.Prelude.{◌≡◌, ◌≤◌, ◌==◌, List, ℕ, IfOk};
+ghost use Rattle.std.specs.Prelude.{◌≡◌, ◌≤◌, ◌↔◌, IsTrue, ◌==◌, List, ℕ, IfOk};
 ghost use Rattle.std.proofs.Common.{rules};
 ghost use Rattle.std.specs.Cmp.{partial_order_from_own_ties};
 ghost use Rattle.std.specs.Cmp.Rules.{comparing, hashing};
 ghost use Rattle.std.specs.Cmp.Lexicographic.{slice_cmp, pointwise};
 ghost use Rattle.std.specs.Ordering.{nat_cmp, as_partial_cmp};
 ghost use Rattle.std.specs.Hash as fed;
-ghost use Rattle.oas_num.specs.Reading.{Reads, ReadsAs, ByteMay, ClassMay, TextMay};
+ghost use Rattle.oas_num.specs.Reading.{Reads, ReadsPiece, ReadsAs, ByteMay, ClassMay, TextMay};
 ghost use Rattle.oas_num.specs.Grammar.{IsSuch, IsByte};
-ghost use Rattle.oas_num.specs.Texts.{IsText, IsBetween, IsName, IsLabel, IsPassed};
+ghost use Rattle.oas_num.specs.Texts.{IsIn, IsText, IsName, IsLabel, IsPassed};
 
 use crate::integers::read_unsigned;
 use crate::refusals::Why;
@@ -18,32 +18,50 @@ use std::cmp::Ordering;
 use std::hash::{Hash, Hasher};
 use std::marker::Model;
 
-/// The next byte, from `low` to `high`.
-pub fn next_within<S: Source>(low: u8, high: u8, source: &mut S) -> Result<u8, Why>
-    ensures { Reads (IsSuch (IsBetween low high) IsByte) (ClassMay (IsBetween low high))
-        (S.script source.old) result (S.script source.new) }
+/// The classes of bytes of which strings are made (SEMI P39, Strings).
+#[derive(Clone, Copy, Debug, PartialEq, Eq)]
+pub enum TextClass {
+    /// Those of n-strings: printable, and no space, `21` to `7E`.
+    Name,
+    /// Those of a-strings: printable, or a space, `20` to `7E`.
+    Label,
+}
+
+impl TextClass {
+    /// Whether the byte is of the class.
+    fn has(self, byte: u8) -> bool
+        ensures { IsTrue result ↔ IsIn self byte }
+    {
+        match self {
+            TextClass::Name => byte >= 33 && byte <= 126,
+            TextClass::Label => byte >= 32 && byte <= 126,
+        }
+    }
+}
+
+/// The next byte, which must be of the class.
+pub fn next_within<S: Source>(class: TextClass, source: &mut S) -> Result<u8, Why>
+    ensures { ReadsPiece (IsSuch (IsIn class) IsByte) (ClassMay (IsIn class)) (S.script source.old) result (S.script source.new) }
 {
     let byte = next_byte(source)?;
-    if byte < low || byte > high {
+    if !class.has(byte) {
         return Err(Why::StringByte);
     }
     Ok(byte)
 }
 
-/// So many bytes from `low` to `high`. It takes no more memory than for what was read.
+/// So many bytes of the class. It takes no more memory than for what was read.
 pub fn read_text<S: Source>(
     alloc: Global,
-    low: u8,
-    high: u8,
+    class: TextClass,
     count: u64,
     source: &mut S,
 ) -> Result<Vec<u8>, Why>
-    ensures { ReadsAs (λ text. text.items) (IsText (IsBetween low high) count) (TextMay (IsBetween low high))
-        (S.script source.old) result (S.script source.new) }
+    ensures { ReadsAs (λ text. text.items) (IsText (IsIn class) count) (TextMay (IsIn class)) (S.script source.old) result (S.script source.new) }
 {
     let mut text = Vec::new(alloc);
     for _ in 0..count {
-        let byte = next_within(low, high, source)?;
+        let byte = next_within(class, source)?;
         text.push(byte)?;
     }
     Ok(text)
@@ -94,7 +112,7 @@ impl Name {
 impl Spelled for Name {
     ghost use Rattle.oas_num.specs.Texts.{SpellsName};
     ghost use Rattle.oas_num.specs.Style.{Any};
-    ghost use Rattle.oas_num.specs.TextLaws.{OneFront-name};
+    ghost use Rattle.oas_num.specs.TextLaws.{OneFront-name, HasSome-name};
     ghost use Rattle.oas_num.specs.Reading.{NameMay};
 
     ghost spells = { SpellsName };
@@ -103,12 +121,14 @@ impl Spelled for Name {
 
     ghost one_front = { OneFront-name Any };
 
+    ghost some = { HasSome-name Any };
+
     fn read<S: Source>(alloc: Global, source: &mut S) -> Result<Name, Why> {
         let length = read_unsigned(source)?;
         if length == 0 {
             return Err(Why::EmptyName);
         }
-        let bytes = read_text(alloc, 33, 126, length, source)?;
+        let bytes = read_text(alloc, TextClass::Name, length, source)?;
         Ok(Name { bytes })
     }
 }
@@ -197,7 +217,7 @@ impl Label {
 impl Spelled for Label {
     ghost use Rattle.oas_num.specs.Texts.{SpellsLabel};
     ghost use Rattle.oas_num.specs.Style.{Any};
-    ghost use Rattle.oas_num.specs.TextLaws.{OneFront-label};
+    ghost use Rattle.oas_num.specs.TextLaws.{OneFront-label, HasSome-label};
     ghost use Rattle.oas_num.specs.Reading.{LabelMay};
 
     ghost spells = { SpellsLabel };
@@ -206,9 +226,11 @@ impl Spelled for Label {
 
     ghost one_front = { OneFront-label Any };
 
+    ghost some = { HasSome-label Any };
+
     fn read<S: Source>(alloc: Global, source: &mut S) -> Result<Label, Why> {
         let length = read_unsigned(source)?;
-        let bytes = read_text(alloc, 32, 126, length, source)?;
+        let bytes = read_text(alloc, TextClass::Label, length, source)?;
         Ok(Label { bytes })
     }
 }
@@ -280,7 +302,7 @@ fn pass_over<S: Source>(count: u64, source: &mut S) -> Result<Padding, Why>
 
 impl Spelled for Padding {
     ghost use Rattle.oas_num.specs.Texts.{SpellsPadding};
-    ghost use Rattle.oas_num.specs.TextLaws.{OneFront-padding};
+    ghost use Rattle.oas_num.specs.TextLaws.{OneFront-padding, HasSome-padding};
     ghost use Rattle.oas_num.specs.Reading.{IntegerMay};
 
     ghost spells = { SpellsPadding };
@@ -288,6 +310,8 @@ impl Spelled for Padding {
     ghost may = { IntegerMay };
 
     ghost one_front = { OneFront-padding };
+
+    ghost some = { HasSome-padding };
 
     fn read<S: Source>(_alloc: Global, source: &mut S) -> Result<Padding, Why> {
         let length = read_unsigned(source)?;

@@ -9,22 +9,26 @@ use Rattle.oas_num.specs.declared.reals.Real.{Real}
 use Rattle.oas_num.specs.Script.{Script, Takes}
 use Rattle.oas_num.specs.Ratio.{Ratio}
 use Rattle.oas_num.specs.Grammar.{IsPair, IsSuch, IsByte}
-use Rattle.oas_num.specs.GrammarLaws.{after_same}
 use Rattle.oas_num.specs.Integers.{IsUnsigned}
 use Rattle.oas_num.specs.IntegerLaws.{OneFront-IsUnsigned}
 use Rattle.oas_num.specs.Style.{Any}
-use Rattle.oas_num.specs.Texts.{IsLabelByte, IsOf, IsText, label_in}
-use Rattle.oas_num.specs.TextLaws.{OneFront-label, OneFront-class}
+use Rattle.oas_num.specs.Texts.{IsLabelByte, IsOf, IsText, label_in, SpellsLabel}
+use Rattle.oas_num.specs.TextLaws.{OneFront-label, OneFront-class, HasSome-label, HasSome-class}
 use Rattle.oas_num.specs.Reals.{real_in, RealMay}
 use Rattle.oas_num.specs.RealLaws.{OneFront-real}
-use Rattle.oas_num.specs.Reading.{ReadsValue, Fails, ByteMay, IntegerMay, ClassMay}
-use Rattle.oas_num.proofs.ReadLemmas.{Takes-none, Takes-then, Wants, Fails-after}
-use Rattle.oas_num.proofs.GrammarLemmas.{Midway, begins, seen, ◌▸◌, fails_at, such_read, such_fails_by, refused, Listed, listed_none, listed_more, listed_fails, listed_all}
+use Rattle.oas_num.specs.declared.texts.TextClass.TheVariants as classes
+use Rattle.oas_num.specs.Begun.{HasSome, Begins, Decides}
+use Rattle.oas_num.specs.BegunLaws.{Begins-none}
+use Rattle.oas_num.specs.Reading.{ReadsValue, Fails, FailsPiece, ByteMay, IntegerMay, ClassMay}
+use Rattle.oas_num.proofs.ReadLemmas.{Takes-none, Takes-then, Wants, NoneFits-after, NoneWithin-after, Fails-after}
+use Rattle.oas_num.proofs.TextLemmas.{with_label_length}
+use Rattle.oas_num.proofs.GrammarLemmas.{Midway, begins, seen, ◌▸◌, fails_at_piece, fails_last, key_fails, such_read, such_fails_by, refused, Listed, listed_none, listed_more, listed_fails, listed_all}
 use Rattle.oas_record.specs.declared.heads.Head.{Head}
 use Rattle.oas_record.specs.Ends.{IsNumber}
-use Rattle.oas_record.specs.Heads.{magic, IsMagic, MagicMay, IsPassedLabel, version, version_in, VersionMay, IsPositiveReal, IsUnit, SpellsUnit, unit_in, UnitMay, IsFlag, flag_in, offsets_in, start_parts, head_of, start_in, StartMay, head_in, ReadsHead}
+use Rattle.oas_record.specs.Heads.{magic, IsMagic, MagicMay, IsPassedLabel, PassedMay, version, version_in, VersionMay, IsPositiveReal, IsUnit, SpellsUnit, unit_in, UnitMay, IsFlag, flag_in, offsets_in, start_parts, head_of, start_in, StartMay, head_in, ReadsHead}
 use Rattle.oas_record.specs.HeadLaws.{OneFront-start_id}
-use Rattle.oas_record.proofs.MayLemmas.{MagicMay-byte, VersionMay-integer, VersionMay-class, StartMay-integer, UnitMay-real}
+use Rattle.oas_record.specs.SomeLaws.{HasSome-magic, HasSome-version, HasSome-unit, HasSome-start}
+use Rattle.oas_record.proofs.MayLemmas.{MagicMay-byte, PassedMay-class, PassedMay-integer, VersionMay-passed, StartMay-integer, UnitMay-real}
 
 -- ---- the magic
 
@@ -66,10 +70,12 @@ some_left front [] count is len lt = let l : 13 ≡ length (front ++ []) = ap le
 some_left front (w ∷ more) count is len lt = (w, more, refl)
 
 module _ (old mid new : Script) (count : ℕ) (lt : count < 13) (m : Matched old mid count) where
-  pub magic_fails : (why : Why) → Fails IsByte ByteMay mid why new → Fails IsMagic MagicMay old why new
+  pub magic_fails : (why : Why) → FailsPiece IsByte ByteMay mid why new → Fails IsMagic MagicMay old why new
   magic_fails why f =
       let left = some_left m.front m.rest count m.is_magic m.len lt in
-      Fails-after IsMagic IsByte MagicMay ByteMay old mid new why m.front (MagicMay-byte why) m.takes (magic_wants m.front left.1 left.0 (m.is_magic ∙ ap (λ (c : List ℕ). m.front ++ c) left.2)) f
+      let so_far : Begins IsMagic (m.front ++ []) = record { value = tt; rest = m.rest; spelled = ap (λ (c : List ℕ). c ++ m.rest) (append-nil m.front) ∙ sym m.is_magic } in
+      Fails-after IsMagic IsByte MagicMay ByteMay old mid new why m.front (MagicMay-byte why) m.takes (magic_wants m.front left.1 left.0 (m.is_magic ∙ ap (λ (c : List ℕ). m.front ++ c) left.2))
+      (λ a none. subst (λ (c : List ℕ). Begins IsMagic (m.front ++ c)) (sym none) so_far) f
 
   pub matched_more : (byte : ℕ) → byte ≡ get_or magic count 0 → ReadsValue IsByte mid byte new → Matched old new (count + 1)
   matched_more byte same read =
@@ -94,7 +100,7 @@ module _ (old mid new : Script) (count : ℕ) (lt : count < 13) (m : Matched old
       record {
         bytes = m.front ++ byte ∷ [];
         takes = Takes-then old mid new m.front (byte ∷ []) m.takes (rw only at read.takes);
-        reason = record { front = []; last = m.front ++ byte ∷ []; joined = refl; holds = record { front = m.front; wanted = left.0; rest = left.1; byte = byte; is_magic = is; joined = refl; other = isnt } };
+        reason = record { front = []; last = m.front ++ byte ∷ []; joined = refl; begun = Begins-none IsMagic HasSome-magic; holds = record { front = m.front; wanted = left.0; rest = left.1; byte = byte; is_magic = is; joined = refl; other = isnt } };
         format = λ _. record {
           none = λ v p r more s e.
               let same : (left.0 ∷ left.1) ++ r ≡ (byte ∷ []) ++ more =
@@ -114,47 +120,48 @@ none_left front (w ∷ rest) is len = let l : 13 ≡ length (front ++ w ∷ rest
 pub magic_done : (old new : Script) (count : ℕ) (v : Unit {0}) → count ≡ 13 → Matched old new count → ReadsValue IsMagic old v new
 magic_done old new count v is m = record { bytes = m.front; spelled = none_left m.front m.rest m.is_magic (m.len ∙ is); takes = m.takes }
 
+-- ---- what is read as one piece
+
+-- a part of it decided
+pub as_whole : {U V : Type 0} {whole : U → List ℕ → Type 0} {A : V → List ℕ → Type 0} {may there : Why → List ℕ → Type 0} {old new : Script} {why : Why}
+    → HasSome whole → Wants whole [] A → ((why : Why) (last : List ℕ) → Decides false A (there why) last → may why last) → Fails A there old why new → Fails whole may old why new
+as_whole {whole = whole} {A = A} {why = why} some wants allows f = record {
+  bytes = f.bytes;
+  takes = f.takes;
+  reason = record { front = []; last = f.bytes; joined = refl; begun = Begins-none whole some; holds = allows why f.bytes f.reason };
+  format = λ is. NoneFits-after whole A [] f.bytes wants (f.format is);
+  truncated = λ is. let g = f.truncated is in (NoneWithin-after whole A [] f.bytes wants g.0, g.1);
+  device = f.device;
+  too_long = f.too_long;
+}
+
 -- ---- the version
 
--- its length fails
-pub version_length_fails : {old new : Script} {why : Why} → Fails IsUnsigned IntegerMay old why new → Fails (version_in Any) VersionMay old why new
-version_length_fails {old = old} {new = new} {why = why} f =
-    Fails-after (version_in Any) IsUnsigned VersionMay IntegerMay old old new why [] (VersionMay-integer why) (Takes-none old)
-    (record { wants = λ v p r rest s e. (3, s.front, s.back ++ r, s.first, sym (append_assoc s.front s.back r) ∙ ap (λ (c : List ℕ). c ++ r) (sym s.joined) ∙ e) }) f
+-- the a-string fails
+label_fails : {old new : Script} {why : Why} → Fails SpellsLabel PassedMay old why new → Fails (version_in Any) VersionMay old why new
+label_fails f = as_whole {A = SpellsLabel} {there = PassedMay} HasSome-version (record { wants = λ v p r rest s e. (version, p, r, s, e) }) VersionMay-passed f
 
--- after another length no version follows
-wrong_length : (n : ℕ) (a : List ℕ) → IsUnsigned n a → n ≢ 3 → (v : Unit {0}) (p r rest : List ℕ) → version_in Any v p → p ++ r ≡ a ++ rest → ⊥
-wrong_length n a h isnt v p r rest s e =
-    let joined : s.front ++ (s.back ++ r) ≡ a ++ rest = sym (append_assoc s.front s.back r) ∙ ap (λ (c : List ℕ). c ++ r) (sym s.joined) ∙ e in
-    let one = OneFront-IsUnsigned.one 3 n s.front a (s.back ++ r) rest s.first h joined in
-    isnt (sym one.1)
+-- its length fails
+pub version_length_fails : {old new : Script} {why : Why} → FailsPiece IsUnsigned IntegerMay old why new → Fails (version_in Any) VersionMay old why new
+version_length_fails {old = old} {new = new} {why = why} f =
+    label_fails (key_fails SpellsLabel length IsUnsigned (λ count. IsText IsLabelByte count) (λ v. v) PassedMay IntegerMay old old new why PassedMay-integer (begins SpellsLabel (HasSome-label Any) old) f)
+
+-- the text that was passed fails
+text_fails : {old new : Script} {count : ℕ} {why : Why} → Fails (IsPassedLabel count) (ClassMay IsLabelByte) old why new → Fails (IsText IsLabelByte count) PassedMay old why new
+text_fails {old = old} {new = new} {count = count} {why = why} f =
+    Fails-after (IsText IsLabelByte count) (IsPassedLabel count) PassedMay (ClassMay IsLabelByte) old old new why [] (PassedMay-class why) (Takes-none old)
+    (record { wants = λ v p r rest s e. (tt, p, r, record { from = v; is = refl; spelled = s }, e) })
+    (λ a b. record { value = b.spelled.from; rest = b.rest; spelled = b.spelled.spelled }) f
 
 -- the bytes of a text of another length fail
-pub version_pass_fails : {old mid new : Script} {n : ℕ} {why : Why} → n ≢ 3 → ReadsValue IsUnsigned old n mid → Fails (IsPassedLabel n) (ClassMay IsLabelByte) mid why new → Fails (version_in Any) VersionMay old why new
-version_pass_fails {old = old} {mid = mid} {new = new} {n = n} {why = why} isnt read f =
-    let wrong = wrong_length n read.bytes read.spelled isnt in
-    record {
-      bytes = read.bytes ++ f.bytes;
-      takes = Takes-then old mid new read.bytes f.bytes read.takes f.takes;
-      reason = let r = f.reason in record { front = read.bytes ++ r.front; last = r.last; joined = ap (λ (x : List ℕ). read.bytes ++ x) r.joined ∙ sym (append_assoc read.bytes r.front r.last); holds = VersionMay-class why r.last r.holds };
-      format = λ _. record { none = λ v p r more s e. wrong v p r (f.bytes ++ more) s (e ∙ append_assoc read.bytes f.bytes more) };
-      truncated = λ is. (record { none = λ v p r s e. wrong v p r f.bytes s e }, (f.truncated is).1);
-      device = f.device;
-      too_long = f.too_long;
-    }
+pub version_pass_fails : {old mid new : Script} {n : ℕ} {why : Why} → ReadsValue IsUnsigned old n mid → Fails (IsPassedLabel n) (ClassMay IsLabelByte) mid why new → Fails (version_in Any) VersionMay old why new
+version_pass_fails read f = label_fails (fails_last (with_label_length read) (λ _ _ h. h) (text_fails f))
 
 -- a byte of a text of three bytes fails
-pub version_byte_fails : {old mid now new : Script} {n : ℕ} {why : Why} (text : List ℕ) → n ≡ 3 → ReadsValue IsUnsigned old n mid → Listed (IsSuch IsLabelByte IsByte) mid now text → length text < 3 → Fails (IsSuch IsLabelByte IsByte) (ClassMay IsLabelByte) now why new → Fails (version_in Any) VersionMay old why new
-version_byte_fails {old = old} {mid = mid} {now = now} {new = new} {n = n} {why = why} text three read listed lt f =
-    let g = listed_fails (IsSuch IsLabelByte IsByte) 3 VersionMay (ClassMay IsLabelByte) mid now new why text (OneFront-class IsLabelByte) (VersionMay-class why) lt listed f in
-    let spelled : IsUnsigned 3 read.bytes = rw three at read.spelled in
-    Fails-after (version_in Any) (IsText IsLabelByte 3) VersionMay VersionMay old mid new why read.bytes (λ _ h. h) read.takes
-    (record {
-      wants = λ v p r rest s e.
-          let joined : s.front ++ (s.back ++ r) ≡ read.bytes ++ rest = sym (append_assoc s.front s.back r) ∙ ap (λ (c : List ℕ). c ++ r) (sym s.joined) ∙ e in
-          let one = OneFront-IsUnsigned.one 3 3 s.front read.bytes (s.back ++ r) rest s.first spelled joined in
-          (version, s.back, r, s.second, after_same s.front read.bytes (s.back ++ r) rest one.0 joined);
-    }) g
+pub version_byte_fails : {old mid now new : Script} {n : ℕ} {why : Why} (text : List ℕ) → n ≡ 3 → ReadsValue IsUnsigned old n mid → Listed (IsSuch IsLabelByte IsByte) mid now text → length text < 3 → FailsPiece (IsSuch IsLabelByte IsByte) (ClassMay IsLabelByte) now why new → Fails (version_in Any) VersionMay old why new
+version_byte_fails {mid = mid} {now = now} {new = new} {n = n} {why = why} text three read listed lt f =
+    let g : Fails (IsText IsLabelByte n) PassedMay mid why new = listed_fails (IsSuch IsLabelByte IsByte) n PassedMay (ClassMay IsLabelByte) mid now new why text (OneFront-class IsLabelByte) (HasSome-class classes.Label) (PassedMay-class why) (omega (arith, lt, three)) listed f in
+    label_fails (fails_last (with_label_length read) (λ _ _ h. h) g)
 
 -- the text as a label
 as_label : {old mid new : Script} {n : ℕ} (text : List ℕ) → ReadsValue IsUnsigned old n mid → ReadsValue (IsText IsLabelByte n) mid text new → ReadsValue (label_in Any) old text new
@@ -173,7 +180,7 @@ version_wrong {old = old} {new = new} text isnt read bytes =
     record {
       bytes = label.bytes;
       takes = label.takes;
-      reason = record { front = []; last = label.bytes; joined = refl; holds = (text, label.spelled, isnt) };
+      reason = record { front = []; last = label.bytes; joined = refl; begun = Begins-none (version_in Any) HasSome-version; holds = (text, label.spelled, isnt) };
       format = λ _. record { none = λ v p r more s e. let one = (OneFront-label Any).one version text p label.bytes r more s label.spelled e in isnt (sym one.1) };
       truncated = λ is. absurd cc;
       device = λ is. absurd cc;
@@ -215,14 +222,13 @@ positive_unit : (r : Real) (unit : Ratio) → IsUnit r unit → IsPositiveReal r
 positive_unit r unit h = (h.positive, (product_some unit.num h.reduces.divisor r.num h.reduces.lowest.num_some h.reduces.some h.reduces.num_is, product_some unit.den h.reduces.divisor r.den h.reduces.lowest.den_some h.reduces.some h.reduces.den_is))
 
 pub unit_fails : {old new : Script} {why : Why} → Fails (real_in Any) RealMay old why new → Fails SpellsUnit UnitMay old why new
-unit_fails {old = old} {new = new} {why = why} f =
-    Fails-after SpellsUnit (real_in Any) UnitMay RealMay old old new why [] (UnitMay-real why) (Takes-none old) (record { wants = λ v p r rest s e. (s.real, p, r, s.spelled, e) }) f
+unit_fails f = as_whole {A = real_in Any} {there = RealMay} HasSome-unit (record { wants = λ v p r rest s e. (s.real, p, r, s.spelled, e) }) UnitMay-real f
 
 pub unit_refused : {old new : Script} (r : Real) → ¬ IsPositiveReal r → ReadsValue (real_in Any) old r new → Fails SpellsUnit UnitMay old UnitIsRefused new
 unit_refused r isnt read = record {
   bytes = read.bytes;
   takes = read.takes;
-  reason = record { front = []; last = read.bytes; joined = refl; holds = (r, read.spelled, isnt) };
+  reason = record { front = []; last = read.bytes; joined = refl; begun = Begins-none SpellsUnit HasSome-unit; holds = (r, read.spelled, isnt) };
   format = λ _. record { none = λ u p rest more s e. let one = (OneFront-real Any).one s.real r p read.bytes rest more s.spelled read.spelled e in isnt (subst IsPositiveReal one.1 (positive_unit s.real u s.is_unit)) };
   truncated = λ is. absurd cc;
   device = λ is. absurd cc;
@@ -238,23 +244,23 @@ zero_isnt r is h = elim is [ inl e ↦ omega (arith, e, h.1.0) | inr e ↦ omega
 -- ---- START
 
 pub starts : (s : Script) → Midway (start_in Any) (start_parts Any) head_of s s
-starts s = seen (start_in Any) head_of (start_parts Any) (λ v. v) s s (begins (start_in Any) s)
+starts s = seen (start_in Any) head_of (start_parts Any) (λ v. v) s s (begins (start_in Any) HasSome-start s)
 
-pub id_fails : {old new : Script} {why : Why} → Fails IsUnsigned IntegerMay old why new → Fails (start_in Any) StartMay old why new
-id_fails {old = old} {new = new} {why = why} f = fails_at (starts old) (λ _ _ h. h) (such_fails_by (IsNumber 1) IsUnsigned StartMay IntegerMay old new why StartMay-integer f)
+pub id_fails : {old new : Script} {why : Why} → FailsPiece IsUnsigned IntegerMay old why new → Fails (start_in Any) StartMay old why new
+id_fails {old = old} {new = new} {why = why} f = fails_at_piece (starts old) (λ _ _ h. h) (such_fails_by (IsNumber 1) IsUnsigned StartMay IntegerMay old new why StartMay-integer f)
 
 pub id_refused : {old new : Script} {id : ℕ} → id ≢ 1 → ReadsValue IsUnsigned old id new → Fails (start_in Any) StartMay old (OutOfPlace id) new
 id_refused {old = old} {new = new} {id = id} isnt read =
-    fails_at (starts old) (λ _ _ h. h) (refused (IsNumber 1) IsUnsigned StartMay old new (OutOfPlace id) id OneFront-IsUnsigned read isnt (read.spelled, isnt) (λ e. cc) (λ e. cc) (λ e. cc))
+    fails_at_piece (starts old) (λ _ _ h. h) (refused (IsNumber 1) IsUnsigned StartMay old new (OutOfPlace id) id OneFront-IsUnsigned read isnt (read.spelled, isnt) (λ e. cc) (λ e. cc) (λ e. cc))
 
 pub with_id : {old new : Script} {id : ℕ} → id ≡ 1 → ReadsValue IsUnsigned old id new
     → Midway (start_in Any) (IsPair (version_in Any) (λ _. IsPair (unit_in Any) (λ _. IsPair (flag_in Any) (λ flag. offsets_in Any (flag == 0))))) (λ f. head_of (id, f)) old new
 with_id {old = old} {new = new} {id = id} is read = starts old ▸ (OneFront-start_id Any, such_read (IsNumber 1) IsUnsigned old new id is read)
 
-pub flag_fails : {old new : Script} {why : Why} → Fails IsUnsigned IntegerMay old why new → Fails (flag_in Any) StartMay old why new
+pub flag_fails : {old new : Script} {why : Why} → FailsPiece IsUnsigned IntegerMay old why new → FailsPiece (flag_in Any) StartMay old why new
 flag_fails {old = old} {new = new} {why = why} f = such_fails_by IsFlag IsUnsigned StartMay IntegerMay old new why StartMay-integer f
 
-pub flag_refused : {old new : Script} {flag : ℕ} → 1 < flag → ReadsValue IsUnsigned old flag new → Fails (flag_in Any) StartMay old OffsetFlag new
+pub flag_refused : {old new : Script} {flag : ℕ} → 1 < flag → ReadsValue IsUnsigned old flag new → FailsPiece (flag_in Any) StartMay old OffsetFlag new
 flag_refused {old = old} {new = new} {flag = flag} large read =
     refused IsFlag IsUnsigned StartMay old new OffsetFlag flag OneFront-IsUnsigned read (λ (lt : flag < 2). omega (arith, lt, large)) (flag, read.spelled, large) (λ e. cc) (λ e. cc) (λ e. cc)
 

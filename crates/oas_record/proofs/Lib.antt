@@ -5,4 +5,6 @@ pub mod HeadLemmas
 pub mod ReferenceLemmas
 pub mod FieldLemmas
 pub mod ElementLemmas
+pub mod IdLemmas
+pub mod AfterLemmas
 pub mod RecordLemmas

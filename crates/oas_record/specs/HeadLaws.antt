@@ -44,7 +44,7 @@ OneFront-SpellsUnit = record { one = unit_one }
 pub OneSpelling-unit : OneSpelling (unit_in Shortest)
 OneSpelling-unit = record { same = λ v a b p q. OneSpelling-real.same (record { negative = false; num = v.num; den = v.den }) a b p.spelled q.spelled }
 
-itself : (v : Ratio) → IsLowest v → Reduces v.num v.den v
+pub itself : (v : Ratio) → IsLowest v → Reduces v.num v.den v
 itself v lowest = record { lowest = lowest; same_value = refl; divisor = 1; some = omega arith; greatest = lowest.coprime; num_is = omega arith; den_is = omega arith }
 
 pub IsWithin-unit : IsWithin (unit_in Shortest) (unit_in Any)
@@ -78,7 +78,7 @@ each_zero bytes h = (0 ∷ [], bytes, one_zero, h, refl)
 twelve : IsEach (unsigned_in Any) twelve_zeros twelve_zeros
 twelve = each_zero _ (each_zero _ (each_zero _ (each_zero _ (each_zero _ (each_zero _ (each_zero _ (each_zero _ (each_zero _ (each_zero _ (each_zero _ (each_zero [] refl)))))))))))
 
-offsets_within : (v : Unit {0}) (a : List ℕ) → a ≡ twelve_zeros → IsOffsets v a
+pub offsets_within : (v : Unit {0}) (a : List ℕ) → a ≡ twelve_zeros → IsOffsets v a
 offsets_within v a p = record { from = twelve_zeros; is = refl; spelled = record { len = refl; each = subst (λ (c : List ℕ). IsEach (unsigned_in Any) twelve_zeros c) (sym p) twelve } }
 
 -- ---- START

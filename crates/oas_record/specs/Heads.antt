@@ -1,7 +1,7 @@
 -- How the front of a file is spelled: the magic and START (SEMI P39, START record).
 use Rattle.std.specs.Prelude.{◌≡◌, ◌≢◌, ℕ, ◌<◌, ◌≤◌, ◌==◌, Bool, false, List, [], ◌∷◌, ◌++◌, Result, Ok, Err, ◌⊎◌}
 use Rattle.oas_num.specs.declared.refusals.Why.{Why}
-use Rattle.oas_num.specs.declared.refusals.Why.TheVariants.{Magic, Truncated, IntegerRange, StringByte, FloatReal, RealType, Unit as UnitIsRefused, Version, OffsetFlag, OutOfPlace, InputTooLong, Read}
+use Rattle.oas_num.specs.declared.refusals.Why.TheVariants.{Magic, Truncated, IntegerRange, StringByte, Unit as UnitIsRefused, Version, OffsetFlag, OutOfPlace, InputTooLong, Read}
 use Rattle.oas_num.specs.declared.refusals.Refusal.{Refusal}
 use Rattle.oas_num.specs.declared.reals.Real.{Real}
 use Rattle.oas_num.specs.Ratio.{Ratio, IsLowest, Reduces}
@@ -11,7 +11,8 @@ use Rattle.oas_num.specs.Integers.{IsUnsigned}
 use Rattle.oas_num.specs.Style.{Style, Any, Shortest, unsigned_in}
 use Rattle.oas_num.specs.Texts.{IsLabelByte, IsText, label_in}
 use Rattle.oas_num.specs.Reals.{real_in, RealMay}
-use Rattle.oas_num.specs.Reading.{IsOutOfRange, ReadsValue, Fails, ClassMay}
+use Rattle.oas_num.specs.Begun.{Decides}
+use Rattle.oas_num.specs.Reading.{IsUnended, IsOutOfRange, IntegerMay, ClassMay, ReadsValue, Fails}
 use Rattle.oas_num.specs.Script.{Script, Takes}
 use Rattle.oas_record.specs.declared.heads.Head.{Head}
 use Rattle.oas_record.specs.Ends.{nothing, IsNumber, offsets_if}
@@ -110,49 +111,42 @@ pub record IsOffMagic (bytes : List ℕ) : Type 0 where
   pub joined : bytes ≡ front ++ byte ∷ []
   pub other : byte ≢ wanted
 
+-- The tables below say of each reason what the bytes are that decided: those with which what was read ends. What was read
+-- before them begins a spelling.
+
 -- where a read of the magic may fail
 abbrev pub MagicMay : Why → List ℕ → Type 0
 MagicMay Magic last = IsOffMagic last
-MagicMay Truncated last = Unit {0}
-MagicMay Read last = Unit {0}
-MagicMay InputTooLong last = Unit {0}
+MagicMay Truncated last = last ≡ []
+MagicMay Read last = last ≡ []
+MagicMay InputTooLong last = last ≡ []
 MagicMay _ last = ⊥
 
--- where a read of the version may fail
+-- where a read of an a-string that isn't kept may fail
+abbrev pub PassedMay : Why → List ℕ → Type 0
+PassedMay Truncated last = IsUnended last
+PassedMay Read last = IsUnended last
+PassedMay InputTooLong last = IsUnended last
+PassedMay IntegerRange last = IsOutOfRange last
+PassedMay StringByte last = ClassMay IsLabelByte StringByte last
+PassedMay _ last = ⊥
+
+-- Where a read of the version may fail. It is read as one a-string, even where its length or a byte has shown already that
+-- it isn't 1.0: what decided is all of it so far.
 abbrev pub VersionMay : Why → List ℕ → Type 0
-VersionMay Truncated last = Unit {0}
-VersionMay Read last = Unit {0}
-VersionMay InputTooLong last = Unit {0}
-VersionMay IntegerRange last = IsOutOfRange last
-VersionMay StringByte last = ClassMay IsLabelByte StringByte last
 VersionMay Version last = (text : List ℕ) × label_in Any text last × (text ≢ version)
-VersionMay _ last = ⊥
+VersionMay why last = Decides false (label_in Any) (PassedMay why) last
 
--- where a read of the unit may fail
+-- Where a read of the unit may fail. It is read as one real, even where its type has shown already that it is negative.
 abbrev pub UnitMay : Why → List ℕ → Type 0
-UnitMay Truncated last = Unit {0}
-UnitMay Read last = Unit {0}
-UnitMay InputTooLong last = Unit {0}
-UnitMay IntegerRange last = IsOutOfRange last
-UnitMay FloatReal last = RealMay FloatReal last
-UnitMay RealType last = RealMay RealType last
 UnitMay UnitIsRefused last = (real : Real) × real_in Any real last × ¬ IsPositiveReal real
-UnitMay _ last = ⊥
+UnitMay why last = Decides false (real_in Any) (RealMay why) last
 
--- where a read of START may fail
+-- where a read of START may fail: one of its integers, the version or the unit
 abbrev pub StartMay : Why → List ℕ → Type 0
-StartMay Truncated last = Unit {0}
-StartMay Read last = Unit {0}
-StartMay InputTooLong last = Unit {0}
-StartMay IntegerRange last = IsOutOfRange last
-StartMay StringByte last = VersionMay StringByte last
-StartMay Version last = VersionMay Version last
-StartMay FloatReal last = RealMay FloatReal last
-StartMay RealType last = RealMay RealType last
-StartMay UnitIsRefused last = UnitMay UnitIsRefused last
 StartMay OffsetFlag last = (flag : ℕ) × IsUnsigned flag last × (2 ≤ flag)
 StartMay (OutOfPlace id) last = IsUnsigned id last × (id ≢ 1)
-StartMay _ last = ⊥
+StartMay why last = IntegerMay why last ⊎ (VersionMay why last ⊎ UnitMay why last)
 
 -- the magic is refused, at 0
 pub record RefusesMagic (old : Script) (refusal : Refusal) (new : Script) : Type 0 where

@@ -23,4 +23,5 @@ pub mod Circles
 pub mod CircleLaws
 pub mod Records
 pub mod RecordLaws
+pub mod SomeLaws
 pub mod May

@@ -1,7 +1,8 @@
+ghost use Rattle.std.specs.Prelude.{◌↔◌, IsTrue};
 ghost use Rattle.oas_num.specs.Reading.{Reads};
 ghost use Rattle.oas_num.specs.Style.{Any};
-ghost use Rattle.oas_record.specs.Circles.{circle_in};
-ghost use Rattle.oas_record.specs.May.{RecordMay};
+ghost use Rattle.oas_record.specs.Circles.{IsCircleInfo, circle_in};
+ghost use Rattle.oas_record.specs.May.{FieldMay};
 
 use crate::spots::{Spot, read_layers, read_spot};
 use oas_num::{Source, Why, next_byte, read_unsigned_if};
@@ -18,13 +19,20 @@ pub struct Circle {
     pub spot: Spot,
 }
 
+/// Whether a circle has that info byte: bits 7 and 6 are 0.
+fn is_circle_info(info: u8) -> bool
+    ensures { IsTrue result ↔ IsCircleInfo info }
+{
+    info < 64
+}
+
 impl Circle {
     /// What follows the id.
     pub(crate) fn read<S: Source>(alloc: Global, source: &mut S) -> Result<Circle, Why>
-        ensures { Reads (circle_in Any) RecordMay (S.script source.old) result (S.script source.new) }
+        ensures { Reads (circle_in Any) FieldMay (S.script source.old) result (S.script source.new) }
     {
         let info = next_byte(source)?;
-        if info >= 64 {
+        if !is_circle_info(info) {
             return Err(Why::InfoByte);
         }
         let layers = read_layers(info, source)?;

@@ -5,7 +5,7 @@ ghost use Rattle.oas_record.specs.Heads.{IsMagic, MagicMay, version_in, VersionM
 use crate::ends::pass_offsets_if;
 use crate::passing::pass_label;
 use oas_num::{
-    Fraction, Real, Refusal, Source, Spelled, Why, next_byte, next_within, read_unsigned,
+    Fraction, Real, Refusal, Source, Spelled, TextClass, Why, next_byte, next_within, read_unsigned,
 };
 use std::alloc::Global;
 
@@ -48,9 +48,9 @@ fn read_version<S: Source>(source: &mut S) -> Result<(), Why>
         pass_label(length, source)?;
         return Err(Why::Version);
     }
-    let one = next_within(32, 126, source)?;
-    let point = next_within(32, 126, source)?;
-    let zero = next_within(32, 126, source)?;
+    let one = next_within(TextClass::Label, source)?;
+    let point = next_within(TextClass::Label, source)?;
+    let zero = next_within(TextClass::Label, source)?;
     if one != 0x31 || point != 0x2E || zero != 0x30 {
         return Err(Why::Version);
     }

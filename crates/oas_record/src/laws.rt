@@ -1,26 +1,30 @@
 //! The laws of the grammar: each function's contract is one, and its body is empty.
 ghost use Rattle.std.specs.Prelude.{◌≡◌, Bool, List, ℕ};
 ghost use Rattle.oas_num.specs.Grammar.{OneFront};
+ghost use Rattle.oas_num.specs.Begun.{HasSome};
 ghost use Rattle.oas_num.specs.Combinators.{OneSpelling, IsWithin};
 ghost use Rattle.oas_num.specs.Style.{Style, Any, Shortest};
 ghost use Rattle.oas_record.specs.Heads.{head_in};
-ghost use Rattle.oas_record.specs.Records.{record_in, records_in};
+ghost use Rattle.oas_record.specs.Records.{after_id, record_in, records_in};
+ghost use Rattle.oas_record.specs.May.{IsKnown};
 ghost use Rattle.oas_record.specs.declared.records.Record.{Record};
 
 /// The front of a file. In the shortest style the unit is in lowest terms, the flag and the table-offsets are zeros (own
-/// rule).
+/// rule). There is one.
 pub fn heads()
     ensures front { (style : Style) → OneFront (head_in style) }
     ensures one { OneSpelling (head_in Shortest) }
     ensures within { IsWithin (head_in Shortest) (head_in Any) }
+    ensures some { HasSome (head_in Any) }
 {}
 
 /// Records: none begins another. In the shortest style there are CELL by name, elements with all their fields and no
-/// repetition, and END with zeros in its padding (own rule).
+/// repetition, and END with zeros in its padding (own rule). After each id of the profile some fields may stand.
 pub fn records()
     ensures front { (style : Style) (in_end : Bool) → OneFront (record_in style in_end) }
     ensures one { (in_end : Bool) → OneSpelling (record_in Shortest in_end) }
     ensures within { (in_end : Bool) → IsWithin (record_in Shortest in_end) (record_in Any in_end) }
+    ensures some { (in_end : Bool) (id : ℕ) → IsKnown id → HasSome (after_id Any in_end id) }
 {}
 
 /// What follows START: records and END. No such bytes begin others, and in the shortest style a list has one spelling.

@@ -1,7 +1,7 @@
 ghost use Rattle.oas_num.specs.Reading.{Reads};
 ghost use Rattle.oas_num.specs.Style.{Any};
 ghost use Rattle.oas_record.specs.NameRecords.{cell_name_in, text_string_in};
-ghost use Rattle.oas_record.specs.May.{RecordMay};
+ghost use Rattle.oas_record.specs.May.{FieldMay};
 
 use oas_num::{Label, Name, Source, Spelled, Why, read_unsigned_if};
 use std::alloc::Global;
@@ -12,7 +12,7 @@ pub(crate) fn read_cell_name<S: Source>(
     numbered: bool,
     source: &mut S,
 ) -> Result<(Name, Option<u64>), Why>
-    ensures { Reads (cell_name_in Any numbered) RecordMay (S.script source.old) result (S.script source.new) }
+    ensures { Reads (cell_name_in Any numbered) FieldMay (S.script source.old) result (S.script source.new) }
 {
     let name = Name::read(alloc, source)?;
     let number = read_unsigned_if(numbered, source)?;
@@ -25,7 +25,7 @@ pub(crate) fn read_text_string<S: Source>(
     numbered: bool,
     source: &mut S,
 ) -> Result<(Label, Option<u64>), Why>
-    ensures { Reads (text_string_in Any numbered) RecordMay (S.script source.old) result (S.script source.new) }
+    ensures { Reads (text_string_in Any numbered) FieldMay (S.script source.old) result (S.script source.new) }
 {
     let label = Label::read(alloc, source)?;
     let number = read_unsigned_if(numbered, source)?;

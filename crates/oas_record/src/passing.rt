@@ -3,7 +3,7 @@ ghost use Rattle.oas_record.specs.Ends.{IsOffsets};
 ghost use Rattle.oas_record.specs.Heads.{IsPassedLabel};
 ghost use Rattle.oas_num.specs.Texts.{IsLabelByte};
 
-use oas_num::{Source, Why, next_within, read_unsigned};
+use oas_num::{Source, TextClass, Why, next_within, read_unsigned};
 
 /// Table-offsets (SEMI P39, START and END records): six pairs of a flag and an offset. They are read and not used (own rule).
 pub(crate) fn pass_offsets<S: Source>(source: &mut S) -> Result<(), Why>
@@ -20,7 +20,7 @@ pub(crate) fn pass_label<S: Source>(count: u64, source: &mut S) -> Result<(), Wh
     ensures { Reads (IsPassedLabel count) (ClassMay IsLabelByte) (S.script source.old) result (S.script source.new) }
 {
     for _ in 0..count {
-        next_within(32, 126, source)?;
+        next_within(TextClass::Label, source)?;
     }
     Ok(())
 }

@@ -1,8 +1,9 @@
+ghost use Rattle.std.specs.Prelude.{◌↔◌, IsTrue};
 ghost use Rattle.oas_num.specs.Grammar.{IsThere};
 ghost use Rattle.oas_num.specs.Reading.{Reads};
 ghost use Rattle.oas_num.specs.Style.{Any};
-ghost use Rattle.oas_record.specs.Polygons.{polygon_in};
-ghost use Rattle.oas_record.specs.May.{RecordMay};
+ghost use Rattle.oas_record.specs.Polygons.{IsPolygonInfo, polygon_in};
+ghost use Rattle.oas_record.specs.May.{FieldMay};
 ghost use Rattle.oas_shape.specs.PointLists.{point_list_in};
 
 use crate::spots::{Spot, read_layers, read_spot};
@@ -27,7 +28,7 @@ pub(crate) fn read_points_if<S: Source>(
     list_use: ListUse,
     source: &mut S,
 ) -> Result<Option<PointList>, Why>
-    ensures { Reads (IsThere there (point_list_in Any list_use)) RecordMay (S.script source.old) result (S.script source.new) }
+    ensures { Reads (IsThere there (point_list_in Any list_use)) FieldMay (S.script source.old) result (S.script source.new) }
 {
     if there {
         Ok(Some(PointList::read(alloc, source, list_use)?))
@@ -36,13 +37,20 @@ pub(crate) fn read_points_if<S: Source>(
     }
 }
 
+/// Whether a polygon has that info byte: bits 7 and 6 are 0.
+fn is_polygon_info(info: u8) -> bool
+    ensures { IsTrue result ↔ IsPolygonInfo info }
+{
+    info < 64
+}
+
 impl Polygon {
     /// What follows the id.
     pub(crate) fn read<S: Source>(alloc: Global, source: &mut S) -> Result<Polygon, Why>
-        ensures { Reads (polygon_in Any) RecordMay (S.script source.old) result (S.script source.new) }
+        ensures { Reads (polygon_in Any) FieldMay (S.script source.old) result (S.script source.new) }
     {
         let info = next_byte(source)?;
-        if info >= 64 {
+        if !is_polygon_info(info) {
             return Err(Why::InfoByte);
         }
         let layers = read_layers(info, source)?;

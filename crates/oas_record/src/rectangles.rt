@@ -1,7 +1,8 @@
+ghost use Rattle.std.specs.Prelude.{◌↔◌, IsTrue};
 ghost use Rattle.oas_num.specs.Reading.{Reads};
 ghost use Rattle.oas_num.specs.Style.{Any};
-ghost use Rattle.oas_record.specs.Rectangles.{rectangle_in};
-ghost use Rattle.oas_record.specs.May.{RecordMay};
+ghost use Rattle.oas_record.specs.Rectangles.{IsRectangleInfo, rectangle_in};
+ghost use Rattle.oas_record.specs.May.{FieldMay};
 
 use crate::spots::{Spot, read_layers, read_spot};
 use oas_num::{Source, Why, next_byte, read_unsigned_if};
@@ -22,13 +23,20 @@ pub struct Rectangle {
     pub spot: Spot,
 }
 
+/// Whether a rectangle has that info byte: a square gives no height.
+fn is_rectangle_info(info: u8) -> bool
+    ensures { IsTrue result ↔ IsRectangleInfo info }
+{
+    info & 160 != 160
+}
+
 impl Rectangle {
     /// What follows the id.
     pub(crate) fn read<S: Source>(alloc: Global, source: &mut S) -> Result<Rectangle, Why>
-        ensures { Reads (rectangle_in Any) RecordMay (S.script source.old) result (S.script source.new) }
+        ensures { Reads (rectangle_in Any) FieldMay (S.script source.old) result (S.script source.new) }
     {
         let info = next_byte(source)?;
-        if info & 160 == 160 {
+        if !is_rectangle_info(info) {
             return Err(Why::InfoByte);
         }
         let layers = read_layers(info, source)?;

@@ -1,7 +1,8 @@
+ghost use Rattle.std.specs.Prelude.{◌↔◌, IsTrue};
 ghost use Rattle.oas_num.specs.Reading.{Reads};
 ghost use Rattle.oas_num.specs.Style.{Any};
-ghost use Rattle.oas_record.specs.Texts.{text_record_in};
-ghost use Rattle.oas_record.specs.May.{RecordMay};
+ghost use Rattle.oas_record.specs.Texts.{IsTextInfo, text_record_in};
+ghost use Rattle.oas_record.specs.May.{FieldMay};
 
 use crate::references::{TextRef, read_text_if};
 use crate::spots::{Spot, read_layers, read_spot};
@@ -18,13 +19,20 @@ pub struct Text {
     pub spot: Spot,
 }
 
+/// Whether a text has that info byte: bit 7 is 0.
+fn is_text_info(info: u8) -> bool
+    ensures { IsTrue result ↔ IsTextInfo info }
+{
+    info < 128
+}
+
 impl Text {
     /// What follows the id.
     pub(crate) fn read<S: Source>(alloc: Global, source: &mut S) -> Result<Text, Why>
-        ensures { Reads (text_record_in Any) RecordMay (S.script source.old) result (S.script source.new) }
+        ensures { Reads (text_record_in Any) FieldMay (S.script source.old) result (S.script source.new) }
     {
         let info = next_byte(source)?;
-        if info >= 128 {
+        if !is_text_info(info) {
             return Err(Why::InfoByte);
         }
         let string = read_text_if(alloc, info & 64 != 0, info & 32 != 0, source)?;

@@ -1,26 +1,26 @@
 -- Adding up displacements as they are read.
-use Rattle.std.proofs.Common.{◌≡◌, ◌≢◌, ℕ, zero, suc, ℤ, pos, ◌+◌, ◌-◌, ◌^◌, ◌<◌, List, [], ◌∷◌, ◌++◌, map, length, refl, sym, ap, subst, ◌∙◌, arith}
+use Rattle.std.proofs.Common.{◌≡◌, ◌≢◌, ℕ, zero, suc, ℤ, pos, ◌+◌, ◌-◌, ◌^◌, ◌<◌, List, [], ◌∷◌, ◌++◌, map, length, refl, sym, ap, subst, ◌∙◌, append_assoc, arith}
 use Rattle.std.specs.Prelude.{◌+ℤ◌, ◌*ℤ◌}
 use Rattle.std.specs.List.{AllByRecursion}
 use Rattle.std.proofs.lemmas.Int.{ints}
-use lib.IntN.{zero-*ℤ, *ℤ-zero, suc_ℤ-*ℤ}
+use lib.IntN.{zero-*ℤ, suc_ℤ-*ℤ}
 use Rattle.std.proofs.lemmas.List.{length_push, append-nil}
 use Rattle.oas_num.specs.declared.refusals.Why.{Why}
 use Rattle.oas_num.specs.declared.refusals.Why.TheVariants.{Truncated, IntegerRange, CoordinateRange, Read, InputTooLong, Memory}
 use Rattle.oas_num.specs.declared.deltas.GDelta.{GDelta}
 use Rattle.oas_num.specs.Deltas.{step}
 use Rattle.oas_num.specs.Script.{Script}
-use Rattle.oas_num.specs.Grammar.{IsImage, IsCount}
-use Rattle.oas_num.specs.Reading.{ReadsValue, Fails, IntegerMay}
-use Rattle.oas_num.proofs.ReadLemmas.{Takes-then}
-use Rattle.oas_num.proofs.GrammarLemmas.{Listed, listed_none, listed_more, listed_fails, listed_all, no_memory, such_read, such_fails}
+use Rattle.oas_num.specs.Grammar.{IsImage, IsCount, IsSuch}
+use Rattle.oas_num.specs.Reading.{ReadsValue, NoneFits, NoneWithin, Fails, FailsPiece, IntegerMay}
+use Rattle.oas_num.proofs.ReadLemmas.{Wants}
+use Rattle.oas_num.proofs.GrammarLemmas.{Listed, listed_none, listed_more, listed_all, such_read, such_fails, refused}
 use Rattle.oas_shape.specs.declared.offsets.Along.{Along}
 use Rattle.oas_shape.specs.Steps.{still, added, times, sums_after, IsNear, IsPartialSum}
 use Rattle.oas_shape.specs.Offsets.{offsets_by}
-use Rattle.oas_shape.specs.Repetitions.{displacement_in, IsOffsets, RepFieldMay}
-use Rattle.oas_shape.specs.RepetitionLaws.{OneFront-displacement}
+use Rattle.oas_shape.specs.Repetitions.{displacement_in, IsOffsets, StepMay, AreOffsetsSoFar}
+use Rattle.oas_shape.specs.RepetitionLaws.{OneFront-displacement, still_is, still_near}
 use Rattle.oas_shape.proofs.SumLemmas.{all_more, at_middle, at_front}
-use Rattle.oas_shape.proofs.ReadingLemmas.{image_read, image_fails, begins_with}
+use Rattle.oas_shape.proofs.ReadingLemmas.{image_read, next_item, fails_behind, no_memory_piece}
 
 -- the sum of all steps, on top of what was before
 abbrev pub total : GDelta → List GDelta → GDelta
@@ -61,13 +61,28 @@ times_plus (suc g) a b =
 pub times-added : (grid : ℕ) (d e : GDelta) → times grid (added d e) ≡ added (times grid d) (times grid e)
 times-added grid d e = (λ i. step (times_plus grid d.dx e.dx i) (times_plus grid d.dy e.dy i))
 
--- what a number is refused by, a repetition is refused by
-pub RepFieldMay-integer : (why : Why) (last : List ℕ) → IntegerMay why last → RepFieldMay why last
-RepFieldMay-integer Truncated last h = tt
-RepFieldMay-integer IntegerRange last h = h
-RepFieldMay-integer Read last h = tt
-RepFieldMay-integer InputTooLong last h = tt
-RepFieldMay-integer _ last h = absurd h
+-- no displacement is a front of what none fits
+none_within : {V : Type 0} {A : V → List ℕ → Type 0} {bytes : List ℕ} → NoneFits A bytes → NoneWithin A bytes
+none_within {bytes = bytes} none = record { none = λ v front rest spelled e. none.none v front rest [] spelled (e ∙ sym (append-nil bytes)) }
+
+-- why a displacement couldn't be read
+step_reason : (along : Along) (grid : ℕ) (ds : List GDelta) (old new : Script) (why : Why) → (f : Fails (displacement_in along) IntegerMay old why new) → StepMay along grid ds why f.bytes
+step_reason along grid ds old new Truncated f = record { reason = f.reason; none = (f.truncated refl).0 }
+step_reason along grid ds old new Read f = f.reason
+step_reason along grid ds old new InputTooLong f = f.reason
+step_reason along grid ds old new IntegerRange f = record { reason = f.reason; none = none_within (f.format refl) }
+step_reason along grid ds old new _ f = absurd f.reason.holds
+
+step_fails : (along : Along) (grid : ℕ) (ds : List GDelta) {old new : Script} {why : Why} → Fails (displacement_in along) IntegerMay old why new → FailsPiece (displacement_in along) (StepMay along grid ds) old why new
+step_fails along grid ds {old = old} {new = new} {why = why} f = record {
+  bytes = f.bytes;
+  takes = f.takes;
+  reason = record { front = []; last = f.bytes; joined = refl; begun = refl; holds = step_reason along grid ds old new why f };
+  format = f.format;
+  truncated = f.truncated;
+  device = f.device;
+  too_long = f.too_long;
+}
 
 -- these offsets were read, the last of which is that
 pub record Summed (along : Along) (grid : ℕ) (old now : Script) (offsets : List GDelta) (last : GDelta) (count : ℕ) : Type 0 where
@@ -77,15 +92,6 @@ pub record Summed (along : Along) (grid : ℕ) (old now : Script) (offsets : Lis
   pub is_last : last ≡ times grid (total still displacements)
   pub within : AllByRecursion IsPartialSum offsets
   pub len : length displacements ≡ count
-
-times_still : (g : ℕ) → pos g *ℤ pos 0 ≡ pos 0
-times_still g = *ℤ-zero (pos g)
-
-still_is : (grid : ℕ) → times grid still ≡ still
-still_is grid = (λ i. step (times_still grid i) (times_still grid i))
-
-still_near : IsPartialSum still
-still_near = record { x = (omega (arith, ints), omega (arith, ints)); y = (omega (arith, ints), omega (arith, ints)) }
 
 -- none yet
 pub summed_none : (along : Along) (grid : ℕ) (s : Script) → Summed along grid s s (still ∷ []) still 0
@@ -130,17 +136,6 @@ module _ {along : Along} {grid : ℕ} {old mid : Script} {offsets : List GDelta}
       (subst (λ (xs : List GDelta). ReadsValue (IsImage (offsets_by grid) (IsCount (displacement_in along) all)) old xs mid) (sym s.are)
       (image_read (offsets_by grid) (IsCount (displacement_in along) all) (listed_all (displacement_in along) all old mid s.displacements (s.len ∙ e) s.listed)))
 
-  -- a displacement couldn't be read
-  pub summed_fails : {new : Script} {why : Why} (all : ℕ) → count < all → Fails (displacement_in along) IntegerMay mid why new → Fails (IsOffsets along grid all) RepFieldMay old why new
-  summed_fails {new = new} {why = why} all lt fails =
-      such_fails (AllByRecursion IsPartialSum) (IsImage (offsets_by grid) (IsCount (displacement_in along) all)) RepFieldMay old new why
-      (image_fails (offsets_by grid) (IsCount (displacement_in along) all) (λ _ _ h. h)
-      (listed_fails (displacement_in along) all RepFieldMay IntegerMay old mid new why s.displacements (OneFront-displacement along) (RepFieldMay-integer why) (omega (arith, s.len, lt)) s.listed fails))
-
-  -- there was no memory
-  pub summed_no_memory : {new : Script} {d : GDelta} (all : ℕ) → ReadsValue (displacement_in along) mid d new → Fails (IsOffsets along grid all) RepFieldMay old Memory new
-  summed_no_memory {new = new} all read = no_memory (IsOffsets along grid all) RepFieldMay old new (s.listed.bytes ++ read.bytes) tt (Takes-then old mid new s.listed.bytes read.bytes s.listed.takes read.takes)
-
   -- where all sums of these and more displacements are within the limit, so is theirs
   one_past : (d : GDelta) (rest : List GDelta) → AllByRecursion IsPartialSum (offsets_by grid ((s.displacements ++ d ∷ []) ++ rest)) → IsPartialSum (added last (times grid d))
   one_past d rest all_near =
@@ -148,31 +143,44 @@ module _ {along : Along} {grid : ℕ} {old mid : Script} {offsets : List GDelta}
       offsets-append grid (s.displacements ++ d ∷ []) rest ∙ ap (λ (xs : List GDelta). xs ++ map (times grid) (sums_after (total still (s.displacements ++ d ∷ [])) rest)) (offsets_more d) in
       at_middle IsPartialSum offsets (added last (times grid d)) [] (at_front IsPartialSum (offsets ++ added last (times grid d) ∷ []) (map (times grid) (sums_after (total still (s.displacements ++ d ∷ [])) rest)) (subst (AllByRecursion IsPartialSum) e all_near))
 
-  -- a sum is past the limit, so no spelling has these displacements first
-  pub summed_past : {new : Script} {d : GDelta} (all : ℕ) → count < all → ReadsValue (displacement_in along) mid d new → ¬ IsPartialSum (added last (times grid d)) → Fails (IsOffsets along grid all) RepFieldMay old CoordinateRange new
+  -- the next displacement, with which the sum is within the limit
+  abbrev IsNext : GDelta → Type 0
+  IsNext d = IsPartialSum (added last (times grid d))
+
+  next_wanted : (all : ℕ) → count < all → Wants (IsOffsets along grid all) s.listed.bytes (IsSuch IsNext (displacement_in along))
+  next_wanted all lt = record {
+    wants = λ v p r rest spelled e.
+        let counted = spelled.spelled.spelled in
+        let next = next_item (displacement_in along) (OneFront-displacement along) s.displacements spelled.spelled.from s.listed.bytes p r rest (omega (arith, s.len, counted.len, lt)) s.listed.each counted.each e in
+        let parted : spelled.spelled.from ≡ (s.displacements ++ next.0 ∷ []) ++ next.1 = next.6 ∙ sym (append_assoc s.displacements (next.0 ∷ []) next.1) in
+        let near = subst (λ (xs : List GDelta). AllByRecursion IsPartialSum (offsets_by grid xs)) parted (subst (AllByRecursion IsPartialSum) (sym spelled.spelled.is) spelled.holds) in
+        (next.0, next.2, next.3, record { holds = one_past next.0 next.1 near; spelled = next.4 }, next.5);
+  }
+
+  -- what fails after these displacements
+  next_fails : {new : Script} {why : Why} (all : ℕ) → count < all → FailsPiece (IsSuch IsNext (displacement_in along)) (StepMay along grid s.displacements) mid why new → FailsPiece (IsOffsets along grid all) (AreOffsetsSoFar along grid all) old why new
+  next_fails all lt f =
+      fails_behind (IsOffsets along grid all) (IsSuch IsNext (displacement_in along)) s.listed.bytes
+      (λ bytes h. record { displacements = s.displacements; front = s.listed.bytes; last = bytes; spelled = s.listed.each; fewer = omega (arith, s.len, lt); near = subst (AllByRecursion IsPartialSum) s.are s.within; holds = h; joined = refl })
+      s.listed.takes (next_wanted all lt) f
+
+  -- a displacement couldn't be read
+  pub summed_fails : {new : Script} {why : Why} (all : ℕ) → count < all → Fails (displacement_in along) IntegerMay mid why new → FailsPiece (IsOffsets along grid all) (AreOffsetsSoFar along grid all) old why new
+  summed_fails {new = new} {why = why} all lt f = next_fails all lt (such_fails IsNext (displacement_in along) (StepMay along grid s.displacements) mid new why (step_fails along grid s.displacements f))
+
+  -- a sum is past the limit
+  pub summed_past : {new : Script} {d : GDelta} (all : ℕ) → count < all → ReadsValue (displacement_in along) mid d new → ¬ IsPartialSum (added last (times grid d)) → FailsPiece (IsOffsets along grid all) (AreOffsetsSoFar along grid all) old CoordinateRange new
   summed_past {new = new} {d = d} all lt read past =
-      let more = listed_more (displacement_in along) old mid new s.displacements d s.listed read in
-      record {
-        bytes = more.bytes;
-        takes = more.takes;
-        reason = record {
-          front = [];
-          last = more.bytes;
-          joined = refl;
-          holds = record { along = along; grid = grid; displacements = s.displacements ++ d ∷ []; spelled = more.each; past = λ all_near. past (one_past d [] (subst (λ (xs : List GDelta). AllByRecursion IsPartialSum (offsets_by grid xs)) (sym (append-nil (s.displacements ++ d ∷ []))) all_near)) };
-        };
-        format = λ _. record {
-          none = λ v front rest after spelled e.
-              let counted = spelled.spelled.spelled in
-              let all_read = begins_with (displacement_in along) (OneFront-displacement along) (s.displacements ++ d ∷ []) spelled.spelled.from more.bytes front rest after
-              (omega (arith, length_push s.displacements d, s.len, counted.len, lt)) more.each counted.each e in
-              past (one_past d all_read.0 (subst (λ (xs : List GDelta). AllByRecursion IsPartialSum (offsets_by grid xs)) all_read.1
-              (subst (AllByRecursion IsPartialSum) (sym spelled.spelled.is) spelled.holds)));
-        };
-        truncated = λ is. absurd cc;
-        device = λ is. absurd cc;
-        too_long = λ is. absurd cc;
-      }
+      next_fails all lt
+      (refused IsNext (displacement_in along) (StepMay along grid s.displacements) mid new CoordinateRange d (OneFront-displacement along) read past
+      (d, read.spelled, λ near. past (at_middle IsPartialSum offsets (added last (times grid d)) [] (subst (AllByRecursion IsPartialSum) (offsets_more d) near))) (λ e. cc) (λ e. cc) (λ e. cc))
+
+  -- there was no memory
+  pub summed_no_memory : {new : Script} {d : GDelta} (all : ℕ) → count < all → ReadsValue (displacement_in along) mid d new → IsPartialSum (added last (times grid d)) → FailsPiece (IsOffsets along grid all) (AreOffsetsSoFar along grid all) old Memory new
+  summed_no_memory {new = new} {d = d} all lt read near =
+      next_fails all lt
+      (no_memory_piece (IsSuch IsNext (displacement_in along)) (StepMay along grid s.displacements) mid new read.bytes
+      (d, read.spelled, subst (AllByRecursion IsPartialSum) (sym (offsets_more d)) (all_more IsPartialSum offsets (added last (times grid d)) s.within near)) read.takes)
 
 -- these were read, and so many more are to be read before the last one
 pub record Summing (along : Along) (grid : ℕ) (old now : Script) (offsets : List GDelta) (last : GDelta) (left more : ℕ) : Type 0 where

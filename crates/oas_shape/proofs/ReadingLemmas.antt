@@ -1,35 +1,109 @@
--- Reading values that stand for others.
-use Rattle.std.proofs.Common.{◌≡◌, ℕ, ◌≤◌, List, [], ◌∷◌, ◌++◌, length, refl, sym, ap, ◌∙◌, append_assoc, arith, subst, inl, inr}
+-- Reading values that stand for others, or that follow others.
+use Rattle.std.proofs.Common.{◌≡◌, ℕ, ◌<◌, false, List, [], ◌∷◌, ◌++◌, length, refl, sym, ap, ◌∙◌, append_assoc, arith, subst}
 use Rattle.oas_num.specs.declared.refusals.Why.{Why}
 use Rattle.oas_num.specs.declared.refusals.Why.TheVariants.{Memory}
-use Rattle.oas_num.specs.Script.{Script}
-use Rattle.oas_num.specs.Grammar.{OneFront, IsImage, IsEach}
+use Rattle.oas_num.specs.Script.{Script, Takes}
+use Rattle.oas_num.specs.Begun.{Begins, Decides}
+use Rattle.oas_num.specs.Grammar.{OneFront, IsPair, IsImage, IsEach}
 use Rattle.oas_num.specs.GrammarLaws.{after_same}
-use Rattle.oas_num.specs.Reading.{ReadsValue, Fails, ListMay}
-use Rattle.oas_num.proofs.GrammarLemmas.{begins, seen, is_read, fails_last}
+use Rattle.oas_num.specs.Reading.{ReadsValue, Fails, FailsPiece}
+use Rattle.oas_num.proofs.ReadLemmas.{Takes-then, Wants, NoneFits-after, NoneWithin-after}
 
 module _ {U V : Type 0} (f : U → V) (A : U → List ℕ → Type 0) where
   -- a value was read, and so what it stands for
   pub image_read : {old new : Script} {u : U} → ReadsValue A old u new → ReadsValue (IsImage f A) old (f u) new
-  image_read {old = old} {new = new} {u = u} read = is_read (seen (IsImage f A) f A (λ v. v) old old (begins (IsImage f A) old)) read
+  image_read {u = u} read = record { bytes = read.bytes; spelled = record { from = u; is = refl; spelled = read.spelled }; takes = read.takes }
 
-  -- no value was read, and so none that it stands for
-  pub image_fails : {may there : Why → List ℕ → Type 0} {old new : Script} {why : Why} → ((why : Why) (last : List ℕ) → there why last → may why last) → Fails A there old why new → Fails (IsImage f A) may old why new
-  image_fails {old = old} allows fails = fails_last (seen (IsImage f A) f A (λ v. v) old old (begins (IsImage f A) old)) allows fails
-
--- items that were read are the first of all that are spelled there
-pub begins_with : {V : Type 0} (A : V → List ℕ → Type 0) → OneFront A → (vs ws : List V) (a p r rest : List ℕ) → length vs ≤ length ws → IsEach A vs a → IsEach A ws p → p ++ r ≡ a ++ rest → (more : List V) × (ws ≡ vs ++ more)
-begins_with A law [] ws a p r rest le e f same = (ws, refl)
-begins_with A law (v ∷ vs) [] a p r rest le e f same = absurd (omega arith)
-begins_with A law (v ∷ vs) (w ∷ ws) a p r rest le e f same =
+-- the next item of those that are spelled there, after items that were read
+pub next_item : {V : Type 0} (A : V → List ℕ → Type 0) → OneFront A → (vs ws : List V) (a p r rest : List ℕ) → length vs < length ws → IsEach A vs a → IsEach A ws p → p ++ r ≡ a ++ rest
+    → (w : V) × (more : List V) × (q : List ℕ) × (tail : List ℕ) × A w q × (q ++ tail ≡ rest) × (ws ≡ vs ++ w ∷ more)
+next_item A law [] [] a p r rest lt e f same = absurd (omega arith)
+next_item A law [] (w ∷ ws) a p r rest lt e f same =
+    (w, ws, f.0, f.1 ++ r, f.2, sym (append_assoc f.0 f.1 r) ∙ ap (λ (c : List ℕ). c ++ r) (sym f.4) ∙ same ∙ ap (λ (c : List ℕ). c ++ rest) e, refl)
+next_item A law (v ∷ vs) [] a p r rest lt e f same = absurd (omega arith)
+next_item A law (v ∷ vs) (w ∷ ws) a p r rest lt e f same =
     let joined : f.0 ++ (f.1 ++ r) ≡ e.0 ++ (e.1 ++ rest) =
     sym (append_assoc f.0 f.1 r) ∙ ap (λ (c : List ℕ). c ++ r) (sym f.4) ∙ same ∙ ap (λ (c : List ℕ). c ++ rest) e.4 ∙ append_assoc e.0 e.1 rest in
     let one = law.one w v f.0 e.0 (f.1 ++ r) (e.1 ++ rest) f.2 e.2 joined in
-    let more = begins_with A law vs ws e.1 f.1 r rest (omega arith) e.3 f.3 (after_same f.0 e.0 (f.1 ++ r) (e.1 ++ rest) one.0 joined) in
+    let next = next_item A law vs ws e.1 f.1 r rest (omega arith) e.3 f.3 (after_same f.0 e.0 (f.1 ++ r) (e.1 ++ rest) one.0 joined) in
     let head = one.1 in
-    let tail : ws ≡ vs ++ more.0 = more.1 in
-    (more.0, cc)
+    let tail : ws ≡ vs ++ next.0 ∷ next.1 = next.6 in
+    (next.0, next.1, next.2, next.3, next.4, next.5, cc)
 
--- a table in which memory may be refused too
-pub from_list_may : {may there : Why → List ℕ → Type 0} → ((why : Why) (last : List ℕ) → there why last → may why last) → ((last : List ℕ) → may Memory last) → (why : Why) (last : List ℕ) → ListMay there why last → may why last
-from_list_may {may = may} allows memory why last h = elim h [ inl h ↦ allows why last h | inr is ↦ subst (λ w. may w last) (sym is) (memory last) ]
+-- A read that failed, with a condition of all bytes that were taken.
+pub as_piece : {V : Type 0} {A : V → List ℕ → Type 0} {may took : Why → List ℕ → Type 0} {old new : Script} {why : Why} → ((bytes : List ℕ) → Decides false A (may why) bytes → took why bytes) → Fails A may old why new → FailsPiece A took old why new
+as_piece so f = record {
+  bytes = f.bytes;
+  takes = f.takes;
+  reason = record { front = []; last = f.bytes; joined = refl; begun = refl; holds = so f.bytes f.reason };
+  format = f.format;
+  truncated = f.truncated;
+  device = f.device;
+  too_long = f.too_long;
+}
+
+-- all bytes that were taken
+pub whole_piece : {V : Type 0} {A : V → List ℕ → Type 0} {took : Why → List ℕ → Type 0} {old new : Script} {why : Why} → (f : FailsPiece A took old why new) → took why f.bytes
+whole_piece {took = took} {why = why} f =
+    let r = f.reason in
+    let e : f.bytes ≡ r.last = r.joined ∙ ap (λ (a : List ℕ). a ++ r.last) r.begun in
+    subst (took why) (sym e) r.holds
+
+-- and such a condition as that of a read of several pieces
+pub from_piece : {V : Type 0} {A : V → List ℕ → Type 0} {may took : Why → List ℕ → Type 0} {old new : Script} {why : Why} → ((bytes : List ℕ) → took why bytes → Decides false A (may why) bytes) → FailsPiece A took old why new → Fails A may old why new
+from_piece so f = record {
+  bytes = f.bytes;
+  takes = f.takes;
+  reason = so f.bytes (whole_piece f);
+  format = f.format;
+  truncated = f.truncated;
+  device = f.device;
+  too_long = f.too_long;
+}
+
+-- there was no memory for what these bytes spell
+pub no_memory_piece : {V : Type 0} (A : V → List ℕ → Type 0) (took : Why → List ℕ → Type 0) (old new : Script) (bytes : List ℕ) → took Memory bytes → Takes old bytes new → FailsPiece A took old Memory new
+no_memory_piece A took old new bytes holds takes = record {
+  bytes = bytes;
+  takes = takes;
+  reason = record { front = []; last = bytes; joined = refl; begun = refl; holds = holds };
+  format = λ is. absurd cc;
+  truncated = λ is. absurd cc;
+  device = λ is. absurd cc;
+  too_long = λ is. absurd cc;
+}
+
+-- what fails behind some bytes fails as a whole
+pub fails_behind : {V W : Type 0} (spells : V → List ℕ → Type 0) (next : W → List ℕ → Type 0) {there took : Why → List ℕ → Type 0} {old mid new : Script} {why : Why} (front : List ℕ)
+    → ((bytes : List ℕ) → there why bytes → took why (front ++ bytes)) → Takes old front mid → Wants spells front next → FailsPiece next there mid why new → FailsPiece spells took old why new
+fails_behind spells next {old = old} {mid = mid} {new = new} front so takes wants f = record {
+  bytes = front ++ f.bytes;
+  takes = Takes-then old mid new front f.bytes takes f.takes;
+  reason = record { front = []; last = front ++ f.bytes; joined = refl; begun = refl; holds = so f.bytes (whole_piece f) };
+  format = λ is. NoneFits-after spells next front f.bytes wants (f.format is);
+  truncated = λ is. let g = f.truncated is in (NoneWithin-after spells next front f.bytes wants g.0, g.1);
+  device = f.device;
+  too_long = f.too_long;
+}
+
+module _ {V W : Type 0} (A : V → List ℕ → Type 0) (B : V → W → List ℕ → Type 0) where
+  -- after the first part of a pair
+  second_wanted : (v : V) (front : List ℕ) → OneFront A → A v front → Wants (IsPair A B) front (B v)
+  second_wanted v front law first = record {
+    wants = λ u p r rest s e.
+        let joined : s.front ++ (s.back ++ r) ≡ front ++ rest = sym (append_assoc s.front s.back r) ∙ ap (λ (c : List ℕ). c ++ r) (sym s.joined) ∙ e in
+        let one = law.one u.0 v s.front front (s.back ++ r) rest s.first first joined in
+        (u.1, s.back, r, subst (λ (x : V). B x u.1 s.back) one.1 s.second, after_same s.front front (s.back ++ r) rest one.0 joined);
+  }
+
+  -- the second part of a pair fails
+  pub second_fails : {there took : Why → List ℕ → Type 0} {old mid new : Script} {v : V} {why : Why} → OneFront A → (read : ReadsValue A old v mid) → ((bytes : List ℕ) → there why bytes → took why (read.bytes ++ bytes)) → FailsPiece (B v) there mid why new → FailsPiece (IsPair A B) took old why new
+  second_fails {v = v} law read so f = fails_behind (IsPair A B) (B v) read.bytes so read.takes (second_wanted v read.bytes law read.spelled) f
+
+  -- what begins the second part, behind the first
+  pub pair_begins : {v : V} {a b : List ℕ} → A v a → Begins (B v) b → Begins (IsPair A B) (a ++ b)
+  pair_begins {v = v} {a = a} {b = b} first begun = record {
+    value = (v, begun.value);
+    rest = begun.rest;
+    spelled = record { front = a; back = b ++ begun.rest; first = first; second = begun.spelled; joined = append_assoc a b begun.rest };
+  }

@@ -15,6 +15,11 @@ count_of (Lattice n_dim m_dim n m) = (n_dim + 2) * (m_dim + 2)
 count_of (Line dim by) = dim + 2
 count_of (Listed offsets) = length offsets
 
+-- whether it lists where its copies stand
+abbrev pub HasList : Repetition → Type 0
+HasList (Listed offsets) = Unit {0}
+HasList _ = ⊥
+
 -- where copy i stands
 abbrev pub offset_of : Repetition → ℕ → GDelta
 offset_of (Matrix x_dim y_dim x_space y_space) i = step (pos (i % (x_dim + 2) * x_space)) (pos (i / (x_dim + 2) * y_space))

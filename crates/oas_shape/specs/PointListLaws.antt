@@ -1,17 +1,19 @@
 -- The laws of point lists: no spelling begins another; in the shortest style each has one, which is one of its spellings.
-use Rattle.std.proofs.Common.{◌≡◌, ℕ, true, false, List, length, refl, sym, ◌∙◌, arith}
+use Rattle.std.proofs.Common.{◌≡◌, ℕ, true, false, List, [], ◌∷◌, length, inl, inr, refl, sym, ◌∙◌, arith}
 use Rattle.std.specs.Prelude.{◌==◌}
 use Rattle.oas_num.specs.declared.deltas.GDelta.{GDelta}
+use Rattle.oas_num.specs.Begun.{HasSome}
+use Rattle.oas_num.specs.BegunLaws.{HasSome-pair, HasSome-such, HasSome-image, HasSome-either, HasSome-count}
 use Rattle.oas_num.specs.Grammar.{OneFront, IsPair, IsSuch, IsImage, IsCount}
 use Rattle.oas_num.specs.GrammarLaws.{OneFront-pair, OneFront-image, OneFront-such, OneFront-count}
 use Rattle.oas_num.specs.Combinators.{OneSpelling, IsWithin}
 use Rattle.oas_num.specs.CombinatorLaws.{OneFront-either, OneFront-within, OneSpelling-pair, OneSpelling-count, IsWithin-count}
 use Rattle.oas_num.specs.Integers.{IsUnsigned}
-use Rattle.oas_num.specs.IntegerLaws.{OneFront-IsUnsigned}
+use Rattle.oas_num.specs.IntegerLaws.{OneFront-IsUnsigned, zero_spelled}
 use Rattle.oas_num.specs.Style.{Style, Any, Shortest, unsigned_in}
 use Rattle.oas_num.specs.StyleLaws.{OneSpelling-unsigned}
 use Rattle.oas_num.specs.Deltas.{SpellsDelta1, SpellsDelta2, SpellsDelta3, SpellsGDelta, gdelta_in}
-use Rattle.oas_num.specs.DeltaLaws.{Delta1-one_front, Delta2-one_front, Delta3-one_front, GDelta-one_front, OneSpelling-gdelta, IsWithin-gdelta}
+use Rattle.oas_num.specs.DeltaLaws.{Delta1-one_front, Delta2-one_front, Delta3-one_front, GDelta-one_front, OneSpelling-gdelta, IsWithin-gdelta, Delta1-some, Delta2-some, Delta3-some, GDelta-some}
 use Rattle.oas_shape.specs.declared.list_use.ListUse.{ListUse}
 use Rattle.oas_shape.specs.declared.list_use.ListUse.TheVariants.{Polygon, Path}
 use Rattle.oas_shape.specs.ListUses.{IsFitting}
@@ -90,3 +92,40 @@ IsWithin-point_list purpose = record {
 pub OneFront-point_list : (style : Style) (purpose : ListUse) → OneFront (point_list_in style purpose)
 OneFront-point_list Any purpose = OneFront-any purpose
 OneFront-point_list Shortest purpose = OneFront-within (point_list_in Shortest purpose) (point_list_in Any purpose) (IsWithin-point_list purpose) (OneFront-any purpose)
+
+-- ---- some are spelled
+
+-- there is a type
+pub HasSome-kind : HasSome (IsSuch IsListKind IsUnsigned)
+HasSome-kind = HasSome-such IsListKind IsUnsigned 0 (0 ∷ []) zero_spelled (omega arith)
+
+two_spelled : IsUnsigned 2 (2 ∷ [])
+two_spelled = record { closed = inl (omega arith, refl); short = omega arith; value = refl; fits = omega arith }
+
+two_fit : (purpose : ListUse) (kind : ℕ) → IsFitting purpose kind 2
+two_fit Polygon kind = (omega arith, inr refl)
+two_fit Path kind = tt
+
+-- two deltas fit every type and use
+pub HasSome-fitting : (purpose : ListUse) (kind : ℕ) → HasSome (IsSuch (IsFitting purpose kind) IsUnsigned)
+HasSome-fitting purpose kind = HasSome-such (IsFitting purpose kind) IsUnsigned 2 (2 ∷ []) two_spelled (two_fit purpose kind)
+
+-- there are so many deltas of each type
+pub HasSome-deltas : (kind count : ℕ) → HasSome (deltas_in kind count)
+HasSome-deltas kind count =
+    HasSome-either (kind == 0) _ _ (HasSome-image (alternating true) _ (HasSome-count SpellsDelta1 count Delta1-some))
+    (HasSome-either (kind == 1) _ _ (HasSome-image (alternating false) _ (HasSome-count SpellsDelta1 count Delta1-some))
+    (HasSome-either (kind == 2) _ _ (HasSome-count (IsImage step2 SpellsDelta2) count (HasSome-image step2 SpellsDelta2 Delta2-some))
+    (HasSome-either (kind == 3) _ _ (HasSome-count (IsImage step3 SpellsDelta3) count (HasSome-image step3 SpellsDelta3 Delta3-some))
+    (HasSome-count (IsImage stepg SpellsGDelta) count (HasSome-image stepg SpellsGDelta GDelta-some)))))
+
+-- each type can be ended
+pub HasSome-after_kind : (purpose : ListUse) (kind : ℕ) → HasSome (after_kind purpose kind)
+HasSome-after_kind purpose kind =
+    HasSome-pair (IsSuch (IsFitting purpose kind) IsUnsigned) (deltas_in kind) (HasSome-fitting purpose kind) (HasSome-deltas kind (HasSome-fitting purpose kind).value)
+
+-- there is a point list
+pub HasSome-point_list : (purpose : ListUse) → HasSome (point_list_in Any purpose)
+HasSome-point_list purpose =
+    HasSome-image (polyline_of purpose) (IsPair (IsSuch IsListKind IsUnsigned) (after_kind purpose))
+    (HasSome-pair (IsSuch IsListKind IsUnsigned) (after_kind purpose) HasSome-kind (HasSome-after_kind purpose HasSome-kind.value))

@@ -1,5 +1,5 @@
 -- How repetitions are spelled (SEMI P39, Repetitions).
-use Rattle.std.specs.Prelude.{ℕ, pos, ◌+◌, ◌<◌, ◌≤◌, ◌==◌, Bool, true, false, List, [], Option, Some, None}
+use Rattle.std.specs.Prelude.{◌≡◌, ℕ, pos, ◌+◌, ◌<◌, ◌≤◌, ◌==◌, if◌then◌else◌, Bool, true, false, List, [], ◌∷◌, ◌++◌, length, Option, Some, None, ◌⊎◌}
 use Rattle.std.specs.List.{AllByRecursion}
 use Rattle.oas_num.specs.declared.refusals.Why.{Why}
 use Rattle.oas_num.specs.declared.refusals.Why.TheVariants.{Truncated, IntegerRange, RepetitionKind, CoordinateRange, Read, InputTooLong, Memory}
@@ -9,7 +9,8 @@ use Rattle.oas_num.specs.Combinators.{IsEither, IsExactly, IsNever}
 use Rattle.oas_num.specs.Integers.{IsUnsigned}
 use Rattle.oas_num.specs.Style.{Style, Any, Shortest}
 use Rattle.oas_num.specs.Deltas.{SpellsGDelta, step}
-use Rattle.oas_num.specs.Reading.{IsOutOfRange}
+use Rattle.oas_num.specs.Begun.{Decides}
+use Rattle.oas_num.specs.Reading.{IsUnended, IsOutOfRange, IntegerMay, NoneWithin}
 use Rattle.oas_shape.specs.declared.offsets.Along.{Along}
 use Rattle.oas_shape.specs.declared.offsets.Along.TheVariants.{X, Y, Free}
 use Rattle.oas_shape.specs.declared.repetitions.Repetition.{Repetition}
@@ -122,21 +123,85 @@ abbrev pub rep_field_in : Style → RepField → List ℕ → Type 0
 rep_field_in Any = IsImage field_of (IsPair (IsSuch IsRepetitionKind IsUnsigned) field_by)
 rep_field_in Shortest = IsNever
 
--- displacements of which a sum after the grid is past the limit
-pub record IsPast (bytes : List ℕ) : Type 0 where
-  pub along : Along
-  pub grid : ℕ
-  pub displacements : List GDelta
-  pub spelled : IsEach (displacement_in along) displacements bytes
-  pub past : ¬ AllByRecursion IsPartialSum (offsets_by grid displacements)
+-- ---- where a read may fail: last are the bytes with which what was read ends
 
--- where a read of a repetition field may fail: last are the bytes with which what was read ends
+-- the types that list their displacements: which way these go, and whether there is a grid
+abbrev pub listing_of : ℕ → Option (Along × Bool)
+listing_of kind =
+    if kind == 4 then Some (X, false) else
+    (if kind == 5 then Some (X, true) else
+    (if kind == 6 then Some (Y, false) else
+    (if kind == 7 then Some (Y, true) else
+    (if kind == 10 then Some (Free, false) else
+    (if kind == 11 then Some (Free, true) else None)))))
+
+-- A displacement so far, of which no front is a whole one, and which ends with bytes of which that holds. It is taken as
+-- a whole, as the first number of a g-delta may have taken a sum past the limit already.
+pub record IsCutOff (along : Along) (P : List ℕ → Type 0) (bytes : List ℕ) : Type 0 where
+  pub reason : Decides false (displacement_in along) P bytes
+  pub none : NoneWithin (displacement_in along) bytes
+
+-- what follows such displacements, where a list is refused
+abbrev pub StepMay : Along → ℕ → List GDelta → Why → List ℕ → Type 0
+StepMay along grid displacements Truncated last = IsCutOff along IsUnended last
+StepMay along grid displacements Read last = Decides false (displacement_in along) IsUnended last
+StepMay along grid displacements InputTooLong last = Decides false (displacement_in along) IsUnended last
+StepMay along grid displacements IntegerRange last = IsCutOff along IsOutOfRange last
+StepMay along grid displacements CoordinateRange last = (d : GDelta) × displacement_in along d last × ¬ AllByRecursion IsPartialSum (offsets_by grid (displacements ++ d ∷ []))
+StepMay along grid displacements Memory last = (d : GDelta) × displacement_in along d last × AllByRecursion IsPartialSum (offsets_by grid (displacements ++ d ∷ []))
+StepMay along grid displacements _ last = ⊥
+
+-- displacements so far, fewer than the list has, of which no sum is past the limit, and what follows them
+pub record AreOffsetsSoFar (along : Along) (grid count : ℕ) (why : Why) (bytes : List ℕ) : Type 0 where
+  pub displacements : List GDelta
+  pub front : List ℕ
+  pub last : List ℕ
+  pub spelled : IsEach (displacement_in along) displacements front
+  pub fewer : length displacements < count
+  pub near : AllByRecursion IsPartialSum (offsets_by grid displacements)
+  pub holds : StepMay along grid displacements why last
+  pub joined : bytes ≡ front ++ last
+
+-- a dimension, a grid where there is one, and the displacements so far
+pub record IsListedSoFar (along : Along) (has_grid : Bool) (why : Why) (bytes : List ℕ) : Type 0 where
+  pub dim : ℕ
+  pub grid : Option ℕ
+  pub front : List ℕ
+  pub last : List ℕ
+  pub fields : IsPair IsUnsigned (λ _. IsThere has_grid IsUnsigned) (dim, grid) front
+  pub holds : AreOffsetsSoFar along (grid_of grid) (dim + 1) why last
+  pub joined : bytes ≡ front ++ last
+
+-- these fields, of a type that has them
+pub record AreFieldsSoFar (kind : ℕ) (why : Why) (bytes : List ℕ) : Type 0 where
+  pub along : Along
+  pub has_grid : Bool
+  pub lists : listing_of kind ≡ Some (along, has_grid)
+  pub listed : IsListedSoFar along has_grid why bytes
+
+-- the same with the type before them
+pub record IsListSoFar (why : Why) (bytes : List ℕ) : Type 0 where
+  pub kind : ℕ
+  pub front : List ℕ
+  pub last : List ℕ
+  pub first : IsUnsigned kind front
+  pub fields : AreFieldsSoFar kind why last
+  pub joined : bytes ≡ front ++ last
+
+-- an integer is refused, or the list of displacements, and these are all bytes that were taken
+abbrev pub ListedTook : Along → Bool → Why → List ℕ → Type 0
+ListedTook along has_grid why bytes = Decides false (IsListed along has_grid) (IntegerMay why) bytes ⊎ IsListedSoFar along has_grid why bytes
+
+abbrev pub FieldsTook : ℕ → Why → List ℕ → Type 0
+FieldsTook kind why bytes = Decides false (repetition_by kind) (IntegerMay why) bytes ⊎ AreFieldsSoFar kind why bytes
+
+-- A read of a repetition field. Want of memory comes only after a displacement, so a count reserves nothing.
 abbrev pub RepFieldMay : Why → List ℕ → Type 0
-RepFieldMay Truncated last = Unit {0}
-RepFieldMay Read last = Unit {0}
-RepFieldMay InputTooLong last = Unit {0}
-RepFieldMay Memory last = Unit {0}
-RepFieldMay IntegerRange last = IsOutOfRange last
+RepFieldMay Truncated last = IsUnended last ⊎ IsListSoFar Truncated last
+RepFieldMay Read last = IsUnended last ⊎ IsListSoFar Read last
+RepFieldMay InputTooLong last = IsUnended last ⊎ IsListSoFar InputTooLong last
+RepFieldMay IntegerRange last = IsOutOfRange last ⊎ IsListSoFar IntegerRange last
 RepFieldMay RepetitionKind last = (kind : ℕ) × IsUnsigned kind last × (12 ≤ kind)
-RepFieldMay CoordinateRange last = IsPast last
+RepFieldMay CoordinateRange last = IsListSoFar CoordinateRange last
+RepFieldMay Memory last = IsListSoFar Memory last
 RepFieldMay _ last = ⊥

@@ -1,4 +1,5 @@
 //! The laws of point lists and repetitions: each function's contract is one, and its body is empty.
+ghost use Rattle.oas_num.specs.Begun.{HasSome};
 ghost use Rattle.oas_num.specs.Grammar.{OneFront};
 ghost use Rattle.oas_num.specs.Combinators.{OneSpelling, IsWithin};
 ghost use Rattle.oas_num.specs.Style.{Style, Any, Shortest};
@@ -11,6 +12,7 @@ pub fn point_lists()
     ensures front { (style : Style) (purpose : ListUse) → OneFront (point_list_in style purpose) }
     ensures one { (purpose : ListUse) → OneSpelling (point_list_in Shortest purpose) }
     ensures within { (purpose : ListUse) → IsWithin (point_list_in Shortest purpose) (point_list_in Any purpose) }
+    ensures some { (purpose : ListUse) → HasSome (point_list_in Any purpose) }
 {}
 
 /// Repetition fields. In the shortest style there is none (own rule): a canonical file gives each copy by itself.
@@ -18,4 +20,5 @@ pub fn rep_fields()
     ensures front { (style : Style) → OneFront (rep_field_in style) }
     ensures one { OneSpelling (rep_field_in Shortest) }
     ensures within { IsWithin (rep_field_in Shortest) (rep_field_in Any) }
+    ensures some { HasSome (rep_field_in Any) }
 {}

@@ -1,10 +1,10 @@
 //! Where the copies of a repetition stand.
 ghost use Rattle.std.specs.Prelude.{◌≡◌, ◌+ℤ◌, ◌*ℤ◌, ◌+◌, ◌*◌, ◌/◌, ◌%◌, ◌^◌, ◌<◌, ℕ, pos, IfOk, SomeIff};
 ghost use Rattle.oas_num.specs.Deltas.{step};
-ghost use Rattle.oas_num.specs.Reading.{Reads, ReadsAs, IntegerMay};
+ghost use Rattle.oas_num.specs.Reading.{ReadsAs, ReadsPiece, IntegerMay};
 ghost use Rattle.oas_shape.specs.Steps.{IsNear, IsPartialSum, added, times};
 ghost use Rattle.oas_shape.specs.Offsets.{count_of, offset_of};
-ghost use Rattle.oas_shape.specs.Repetitions.{displacement_in, x_space, y_space, IsOffsets, RepFieldMay};
+ghost use Rattle.oas_shape.specs.Repetitions.{displacement_in, x_space, y_space, IsOffsets, AreOffsetsSoFar};
 
 use crate::displacements::Displacement;
 use crate::repetitions::Repetition;
@@ -43,7 +43,8 @@ pub(crate) enum Along {
 
 impl OffsetList {
     /// Reads one displacement more than `more`, and adds them up, times the grid. It is refused by `CoordinateRange` as
-    /// soon as a sum is past the limit, and takes no more memory than for what was read.
+    /// soon as a sum is past the limit. It takes no more memory than for what was read: a sum is kept once the
+    /// displacement after it was read.
     pub(crate) fn read<S: Source>(
         alloc: Global,
         along: Along,
@@ -51,10 +52,24 @@ impl OffsetList {
         more: u64,
         source: &mut S,
     ) -> Result<OffsetList, Why>
-        ensures { Reads (IsOffsets along grid (more + 1)) RepFieldMay (S.script source.old) result (S.script source.new) }
+        ensures { ReadsPiece (IsOffsets along grid (more + 1)) (AreOffsetsSoFar along grid (more + 1)) (S.script source.old) result (S.script source.new) }
     {
-        let items = read_sums(alloc, along, grid, more, source)?;
-        Ok(OffsetList { items })
+        let mut items = Vec::new(alloc);
+        let mut last = GDelta { dx: 0, dy: 0 };
+        let mut left = more;
+        loop {
+            let by = read_displacement(alloc, along, source)?;
+            let Some(next) = next_sum(last, grid, by) else {
+                return Err(Why::CoordinateRange);
+            };
+            items.push(last)?;
+            last = next;
+            if left == 0 {
+                items.push(last)?;
+                return Ok(OffsetList { items });
+            }
+            left -= 1;
+        }
     }
 
     /// An equal list in memory of its own.
@@ -64,34 +79,6 @@ impl OffsetList {
         Ok(OffsetList {
             items: self.items.as_slice().to_vec(alloc)?,
         })
-    }
-}
-
-/// Reads one displacement more than `more`, and adds them up, times the grid.
-fn read_sums<S: Source>(
-    alloc: Global,
-    along: Along,
-    grid: u64,
-    more: u64,
-    source: &mut S,
-) -> Result<Vec<GDelta>, Why>
-    ensures { ReadsAs (λ sums. sums.items) (IsOffsets along grid (more + 1)) RepFieldMay (S.script source.old) result (S.script source.new) }
-{
-    let mut sums = Vec::new(alloc);
-    let mut last = GDelta { dx: 0, dy: 0 };
-    sums.push(last)?;
-    let mut left = more;
-    loop {
-        let by = read_displacement(alloc, along, source)?;
-        let Some(next) = next_sum(last, grid, by) else {
-            return Err(Why::CoordinateRange);
-        };
-        sums.push(next)?;
-        if left == 0 {
-            return Ok(sums);
-        }
-        last = next;
-        left -= 1;
     }
 }
 

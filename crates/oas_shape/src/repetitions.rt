@@ -1,8 +1,9 @@
 //! Repetitions as they are read.
-ghost use Rattle.std.specs.Prelude.{◌≡◌, ◌<◌, IfOk};
-ghost use Rattle.oas_num.specs.Reading.{Reads, IntegerMay};
+ghost use Rattle.std.specs.Prelude.{◌≡◌, ◌<◌, IfOk, IfErr};
+ghost use Rattle.oas_num.specs.Reading.{Reads, ReadsPiece, IntegerMay};
 ghost use Rattle.oas_num.specs.Style.{Any};
-ghost use Rattle.oas_shape.specs.Repetitions.{rep_field_in, RepFieldMay, repetition_by, AreTwo, IsMatrix, IsColumns, IsRows, IsLattice, IsLine, IsListed, grid_of};
+ghost use Rattle.oas_shape.specs.Offsets.{HasList};
+ghost use Rattle.oas_shape.specs.Repetitions.{rep_field_in, RepFieldMay, FieldsTook, ListedTook, repetition_by, AreTwo, IsMatrix, IsColumns, IsRows, IsLattice, IsLine, IsListed, grid_of};
 
 use crate::offsets::{Along, OffsetList};
 use oas_num::{GDelta, Source, Spelled, Why, read_unsigned, read_unsigned_if};
@@ -57,9 +58,10 @@ pub enum Repetition {
 }
 
 impl Repetition {
-    /// An equal one, with memory of its own.
+    /// An equal one, with memory of its own. Only a list takes any.
     pub fn try_clone(&self, alloc: Global) -> Result<Repetition, AllocError>
-        ensures { IfOk result (λ copy. copy ≡ self.now) }
+        ensures equal { IfOk result (λ copy. copy ≡ self.now) }
+        ensures refused { IfErr result (λ _. HasList self.now) }
     {
         Ok(match self {
             Repetition::Matrix {
@@ -118,7 +120,7 @@ impl RepField {
 fn read_repetition<S: Source>(alloc: Global, kind: u64, source: &mut S) -> Result<Repetition, Why>
     requires known { kind < 12 }
     requires fields { 0 < kind }
-    ensures { Reads (repetition_by kind) RepFieldMay (S.script source.old) result (S.script source.new) }
+    ensures { ReadsPiece (repetition_by kind) (FieldsTook kind) (S.script source.old) result (S.script source.new) }
 {
     match kind {
         1 => read_matrix(source),
@@ -136,7 +138,7 @@ fn read_repetition<S: Source>(alloc: Global, kind: u64, source: &mut S) -> Resul
 }
 
 fn read_matrix<S: Source>(source: &mut S) -> Result<Repetition, Why>
-    ensures { Reads IsMatrix RepFieldMay (S.script source.old) result (S.script source.new) }
+    ensures { Reads IsMatrix IntegerMay (S.script source.old) result (S.script source.new) }
 {
     let (x_dim, y_dim) = read_two(source)?;
     let (x_space, y_space) = read_two(source)?;
@@ -149,21 +151,21 @@ fn read_matrix<S: Source>(source: &mut S) -> Result<Repetition, Why>
 }
 
 fn read_columns<S: Source>(source: &mut S) -> Result<Repetition, Why>
-    ensures { Reads IsColumns RepFieldMay (S.script source.old) result (S.script source.new) }
+    ensures { Reads IsColumns IntegerMay (S.script source.old) result (S.script source.new) }
 {
     let (dim, space) = read_two(source)?;
     Ok(Repetition::Columns { dim, space })
 }
 
 fn read_rows<S: Source>(source: &mut S) -> Result<Repetition, Why>
-    ensures { Reads IsRows RepFieldMay (S.script source.old) result (S.script source.new) }
+    ensures { Reads IsRows IntegerMay (S.script source.old) result (S.script source.new) }
 {
     let (dim, space) = read_two(source)?;
     Ok(Repetition::Rows { dim, space })
 }
 
 fn read_lattice<S: Source>(alloc: Global, source: &mut S) -> Result<Repetition, Why>
-    ensures { Reads IsLattice RepFieldMay (S.script source.old) result (S.script source.new) }
+    ensures { Reads IsLattice IntegerMay (S.script source.old) result (S.script source.new) }
 {
     let (n_dim, m_dim) = read_two(source)?;
     let n = GDelta::read(alloc, source)?;
@@ -172,7 +174,7 @@ fn read_lattice<S: Source>(alloc: Global, source: &mut S) -> Result<Repetition, 
 }
 
 fn read_line<S: Source>(alloc: Global, source: &mut S) -> Result<Repetition, Why>
-    ensures { Reads IsLine RepFieldMay (S.script source.old) result (S.script source.new) }
+    ensures { Reads IsLine IntegerMay (S.script source.old) result (S.script source.new) }
 {
     let dim = read_unsigned(source)?;
     let by = GDelta::read(alloc, source)?;
@@ -186,7 +188,7 @@ fn read_listed<S: Source>(
     has_grid: bool,
     source: &mut S,
 ) -> Result<Repetition, Why>
-    ensures { Reads (IsListed along has_grid) RepFieldMay (S.script source.old) result (S.script source.new) }
+    ensures { ReadsPiece (IsListed along has_grid) (ListedTook along has_grid) (S.script source.old) result (S.script source.new) }
 {
     let dim = read_unsigned(source)?;
     let grid = read_unsigned_if(has_grid, source)?;

@@ -4,7 +4,7 @@ ghost use Rattle.oas_num.specs.Grammar.{IsCount, IsImage};
 ghost use Rattle.oas_num.specs.Deltas.{SpellsDelta1, step};
 ghost use Rattle.oas_num.specs.Reading.{ReadsAs, ListMay, IntegerMay};
 ghost use Rattle.oas_num.specs.declared.deltas.GDelta.{GDelta};
-ghost use Rattle.oas_shape.specs.PointLists.{deltas_in, alternating, step2, step3, stepg};
+ghost use Rattle.oas_shape.specs.PointLists.{deltas_in, alternating, step2, step3, stepg, DeltasMay};
 
 use oas_num::{Delta1, Delta2, Delta3, GDelta, Source, Spelled, Why};
 use std::alloc::Global;
@@ -55,7 +55,7 @@ pub(crate) fn read_deltas<S: Source>(
     count: u64,
     source: &mut S,
 ) -> Result<Vec<GDelta>, Why>
-    ensures { ReadsAs (λ steps. steps.items) (deltas_in kind count) (ListMay IntegerMay) (S.script source.old) result (S.script source.new) }
+    ensures { ReadsAs (λ steps. steps.items) (deltas_in kind count) (DeltasMay kind) (S.script source.old) result (S.script source.new) }
 {
     match kind {
         0 => read_alternating(alloc, true, count, source),
@@ -72,7 +72,7 @@ fn read_steps<D: Step, S: Source>(
     count: u64,
     source: &mut S,
 ) -> Result<Vec<GDelta>, Why>
-    ensures { ReadsAs (λ steps. steps.items) (IsCount (IsImage D.step_of D.spells) count) (ListMay D.may) (S.script source.old) result (S.script source.new) }
+    ensures { ReadsAs (λ steps. steps.items) (IsCount (IsImage D.step_of D.spells) count) (ListMay (IsImage D.step_of D.spells) D.may) (S.script source.old) result (S.script source.new) }
 {
     let mut steps = Vec::new(alloc);
     for _ in 0..count {
@@ -89,16 +89,16 @@ fn read_alternating<S: Source>(
     count: u64,
     source: &mut S,
 ) -> Result<Vec<GDelta>, Why>
-    ensures { ReadsAs (λ steps. steps.items) (IsImage (alternating x_first) (IsCount SpellsDelta1 count)) (ListMay IntegerMay) (S.script source.old) result (S.script source.new) }
+    ensures { ReadsAs (λ turns. turns.items) (IsImage (alternating x_first) (IsCount SpellsDelta1 count)) (ListMay SpellsDelta1 IntegerMay) (S.script source.old) result (S.script source.new) }
 {
-    let mut steps = Vec::new(alloc);
+    let mut turns = Vec::new(alloc);
     let mut along_x = x_first;
     for _ in 0..count {
         let delta = Delta1::read(alloc, source)?;
-        steps.push(along(along_x, delta))?;
+        turns.push(along(along_x, delta))?;
         along_x = !along_x;
     }
-    Ok(steps)
+    Ok(turns)
 }
 
 /// So far along one axis.

@@ -44,22 +44,51 @@ fn is_row(
     holds(rt, alloc, layout, cell, lines)
 }
 
-fn sealed_cells(alloc: Global, unit: Fraction, profile: Profile) -> Result<Layout, Fail> {
+/// The layout of the rows, which define cells in their order. Its cells are those of the other rows.
+fn seals_as(
+    rt: &impl Abort,
+    alloc: Global,
+    profile: Profile,
+    rows: &str,
+    ascending: &str,
+) -> Result<Layout, Fail> {
+    let unit = Fraction::reduced(2000, 2).ok_or("no unit")?;
     let mut draft = Draft::new(alloc, unit, Limits::standard(), profile)?;
-    for row in CELLS.lines() {
+    for row in rows.lines() {
         add_row(&mut draft, alloc, row)?;
     }
-    Ok(draft.seal()?)
+    let layout = draft.seal()?;
+    for (cell, row) in ascending.lines().enumerate() {
+        is_row(rt, alloc, &layout, cell, row)?;
+    }
+    assert!(rt; layout.cells() == ascending.lines().count());
+    Ok(layout)
 }
 
 #[test]
 fn cells_and_elements_in_their_order(rt: HostRuntime) -> Result<(), Fail> {
-    let unit = Fraction::reduced(2000, 2).ok_or("no unit")?;
-    let layout = sealed_cells(rt.alloc(), unit, Profile::Two)?;
-    for (cell, row) in ASCENDING_CELLS.lines().enumerate() {
-        is_row(&rt, rt.alloc(), &layout, cell, row)?;
+    for profile in [Profile::One, Profile::Two] {
+        let layout = seals_as(&rt, rt.alloc(), profile, CELLS, ASCENDING_CELLS)?;
+        assert!(rt; layout.profile() == profile && layout.unit().num() == 1000);
+        assert!(rt; layout.count() == 13 && layout.weight() == 32);
     }
-    assert!(rt; layout.cells() == 5 && layout.count() == 13 && layout.weight() == 32);
+    Ok(())
+}
+
+/// Seven elements, which are added in reverse order.
+const SEVEN: &str =
+    "TOP|1 placement A 0 0 0 0;1 placement A 0 50 0 0;1 placement A 50 0 0 0;1 placement A 50 50 0 0;1 text 3 0 0 0 Hi
+A|1 rectangle 1 0 10 10 0 0;1 rectangle 1 0 10 10 20 0";
+
+const ASCENDING_SEVEN: &str = "A|1 rectangle 1 0 10 10 0 0;1 rectangle 1 0 10 10 20 0
+TOP|1 placement A 0 0 0 0;1 placement A 0 50 0 0;1 placement A 50 0 0 0;1 placement A 50 50 0 0;1 text 3 0 0 0 Hi";
+
+#[test]
+fn seven_elements_in_reverse_order(rt: HostRuntime) -> Result<(), Fail> {
+    for profile in [Profile::One, Profile::Two] {
+        let layout = seals_as(&rt, rt.alloc(), profile, SEVEN, ASCENDING_SEVEN)?;
+        assert!(rt; layout.count() == 7 && layout.weight() == 19);
+    }
     Ok(())
 }
 
@@ -104,6 +133,12 @@ fn refuses_cell(rt: &impl Abort, alloc: Global, text: &str, wanted: Why) -> Resu
     let mut draft = draft_of_a(alloc, limits, Profile::Two)?;
     let (why, back) = draft.add_cell(name(alloc, text)?).err().ok_or("refused")?;
     assert!(rt; why == wanted && back.as_bytes() == text.as_bytes() && draft.cells() == 1);
+    let layout = draft.seal()?;
+    assert!(rt; layout.cells() == 1 && layout.count() == 0 && layout.weight() == 2);
+    if layout.cells() > 0 {
+        assert_eq!(rt; layout.cell_name(0).as_bytes(), "A".as_bytes());
+        assert!(rt; layout.elements(0).next().is_none());
+    }
     Ok(())
 }
 

@@ -28,6 +28,7 @@ fn is_kept(rt: &impl Abort, alloc: Global, row: &str) -> Result<(), Fail> {
     let (given, rest) = halves(rest);
     let (held, weight) = halves(rest);
     let layout = layout_of_a(alloc, profile(under), given)?;
+    assert!(rt; layout.profile() == profile(under), "at {row}");
     assert!(rt; layout.weight() == weight.parse().unwrap_or(0), "at {row}");
     holds(rt, alloc, &layout, 0, held)
 }
@@ -60,7 +61,11 @@ fn is_same(rt: &impl Abort, alloc: Global, row: &str, under: Profile) -> Result<
     let wanted = profiles == "both" || (profiles == "two" && under == Profile::Two);
     let a = layout_of_a(alloc, under, first)?;
     let b = layout_of_a(alloc, under, second)?;
-    assert!(rt; same(&a, &b) == wanted, "at {row}");
+    assert!(rt;
+        same(&a, &b) == wanted && same(&b, &a) == wanted,
+        "at {row}"
+    );
+    assert!(rt; same(&a, &a) && same(&b, &b), "at {row}");
     Ok(())
 }
 

@@ -66,7 +66,9 @@ fn very_many_of_one_element(rt: HostRuntime) -> Result<(), Fail> {
 
 /// Limits of elements and weight, so many of an element, and the number of the reason: 16 before 24, 24 before 25, 25
 /// before 23. Then each coordinate, one past the grid.
-const REFUSED: &str = "1 3 5 16|polygon 1 0 9,9 2000000000000000000,0
+const REFUSED: &str = "16777216 268435456 1 16|polygon 1 0 0,0 1,1
+16777216 268435456 1 16|path 1 0 5 0 0
+1 3 5 16|polygon 1 0 9,9 2000000000000000000,0
 1 3 5 16|path 1 0 9000000000000000000 0 0
 1 3 5 24|path 1 0 9000000000000000000 0 0 1,1
 9 3 5 25|path 1 0 9000000000000000000 0 0 1,1

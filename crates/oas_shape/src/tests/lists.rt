@@ -208,6 +208,12 @@ fn lists_refused(rt: HostRuntime) {
         list_refused(alloc, &many, ListUse::Path),
         Some(Why::Truncated)
     );
+    // the same, and some deltas
+    let some = [4, 255, 255, 255, 255, 255, 255, 255, 255, 255, 1, 0, 2, 4];
+    assert_eq!(rt;
+        list_refused(alloc, &some, ListUse::Path),
+        Some(Why::Truncated)
+    );
 }
 
 #[test]

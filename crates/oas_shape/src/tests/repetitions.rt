@@ -167,5 +167,39 @@ fn repetitions_refused(rt: HostRuntime) -> Result<(), Fail> {
         repetition_refused(alloc, &[10, 255, 255, 255, 255, 255, 255, 255, 255, 255, 1]),
         Some(Why::Truncated)
     );
+    // the same, and some displacements
+    assert_eq!(rt;
+        repetition_refused(
+            alloc,
+            &[10, 255, 255, 255, 255, 255, 255, 255, 255, 255, 1, 0, 2, 4]
+        ),
+        Some(Why::Truncated)
+    );
     Ok(())
+}
+
+/// A displacement is added once it was read as a whole.
+#[test]
+fn displacements_cut_off(rt: HostRuntime) {
+    let alloc = rt.alloc();
+    // 4 times 2^61 in x, and the number of y isn't there
+    let cut = [
+        11, 0, 4, 0x81, 0x80, 0x80, 0x80, 0x80, 0x80, 0x80, 0x80, 0x80, 1,
+    ];
+    assert_eq!(rt; repetition_refused(alloc, &cut), Some(Why::Truncated));
+    let whole = [
+        11, 0, 4, 0x81, 0x80, 0x80, 0x80, 0x80, 0x80, 0x80, 0x80, 0x80, 1, 0,
+    ];
+    assert_eq!(rt;
+        repetition_refused(alloc, &whole),
+        Some(Why::CoordinateRange)
+    );
+    // a sum past the limit comes before the end
+    let past = [
+        4, 1, 0x81, 0x80, 0x80, 0x80, 0x80, 0x80, 0x80, 0x80, 0x40, 0x80,
+    ];
+    assert_eq!(rt;
+        repetition_refused(alloc, &past),
+        Some(Why::CoordinateRange)
+    );
 }

@@ -1,7 +1,7 @@
 use Rattle.std.proofs.lemmas.Result.{err_from_is_err_and}
 use Rattle.std.proofs.Common.{refl, false, ◌≡◌, true, Bool}
 use Rattle.oas_num.proofs.GrammarLemmas.{fails_at, fails_last, is_read}
-use Rattle.oas_canon.proofs.Heads.{id_fails, id_other, with_id, StartMay-version, unit_fails, unit_other, flag_fails, flag_other, with_flag, StartMay-offsets}
+use Rattle.oas_canon.proofs.Heads.{id_fails, id_other, with_id, StartMay-version, unit_fails, unit_other, flag_fails, flag_other, with_flag, StartMay-integer}
 use Rattle.oas_canon.proofs.head.read_start.Goals as goal
 
 no_above : ◌≡◌ {A = Bool} false true → ⊥
@@ -39,7 +39,7 @@ returns-then-flag-ne0 g c = flag_other c.if-id-ne-START.false c.in_ok-id.ensures
 pub returns-in_err-read_offsets : goal.returns-in_err-read_offsets
 returns-in_err-read_offsets g c =
     let p = err_from_is_err_and c.from_residual-in_err-read_offsets.result c.from_residual-in_err-read_offsets.ensures.1 in
-    rw (p.1, p.2) (fails_last (with_flag c.if-id-ne-START.false c.in_ok-id.ensures c.in_ok-read_version.ensures (c.if-not-is_above.ensures.0 refl) c.in_ok-unit.ensures c.if-flag-ne0.false c.in_ok-flag.ensures) StartMay-offsets c.in_err-read_offsets.ensures)
+    rw (p.1, p.2) (fails_last (with_flag c.if-id-ne-START.false c.in_ok-id.ensures c.in_ok-read_version.ensures (c.if-not-is_above.ensures.0 refl) c.in_ok-unit.ensures c.if-flag-ne0.false c.in_ok-flag.ensures) StartMay-integer c.in_err-read_offsets.ensures)
 
 pub returns : goal.returns
 returns g c = is_read (with_flag c.if-id-ne-START.false c.in_ok-id.ensures c.in_ok-read_version.ensures (c.if-not-is_above.ensures.0 refl) c.in_ok-unit.ensures c.if-flag-ne0.false c.in_ok-flag.ensures) c.in_ok-read_offsets.ensures

@@ -3,6 +3,7 @@ use Rattle.std.proofs.lemmas.Result.{err_from_is_err_and}
 use Rattle.oas_canon.specs.Steps.{IsStep}
 use Rattle.oas_canon.specs.Reasons.{StepMay}
 use Rattle.oas_canon.proofs.Gathers.{gathered_none, gather_fails, gather_fails_at, gather_placed, gather_more, gather_refuses, gather_ends}
+use Rattle.oas_canon.proofs.Reasoning.{step_reasoned, next_reasoned}
 use Rattle.oas_canon.proofs.Readings.{placed_read, placed_fails, placed_ok, placed_err, step_given}
 use Rattle.oas_canon.proofs.reading.read_records.Goals as goal
 
@@ -13,7 +14,7 @@ pub returns-in_err-record : goal.returns-in_err-record
 returns-in_err-record g c =
     let p = err_from_is_err_and c.from_residual.result c.from_residual.ensures.1 in
     let f = placed_fails IsStep StepMay _ _ _ c.read_record.result _ c.in_err-record.ensures c.read_record.ensures in
-    rw (p.1, p.2) (λ b. (gather_fails (c.loop-record.invariant.gathered b) f.1, gather_fails_at (c.loop-record.invariant.gathered b) _ (f.0 ∙ c.loop-record.invariant.place) f.1))
+    rw (p.1, p.2) (λ b. (gather_fails (c.loop-record.invariant.gathered b) f.1, gather_fails_at (c.loop-record.invariant.gathered b) _ (f.0 ∙ c.loop-record.invariant.place) f.1, step_reasoned (c.loop-record.invariant.gathered b) _ (f.0 ∙ c.loop-record.invariant.place) f.1))
 
 pub returns-in_err-placed : goal.returns-in_err-placed
 returns-in_err-placed g c =
@@ -23,6 +24,7 @@ returns-in_err-placed g c =
     rw (p.1, p.2) (λ b. (
       gather_refuses (c.loop-record.invariant.gathered b) (rw c.in-Some.is at read) _ _ (rw e.1 at c.take.ensures),
       gather_placed (c.loop-record.invariant.gathered b) (rw c.in-Some.is at read) _ _ (e.0 ∙ c.loop-record.invariant.place) (rw e.1 at c.take.ensures),
+      next_reasoned (c.loop-record.invariant.gathered b) (rw c.in-Some.is at read) _ _ (e.0 ∙ c.loop-record.invariant.place) (rw e.1 at c.take.ensures),
     ))
 
 pub loop-record-smaller : goal.loop-record-smaller

@@ -1,8 +1,8 @@
 use Rattle.std.proofs.lemmas.Result.{err_from_is_err_and}
-use Rattle.oas_num.proofs.GrammarLemmas.{begins, seen, last_fails}
+use Rattle.oas_num.proofs.GrammarLemmas.{image_fails}
 use Rattle.oas_num.proofs.integers.read_signed.Goals as goal
 
 pub returns-in_err-coded : goal.returns-in_err-coded
 returns-in_err-coded g c =
     let p = err_from_is_err_and c.from_residual.result c.from_residual.ensures.1 in
-    rw (p.1, p.2) (last_fails _ _ _ _ _ _ _ _ _ (λ _ h. h) (seen _ _ _ _ _ _ (begins _ _)) c.in_err-coded.ensures)
+    rw (p.1, p.2) (image_fails _ c.in_err-coded.ensures)

@@ -6,7 +6,7 @@ use Rattle.oas_num.proofs.integers.read_unsigned.Goals as goal
 pub returns-in_err-byte : goal.returns-in_err-byte
 returns-in_err-byte g c =
     let p = err_from_is_err_and c.from_residual.result c.from_residual.ensures.1 in
-    rw (p.1, p.2) (byte_fails _ _ _ _ _ c.loop.invariant _ _ c.in_err-byte.ensures)
+    rw (p.1, p.2) (byte_fails _ _ _ _ _ c.loop.invariant (omega arith) _ _ c.in_err-byte.ensures)
 
 pub overflow_mul-value : goal.overflow_mul-value
 overflow_mul-value g c =
@@ -32,7 +32,7 @@ loop-preserved g c = rw c.from.ensures (goes_on _ _ _ _ _ c.loop.invariant _ _ c
 pub returns-in_err-last : goal.returns-in_err-last
 returns-in_err-last g c =
     let p = err_from_is_err_and c.from_residual-in_err-last.result c.from_residual-in_err-last.ensures.1 in
-    rw (p.1, p.2) (byte_fails _ _ _ _ _ c.loop.invariant _ _ c.in_err-last.ensures)
+    rw (p.1, p.2) (byte_fails _ _ _ _ _ c.loop.invariant (omega arith) _ _ c.in_err-last.ensures)
 
 pub returns-then-last-gt1 : goal.returns-then-last-gt1
 returns-then-last-gt1 g c =

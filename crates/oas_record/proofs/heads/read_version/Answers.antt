@@ -12,7 +12,7 @@ returns-in_err-length g c =
 pub returns-in_err-pass_label : goal.returns-in_err-pass_label
 returns-in_err-pass_label g c =
     let p = err_from_is_err_and c.from_residual-in_err-pass_label.result c.from_residual-in_err-pass_label.ensures.1 in
-    rw (p.1, p.2) (version_pass_fails c.if-length-ne3.true c.in_ok-length.ensures c.in_err-pass_label.ensures)
+    rw (p.1, p.2) (version_pass_fails c.in_ok-length.ensures c.in_err-pass_label.ensures)
 
 pub returns-then-length-ne3 : goal.returns-then-length-ne3
 returns-then-length-ne3 g c = version_passed c.if-length-ne3.true c.in_ok-length.ensures c.in_ok-pass_label.ensures

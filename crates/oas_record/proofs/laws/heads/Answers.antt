@@ -1,5 +1,6 @@
 use Rattle.oas_record.specs.HeadLaws.{OneFront-head, OneSpelling-head, IsWithin-head}
+use Rattle.oas_record.specs.SomeLaws.{HasSome-head}
 use Rattle.oas_record.proofs.laws.heads.Goals as goal
 
 pub returns : goal.returns
-returns c = record { front = OneFront-head; one = OneSpelling-head; within = IsWithin-head }
+returns c = record { front = OneFront-head; one = OneSpelling-head; within = IsWithin-head; some = HasSome-head }

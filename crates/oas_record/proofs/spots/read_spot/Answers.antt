@@ -1,18 +1,18 @@
 use Rattle.std.proofs.lemmas.Result.{err_from_is_err_and}
 use Rattle.oas_num.proofs.GrammarLemmas.{◌▸◌, fails_at, fails_last, is_read}
 use Rattle.oas_record.proofs.FieldLemmas.{OneFront-signed_if, spot_starts}
-use Rattle.oas_record.proofs.MayLemmas.{RecordMay-integer}
+use Rattle.oas_record.proofs.MayLemmas.{FieldMay-integer}
 use Rattle.oas_record.proofs.spots.read_spot.Goals as goal
 
 pub returns-in_err-x : goal.returns-in_err-x
 returns-in_err-x g c =
     let p = err_from_is_err_and c.from_residual.result c.from_residual.ensures.1 in
-    rw (p.1, p.2) (fails_at (spot_starts _ _ _ _) RecordMay-integer c.in_err-x.ensures)
+    rw (p.1, p.2) (fails_at (spot_starts _ _ _ _) FieldMay-integer c.in_err-x.ensures)
 
 pub returns-in_err-y : goal.returns-in_err-y
 returns-in_err-y g c =
     let p = err_from_is_err_and c.from_residual-in_err-y.result c.from_residual-in_err-y.ensures.1 in
-    rw (p.1, p.2) (fails_at (spot_starts _ _ _ _ ▸ (OneFront-signed_if _, c.in_ok-x.ensures)) RecordMay-integer c.in_err-y.ensures)
+    rw (p.1, p.2) (fails_at (spot_starts _ _ _ _ ▸ (OneFront-signed_if _, c.in_ok-x.ensures)) FieldMay-integer c.in_err-y.ensures)
 
 pub returns-in_err-repetition : goal.returns-in_err-repetition
 returns-in_err-repetition g c =

@@ -4,7 +4,7 @@ use Rattle.oas_shape.proofs.StepLemmas.{alternated_none, alternated_more, altern
 use Rattle.oas_shape.proofs.steps.read_alternating.Goals as goal
 
 pub loop-init : goal.loop-init
-loop-init g c = rw c.new-steps.ensures.items (alternated_none _ _)
+loop-init g c = rw c.new-turns.ensures.items (alternated_none _ _)
 
 pub returns-in_err-delta : goal.returns-in_err-delta
 returns-in_err-delta g c =
@@ -14,7 +14,7 @@ returns-in_err-delta g c =
 pub returns-in_err-push : goal.returns-in_err-push
 returns-in_err-push g c =
     let p = err_from_is_err_and c.from_residual-in_err-push.result c.from_residual-in_err-push.ensures.1 in
-    rw (p.1, p.2) (alternated_no_memory c.loop.invariant _ c.in_ok-delta.ensures)
+    rw (p.1, p.2) (alternated_no_memory c.loop.invariant _ (omega arith) c.in_ok-delta.ensures)
 
 pub loop-preserved : goal.loop-preserved
 loop-preserved g c = rw c.in_ok-push.ensures.items (alternated_more c.loop.invariant c.in_ok-delta.ensures c.along.ensures)

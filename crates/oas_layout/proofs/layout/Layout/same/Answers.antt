@@ -6,7 +6,7 @@ use Rattle.oas_layout.proofs.layout.Layout.same.Goals as goal
 pub returns-then-count-cells : goal.returns-then-count-cells
 returns-then-count-cells c =
     differ c.args.self.now.profile _ _ c.args.self.now c.args.other.now _ _ _ _ _ _ c.self.view_is c.other.view_is refl c.requires c.self.invariant c.other.invariant
-    (λ _ e. c.if-count-cells.true (c.cells-count.ensures ∙ ap length e ∙ sym c.cells.ensures))
+    (λ _ e. c.if-count-cells.true (c.cells-count.ensures.count ∙ ap length e ∙ sym c.cells.ensures.count))
 
 pub returns-then-ne-2 : goal.returns-then-ne-2
 returns-then-ne-2 c =
@@ -22,4 +22,4 @@ pub returns : goal.returns
 returns c =
     let unit : c.self.inside.unit ≡ c.other.inside.unit = search rules in
     let units : c.args.self.now.unit ≡ c.args.other.now.unit = sym (ap (λ (v : Contents). v.unit) c.self.view_is) ∙ unit ∙ ap (λ (v : Contents). v.unit) c.other.view_is in
-    (λ _. same_from_cells c.args.self.now.profile c.args.self.now c.args.other.now units (same_reads c.args.self.now.cells c.args.other.now.cells (omega (arith, c.cells-count.ensures, c.cells.ensures, c.if-count-cells.false)) (λ k below. c.loop-i.invariant k (omega (arith, below, c.cells-count.ensures, c.loop-i-test.false)))), λ _. refl)
+    (λ _. same_from_cells c.args.self.now.profile c.args.self.now c.args.other.now units (same_reads c.args.self.now.cells c.args.other.now.cells (omega (arith, c.cells-count.ensures.count, c.cells.ensures.count, c.if-count-cells.false)) (λ k below. c.loop-i.invariant k (omega (arith, below, c.cells-count.ensures.count, c.loop-i-test.false)))), λ _. refl)

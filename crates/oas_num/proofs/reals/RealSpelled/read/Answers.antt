@@ -1,13 +1,13 @@
 use Rattle.std.proofs.lemmas.Result.{err_from_is_err_and}
 use Rattle.oas_num.specs.RealLaws.{OneFront-part}
-use Rattle.oas_num.proofs.GrammarLemmas.{◌▸◌, fails_at, fails_last, is_read, such_fails_by}
+use Rattle.oas_num.proofs.GrammarLemmas.{◌▸◌, fails_at, fails_at_piece, fails_last, is_read, such_fails_by}
 use Rattle.oas_num.proofs.RealLemmas.{RealMay-integer, starts, with_kind, unknown, float}
 use Rattle.oas_num.proofs.reals.RealSpelled.read.Goals as goal
 
 pub returns-in_err-kind : goal.returns-in_err-kind
 returns-in_err-kind g c =
     let p = err_from_is_err_and c.from_residual.result c.from_residual.ensures.1 in
-    rw (p.1, p.2) (fails_at (starts _) (λ _ _ h. h) (such_fails_by _ _ _ _ _ _ _ RealMay-integer c.in_err-kind.ensures))
+    rw (p.1, p.2) (fails_at_piece (starts _) (λ _ _ h. h) (such_fails_by _ _ _ _ _ _ _ RealMay-integer c.in_err-kind.ensures))
 
 pub returns-then-kind-ge8 : goal.returns-then-kind-ge8
 returns-then-kind-ge8 g c = unknown _ _ _ c.if-kind-ge8.true c.in_ok-kind.ensures

@@ -1,7 +1,7 @@
 use Rattle.std.proofs.Common.{arith}
 use Rattle.std.proofs.lemmas.Result.{err_from_is_err_and}
-use Rattle.oas_num.proofs.GrammarLemmas.{fails_last, is_read}
-use Rattle.oas_num.proofs.TextLemmas.{LabelMay-text, label_length_fails, with_label_length, read_label}
+use Rattle.oas_num.proofs.GrammarLemmas.{is_read}
+use Rattle.oas_num.proofs.TextLemmas.{label_text_fails, label_length_fails, with_label_length, read_label}
 use Rattle.oas_num.proofs.texts.LabelSpelled.read.Goals as goal
 
 pub returns-in_err-length : goal.returns-in_err-length
@@ -12,7 +12,7 @@ returns-in_err-length g c =
 pub returns-in_err-bytes : goal.returns-in_err-bytes
 returns-in_err-bytes g c =
     let p = err_from_is_err_and c.from_residual-in_err-bytes.result c.from_residual-in_err-bytes.ensures.1 in
-    rw (p.1, p.2) (fails_last (with_label_length c.in_ok-length.ensures) LabelMay-text c.in_err-bytes.ensures)
+    rw (p.1, p.2) (label_text_fails c.in_ok-length.ensures c.in_err-bytes.ensures)
 
 pub returns : goal.returns
 returns g c = is_read (with_label_length c.in_ok-length.ensures) c.in_ok-bytes.ensures

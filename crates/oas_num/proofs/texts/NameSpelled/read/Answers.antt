@@ -1,7 +1,7 @@
 use Rattle.std.proofs.Common.{arith}
 use Rattle.std.proofs.lemmas.Result.{err_from_is_err_and}
-use Rattle.oas_num.proofs.GrammarLemmas.{fails_last, is_read}
-use Rattle.oas_num.proofs.TextLemmas.{NameMay-text, name_length_fails, with_name_length, read_name, empty}
+use Rattle.oas_num.proofs.GrammarLemmas.{is_read}
+use Rattle.oas_num.proofs.TextLemmas.{name_text_fails, name_length_fails, with_name_length, read_name, empty}
 use Rattle.oas_num.proofs.texts.NameSpelled.read.Goals as goal
 
 pub returns-in_err-length : goal.returns-in_err-length
@@ -15,7 +15,7 @@ returns-then-length-eq0 g c = empty c.if-length-eq0.true c.in_ok-length.ensures
 pub returns-in_err-bytes : goal.returns-in_err-bytes
 returns-in_err-bytes g c =
     let p = err_from_is_err_and c.from_residual-in_err-bytes.result c.from_residual-in_err-bytes.ensures.1 in
-    rw (p.1, p.2) (fails_last (with_name_length c.if-length-eq0.false c.in_ok-length.ensures) NameMay-text c.in_err-bytes.ensures)
+    rw (p.1, p.2) (name_text_fails c.if-length-eq0.false c.in_ok-length.ensures c.in_err-bytes.ensures)
 
 pub returns : goal.returns
 returns g c = is_read (with_name_length c.if-length-eq0.false c.in_ok-length.ensures) c.in_ok-bytes.ensures

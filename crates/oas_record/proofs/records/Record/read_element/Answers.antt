@@ -1,5 +1,6 @@
 use Rattle.std.proofs.lemmas.Result.{err_from_is_err_and}
-use Rattle.oas_record.proofs.RecordLemmas.{fails_17, read_17, fails_18, read_18, fails_19, read_19, fails_20, read_20, fails_21, read_21, fails_22, read_22, fails_27, read_27, twenty_seven}
+use Rattle.oas_record.proofs.IdLemmas.{twenty_seven}
+use Rattle.oas_record.proofs.AfterLemmas.{fails_17, read_17, fails_18, read_18, fails_19, read_19, fails_20, read_20, fails_21, read_21, fails_22, read_22, fails_27, read_27}
 use Rattle.oas_record.proofs.records.Record.read_element.Goals as goal
 
 pub returns-in_err-quarters : goal.returns-in_err-quarters

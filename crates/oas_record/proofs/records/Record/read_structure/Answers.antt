@@ -1,6 +1,7 @@
 use Rattle.std.proofs.lemmas.Result.{err_from_is_err_and}
 use Rattle.std.proofs.Common.{◌≡◌, arith}
-use Rattle.oas_record.proofs.RecordLemmas.{pad_read, cell_name_fails, cell_name_read, text_string_fails, text_string_read, cell_fails, cell_read, xy_absolute_read, xy_relative_read, three_or_four, five_or_six, thirteen_or_fourteen}
+use Rattle.oas_record.proofs.IdLemmas.{three_or_four, five_or_six, thirteen_or_fourteen}
+use Rattle.oas_record.proofs.AfterLemmas.{pad_read, cell_name_fails, cell_name_read, text_string_fails, text_string_read, cell_fails, cell_read, xy_absolute_read, xy_relative_read}
 use Rattle.oas_record.proofs.records.Record.read_structure.Goals as goal
 
 pub returns-then-id-eq0 : goal.returns-then-id-eq0

@@ -1,13 +1,12 @@
 use Rattle.std.proofs.lemmas.Result.{err_from_is_err_and}
-use Rattle.oas_num.proofs.GrammarLemmas.{fails_at, fails_last, is_read, such_fails_by}
-use Rattle.oas_shape.proofs.OffsetLemmas.{RepFieldMay-integer}
-use Rattle.oas_shape.proofs.RepetitionLemmas.{starts, with_kind, unknown, again_read, new_read, new_fails}
+use Rattle.oas_num.proofs.GrammarLemmas.{is_read}
+use Rattle.oas_shape.proofs.RepetitionLemmas.{with_kind, kind_fails, unknown, again_read, new_read, fields_fail}
 use Rattle.oas_shape.proofs.repetitions.RepField.read.Goals as goal
 
 pub returns-in_err-kind : goal.returns-in_err-kind
 returns-in_err-kind g c =
     let p = err_from_is_err_and c.from_residual.result c.from_residual.ensures.1 in
-    rw (p.1, p.2) (fails_at (starts _) (λ _ _ h. h) (such_fails_by _ _ _ _ _ _ _ RepFieldMay-integer c.in_err-kind.ensures))
+    rw (p.1, p.2) (kind_fails c.in_err-kind.ensures)
 
 pub returns-then-kind-gt-LAST_KIND : goal.returns-then-kind-gt-LAST_KIND
 returns-then-kind-gt-LAST_KIND g c = unknown c.if-kind-gt-LAST_KIND.true c.in_ok-kind.ensures
@@ -18,7 +17,7 @@ returns-then-kind-eq0 g c = is_read (with_kind c.if-kind-gt-LAST_KIND.false c.in
 pub returns-in_err-repetition : goal.returns-in_err-repetition
 returns-in_err-repetition g c =
     let p = err_from_is_err_and c.from_residual-in_err-repetition.result c.from_residual-in_err-repetition.ensures.1 in
-    rw (p.1, p.2) (fails_last (with_kind c.if-kind-gt-LAST_KIND.false c.in_ok-kind.ensures) (λ _ _ h. h) (new_fails c.if-kind-eq0.false c.in_err-repetition.ensures))
+    rw (p.1, p.2) (fields_fail c.if-kind-gt-LAST_KIND.false c.if-kind-eq0.false c.in_ok-kind.ensures c.in_err-repetition.ensures)
 
 pub returns : goal.returns
 returns g c = is_read (with_kind c.if-kind-gt-LAST_KIND.false c.in_ok-kind.ensures) (new_read c.if-kind-eq0.false c.in_ok-repetition.ensures)
