@@ -1,0 +1,5 @@
+pub mod Looking
+pub mod Values
+pub mod Positions
+pub mod Modal
+pub mod Latest
