@@ -15,9 +15,11 @@
 //! Not there yet: what an element record draws, the numbers of names, and the reader that takes record after record.
 #![tactic(auto)]
 
+mod drawn;
 pub mod laws;
 mod modal;
 mod positions;
 
+pub use drawn::Drawn;
 pub use modal::ModalVariables;
 pub use positions::Position;
