@@ -20,7 +20,7 @@ use Rattle.oas_layout.specs.Same.{normal, IsNormal}
 use Rattle.oas_layout.specs.Weight.{weight_of, lacks_points}
 use Rattle.oas_layout.specs.Meaning.{cells_sum, element_count, cells_weight}
 use Rattle.oas_layout.specs.Contents.{Cell, Contents, expanded, cells_with_more, holding, with_cell, has_cell, cell_refusal, refusal, IsCounted}
-use Rattle.oas_layout.proofs.Counting.{total, sum_by-items, total-put_more}
+use Rattle.oas_layout.specs.BagLaws.{total, sum_by-items, total-put_more}
 use Rattle.oas_layout.proofs.Order.{IsBag-empty, IsBag-put_more}
 
 -- how many elements there are: the sum of the counts

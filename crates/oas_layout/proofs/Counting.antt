@@ -15,39 +15,8 @@ use Rattle.std.proofs.lemmas.Map.Keys.{sorted_head, sorted_tail}
 use Rattle.std.proofs.lemmas.Map.Lookups.{CmpEqualImpliesEq}
 use Rattle.std.proofs.lemmas.List.Folds.{sum_by-replicate}
 use Rattle.std.proofs.lemmas.List.Sums.{sum_by-append, sum_by-cons}
-use Rattle.oas_layout.specs.Bag.{items, put_more}
+use Rattle.oas_layout.specs.BagLaws.{total}
 use Rattle.oas_layout.specs.Ascending.{Ascends}
-
-module _ {K : Type 0} where
-  -- the sum of what each weighs
-  abbrev pub total : (K → ℕ) → List (K × ℕ) → ℕ
-  total g [] = 0
-  total g (p ∷ ps) = p.1 * g p.0 + total g ps
-
-  -- a sum over the keys, each as often as it is there, is the sum of what each weighs
-  pub sum_by-items : (g : K → ℕ) (es : List (K × ℕ)) → sum_by g (items es) ≡ total g es
-  sum_by-items g [] = refl
-  sum_by-items g (p ∷ ps) = sum_by-append g (replicate p.1 p.0) (items ps) ∙ (λ i. sum_by-replicate g p.1 p.0 i + sum_by-items g ps i)
-
-  -- more of one key adds what it weighs
-  pub total-put_more : (R : K → K → Ordering) (g : K → ℕ) (es : List (K × ℕ)) (k : K) (n : ℕ) → ((x : K) → R k x ≡ Equal → g x ≡ g k) → total g (put_more R es k n) ≡ total g es + n * g k
-  total-put_more R g [] k n alike = omega arith
-  total-put_more R g (p ∷ ps) k n alike =
-      elim (R k p.0) as (λ r. R k p.0 ≡ r → total g (match_ordering r ((k, n) ∷ p ∷ ps) ((p.0, p.1 + n) ∷ ps) (p ∷ put_more R ps k n)) ≡ total g (p ∷ ps) + n * g k) [
-        | Less ↦ λ e. omega arith
-        | Equal ↦ λ e. let same : g p.0 ≡ g k = alike p.0 e in rw same (omega arith)
-        | Greater ↦ λ e. omega (arith, total-put_more R g ps k n alike)
-      ] refl
-
-  -- in order, an insertion of the count and n is n more
-  pub insert_entry-count : {R : K → K → Ordering} → IsTotalOrder R → (es : List (K × ℕ)) (k : K) (n : ℕ) → IsStrictlySortedBy R (keys_of es) → insert_entry R es k (unwrap_or (lookup (is_at (R k)) es) 0 + n) ≡ put_more R es k n
-  insert_entry-count o [] k n s = ap (λ (m : ℕ). (k, m) ∷ []) (omega arith)
-  insert_entry-count {R} o (p ∷ ps) k n s =
-      elim (R k p.0) as (λ r. R k p.0 ≡ r → match_ordering r ((k, unwrap_or (cond (is_eq r) (Some p.1) (lookup (is_at (R k)) ps)) 0 + n) ∷ p ∷ ps) ((p.0, unwrap_or (cond (is_eq r) (Some p.1) (lookup (is_at (R k)) ps)) 0 + n) ∷ ps) (p ∷ insert_entry R ps k (unwrap_or (cond (is_eq r) (Some p.1) (lookup (is_at (R k)) ps)) 0 + n)) ≡ match_ordering r ((k, n) ∷ p ∷ ps) ((p.0, p.1 + n) ∷ ps) (p ∷ put_more R ps k n)) [
-        | Less ↦ λ e. ap (λ o. (k, unwrap_or o 0 + n) ∷ p ∷ ps) (lookup-none (is_at (R k)) ps (none_below_head o k p ps s e).1) ∙ ap (λ (m : ℕ). (k, m) ∷ p ∷ ps) (omega arith)
-        | Equal ↦ λ e. refl
-        | Greater ↦ λ e. ap (λ (es : List (K × ℕ)). p ∷ es) (insert_entry-count o ps k n (sorted_tail R p.0 (keys_of ps) s))
-      ] refl
 
 -- E is the test of equivalence, which ties keys in normal form as the order does
 module _ {K : Type 0} {R : K → K → Ordering} (o : IsTotalOrder R) (exact : CmpEqualImpliesEq R) (E : K → K → Bool) (N : K → Type 0) (agrees : (x y : K) → N x → N y → E x y ≡ eq_by_cmp R x y) where

@@ -16,7 +16,8 @@ use Rattle.oas_layout.specs.SameLaws.{same_element-Decides, normal-alike, same_f
 use Rattle.oas_layout.specs.Bag.{items, with_more, IsBag}
 use Rattle.oas_layout.specs.Meaning.{count_of}
 use Rattle.oas_layout.specs.Laws.{TestsSame, KeptIsSame, SameIfKeptEqual, KeptIsKept, KeptPolygons, AddingCounts, HeldApart, HeldCounts, EqualCounts, IsReflexive, IsSymmetric, IsTransitive}
-use Rattle.oas_layout.proofs.Counting.{total, sum_by-items, total-put_more, share-is, same_lists}
+use Rattle.oas_layout.specs.BagLaws.{total, sum_by-items}
+use Rattle.oas_layout.proofs.Counting.{share-is, same_lists}
 
 -- the test of sameness is the relation
 pub test : (profile : Profile) → TestsSame profile
@@ -38,17 +39,6 @@ kept_kept profile = normal-normal profile
 pub kept_polygons : (profile : Profile) → KeptPolygons profile
 kept_polygons One layer datatype points = (λ h. (normal-least One layer datatype points h, λ corners no. no), λ h. normal-polygon One layer datatype points h.0 h.1)
 kept_polygons Two layer datatype points = (λ h. (normal-least Two layer datatype points h, λ corners b. normal-no_box layer datatype points corners h b), λ h. normal-polygon Two layer datatype points h.0 h.1)
-
--- so often, or not at all
-times : (b : Bool) (n : ℕ) → n * cond b 1 0 ≡ cond b n 0
-times true n = omega arith
-times false n = omega arith
-
--- what more of an element adds to each count
-pub adding : (profile : Profile) → AddingCounts profile
-adding profile es e q n =
-    sum_by-items _ (with_more es (normal profile e) n) ∙ total-put_more element_cmp (λ x. cond (same_element profile q x) 1 0) es (normal profile e) n (λ x h. ap (λ y. cond (same_element profile q y) 1 0) (sym (exact_elements (normal profile e) x h)))
-    ∙ (λ i. sym (sum_by-items (λ x. cond (same_element profile q x) 1 0) es) i + n * cond (same_with-normal profile q e i) 1 0) ∙ ap (λ (k : ℕ). count_of profile q (items es) + k) (times (same_element profile q e) n)
 
 -- the number beside an element is its count
 pub held : (profile : Profile) → HeldCounts profile

@@ -18,7 +18,8 @@ use Rattle.oas_layout.specs.Same.{same_element, IsNormal}
 use Rattle.oas_layout.specs.SameLaws.{same_normal}
 use Rattle.oas_layout.specs.Meaning.{elements_of, count_of, SameLayout}
 use Rattle.oas_layout.specs.Contents.{Cell, Contents, expanded, meaning_of, IsLayout}
-use Rattle.oas_layout.proofs.Counting.{sum_by-items, same_bags}
+use Rattle.oas_layout.specs.BagLaws.{sum_by-items}
+use Rattle.oas_layout.proofs.Counting.{same_bags}
 use Rattle.oas_layout.proofs.Sealed.{name_cmp}
 
 -- bags with equal counts of each element are equal

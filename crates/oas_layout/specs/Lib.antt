@@ -1,5 +1,6 @@
 pub mod Ascending
 pub mod Bag
+pub mod BagLaws
 pub mod Contents
 pub mod Element
 pub mod ElementLaws

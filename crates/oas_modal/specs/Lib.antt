@@ -3,3 +3,6 @@ pub mod Values
 pub mod Positions
 pub mod Modal
 pub mod Latest
+pub mod Drawn
+pub mod DrawnLaws
+pub mod Held

@@ -7,6 +7,12 @@ ghost use Rattle.oas_record.specs.declared.references.TextRef.{TextRef};
 ghost use Rattle.oas_record.specs.declared.records.Record.{Record as OneRecord};
 ghost use Rattle.oas_modal.specs.Modal.{modal_of, stepped};
 ghost use Rattle.oas_modal.specs.Latest.{FindsLatest};
+ghost use Rattle.std.specs.Cmp.{IsTotalOrder};
+ghost use Rattle.std.specs.declared.cmp.Ordering.TheVariants.{Equal};
+ghost use Rattle.oas_modal.specs.declared.drawn.Drawn.{Drawn};
+ghost use Rattle.oas_modal.specs.Drawn.{drawn_cmp};
+ghost use Rattle.oas_modal.specs.DrawnLaws.{derived_cmp};
+ghost use Rattle.oas_modal.specs.Held.{AddingDrawn};
 
 /// One more record changes the modal variables by what it gives alone. The records are listed oldest first.
 pub fn one_more_record()
@@ -22,4 +28,16 @@ pub fn value_is_latest()
     ensures strings { FindsLatest TextRef }
     ensures point_lists { FindsLatest Polyline }
     ensures repetitions { FindsLatest Repetition }
+{}
+
+/// What records draw is compared as `drawn_cmp` says, which is a total order in which no two tie.
+pub fn drawn_order()
+    ensures stated { (a b : Drawn) → derived_cmp a b ≡ drawn_cmp a b }
+    ensures total { IsTotalOrder drawn_cmp }
+    ensures exact { (a b : Drawn) → drawn_cmp a b ≡ Equal → a ≡ b }
+{}
+
+/// What is drawn so many times more adds to its own count, and to no other.
+pub fn drawing_more()
+    ensures { AddingDrawn }
 {}
