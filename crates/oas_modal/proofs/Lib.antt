@@ -1,3 +1,4 @@
 pub mod Latest
 pub mod Steps
 pub mod HeldLemmas
+pub mod NameLemmas

@@ -6,3 +6,5 @@ pub mod Latest
 pub mod Drawn
 pub mod DrawnLaws
 pub mod Held
+pub mod NameLaws
+pub mod Names

@@ -1,4 +1,4 @@
-//! Modal variables: what the fields mean that a record doesn't give (SEMI P39, Modal variables).
+//! The meaning of records: modal variables, the numbers of names, and what is drawn, counted.
 //!
 //! What this crate promises to the crates above it:
 //!
@@ -11,19 +11,31 @@
 //!   are within the limits before the record.
 //! - [`HeldCell`] holds a CELL's reference and what its records draw, equal things once beside their count: the ascending
 //!   list of both (specs/Held.antt). A refused growth changes nothing.
+//! - A [`NameTable`] is the numbers that the name records of one class, CELLNAME or TEXTSTRING, give to strings. It refuses
+//!   a record exactly where, and by the first reason that, `table_reason` (specs/Names.antt) says, or else for want of
+//!   memory; a refusal changes nothing. What it holds afterwards is `with_name` of what it held before.
+//! - It stands for a list of records (`NamesStand`) if it has their form, and names each number as they do. [`name_laws`]
+//!   says that it then refuses what the records refuse, and that it stands for one record more once that is taken.
+//! - [`cell_meant`] and [`string_meant`] answer what a reference means by a table; None is a number that no record names.
 //! - [`laws`] says, over the definitions alone, that one more record changes the variables by what it gives, what looking
 //!   back finds, that no two of the things that are drawn tie in their order, and that more of one adds to its count alone.
 //!
-//! Not there yet: what an element record draws, the numbers of names, and the reader that takes record after record.
+//! Not there yet: what an element record draws, and the reader that takes record after record.
 #![tactic(auto)]
 
 mod drawn;
 mod held;
 pub mod laws;
 mod modal;
+pub mod name_laws;
+mod names;
 mod positions;
 
 pub use drawn::Drawn;
 pub use held::HeldCell;
 pub use modal::ModalVariables;
+pub use names::{Form, NameTable, cell_meant, string_meant};
 pub use positions::Position;
+
+#[cfg(test)]
+mod tests;

@@ -1,0 +1,313 @@
+-- Tables of names against the records for which they stand.
+use Rattle.std.proofs.Common.{◌≡◌, ◌≢◌, ℕ, ◌+◌, ◌≤◌, List, [], ◌∷◌, ◌++◌, length, refl, sym, ◌∙◌, ap, subst, ◌⊎◌, inl, inr, arith, Bool, true, false, not, cond}
+use Rattle.std.specs.Prelude.{Option, None, Some, unwrap_or, nat_eq}
+use Rattle.std.specs.Ordering.{nat_cmp}
+use Rattle.std.specs.Map.{lookup}
+use Rattle.std.specs.BTreeMap.{insert_entry}
+use Rattle.std.specs.Cmp.Lexicographic.{bytes_decides}
+use Rattle.std.proofs.lemmas.Bool.Decides.{nat_tests}
+use Rattle.oas_num.specs.declared.refusals.Why.{Why}
+use Rattle.oas_num.specs.declared.refusals.Why.TheVariants.{MixedNumbering, NumberTwice}
+use Rattle.oas_record.specs.declared.records.Record.{Record}
+use Rattle.oas_modal.specs.declared.names.Form.{Form}
+use Rattle.oas_modal.specs.declared.names.Form.TheVariants.{Implicit, Explicit}
+use Rattle.oas_modal.specs.Names.{same_string, form_given, form_after, form_of, counted, next_after, next_number, named_after, named, name_of, is_mixed, is_other, first_of, naming_reason, reason_given, name_reason, AllowedNames, Table, with_name, NamesStand}
+use Rattle.oas_modal.specs.NameLaws.{GivesName, HasForm, other_form, FormIsOfEach, StringIsGiven, NoStringIsGiven, MixedWhere, TwiceWhere}
+
+-- ---- one entry more
+
+lookup_step : {S : Type 0} (e : ℕ × S) (es : List (ℕ × S)) (k : ℕ) (v : S) (q : ℕ) → lookup (nat_eq q) (insert_entry nat_cmp es k v) ≡ cond (nat_eq q k) (Some v) (lookup (nat_eq q) es) → lookup (nat_eq q) (insert_entry nat_cmp (e ∷ es) k v) ≡ cond (nat_eq q k) (Some v) (lookup (nat_eq q) (e ∷ es))
+lookup_step e es k v q h = grind (arith, nat_tests)
+
+lookup_insert : {S : Type 0} (es : List (ℕ × S)) (k : ℕ) (v : S) (q : ℕ) → lookup (nat_eq q) (insert_entry nat_cmp es k v) ≡ cond (nat_eq q k) (Some v) (lookup (nat_eq q) es)
+lookup_insert [] k v q = refl
+lookup_insert (e ∷ es) k v q = lookup_step e es k v q (lookup_insert es k v q)
+
+length_step : {S : Type 0} (e : ℕ × S) (es : List (ℕ × S)) (k : ℕ) (v : S) → (lookup (nat_eq k) es ≡ None → length (insert_entry nat_cmp es k v) ≡ length es + 1) → lookup (nat_eq k) (e ∷ es) ≡ None → length (insert_entry nat_cmp (e ∷ es) k v) ≡ length (e ∷ es) + 1
+length_step e es k v h none = grind (arith, nat_tests)
+
+length_insert : {S : Type 0} (es : List (ℕ × S)) (k : ℕ) (v : S) → lookup (nat_eq k) es ≡ None → length (insert_entry nat_cmp es k v) ≡ length es + 1
+length_insert [] k v none = refl
+length_insert (e ∷ es) k v none = length_step e es k v (length_insert es k v) none
+
+-- ---- a table after one more record
+
+-- what a table has where its records have this form, this next number and these names
+record HasNames {S : Type 0} (t : Table S) (form : Option Form) (next : ℕ) (names : List (ℕ × S)) : Type 0 where
+  form_is : t.form ≡ form
+  agrees : (q : ℕ) → name_of t.named q ≡ name_of names q
+  next_is : form ≢ Some Explicit → length t.named ≡ next
+  free : form ≢ Some Explicit → (q : ℕ) → next ≤ q → name_of names q ≡ None
+
+not_explicit : (form : Option Form) → is_mixed form Implicit ≡ false → form ≢ Some Explicit
+not_explicit None h e = cc
+not_explicit (Some Implicit) h e = cc
+not_explicit (Some Explicit) h e = cc
+
+first_false : (a b : Bool) (w x : Why) → first_of ((a, w) ∷ (b, x) ∷ []) ≡ None → a ≡ false
+first_false false b w x h = refl
+first_false true b w x h = cc
+
+insert_agrees : {S : Type 0} (held names : List (ℕ × S)) (n n' : ℕ) (string : S) (q : ℕ) → n ≡ n' → name_of held q ≡ name_of names q → name_of (insert_entry nat_cmp held n string) q ≡ name_of ((n', string) ∷ names) q
+insert_agrees held names n n' string q e h = lookup_insert held n string q ∙ (ap (λ k. cond (nat_eq q k) (Some string) (name_of held q)) e ∙ ap (λ o. cond (nat_eq q n') (Some string) o) h)
+
+free_more : {S : Type 0} (names : List (ℕ × S)) (next : ℕ) (string : S) (q : ℕ) → next + 1 ≤ q → name_of names q ≡ None → name_of ((next, string) ∷ names) q ≡ None
+free_more names next string q le h = grind (arith, nat_tests)
+
+more_named : {S : Type 0} (same : S → S → Bool) (t : Table S) (form : Option Form) (next : ℕ) (names : List (ℕ × S)) (string : S) (number : Option ℕ) → HasNames t form next names → naming_reason same form next names string number ≡ None →
+    HasNames (with_name t (Some (string, number))) (Some (form_given number)) (counted number next) ((unwrap_or number next, string) ∷ names)
+more_named same t form next names string (Some k) h none =
+    record {
+      form_is = refl;
+      agrees = λ q. insert_agrees t.named names k k string q refl (h.agrees q);
+      next_is = λ f. absurd (f refl);
+      free = λ f. absurd (f refl);
+    }
+more_named same t form next names string None h none =
+    let implicit : form ≢ Some Explicit = not_explicit form (first_false _ _ _ _ none) in
+    let at = h.next_is implicit in
+    let few : length (insert_entry nat_cmp t.named (length t.named) string) ≡ length t.named + 1 =
+    length_insert t.named (length t.named) string (h.agrees (length t.named) ∙ h.free implicit (length t.named) (omega (arith, at))) in
+    record {
+      form_is = refl;
+      agrees = λ q. insert_agrees t.named names (length t.named) next string q at (h.agrees q);
+      next_is = λ f. few ∙ ap (λ n. n + 1) at;
+      free = λ f q le. free_more names next string q le (h.free implicit q (omega (arith, le)));
+    }
+
+more_given : {S : Type 0} (same : S → S → Bool) (t : Table S) (form : Option Form) (next : ℕ) (names : List (ℕ × S)) (o : Option (S × Option ℕ)) → HasNames t form next names → reason_given same form next names o ≡ None →
+    HasNames (with_name t o) (form_after o form) (next_after o next) (named_after o next names)
+more_given same t form next names None h none = h
+more_given same t form next names (Some g) h none = more_named same t form next names g.0 g.1 h none
+
+pub one_more : {S : Type 0} (same : S → S → Bool) (given : Record → Option (S × Option ℕ)) (t : Table S) (before : List Record) (r : Record) → NamesStand given t before → name_reason same given before r ≡ None → NamesStand given (with_name t (given r)) (r ∷ before)
+one_more same given t before r h none =
+    let had : HasNames t (form_of given before) (next_number given before) (named given before) = record { form_is = h.form; agrees = h.agrees; next_is = h.next; free = h.free } in
+    let has = more_given same t (form_of given before) (next_number given before) (named given before) (given r) had none in
+    record { form = has.form_is; agrees = has.agrees; next = has.next_is; free = has.free }
+
+-- ---- what the records name
+
+-- the form of allowed records is that of each
+is_same : (form f : Form) → is_mixed (Some form) f ≡ false → f ≡ form
+is_same Implicit Implicit h = refl
+is_same Implicit Explicit h = cc
+is_same Explicit Implicit h = cc
+is_same Explicit Explicit h = refl
+
+form_past : (given : Record → Option (List ℕ × Option ℕ)) (r : Record) (rs : List Record) (form : Form) → HasForm given rs form → HasForm given (r ∷ rs) form
+form_past given r rs form h = record { after = r ∷ h.after; by = h.by; before = h.before; string = h.string; said = h.said; split = ap (λ xs. r ∷ xs) h.split; gave = h.gave; form_is = h.form_is }
+
+pub form_found : (given : Record → Option (List ℕ × Option ℕ)) (rs : List Record) (form : Form) → form_of given rs ≡ Some form → HasForm given rs form
+form_found given [] form h = cc
+form_found given (r ∷ rs) form h =
+    elim (given r) as (λ o. given r ≡ o → form_after o (form_of given rs) ≡ Some form → HasForm given (r ∷ rs) form) [
+      | None ↦ λ e k. form_past given r rs form (form_found given rs form k)
+      | Some g ↦ λ e k. record { after = []; by = r; before = rs; string = g.0; said = g.1; split = refl; gave = e; form_is = (cc) }
+    ] refl h
+
+form_stays : (o : Option (List ℕ × Option ℕ)) (had : Option Form) (form : Form) (next : ℕ) (names : List (ℕ × List ℕ)) → had ≡ Some form → reason_given same_string had next names o ≡ None → form_after o had ≡ Some form
+form_stays None had form next names e none = e
+form_stays (Some g) had form next names e none =
+    let one : is_mixed had (form_given g.1) ≡ false = first_false _ _ _ _ none in
+    ap (λ f. Some f) (is_same form (form_given g.1) (subst (λ (x : Option Form). is_mixed x (form_given g.1) ≡ false) e one))
+
+form_at : (given : Record → Option (List ℕ × Option ℕ)) (rs : List Record) (form : Form) (after : List Record) (by : Record) (before : List Record) (string : List ℕ) (said : Option ℕ) → AllowedNames same_string given rs →
+    rs ≡ after ++ by ∷ before → given by ≡ Some (string, said) → form_given said ≡ form → form_of given rs ≡ Some form
+form_at given [] form [] by before string said allowed split gave is = cc
+form_at given [] form (a ∷ after) by before string said allowed split gave is = cc
+form_at given (r ∷ rs) form [] by before string said allowed split gave is =
+    let one : r ≡ by = cc in
+    ap (λ o. form_after o (form_of given rs)) (ap given one ∙ gave) ∙ ap (λ f. Some f) is
+form_at given (r ∷ rs) form (a ∷ after) by before string said allowed split gave is =
+    let rest : rs ≡ after ++ by ∷ before = cc in
+    form_stays (given r) (form_of given rs) form (next_number given rs) (named given rs) (form_at given rs form after by before string said allowed.0 rest gave is) allowed.1
+
+form_only : (given : Record → Option (List ℕ × Option ℕ)) (rs : List Record) (form : Form) → AllowedNames same_string given rs → HasForm given rs form → form_of given rs ≡ Some form
+form_only given rs form allowed h = form_at given rs form h.after h.by h.before h.string h.said allowed h.split h.gave h.form_is
+
+pub form_of_each : (given : Record → Option (List ℕ × Option ℕ)) → FormIsOfEach given
+form_of_each given rs form allowed = (form_found given rs form, form_only given rs form allowed)
+
+-- ---- the string of a number
+
+name_past : (given : Record → Option (List ℕ × Option ℕ)) (r : Record) (rs : List Record) (number : ℕ) (string : List ℕ) → GivesName given rs number string → GivesName given (r ∷ rs) number string
+name_past given r rs number string h = record { after = r ∷ h.after; by = h.by; before = h.before; said = h.said; split = ap (λ xs. r ∷ xs) h.split; gave = h.gave; number_is = h.number_is }
+
+-- what is found after one more name is that one, or was there
+at_head : (names : List (ℕ × List ℕ)) (n m : ℕ) (s t : List ℕ) → name_of ((m, s) ∷ names) n ≡ Some t → ((n ≡ m) × (s ≡ t)) ⊎ (name_of names n ≡ Some t)
+at_head names n m s t h =
+    elim (nat_eq n m) as (λ b. nat_eq n m ≡ b → cond b (Some s) (name_of names n) ≡ Some t → ((n ≡ m) × (s ≡ t)) ⊎ (name_of names n ≡ Some t)) [
+      | true ↦ λ e k. inl (grind (arith, nat_tests), (cc))
+      | false ↦ λ e k. inr k
+    ] refl h
+
+head_is : (names : List (ℕ × List ℕ)) (n m : ℕ) (s : List ℕ) → n ≡ m → name_of ((m, s) ∷ names) n ≡ Some s
+head_is names n m s e = grind (arith, nat_tests)
+
+pub string_found : (given : Record → Option (List ℕ × Option ℕ)) (rs : List Record) (number : ℕ) (string : List ℕ) → name_of (named given rs) number ≡ Some string → GivesName given rs number string
+string_found given [] number string h = cc
+string_found given (r ∷ rs) number string h =
+    elim (given r) as (λ o. given r ≡ o → name_of (named_after o (next_number given rs) (named given rs)) number ≡ Some string → GivesName given (r ∷ rs) number string) [
+      | None ↦ λ e k. name_past given r rs number string (string_found given rs number string k)
+      | Some g ↦ λ e k. elim (at_head (named given rs) number (unwrap_or g.1 (next_number given rs)) g.0 string k) [
+        | inl w ↦ record { after = []; by = r; before = rs; said = g.1; split = refl; gave = e ∙ ap (λ (s : List ℕ). Some (s, g.1)) w.1; number_is = w.0 }
+        | inr w ↦ name_past given r rs number string (string_found given rs number string w)
+      ]
+    ] refl h
+
+second_false : (a b : Bool) (w x : Why) → first_of ((a, w) ∷ (b, x) ∷ []) ≡ None → b ≡ false
+second_false a false w x h = refl
+second_false false true w x h = cc
+second_false true true w x h = cc
+
+-- a string that isn't another one is the same
+same_had : (o : Option (List ℕ)) (had string : List ℕ) → o ≡ Some had → is_other same_string o string ≡ false → string ≡ had
+same_had None had string e h = cc
+same_had (Some x) had string e h =
+    let is : x ≡ had = cc in
+    let yes : same_string x string ≡ true = elim (same_string x string) as (λ b. not b ≡ false → b ≡ true) [ true ↦ λ k. refl | false ↦ λ k. sym k ] h in
+    sym ((bytes_decides x string).0 yes) ∙ is
+
+string_stays : (o : Option (List ℕ × Option ℕ)) (form : Option Form) (next : ℕ) (names : List (ℕ × List ℕ)) (number : ℕ) (string : List ℕ) → name_of names number ≡ Some string → reason_given same_string form next names o ≡ None → name_of (named_after o next names) number ≡ Some string
+string_stays None form next names number string h none = h
+string_stays (Some g) form next names number string h none =
+    let two : is_other same_string (name_of names (unwrap_or g.1 next)) g.0 ≡ false =
+    second_false (is_mixed form (form_given g.1)) (is_other same_string (name_of names (unwrap_or g.1 next)) g.0) MixedNumbering NumberTwice none in
+    elim (nat_eq number (unwrap_or g.1 next)) as (λ b. nat_eq number (unwrap_or g.1 next) ≡ b → cond b (Some g.0) (name_of names number) ≡ Some string) [
+      | true ↦ λ e. let n : number ≡ unwrap_or g.1 next = grind (arith, nat_tests) in ap (λ s. Some s) (same_had (name_of names (unwrap_or g.1 next)) string g.0 (ap (name_of names) (sym n) ∙ h) two)
+      | false ↦ λ e. h
+    ] refl
+
+string_at : (given : Record → Option (List ℕ × Option ℕ)) (rs : List Record) (number : ℕ) (string : List ℕ) (after : List Record) (by : Record) (before : List Record) (said : Option ℕ) → AllowedNames same_string given rs →
+    rs ≡ after ++ by ∷ before → given by ≡ Some (string, said) → number ≡ unwrap_or said (next_number given before) → name_of (named given rs) number ≡ Some string
+string_at given [] number string [] by before said allowed split gave is = cc
+string_at given [] number string (a ∷ after) by before said allowed split gave is = cc
+string_at given (r ∷ rs) number string [] by before said allowed split gave is =
+    let one : r ≡ by = cc in
+    let rest : rs ≡ before = cc in
+    ap (λ o. name_of (named_after o (next_number given rs) (named given rs)) number) (ap given one ∙ gave) ∙
+    head_is (named given rs) number (unwrap_or said (next_number given rs)) string (is ∙ ap (λ xs. unwrap_or said (next_number given xs)) (sym rest))
+string_at given (r ∷ rs) number string (a ∷ after) by before said allowed split gave is =
+    let rest : rs ≡ after ++ by ∷ before = cc in
+    string_stays (given r) (form_of given rs) (next_number given rs) (named given rs) number string (string_at given rs number string after by before said allowed.0 rest gave is) allowed.1
+
+string_only : (given : Record → Option (List ℕ × Option ℕ)) (rs : List Record) (number : ℕ) (string : List ℕ) → AllowedNames same_string given rs → GivesName given rs number string → name_of (named given rs) number ≡ Some string
+string_only given rs number string allowed h = string_at given rs number string h.after h.by h.before h.said allowed h.split h.gave h.number_is
+
+pub string_is_given : (given : Record → Option (List ℕ × Option ℕ)) → StringIsGiven given
+string_is_given given rs number string allowed = (string_found given rs number string, string_only given rs number string allowed)
+
+-- ---- numbers without a string
+
+head_none : (names : List (ℕ × List ℕ)) (n m : ℕ) (s : List ℕ) → n ≡ m → name_of ((m, s) ∷ names) n ≡ None → ⊥
+head_none names n m s e none = let some = head_is names n m s e in cc
+
+tail_none : (o : Option (List ℕ × Option ℕ)) (next : ℕ) (names : List (ℕ × List ℕ)) (number : ℕ) → name_of (named_after o next names) number ≡ None → name_of names number ≡ None
+tail_none None next names number h = h
+tail_none (Some g) next names number h =
+    elim (nat_eq number (unwrap_or g.1 next)) as (λ b. cond b (Some g.0) (name_of names number) ≡ None → name_of names number ≡ None) [
+      | true ↦ λ k. cc
+      | false ↦ λ k. k
+    ] h
+
+none_at : (given : Record → Option (List ℕ × Option ℕ)) (rs : List Record) (number : ℕ) (string : List ℕ) (after : List Record) (by : Record) (before : List Record) (said : Option ℕ) →
+    rs ≡ after ++ by ∷ before → given by ≡ Some (string, said) → number ≡ unwrap_or said (next_number given before) → name_of (named given rs) number ≡ None → ⊥
+none_at given [] number string [] by before said split gave is none = cc
+none_at given [] number string (a ∷ after) by before said split gave is none = cc
+none_at given (r ∷ rs) number string [] by before said split gave is none =
+    let one : r ≡ by = cc in
+    let rest : rs ≡ before = cc in
+    head_none (named given rs) number (unwrap_or said (next_number given rs)) string (is ∙ ap (λ xs. unwrap_or said (next_number given xs)) (sym rest))
+    (sym (ap (λ o. name_of (named_after o (next_number given rs) (named given rs)) number) (ap given one ∙ gave)) ∙ none)
+none_at given (r ∷ rs) number string (a ∷ after) by before said split gave is none =
+    let rest : rs ≡ after ++ by ∷ before = cc in
+    none_at given rs number string after by before said rest gave is (tail_none (given r) (next_number given rs) (named given rs) number none)
+
+pub no_string_is_given : (given : Record → Option (List ℕ × Option ℕ)) → NoStringIsGiven given
+no_string_is_given given rs number = (
+  λ none string h. none_at given rs number string h.after h.by h.before h.said h.split h.gave h.number_is none,
+  λ no. elim (name_of (named given rs) number) as (λ o. name_of (named given rs) number ≡ o → o ≡ None) [
+    | None ↦ λ e. refl
+    | Some s ↦ λ e. absurd (no s (string_found given rs number s e))
+  ] refl,
+)
+
+-- ---- which name records are refused
+
+mixed_is : (form : Option Form) (f : Form) → is_mixed form f ≡ true → form ≡ Some (other_form f)
+mixed_is None f h = cc
+mixed_is (Some Implicit) Implicit h = cc
+mixed_is (Some Implicit) Explicit h = refl
+mixed_is (Some Explicit) Implicit h = refl
+mixed_is (Some Explicit) Explicit h = cc
+
+is_mixed-other : (f : Form) → is_mixed (Some (other_form f)) f ≡ true
+is_mixed-other Implicit = refl
+is_mixed-other Explicit = refl
+
+mixed_true : (a b : Bool) → first_of ((a, MixedNumbering) ∷ (b, NumberTwice) ∷ []) ≡ Some MixedNumbering → a ≡ true
+mixed_true true b h = refl
+mixed_true false true h = cc
+mixed_true false false h = cc
+
+twice_first : (a b : Bool) → first_of ((a, MixedNumbering) ∷ (b, NumberTwice) ∷ []) ≡ Some NumberTwice → a ≡ false
+twice_first false b h = refl
+twice_first true b h = cc
+
+twice_second : (a b : Bool) → first_of ((a, MixedNumbering) ∷ (b, NumberTwice) ∷ []) ≡ Some NumberTwice → b ≡ true
+twice_second a true h = refl
+twice_second true false h = cc
+twice_second false false h = cc
+
+no_other : (form : Option Form) (f : Form) → is_mixed form f ≡ false → form ≡ Some (other_form f) → ⊥
+no_other form f h e = let yes = ap (λ (x : Option Form). is_mixed x f) e ∙ is_mixed-other f in cc
+
+-- the reason of a record that gives this
+reason_is : (given : Record → Option (List ℕ × Option ℕ)) (before : List Record) (r : Record) (string : List ℕ) (number : Option ℕ) → given r ≡ Some (string, number) → name_reason same_string given before r ≡ naming_reason same_string (form_of given before) (next_number given before) (named given before) string number
+reason_is given before r string number e = ap (λ o. reason_given same_string (form_of given before) (next_number given before) (named given before) o) e
+
+pub mixed_where : (given : Record → Option (List ℕ × Option ℕ)) → MixedWhere given
+mixed_where given before r string number allowed e =
+    let is = reason_is given before r string number e in (
+      λ h. form_found given before (other_form (form_given number)) (mixed_is (form_of given before) (form_given number) (mixed_true _ _ (sym is ∙ h))),
+      λ h. is ∙
+          ap (λ b. first_of ((b, MixedNumbering) ∷ (is_other same_string (name_of (named given before) (unwrap_or number (next_number given before))) string, NumberTwice) ∷ []))
+          (ap (λ (x : Option Form). is_mixed x (form_given number)) (form_only given before (other_form (form_given number)) allowed h) ∙ is_mixed-other (form_given number)),
+    )
+
+-- what another string is
+other_had : (o : Option (List ℕ)) (string : List ℕ) → is_other same_string o string ≡ true → (had : List ℕ) × (o ≡ Some had) × (had ≢ string)
+other_had None string h = cc
+other_had (Some had) string h =
+    (had, refl, λ e. let yes = (bytes_decides had string).1 e in let no : not (same_string had string) ≡ false = ap not yes in cc)
+
+is_other-had : (o : Option (List ℕ)) (had string : List ℕ) → o ≡ Some had → had ≢ string → is_other same_string o string ≡ true
+is_other-had None had string e ne = cc
+is_other-had (Some x) had string e ne =
+    let is : x ≡ had = cc in
+    elim (same_string x string) as (λ b. same_string x string ≡ b → not b ≡ true) [
+      | true ↦ λ k. absurd (ne (sym is ∙ (bytes_decides x string).0 k))
+      | false ↦ λ k. refl
+    ] refl
+
+twice_of : (a b : Bool) → a ≡ false → b ≡ true → first_of ((a, MixedNumbering) ∷ (b, NumberTwice) ∷ []) ≡ Some NumberTwice
+twice_of a b p q = ap (λ x. first_of ((x, MixedNumbering) ∷ (b, NumberTwice) ∷ [])) p ∙ ap (λ x. first_of ((false, MixedNumbering) ∷ (x, NumberTwice) ∷ [])) q
+
+pub twice_where : (given : Record → Option (List ℕ × Option ℕ)) → TwiceWhere given
+twice_where given before r string number allowed e =
+    let is = reason_is given before r string number e in
+    let m = unwrap_or number (next_number given before) in (
+      λ h.
+          let other = other_had (name_of (named given before) m) string (twice_second _ _ (sym is ∙ h)) in (
+            λ form. no_other (form_of given before) (form_given number) (twice_first _ _ (sym is ∙ h)) (form_only given before (other_form (form_given number)) allowed form),
+            (other.0, string_found given before m other.0 other.1, other.2),
+          ),
+      λ h. is ∙
+          twice_of (is_mixed (form_of given before) (form_given number)) (is_other same_string (name_of (named given before) m) string)
+          (elim (is_mixed (form_of given before) (form_given number)) as (λ b. is_mixed (form_of given before) (form_given number) ≡ b → b ≡ false) [
+            | true ↦ λ k. absurd (h.0 (form_found given before (other_form (form_given number)) (mixed_is (form_of given before) (form_given number) k)))
+            | false ↦ λ k. refl
+          ] refl)
+          (is_other-had (name_of (named given before) m) h.1.0 string (string_only given before m h.1.0 allowed h.1.1) h.1.2),
+    )

@@ -1,0 +1,56 @@
+//! Laws of the numbers of names, over the definitions alone. A class of name records is a function `given`: of a record of
+//! the class it is the string and the number that it gives, of any other record None.
+
+ghost use Rattle.std.specs.Prelude.{◌≡◌, ◌↔◌, IsTrue, ℕ, List, [], Option, None};
+ghost use Rattle.oas_record.specs.declared.records.Record.{Record as OneRecord};
+ghost use Rattle.oas_record.specs.declared.records.Record.TheVariants as record_of;
+ghost use Rattle.oas_record.specs.declared.references.CellRef.{CellRef};
+ghost use Rattle.oas_record.specs.declared.references.TextRef.{TextRef};
+ghost use Rattle.oas_modal.specs.Names.{Table, NamesStand, no_names, cell_names, text_strings, named, cell_by, string_by, same_string};
+ghost use Rattle.oas_modal.specs.NameLaws.{RefusesAsRecords, StandsForMore, FormIsOfEach, StringIsGiven, NoStringIsGiven, MixedWhere, TwiceWhere};
+
+use oas_num::{Label, Name};
+
+/// A table of no names stands for no records.
+pub fn no_records()
+    ensures { (given : OneRecord → Option (List ℕ × Option ℕ)) → NamesStand given no_names [] }
+{}
+
+/// A table refuses what the records for which it stands refuse, and stands for one more once it has taken it; a record that
+/// isn't of its class changes nothing.
+pub fn one_more_record()
+    ensures reason { (given : OneRecord → Option (List ℕ × Option ℕ)) → RefusesAsRecords given }
+    ensures stands { (given : OneRecord → Option (List ℕ × Option ℕ)) → StandsForMore given }
+{}
+
+/// Of records that are allowed, each number has one string, and all have one form.
+pub fn one_string()
+    ensures form { (given : OneRecord → Option (List ℕ × Option ℕ)) → FormIsOfEach given }
+    ensures string { (given : OneRecord → Option (List ℕ × Option ℕ)) → StringIsGiven given }
+    ensures none { (given : OneRecord → Option (List ℕ × Option ℕ)) → NoStringIsGiven given }
+{}
+
+/// Which name records are refused, and why.
+pub fn refused_names()
+    ensures mixed { (given : OneRecord → Option (List ℕ × Option ℕ)) → MixedWhere given }
+    ensures twice { (given : OneRecord → Option (List ℕ × Option ℕ)) → TwiceWhere given }
+{}
+
+/// Cell names and text strings know nothing of one another.
+pub fn two_classes()
+    ensures cells { (label : List ℕ) (number : Option ℕ) → cell_names (record_of.TextString label number) ≡ None }
+    ensures texts { (name : List ℕ) (number : Option ℕ) → text_strings (record_of.CellName name number) ≡ None }
+{}
+
+/// A table means by a reference what the records mean for which it stands.
+pub fn same_references()
+    ensures cells { (t : Table (List ℕ)) (rs : List OneRecord) (cell : CellRef) → NamesStand cell_names t rs → cell_by t.named cell ≡ cell_by (named cell_names rs) cell }
+    ensures texts { (t : Table (List ℕ)) (rs : List OneRecord) (text : TextRef) → NamesStand text_strings t rs → string_by t.named text ≡ string_by (named text_strings rs) text }
+{}
+
+/// Cell names and text strings are compared by `same_string`, which says that they are equal.
+pub fn string_test()
+    ensures names { (a b : List ℕ) → ⟦<Name as PartialEq>⟧.eq a b ≡ same_string a b }
+    ensures labels { (a b : List ℕ) → ⟦<Label as PartialEq>⟧.eq a b ≡ same_string a b }
+    ensures exact { (a b : List ℕ) → IsTrue (same_string a b) ↔ (a ≡ b) }
+{}

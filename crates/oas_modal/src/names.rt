@@ -1,0 +1,147 @@
+//! Numbers for names.
+
+ghost use Rattle.std.specs.Prelude.{◌≡◌, ◌⊎◌, length, unwrap_or, Some, None, OnOk, OnErr, IfErr};
+ghost use Rattle.std.specs.Option.{option_copied};
+ghost use Rattle.oas_num.specs.declared.refusals.Why.TheVariants.{Memory};
+ghost use Rattle.oas_modal.specs.Names.{form_given, is_mixed, name_of, is_other, no_names, table_reason, with_name, cell_by, string_by};
+
+use oas_num::{Label, Name, Why};
+use oas_record::{CellRef, TextRef};
+use std::alloc::Global;
+use std::collections::BTreeMap;
+use std::marker::Model;
+
+/// Whether name records leave their numbers to be counted, or give them (SEMI P39, CELLNAME record, TEXTSTRING record).
+#[derive(Clone, Copy, Debug, PartialEq, Eq)]
+pub enum Form {
+    /// Ids 3 and 5: the numbers count from 0.
+    Implicit,
+    /// Ids 4 and 6.
+    Explicit,
+}
+
+impl Form {
+    /// The form of a name record that gives this number, or none.
+    fn of(number: Option<u64>) -> Form
+        ensures { result ≡ form_given number }
+    {
+        match number {
+            None => Form::Implicit,
+            Some(_) => Form::Explicit,
+        }
+    }
+}
+
+/// The numbers that the name records of one class give to strings, and the form of these records. The map is ordered, so
+/// that no choice of numbers makes it slow.
+#[derive(Drop)]
+pub struct NameTable<S> {
+    form: Option<Form>,
+    names: BTreeMap<u64, S>,
+}
+
+impl<S> Model for NameTable<S> {
+    ghost use Rattle.oas_modal.specs.Names.{Table};
+
+    ghost Value = { Table S };
+
+    ghost view = { λ a. record { form = a.form; named = a.names.entries } };
+}
+
+impl<S: PartialEq + Drop> NameTable<S> {
+    /// A table of no names.
+    pub fn new(alloc: Global) -> NameTable<S>
+        ensures { result ≡ no_names }
+    {
+        NameTable {
+            form: None,
+            names: BTreeMap::new(alloc),
+        }
+    }
+
+    /// The string of a number, where a name record gave it one.
+    pub fn get(&self, number: u64) -> Option<&S>
+        ensures { option_copied result ≡ name_of self.now.named number }
+    {
+        self.names.get(&number)
+    }
+
+    /// Takes a name record: a string, and its number where it gives one, else the next one of its class, from 0 on.
+    ///
+    /// It is refused by `MixedNumbering` where the class has records of the other form, by `NumberTwice` where the number
+    /// has another string, and by `Memory`.
+    pub fn name(&mut self, string: S, number: Option<u64>) -> Result<(), Why>
+        ensures ok { OnOk result ((table_reason S.eq self.old (Some (string, number)) ≡ None) × (self.new ≡ with_name self.old (Some (string, number)))) }
+        ensures why { IfErr result (λ why. (why ≡ Memory) ⊎ (table_reason S.eq self.old (Some (string, number)) ≡ Some why)) }
+        ensures err { OnErr result (self.new ≡ self.old) }
+    {
+        if let Some(why) = self.reason(&string, number) {
+            return Err(why);
+        }
+        let form = Form::of(number);
+        let number = self.number_for(number);
+        self.names.insert(number, string)?;
+        self.form = Some(form);
+        Ok(())
+    }
+
+    /// The number of a name record: the one that it gives, or else the next.
+    fn number_for(&self, number: Option<u64>) -> u64
+        ensures { result ≡ unwrap_or number (length self.now.named) }
+    {
+        number.unwrap_or(self.names.len() as u64)
+    }
+
+    /// Why a name record is refused, if it is.
+    fn reason(&self, string: &S, number: Option<u64>) -> Option<Why>
+        ensures { result ≡ table_reason S.eq self.now (Some (string.now, number)) }
+    {
+        if self.has_other_form(Form::of(number)) {
+            return Some(Why::MixedNumbering);
+        }
+        if self.has_other_string(string, self.number_for(number)) {
+            return Some(Why::NumberTwice);
+        }
+        None
+    }
+
+    /// Whether there are records of the other form.
+    fn has_other_form(&self, form: Form) -> bool
+        ensures { result ≡ is_mixed self.now.form form }
+    {
+        match self.form {
+            None => false,
+            Some(had) => had != form,
+        }
+    }
+
+    /// Whether the number has another string.
+    fn has_other_string(&self, string: &S, number: u64) -> bool
+        ensures { result ≡ is_other S.eq (name_of self.now.named number) string.now }
+    {
+        match self.get(number) {
+            None => false,
+            Some(had) => *had != *string,
+        }
+    }
+}
+
+/// The name of the cell that is meant, by the table of the whole file; None where it is a number that no record names.
+pub fn cell_meant<'a>(names: &'a NameTable<Name>, cell: &'a CellRef) -> Option<&'a Name>
+    ensures { option_copied result ≡ cell_by names.now.named cell.now }
+{
+    match cell {
+        CellRef::Number(number) => names.get(*number),
+        CellRef::Name(name) => Some(name),
+    }
+}
+
+/// The text string that is meant, by the table of the whole file; None where it is a number that no record names.
+pub fn string_meant<'a>(names: &'a NameTable<Label>, text: &'a TextRef) -> Option<&'a Label>
+    ensures { option_copied result ≡ string_by names.now.named text.now }
+{
+    match text {
+        TextRef::Number(number) => names.get(*number),
+        TextRef::Label(label) => Some(label),
+    }
+}

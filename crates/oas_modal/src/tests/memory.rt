@@ -1,0 +1,88 @@
+//! Each growth refused in turn: a refused name record answers want of memory and changes nothing.
+//!
+//! The heap is filled up and given back a small piece at a time, so that the table meets every state of want in its turn.
+//! Where the heap cannot be filled, as under a checker of addresses, no call is refused, and the answers are the same.
+
+use crate::NameTable;
+use oas_num::Why;
+use std::alloc::{AllocError, Global};
+use std::process::Abort;
+use std::test::Fail;
+
+/// Takes pieces of memory, from `most` bytes down to 16, until none is left or `held` is full.
+fn fill(alloc: Global, most: usize, held: &mut Vec<Vec<u8>>) {
+    let mut size = most;
+    for _ in 0..40u32 {
+        for _ in 0..200000u32 {
+            if held.len() >= held.capacity() || size < 16 {
+                break;
+            }
+            match Vec::with_capacity(alloc, size) {
+                Ok(piece) => {
+                    let _ = held.push(piece);
+                }
+                Err(AllocError) => break,
+            }
+        }
+        size /= 2;
+    }
+}
+
+/// All memory, but for some that can be had back a small piece at a time.
+fn take_all(alloc: Global) -> Result<Vec<Vec<u8>>, Fail> {
+    let mut held = Vec::with_capacity(alloc, 300000)?;
+    let room = Vec::<u8>::with_capacity(alloc, 65536)?;
+    fill(alloc, 68719476736, &mut held);
+    drop(room);
+    fill(alloc, 16, &mut held);
+    Ok(held)
+}
+
+/// Whether the numbers below `count` have the strings that they were given, and `count` has none.
+fn holds(names: &NameTable<u64>, count: u64) -> bool {
+    for number in 0..count {
+        if names.get(number) != Some(&(number / 2)) {
+            return false;
+        }
+    }
+    names.get(count).is_none()
+}
+
+/// Names the next number, and gives back a piece of memory after each refusal. How many there were.
+fn insist_on_name(
+    rt: &impl Abort,
+    names: &mut NameTable<u64>,
+    number: u64,
+    held: &mut Vec<Vec<u8>>,
+) -> u32 {
+    for refused in 0..4000u32 {
+        match names.name(number / 2, None) {
+            Ok(()) => return refused,
+            Err(why) => {
+                assert!(rt; why == Why::Memory && holds(names, number));
+            }
+        }
+        let _ = held.pop();
+    }
+    assert!(rt; false, "a name is never taken");
+    0
+}
+
+#[test]
+fn names_without_memory(rt: HostRuntime) -> Result<(), Fail> {
+    let alloc = rt.alloc();
+    let mut names = NameTable::new(alloc);
+    let mut held = take_all(alloc)?;
+    let is_full = Vec::<u8>::with_capacity(alloc, 16).is_err();
+    let mut refused = 0u32;
+    for number in 0..100 {
+        let times = insist_on_name(&rt, &mut names, number, &mut held);
+        refused = refused.saturating_add(times);
+    }
+    held.clear();
+    drop(held);
+    assert!(rt; !is_full || refused > 0);
+    assert!(rt; holds(&names, 100));
+    assert!(rt; names.name(0, Some(0)) == Err(Why::MixedNumbering));
+    Ok(())
+}
