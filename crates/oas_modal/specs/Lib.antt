@@ -3,3 +3,7 @@ pub mod Values
 pub mod Positions
 pub mod Modal
 pub mod Latest
+pub mod Turns
+pub mod Drawn
+pub mod Drawing
+pub mod Reasons

@@ -1,4 +1,4 @@
-//! Modal variables: what the fields mean that a record doesn't give (SEMI P39, Modal variables).
+//! Modal variables: what the fields mean that a record doesn't give, and so what it draws (SEMI P39, Modal variables).
 //!
 //! What this crate promises to the crates above it:
 //!
@@ -11,15 +11,21 @@
 //!   are within the limits before the record.
 //! - [`laws`] says, over the definitions alone, that one more record changes the variables by what it gives, and what
 //!   looking back finds.
+//! - What an element record draws is defined over the variables after it: `drawn_at` and `elements_at` (specs/Drawing.antt),
+//!   and why it is refused, `draw_reason` (specs/Reasons.antt). [`ModalVariables::copies`] and [`ModalVariables::copy`] are
+//!   these, copy by copy; of a [`Drawn`] element the cell or the string may still be a number.
 //!
-//! Not there yet: what an element record draws, the numbers of names, and the reader that takes record after record.
+//! Not there yet: the numbers of names, and the reader that takes record after record.
 #![tactic(auto)]
 
 mod drawn;
+mod kinds;
 pub mod laws;
 mod modal;
 mod positions;
+mod turning;
 
 pub use drawn::Drawn;
+pub use kinds::{Kind, repeats};
 pub use modal::ModalVariables;
 pub use positions::Position;
