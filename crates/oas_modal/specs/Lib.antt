@@ -8,3 +8,7 @@ pub mod DrawnLaws
 pub mod Held
 pub mod NameLaws
 pub mod Names
+pub mod Turns
+pub mod Drawn
+pub mod Drawing
+pub mod Reasons

@@ -1,11 +1,16 @@
 //! What the definitions say: each function's contract is a law, and its body is empty.
-ghost use Rattle.std.specs.Prelude.{◌≡◌, List, [], ◌∷◌, ◌++◌, reverse, ℕ, ℤ, Bool};
+ghost use Rattle.std.specs.Prelude.{◌≡◌, List, [], ◌∷◌, ◌++◌, reverse, ℕ, ℤ, Bool, ◌<◌, None, Some};
 ghost use Rattle.oas_shape.specs.declared.repetitions.Repetition.{Repetition};
 ghost use Rattle.oas_shape.specs.Polylines.{Polyline};
 ghost use Rattle.oas_record.specs.declared.references.CellRef.{CellRef};
 ghost use Rattle.oas_record.specs.declared.references.TextRef.{TextRef};
 ghost use Rattle.oas_record.specs.declared.records.Record.{Record as OneRecord};
-ghost use Rattle.oas_modal.specs.Modal.{modal_of, stepped};
+ghost use Rattle.oas_num.specs.declared.refusals.Why.{Why};
+ghost use Rattle.oas_layout.specs.declared.limits.Limits.{Limits};
+ghost use Rattle.oas_modal.specs.declared.kinds.Kind.{Kind};
+ghost use Rattle.oas_modal.specs.Drawing.{kind_of, repeats, number_if, offset_if, drawn_by};
+ghost use Rattle.oas_modal.specs.Reasons.{fault_of, kind_reason, draw_reason};
+ghost use Rattle.oas_modal.specs.Modal.{ModalState, modal_of, stepped};
 ghost use Rattle.oas_modal.specs.Latest.{FindsLatest};
 ghost use Rattle.std.specs.Cmp.{IsTotalOrder};
 ghost use Rattle.std.specs.declared.cmp.Ordering.TheVariants.{Equal};
@@ -40,4 +45,11 @@ pub fn drawn_order()
 /// What is drawn so many times more adds to its own count, and to no other.
 pub fn drawing_more()
     ensures { AddingDrawn }
+{}
+
+/// An element record is refused copy by copy: for all but the places of its copies, then for the place of one of them.
+pub fn refused_copy_by_copy()
+    ensures before { (limits : Limits) (count weight : ℕ) (m : ModalState) (r : OneRecord) (kind : Kind) (why : Why) → kind_of r ≡ Some kind → kind_reason limits count weight m kind (repeats r) ≡ Some why → draw_reason limits count weight m r ≡ Some why }
+    ensures copy { (limits : Limits) (count weight : ℕ) (m : ModalState) (r : OneRecord) (kind : Kind) (i : ℕ) (why : Why) → kind_of r ≡ Some kind → kind_reason limits count weight m kind (repeats r) ≡ None → i < number_if (repeats r) m.repetition → fault_of (drawn_by m kind (offset_if (repeats r) m.repetition i)) ≡ Some why → draw_reason limits count weight m r ≡ Some why }
+    ensures none { (limits : Limits) (count weight : ℕ) (m : ModalState) (r : OneRecord) (kind : Kind) → kind_of r ≡ Some kind → kind_reason limits count weight m kind (repeats r) ≡ None → ((i : ℕ) → i < number_if (repeats r) m.repetition → fault_of (drawn_by m kind (offset_if (repeats r) m.repetition i)) ≡ None) → draw_reason limits count weight m r ≡ None }
 {}

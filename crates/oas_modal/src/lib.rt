@@ -1,4 +1,4 @@
-//! The meaning of records: modal variables, the numbers of names, and what is drawn, counted.
+//! The meaning of records: modal variables, what the records draw by them, counted, and the numbers of names.
 //!
 //! What this crate promises to the crates above it:
 //!
@@ -20,19 +20,26 @@
 //! - [`laws`] says, over the definitions alone, that one more record changes the variables by what it gives, what looking
 //!   back finds, that no two of the things that are drawn tie in their order, and that more of one adds to its count alone.
 //!
-//! Not there yet: what an element record draws, and the reader that takes record after record.
+//! - What an element record draws is defined over the variables after it: `drawn_at` and `elements_at` (specs/Drawing.antt),
+//!   and why it is refused, `draw_reason` (specs/Reasons.antt). [`ModalVariables::copies`] and [`ModalVariables::copy`] are
+//!   these, copy by copy; of a [`Drawn`] element the cell or the string may still be a number.
+//!
+//! Not there yet: the reader that takes record after record.
 #![tactic(auto)]
 
 mod drawn;
 mod held;
+mod kinds;
 pub mod laws;
 mod modal;
 pub mod name_laws;
 mod names;
 mod positions;
+mod turning;
 
 pub use drawn::Drawn;
 pub use held::HeldCell;
+pub use kinds::{Kind, repeats};
 pub use modal::ModalVariables;
 pub use names::{Form, NameTable, cell_meant, string_meant};
 pub use positions::Position;

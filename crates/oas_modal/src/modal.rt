@@ -227,5 +227,7 @@ fn extension_numbers(
     }
 }
 
+mod checking;
+mod drawing;
 #[cfg(test)]
 mod tests;
