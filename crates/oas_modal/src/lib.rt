@@ -7,13 +7,11 @@
 //!   memory; a refusal changes nothing. What it holds afterwards is `with_name` of what it held before.
 //! - It stands for a list of records (`NamesStand`) if it has their form, and names each number as they do. [`name_laws`]
 //!   says that it then refuses what the records refuse, and that it stands for one record more once that is taken.
-//! - [`cell_meant`] and [`string_meant`] answer what a reference means by a table; None is a number that no record names.
+//! - [`cell_meant`] and [`string_meant`] answer what a reference means by a table (`cell_by`, `string_by`,
+//!   specs/References.antt); None is a number that no record names.
 #![tactic(auto)]
 
 pub mod name_laws;
 mod names;
 
 pub use names::{Form, NameTable, cell_meant, string_meant};
-
-#[cfg(test)]
-mod tests;
