@@ -46,7 +46,7 @@ abbrev pub first_of : List (Bool × Why) → Option Why
 first_of [] = None
 first_of (c ∷ cs) = cond c.0 (Some c.1) (first_of cs)
 
--- what a table holds: its form, and each number once, with its string
+-- what a table holds: its form, and numbers with their strings
 pub record Table (S : Type 0) : Type 0 where
   pub form : Option Form
   pub named : List (ℕ × S)
