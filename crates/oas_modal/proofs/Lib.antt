@@ -4,3 +4,4 @@ pub mod HeldLemmas
 pub mod NameLemmas
 pub mod Grids
 pub mod Copies
+pub mod ReferenceLemmas

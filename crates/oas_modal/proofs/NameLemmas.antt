@@ -11,7 +11,7 @@ use Rattle.oas_num.specs.declared.refusals.Why.TheVariants.{MixedNumbering, Numb
 use Rattle.oas_record.specs.declared.records.Record.{Record}
 use Rattle.oas_modal.specs.declared.names.Form.{Form}
 use Rattle.oas_modal.specs.declared.names.Form.TheVariants.{Implicit, Explicit}
-use Rattle.oas_modal.specs.Names.{same_string, form_given, form_after, form_of, counted, next_after, next_number, named_after, named, name_of, is_mixed, is_other, first_of, naming_reason, reason_given, name_reason, AllowedNames, Table, with_name, NamesStand}
+use Rattle.oas_modal.specs.Names.{same_string, form_given, form_after, form_of, counted, next_after, next_number, named_after, named, name_of, is_mixed, is_other, first_of, naming_reason, reason_given, name_reason, AllowedNames, Table, no_names, table_reason, with_name, NamesStand}
 use Rattle.oas_modal.specs.NameLaws.{GivesName, HasForm, other_form, FormIsOfEach, StringIsGiven, NoStringIsGiven, MixedWhere, TwiceWhere}
 
 -- ---- one entry more
@@ -85,6 +85,31 @@ one_more same given t before r h none =
     let had : HasNames t (form_of given before) (next_number given before) (named given before) = record { form_is = h.form; agrees = h.agrees; next_is = h.next; free = h.free } in
     let has = more_given same t (form_of given before) (next_number given before) (named given before) (given r) had none in
     record { form = has.form_is; agrees = has.agrees; next = has.next_is; free = has.free }
+
+pub none_stand : {S : Type 0} (given : Record → Option (S × Option ℕ)) → NamesStand given no_names []
+none_stand given = record { form = refl; agrees = λ q. refl; next = λ f. refl; free = λ f q le. refl }
+
+-- what isn't asked where the first condition holds
+first_or : (a b b' : Bool) (w x : Why) → (a ≡ false → b ≡ b') → first_of ((a, w) ∷ (b, x) ∷ []) ≡ first_of ((a, w) ∷ (b', x) ∷ [])
+first_or true b b' w x f = refl
+first_or false b b' w x f = ap (λ c. first_of ((c, x) ∷ [])) (f refl)
+
+same_naming : {S : Type 0} (same : S → S → Bool) (t : Table S) (form : Option Form) (next : ℕ) (names : List (ℕ × S)) (string : S) (number : Option ℕ) → HasNames t form next names →
+    naming_reason same form (length t.named) t.named string number ≡ naming_reason same form next names string number
+same_naming same t form next names string (Some k) h = first_or (is_mixed form Explicit) _ _ _ _ (λ f. ap (λ o. is_other same o string) (h.agrees k))
+same_naming same t form next names string None h =
+    first_or (is_mixed form Implicit) _ _ _ _ (λ f. ap (λ o. is_other same o string) (h.agrees (length t.named) ∙ ap (name_of names) (h.next_is (not_explicit form f))))
+
+same_given : {S : Type 0} (same : S → S → Bool) (t : Table S) (form : Option Form) (next : ℕ) (names : List (ℕ × S)) (o : Option (S × Option ℕ)) → HasNames t form next names →
+    reason_given same form (length t.named) t.named o ≡ reason_given same form next names o
+same_given same t form next names None h = refl
+same_given same t form next names (Some g) h = same_naming same t form next names g.0 g.1 h
+
+pub same_reason : {S : Type 0} (same : S → S → Bool) (given : Record → Option (S × Option ℕ)) (t : Table S) (before : List Record) (r : Record) → NamesStand given t before → table_reason same t (given r) ≡ name_reason same given before r
+same_reason same given t before r h =
+    let had : HasNames t (form_of given before) (next_number given before) (named given before) = record { form_is = h.form; agrees = h.agrees; next_is = h.next; free = h.free } in
+    ap (λ form. reason_given same form (length t.named) t.named (given r)) h.form ∙
+    same_given same t (form_of given before) (next_number given before) (named given before) (given r) had
 
 -- ---- what the records name
 
@@ -311,3 +336,14 @@ twice_where given before r string number allowed e =
           ] refl)
           (is_other-had (name_of (named given before) m) h.1.0 string (string_only given before m h.1.0 allowed h.1.1) h.1.2),
     )
+
+-- ---- more records
+
+pub allowed_front : (given : Record → Option (List ℕ × Option ℕ)) (later before : List Record) → AllowedNames same_string given (later ++ before) → AllowedNames same_string given before
+allowed_front given [] before allowed = allowed
+allowed_front given (r ∷ later) before allowed = allowed_front given later before allowed.0
+
+pub names_stay : (given : Record → Option (List ℕ × Option ℕ)) (later before : List Record) (number : ℕ) (string : List ℕ) → AllowedNames same_string given (later ++ before) → name_of (named given before) number ≡ Some string → name_of (named given (later ++ before)) number ≡ Some string
+names_stay given [] before number string allowed h = h
+names_stay given (r ∷ later) before number string allowed h =
+    string_stays (given r) (form_of given (later ++ before)) (next_number given (later ++ before)) (named given (later ++ before)) number string (names_stay given later before number string allowed.0 h) allowed.1

@@ -9,6 +9,6 @@ pub mod Held
 pub mod NameLaws
 pub mod Names
 pub mod Turns
-pub mod Drawn
 pub mod Drawing
 pub mod Reasons
+pub mod References

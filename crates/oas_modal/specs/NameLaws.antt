@@ -5,6 +5,7 @@ use Rattle.oas_record.specs.declared.records.Record.{Record}
 use Rattle.oas_modal.specs.declared.names.Form.{Form}
 use Rattle.oas_modal.specs.declared.names.Form.TheVariants.{Implicit, Explicit}
 use Rattle.oas_modal.specs.Names.{same_string, form_given, form_of, next_number, named, name_of, name_reason, AllowedNames, Table, table_reason, with_name, NamesStand}
+use Rattle.oas_modal.specs.References.{IsUsed}
 
 -- one of the records gives the number to the string
 pub record GivesName (given : Record → Option (List ℕ × Option ℕ)) (rs : List Record) (number : ℕ) (string : List ℕ) : Type 0 where
@@ -68,3 +69,16 @@ TwiceWhere given =
     (before : List Record) (r : Record) (string : List ℕ) (number : Option ℕ) → AllowedNames same_string given before → given r ≡ Some (string, number) →
     (name_reason same_string given before r ≡ Some NumberTwice) ↔
     ((¬ HasForm given before (other_form (form_given number))) × ((had : List ℕ) × GivesName given before (unwrap_or number (next_number given before)) had × (had ≢ string)))
+
+-- the first of records that are allowed are allowed
+abbrev pub AllowedFront : (Record → Option (List ℕ × Option ℕ)) → Type 0
+AllowedFront given = (later before : List Record) → AllowedNames same_string given (later ++ before) → AllowedNames same_string given before
+
+-- and what a number names then it names from there on
+abbrev pub NamesStay : (Record → Option (List ℕ × Option ℕ)) → Type 0
+NamesStay given =
+    (later before : List Record) (number : ℕ) (string : List ℕ) → AllowedNames same_string given (later ++ before) → name_of (named given before) number ≡ Some string → name_of (named given (later ++ before)) number ≡ Some string
+
+-- one of the records uses a number that none of them gives to a string
+abbrev pub UsesUnknown : (Record → Option ℕ) → (Record → Option (List ℕ × Option ℕ)) → List Record → Type 0
+UsesUnknown used given rs = (number : ℕ) × IsUsed used rs number × ((string : List ℕ) → ¬ GivesName given rs number string)

@@ -10,10 +10,6 @@ use Rattle.oas_num.specs.declared.refusals.Why.{Why}
 use Rattle.oas_num.specs.declared.refusals.Why.TheVariants.{MixedNumbering, NumberTwice}
 use Rattle.oas_record.specs.declared.records.Record.{Record}
 use Rattle.oas_record.specs.declared.records.Record.TheVariants as record_of
-use Rattle.oas_record.specs.declared.references.CellRef.{CellRef}
-use Rattle.oas_record.specs.declared.references.CellRef.TheVariants as cell
-use Rattle.oas_record.specs.declared.references.TextRef.{TextRef}
-use Rattle.oas_record.specs.declared.references.TextRef.TheVariants as text
 use Rattle.oas_modal.specs.declared.names.Form.{Form}
 use Rattle.oas_modal.specs.declared.names.Form.TheVariants.{Implicit, Explicit}
 
@@ -50,7 +46,7 @@ abbrev pub first_of : List (Bool × Why) → Option Why
 first_of [] = None
 first_of (c ∷ cs) = cond c.0 (Some c.1) (first_of cs)
 
--- what a table holds: its form, and each number once, with its string
+-- what a table holds: its form, and numbers with their strings
 pub record Table (S : Type 0) : Type 0 where
   pub form : Option Form
   pub named : List (ℕ × S)
@@ -134,13 +130,3 @@ module _ {S : Type 0} where
 -- the test by which cell names, and text strings, are compared
 abbrev pub same_string : List ℕ → List ℕ → Bool
 same_string = pointwise ◌==◌
-
--- the cell that is meant, where each number has these names; None where a number has none
-abbrev pub cell_by : List (ℕ × List ℕ) → CellRef → Option (List ℕ)
-cell_by names (cell.Number number) = name_of names number
-cell_by names (cell.Name name) = Some name
-
--- the string that is meant, likewise
-abbrev pub string_by : List (ℕ × List ℕ) → TextRef → Option (List ℕ)
-string_by names (text.Number number) = name_of names number
-string_by names (text.Label label) = Some label

@@ -16,10 +16,10 @@
 //!   memory; a refusal changes nothing. What it holds afterwards is `with_name` of what it held before.
 //! - It stands for a list of records (`NamesStand`) if it has their form, and names each number as they do. [`name_laws`]
 //!   says that it then refuses what the records refuse, and that it stands for one record more once that is taken.
-//! - [`cell_meant`] and [`string_meant`] answer what a reference means by a table; None is a number that no record names.
+//! - [`cell_meant`] and [`string_meant`] answer what a reference means by a table (`cell_by`, `string_by`,
+//!   specs/References.antt); None is a number that no record names.
 //! - [`laws`] says, over the definitions alone, that one more record changes the variables by what it gives, what looking
 //!   back finds, that no two of the things that are drawn tie in their order, and that more of one adds to its count alone.
-//!
 //! - What an element record draws is defined over the variables after it: `drawn_at` and `elements_at` (specs/Drawing.antt),
 //!   and why it is refused, `draw_reason` (specs/Reasons.antt). [`ModalVariables::copies`] and [`ModalVariables::copy`] are
 //!   these, copy by copy; of a [`Drawn`] element the cell or the string may still be a number.
@@ -43,6 +43,3 @@ pub use kinds::{Kind, repeats};
 pub use modal::ModalVariables;
 pub use names::{Form, NameTable, cell_meant, string_meant};
 pub use positions::Position;
-
-#[cfg(test)]
-mod tests;

@@ -1,13 +1,14 @@
 //! Laws of the numbers of names, over the definitions alone. A class of name records is a function `given`: of a record of
 //! the class it is the string and the number that it gives, of any other record None.
 
-ghost use Rattle.std.specs.Prelude.{◌≡◌, ◌↔◌, IsTrue, ℕ, List, [], Option, None};
+ghost use Rattle.std.specs.Prelude.{◌≡◌, ◌↔◌, ◌⊎◌, ◌||◌, IsTrue, ℕ, List, [], Option, None};
 ghost use Rattle.oas_record.specs.declared.records.Record.{Record as OneRecord};
 ghost use Rattle.oas_record.specs.declared.records.Record.TheVariants as record_of;
 ghost use Rattle.oas_record.specs.declared.references.CellRef.{CellRef};
 ghost use Rattle.oas_record.specs.declared.references.TextRef.{TextRef};
-ghost use Rattle.oas_modal.specs.Names.{Table, NamesStand, no_names, cell_names, text_strings, named, cell_by, string_by, same_string};
-ghost use Rattle.oas_modal.specs.NameLaws.{RefusesAsRecords, StandsForMore, FormIsOfEach, StringIsGiven, NoStringIsGiven, MixedWhere, TwiceWhere};
+ghost use Rattle.oas_modal.specs.Names.{Table, NamesStand, no_names, cell_names, text_strings, named, same_string};
+ghost use Rattle.oas_modal.specs.References.{cell_by, string_by, cell_used, string_used, uses_unknown, lacks_name};
+ghost use Rattle.oas_modal.specs.NameLaws.{RefusesAsRecords, StandsForMore, FormIsOfEach, StringIsGiven, NoStringIsGiven, MixedWhere, TwiceWhere, AllowedFront, NamesStay, UsesUnknown};
 
 use oas_num::{Label, Name};
 
@@ -30,6 +31,12 @@ pub fn one_string()
     ensures none { (given : OneRecord → Option (List ℕ × Option ℕ)) → NoStringIsGiven given }
 {}
 
+/// Of records that are allowed, the first ones are allowed, and what they name is named by all.
+pub fn further_records()
+    ensures front { (given : OneRecord → Option (List ℕ × Option ℕ)) → AllowedFront given }
+    ensures stay { (given : OneRecord → Option (List ℕ × Option ℕ)) → NamesStay given }
+{}
+
 /// Which name records are refused, and why.
 pub fn refused_names()
     ensures mixed { (given : OneRecord → Option (List ℕ × Option ℕ)) → MixedWhere given }
@@ -46,6 +53,13 @@ pub fn two_classes()
 pub fn same_references()
     ensures cells { (t : Table (List ℕ)) (rs : List OneRecord) (cell : CellRef) → NamesStand cell_names t rs → cell_by t.named cell ≡ cell_by (named cell_names rs) cell }
     ensures texts { (t : Table (List ℕ)) (rs : List OneRecord) (text : TextRef) → NamesStand text_strings t rs → string_by t.named text ≡ string_by (named text_strings rs) text }
+{}
+
+/// A name is lacking exactly if some record uses a number, for a cell or a text string, that no record of its class gives
+/// to a string; and it is lacking in the tables that stand for the records.
+pub fn lacking_names()
+    ensures used { (rs : List OneRecord) → IsTrue (lacks_name rs) ↔ (UsesUnknown cell_used cell_names rs ⊎ UsesUnknown string_used text_strings rs) }
+    ensures tables { (cells strings : Table (List ℕ)) (rs : List OneRecord) → NamesStand cell_names cells rs → NamesStand text_strings strings rs → uses_unknown cell_used cells.named rs || uses_unknown string_used strings.named rs ≡ lacks_name rs }
 {}
 
 /// Cell names and text strings are compared by `same_string`, which says that they are equal.

@@ -3,13 +3,17 @@
 ghost use Rattle.std.specs.Prelude.{◌≡◌, ◌⊎◌, length, unwrap_or, Some, None, OnOk, OnErr, IfErr};
 ghost use Rattle.std.specs.Option.{option_copied};
 ghost use Rattle.oas_num.specs.declared.refusals.Why.TheVariants.{Memory};
-ghost use Rattle.oas_modal.specs.Names.{form_given, is_mixed, name_of, is_other, no_names, table_reason, with_name, cell_by, string_by};
+ghost use Rattle.oas_modal.specs.Names.{form_given, is_mixed, name_of, is_other, no_names, table_reason, with_name};
+ghost use Rattle.oas_modal.specs.References.{cell_by, string_by};
 
 use oas_num::{Label, Name, Why};
 use oas_record::{CellRef, TextRef};
 use std::alloc::Global;
 use std::collections::BTreeMap;
 use std::marker::Model;
+
+#[cfg(test)]
+mod tests;
 
 /// Whether name records leave their numbers to be counted, or give them (SEMI P39, CELLNAME record, TEXTSTRING record).
 #[derive(Clone, Copy, Debug, PartialEq, Eq)]
