@@ -2,3 +2,8 @@ pub mod Latest
 pub mod Steps
 pub mod HeldLemmas
 pub mod NameLemmas
+pub mod MeaningLemmas
+pub mod FillLemmas
+pub mod Filling
+pub mod FillingAll
+pub mod Twice

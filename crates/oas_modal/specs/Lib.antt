@@ -8,3 +8,5 @@ pub mod DrawnLaws
 pub mod Held
 pub mod NameLaws
 pub mod Names
+pub mod Meaning
+pub mod Finish

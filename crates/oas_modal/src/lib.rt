@@ -17,6 +17,9 @@
 //! - It stands for a list of records (`NamesStand`) if it has their form, and names each number as they do. [`name_laws`]
 //!   says that it then refuses what the records refuse, and that it stands for one record more once that is taken.
 //! - [`cell_meant`] and [`string_meant`] answer what a reference means by a table; None is a number that no record names.
+//! - [`finish`] makes a layout of what is held by the tables of the whole file, and it is the same as what the cells mean
+//!   (`meaning_by`, specs/Meaning.antt). It refuses exactly where, and by the first reason that, `end_reason` says, or else
+//!   for want of memory.
 //! - [`laws`] says, over the definitions alone, that one more record changes the variables by what it gives, what looking
 //!   back finds, that no two of the things that are drawn tie in their order, and that more of one adds to its count alone.
 //!
@@ -24,6 +27,7 @@
 #![tactic(auto)]
 
 mod drawn;
+mod finishing;
 mod held;
 pub mod laws;
 mod modal;
@@ -32,6 +36,7 @@ mod names;
 mod positions;
 
 pub use drawn::Drawn;
+pub use finishing::finish;
 pub use held::HeldCell;
 pub use modal::ModalVariables;
 pub use names::{Form, NameTable, cell_meant, string_meant};
