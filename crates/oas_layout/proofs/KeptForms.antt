@@ -1,9 +1,8 @@
 -- The form in which a polygon is kept, by the reading that was found.
-use Rattle.std.proofs.Common.{◌≡◌, ◌≤◌, ◌*◌, ℕ, Bool, false, List, length, Option, None, Some, refl, sym, ◌∙◌, ap, subst, arith}
+use Rattle.std.proofs.Common.{◌≡◌, ◌≤◌, ◌*◌, ℕ, false, List, Option, None, sym, ◌∙◌, ap, subst, arith}
 use Rattle.oas_ring.specs.declared.point.Point.{Point}
 use Rattle.oas_ring.specs.declared.rectangles.Corners.{Corners}
 use Rattle.oas_ring.specs.declared.readings.Reading.{Reading}
-use Rattle.oas_ring.specs.Rings.{rotation}
 use Rattle.oas_ring.specs.Readings.{reading_of, IsLeastReadingOf}
 use Rattle.oas_layout.specs.declared.profile.Profile.{Profile}
 use Rattle.oas_layout.specs.declared.profile.Profile.TheVariants.{One}
@@ -14,7 +13,6 @@ use Rattle.oas_ring.specs.ReadingsLaws.{least_of-is}
 use Rattle.oas_layout.specs.Same.{drawn_box, normal_polygon, normal, IsNormal}
 use Rattle.oas_layout.specs.SameLaws.{normal-normal, weight_of-normal, weight_of-normal-le}
 use Rattle.oas_layout.specs.Weight.{weight_of}
-use Rattle.std.proofs.Common.{take, drop, ◌++◌, []}
 use Rattle.std.proofs.lemmas.List.{append-nil}
 use Rattle.std.proofs.lemmas.Nat.{mul-le}
 

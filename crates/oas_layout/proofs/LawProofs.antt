@@ -1,5 +1,5 @@
 -- The laws of elements and layouts.
-use Rattle.std.proofs.Common.{◌≡◌, ℕ, zero, suc, ◌+◌, ◌*◌, List, [], ◌∷◌, Bool, true, false, cond, Some, unwrap_or, slice_get, refl, sym, ◌∙◌, ap, subst, arith}
+use Rattle.std.proofs.Common.{◌≡◌, ℕ, zero, suc, List, [], ◌∷◌, Bool, cond, Some, unwrap_or, slice_get, refl, sym, ◌∙◌, ap, subst}
 use Rattle.std.specs.Cmp.{tied_itself}
 use Rattle.std.specs.List.{AllByRecursion}
 use Rattle.std.specs.List.Sorted.{IsStrictlySortedBy}
@@ -12,10 +12,8 @@ use Rattle.oas_layout.specs.declared.element.Element.{Element}
 use Rattle.oas_layout.specs.Element.{element_cmp}
 use Rattle.oas_layout.specs.ElementLaws.{element_total, exact_elements}
 use Rattle.oas_layout.specs.Same.{same_element, normal, IsNormal}
-use Rattle.oas_layout.specs.SameLaws.{same_element-Decides, normal-alike, same_from_normal, normal-normal, normal-same, normal-least, normal-no_box, normal-polygon, same_normal, same_with-normal, same_from-normal}
-use Rattle.oas_layout.specs.Bag.{items, with_more, IsBag}
-use Rattle.oas_layout.specs.Meaning.{count_of}
-use Rattle.oas_layout.specs.Laws.{TestsSame, KeptIsSame, SameIfKeptEqual, KeptIsKept, KeptPolygons, AddingCounts, HeldApart, HeldCounts, EqualCounts, IsReflexive, IsSymmetric, IsTransitive}
+use Rattle.oas_layout.specs.SameLaws.{same_element-Decides, normal-alike, same_from_normal, normal-normal, normal-same, normal-least, normal-no_box, normal-polygon, same_normal, same_from-normal}
+use Rattle.oas_layout.specs.Laws.{TestsSame, KeptIsSame, SameIfKeptEqual, KeptIsKept, KeptPolygons, HeldApart, HeldCounts, EqualCounts, IsReflexive, IsSymmetric, IsTransitive}
 use Rattle.oas_layout.specs.BagLaws.{total, sum_by-items}
 use Rattle.oas_layout.proofs.Counting.{share-is, same_lists}
 

@@ -2,6 +2,7 @@ pub mod Ascending
 pub mod Bag
 pub mod BagLaws
 pub mod Contents
+pub mod ContentsLaws
 pub mod Element
 pub mod ElementLaws
 pub mod Grid

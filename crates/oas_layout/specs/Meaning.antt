@@ -1,5 +1,5 @@
 -- What a layout means: its unit, and by cell name a multiset of elements.
-use Rattle.std.specs.Prelude.{◌≡◌, ℕ, ◌+◌, Bool, List, [], ◌∷◌, length, sum_by, count_by, Option, is_some, unwrap_or, ◌==◌}
+use Rattle.std.specs.Prelude.{◌≡◌, ℕ, ◌+◌, List, [], ◌∷◌, length, sum_by, count_by, Option, is_some, unwrap_or, ◌==◌}
 use Rattle.std.specs.Cmp.Lexicographic.{pointwise}
 use Rattle.std.specs.Map.{lookup}
 use Rattle.oas_num.specs.Ratio.{Ratio}

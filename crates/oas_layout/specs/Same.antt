@@ -8,7 +8,7 @@ use Rattle.oas_ring.specs.Rectangles.{IsBox, is_box, box_of}
 use Rattle.oas_layout.specs.declared.profile.Profile.{Profile}
 use Rattle.oas_layout.specs.declared.profile.Profile.TheVariants.{One, Two}
 use Rattle.oas_layout.specs.declared.element.Element.{Element}
-use Rattle.oas_layout.specs.declared.element.Element.TheVariants.{Placement, Text, Rectangle, Polygon, Path, Circle}
+use Rattle.oas_layout.specs.declared.element.Element.TheVariants.{Rectangle, Polygon}
 use Rattle.oas_layout.specs.Element.{element_cmp}
 use Rattle.oas_ring.specs.Readings.{is_same_ring, least_of}
 

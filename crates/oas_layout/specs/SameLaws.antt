@@ -1,5 +1,5 @@
 -- Elements are the same exactly if the forms in which they are kept are equal.
-use Rattle.std.specs.Prelude.{◌≡◌, ◌≢◌, ◌↔◌, ◌≤◌, ℕ, ◌+◌, ℤ, pos, ◌+ℤ◌, ◌-ℤ◌, ◌<ℤ◌, unsigned_abs, Bool, true, false, ◌==◌, ◌&&◌, List, length, Option, None, Some, refl}
+use Rattle.std.specs.Prelude.{◌≡◌, ◌≢◌, ◌≤◌, ℕ, ◌+◌, ℤ, pos, ◌+ℤ◌, ◌-ℤ◌, ◌<ℤ◌, unsigned_abs, Bool, true, false, ◌&&◌, List, length, Option, None, Some, refl}
 use Rattle.std.proofs.Common.{sym, ◌∙◌, ap, subst, true≢false, arith}
 use Rattle.std.proofs.lemmas.Int.{ints}
 use Rattle.std.proofs.lemmas.Bool.Decides.{same_from_decides, Decides-eqb}
@@ -10,7 +10,6 @@ use Rattle.oas_ring.specs.declared.point.Point.{Point}
 use Rattle.oas_ring.specs.declared.rectangles.Corners.{Corners}
 use Rattle.oas_ring.specs.Rings.{SameRing}
 use Rattle.oas_ring.specs.Readings.{IsLeastReading}
-use Rattle.oas_ring.specs.Points.{list_cmp}
 use Rattle.oas_ring.specs.Rectangles.{IsBox, corners_of, box_of}
 use Rattle.oas_ring.specs.RingsLaws.{same_ring_itself, same_ring_back, same_ring_twice}
 use Rattle.oas_layout.specs.declared.profile.Profile.{Profile}

@@ -5,3 +5,8 @@ pub mod NameLemmas
 pub mod Grids
 pub mod Copies
 pub mod ReferenceLemmas
+pub mod MeaningLemmas
+pub mod FillLemmas
+pub mod Filling
+pub mod FillingAll
+pub mod Twice

@@ -1,9 +1,9 @@
 -- Elements as records give them: their order, what they weigh, and whether they lie within the grid.
-use Rattle.std.specs.Prelude.{ℕ, ◌&&◌, Bool}
+use Rattle.std.specs.Prelude.{ℕ, ◌&&◌, Bool, false}
 use Rattle.std.specs.Ordering.{nat_cmp, int_cmp, bool_cmp}
 use Rattle.std.specs.declared.cmp.Ordering.{Ordering}
 use Rattle.oas_layout.specs.Element.{element_cmp, turn_count, ◌then◌}
-use Rattle.oas_layout.specs.Weight.{weight_of}
+use Rattle.oas_layout.specs.Weight.{weight_of, lacks_points}
 use Rattle.oas_layout.specs.Grid.{is_coordinate, fits_grid}
 use Rattle.oas_modal.specs.declared.drawn.Drawn.{Drawn}
 use Rattle.oas_modal.specs.declared.drawn.Drawn.TheVariants.{Named, PlacementBy, TextBy}
@@ -34,3 +34,8 @@ abbrev pub drawn_fits : Drawn → Bool
 drawn_fits (Named e) = fits_grid e
 drawn_fits (PlacementBy number x y turns flip) = is_coordinate x && is_coordinate y
 drawn_fits (TextBy number textlayer texttype x y) = is_coordinate x && is_coordinate y
+
+-- fewer points than its kind needs
+abbrev pub drawn_lacks_points : Drawn → Bool
+drawn_lacks_points (Named e) = lacks_points e
+drawn_lacks_points d = false

@@ -12,3 +12,5 @@ pub mod Turns
 pub mod Drawing
 pub mod Reasons
 pub mod References
+pub mod Meaning
+pub mod Finish

@@ -18,6 +18,9 @@
 //!   says that it then refuses what the records refuse, and that it stands for one record more once that is taken.
 //! - [`cell_meant`] and [`string_meant`] answer what a reference means by a table (`cell_by`, `string_by`,
 //!   specs/References.antt); None is a number that no record names.
+//! - [`finish`] makes a layout of what is held by the tables of the whole file, and it is the same as what the cells mean
+//!   (`meaning_by`, specs/Meaning.antt). It refuses exactly where, and by the first reason that, `end_reason` says, or else
+//!   for want of memory.
 //! - [`laws`] says, over the definitions alone, that one more record changes the variables by what it gives, what looking
 //!   back finds, that no two of the things that are drawn tie in their order, and that more of one adds to its count alone.
 //! - What an element record draws is defined over the variables after it: `drawn_at` and `elements_at` (specs/Drawing.antt),
@@ -28,6 +31,7 @@
 #![tactic(auto)]
 
 mod drawn;
+mod finishing;
 mod held;
 mod kinds;
 pub mod laws;
@@ -38,6 +42,7 @@ mod positions;
 mod turning;
 
 pub use drawn::Drawn;
+pub use finishing::finish;
 pub use held::HeldCell;
 pub use kinds::{Kind, repeats};
 pub use modal::ModalVariables;

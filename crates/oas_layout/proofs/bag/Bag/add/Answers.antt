@@ -1,4 +1,4 @@
-use Rattle.std.proofs.Common.{◌≡◌, ℕ, ◌+◌, ◌∙◌, ap, unwrap_or, arith}
+use Rattle.std.proofs.Common.{◌+◌, ◌∙◌, ap, unwrap_or, arith}
 use Rattle.std.specs.BTreeMap.{get}
 use Rattle.oas_layout.specs.ElementLaws.{derived_cmp}
 use Rattle.oas_layout.specs.Bag.{count_at}

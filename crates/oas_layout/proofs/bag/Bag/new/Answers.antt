@@ -1,4 +1,3 @@
-use Rattle.std.proofs.Common.{rules}
 use Rattle.oas_layout.proofs.Order.{IsTally-empty}
 use Rattle.oas_layout.proofs.bag.Bag.new.Goals as goal
 

@@ -1,4 +1,4 @@
-use Rattle.std.proofs.Common.{arith, List, [], ◌∷◌, ◌++◌, ◌≡◌, ◌∙◌, sym, ap, length, None}
+use Rattle.std.proofs.Common.{arith, [], ◌∷◌, ◌++◌, ◌≡◌, ◌∙◌, sym, ap, length, None}
 use Rattle.indexmap.proofs.CallerLemmas.{insert_entry-new}
 use Rattle.oas_layout.specs.Contents.{Contents, cell_refusal}
 use Rattle.oas_layout.proofs.Cells.{none_there, pushed_empty, IsCounted-push, pushed_is, cell_refusal-none}

@@ -1,4 +1,4 @@
-use Rattle.std.proofs.Common.{◌≡◌, ℕ, List, length, slice_get, refl, sym, ◌∙◌, ap, arith, rules, true≢false, true, not}
+use Rattle.std.proofs.Common.{◌≡◌, length, refl, sym, ◌∙◌, ap, arith, rules, true≢false}
 use Rattle.oas_layout.specs.Contents.{Cell, Contents}
 use Rattle.oas_layout.proofs.SameLemmas.{differ, same_at, same_reads, same_from_cells, unlike_itself}
 use Rattle.oas_layout.proofs.layout.Layout.same.Goals as goal

@@ -1,0 +1,291 @@
+//! From what is held to the finished layout.
+
+ghost use Rattle.std.specs.Prelude.{◌≡◌, ℕ, ◌+◌, ◌<◌, ◌≤◌, ◌⊎◌, false, [], length, None, Some, OnOk, IfOk, IfErr, List};
+ghost use Rattle.std.specs.List.{AllByRecursion, list_any};
+ghost use Rattle.std.specs.Map.{keys_of};
+ghost use Rattle.oas_num.specs.declared.refusals.Why.TheVariants.{Memory, TooHeavy};
+ghost use Rattle.oas_layout.specs.Bag.{items};
+ghost use Rattle.oas_layout.specs.BagLaws.{total};
+ghost use Rattle.oas_layout.specs.Weight.{weight_of};
+ghost use Rattle.oas_layout.specs.Meaning.{element_count, cells_weight, SameLayout};
+ghost use Rattle.oas_layout.specs.Contents.{expanded, meaning_of, has_cell};
+ghost use Rattle.oas_modal.specs.References.{cell_by};
+ghost use Rattle.oas_modal.specs.Meaning.{element_by, is_unnamed, cell_lacks, has_twice, meaning_by, end_reason};
+ghost use Rattle.oas_modal.specs.Finish.{drawn_cells, drawn_total, IsFit, AllFit, IsWithinLimits, with_counted, counted_meant, with_counted_cell, held_meant, names_held, IsFresh, given, with_all};
+
+use crate::drawn::Drawn;
+use crate::held::HeldCell;
+use crate::names::{NameTable, cell_meant};
+use oas_layout::{Draft, Element, Layout, Limits, Profile};
+use oas_num::{Fraction, Label, Name, Why};
+use oas_record::CellRef;
+use std::alloc::Global;
+use std::collections::{BTreeMap, BTreeSet};
+
+/// The layout of what is held, where each number has the name that the tables of the whole file give it.
+///
+/// It is refused by `UnknownReference` where a number has no name, else by `DuplicateCell` where two cells have one name,
+/// else by `TooHeavy` where all of it weighs more than the limits allow; and by `Memory`. What is held is within the grid and
+/// the limits on the number of elements.
+pub fn finish(
+    alloc: Global,
+    unit: Fraction,
+    limits: Limits,
+    profile: Profile,
+    cells: Vec<HeldCell>,
+    names: &NameTable<Name>,
+    strings: &NameTable<Label>,
+) -> Result<Layout, Why>
+    requires { IsWithinLimits limits cells.items }
+    ensures ok { OnOk result (end_reason names.now.named strings.now.named limits (drawn_cells cells.items) ≡ None) }
+    ensures means { IfOk result (λ l. SameLayout profile (meaning_of l) (meaning_by names.now.named strings.now.named unit (drawn_cells cells.items))) }
+    ensures limits { IfOk result (λ l. l.limits ≡ limits) }
+    ensures profile { IfOk result (λ l. l.profile ≡ profile) }
+    ensures why { IfErr result (λ why. (why ≡ Memory) ⊎ (end_reason names.now.named strings.now.named limits (drawn_cells cells.items) ≡ Some why)) }
+{
+    if lacks_name(&cells, names, strings) {
+        return Err(Why::UnknownReference);
+    }
+    if names_twice(alloc, &cells, names)? {
+        return Err(Why::DuplicateCell);
+    }
+    let Ok(mut draft) = Draft::new(alloc, unit, limits, profile) else {
+        return Err(Why::Memory);
+    };
+    if let Err(why) = put_all(alloc, &mut draft, cells, names, strings) {
+        return Err(why);
+    }
+    let Ok(layout) = draft.seal() else {
+        return Err(Why::Memory);
+    };
+    Ok(layout)
+}
+
+/// Whether it is a number that has no name.
+fn is_unnamed(drawn: &Drawn, names: &NameTable<Name>, strings: &NameTable<Label>) -> bool
+    ensures { result ≡ is_unnamed names.now.named strings.now.named drawn.now }
+{
+    match drawn {
+        Drawn::Named(_) => false,
+        Drawn::PlacementBy { number, .. } => names.get(*number).is_none(),
+        Drawn::TextBy { number, .. } => strings.get(*number).is_none(),
+    }
+}
+
+/// Whether a cell is a number that has no name, or has one.
+fn cell_lacks(cell: &HeldCell, names: &NameTable<Name>, strings: &NameTable<Label>) -> bool
+    ensures { result ≡ cell_lacks names.now.named strings.now.named (cell.now.0, items cell.now.1) }
+{
+    cell_meant(names, &cell.cell).is_none() || any_unnamed(&cell.drawn, names, strings)
+}
+
+/// Whether one of them is a number that has no name.
+fn any_unnamed(
+    drawn: &BTreeMap<Drawn, u64>,
+    names: &NameTable<Name>,
+    strings: &NameTable<Label>,
+) -> bool
+    ensures { result ≡ list_any (is_unnamed names.now.named strings.now.named) (keys_of drawn.now.entries) }
+{
+    drawn.keys().any(|one| is_unnamed(one, names, strings))
+}
+
+/// Whether a number has no name.
+fn lacks_name(cells: &[HeldCell], names: &NameTable<Name>, strings: &NameTable<Label>) -> bool
+    ensures { result ≡ list_any (λ h. cell_lacks names.now.named strings.now.named (h.0, items h.1)) cells.now }
+{
+    cells.iter().any(|cell| cell_lacks(cell, names, strings))
+}
+
+/// Whether two cells have one name. The set is ordered, so that no choice of names makes it slow.
+fn names_twice(alloc: Global, cells: &[HeldCell], names: &NameTable<Name>) -> Result<bool, Why>
+    ensures twice { IfOk result (λ b. b ≡ has_twice (names_held names.now.named cells.now)) }
+    ensures err { IfErr result (λ why. why ≡ Memory) }
+{
+    let mut seen = BTreeSet::new(alloc);
+    for cell in cells {
+        if let Some(name) = cell_meant(names, &cell.cell) {
+            if !seen.insert(name)? {
+                return Ok(true);
+            }
+        }
+    }
+    Ok(false)
+}
+
+/// The element that is meant; None where its number has no name. A name behind a number is copied.
+fn element_meant(
+    alloc: Global,
+    drawn: Drawn,
+    names: &NameTable<Name>,
+    strings: &NameTable<Label>,
+) -> Result<Option<Element>, Why>
+    ensures ok { IfOk result (λ e. e ≡ element_by names.now.named strings.now.named drawn) }
+    ensures err { IfErr result (λ why. why ≡ Memory) }
+{
+    match drawn {
+        Drawn::Named(element) => Ok(Some(element)),
+        Drawn::PlacementBy {
+            number,
+            x,
+            y,
+            turns,
+            flip,
+        } => {
+            let Some(name) = names.get(number) else {
+                return Ok(None);
+            };
+            let Ok(cell) = name.try_clone(alloc) else {
+                return Err(Why::Memory);
+            };
+            Ok(Some(Element::Placement {
+                cell,
+                x,
+                y,
+                turns,
+                flip,
+            }))
+        }
+        Drawn::TextBy {
+            number,
+            textlayer,
+            texttype,
+            x,
+            y,
+        } => {
+            let Some(label) = strings.get(number) else {
+                return Ok(None);
+            };
+            let Ok(string) = label.try_clone(alloc) else {
+                return Err(Why::Memory);
+            };
+            Ok(Some(Element::Text {
+                string,
+                textlayer,
+                texttype,
+                x,
+                y,
+            }))
+        }
+    }
+}
+
+/// The name of the cell that is meant; None where it is a number that has none. A name behind a number is copied.
+fn name_meant(alloc: Global, cell: CellRef, names: &NameTable<Name>) -> Result<Option<Name>, Why>
+    ensures ok { IfOk result (λ name. name ≡ cell_by names.now.named cell) }
+    ensures err { IfErr result (λ why. why ≡ Memory) }
+{
+    let number = match cell {
+        CellRef::Name(name) => return Ok(Some(name)),
+        CellRef::Number(number) => number,
+    };
+    let Some(had) = names.get(number) else {
+        return Ok(None);
+    };
+    let Ok(name) = had.try_clone(alloc) else {
+        return Err(Why::Memory);
+    };
+    Ok(Some(name))
+}
+
+/// Adds what is drawn so many times to a cell.
+fn put_one(
+    alloc: Global,
+    draft: &mut Draft,
+    cell: usize,
+    drawn: Drawn,
+    times: u64,
+    names: &NameTable<Name>,
+    strings: &NameTable<Label>,
+) -> Result<(), Why>
+    requires cell { cell < length draft.old.cells }
+    requires some { 0 < times }
+    requires fit { IsFit drawn }
+    requires few { element_count (expanded draft.old.cells) + times ≤ draft.old.limits.elements }
+    requires light { draft.old.spelled ≤ draft.old.limits.weight }
+    ensures ok { OnOk result (draft.new ≡ given draft.old cell (with_counted (element_by names.now.named strings.now.named drawn) times [])) }
+    ensures light { OnOk result (draft.new.spelled ≤ draft.old.limits.weight) }
+    ensures why { IfErr result (λ why. (why ≡ Memory) ⊎ ((why ≡ TooHeavy) × (draft.old.limits.weight < draft.old.spelled + total weight_of (with_counted (element_by names.now.named strings.now.named drawn) times [])))) }
+{
+    let Some(element) = element_meant(alloc, drawn, names, strings)? else {
+        return Ok(());
+    };
+    if let Err((why, _)) = draft.add_many(cell, element, times) {
+        return Err(why);
+    }
+    Ok(())
+}
+
+/// Adds all that is drawn to a cell.
+fn put_drawn(
+    alloc: Global,
+    draft: &mut Draft,
+    cell: usize,
+    drawn: BTreeMap<Drawn, u64>,
+    names: &NameTable<Name>,
+    strings: &NameTable<Label>,
+) -> Result<(), Why>
+    requires cell { cell < length draft.old.cells }
+    requires positive { AllByRecursion (λ p. 0 < p.1) drawn.entries }
+    requires fit { AllFit drawn.entries }
+    requires few { element_count (expanded draft.old.cells) + length (items drawn.entries) ≤ draft.old.limits.elements }
+    requires light { draft.old.spelled ≤ draft.old.limits.weight }
+    ensures ok { OnOk result (draft.new ≡ given draft.old cell (counted_meant names.now.named strings.now.named drawn.entries)) }
+    ensures light { OnOk result (draft.new.spelled ≤ draft.old.limits.weight) }
+    ensures why { IfErr result (λ why. (why ≡ Memory) ⊎ ((why ≡ TooHeavy) × (draft.old.limits.weight < draft.old.spelled + total weight_of (counted_meant names.now.named strings.now.named drawn.entries)))) }
+{
+    for (one, times) in drawn {
+        put_one(alloc, draft, cell, one, times, names, strings)?;
+    }
+    Ok(())
+}
+
+/// Adds a cell with all that is drawn in it.
+fn put_cell(
+    alloc: Global,
+    draft: &mut Draft,
+    held: HeldCell,
+    names: &NameTable<Name>,
+    strings: &NameTable<Label>,
+) -> Result<(), Why>
+    requires fresh { IsFresh draft.old (cell_by names.now.named held.0) }
+    requires fit { AllFit held.1 }
+    requires few { element_count (expanded draft.old.cells) + length (items held.1) ≤ draft.old.limits.elements }
+    requires light { draft.old.spelled ≤ draft.old.limits.weight }
+    ensures ok { OnOk result (draft.new ≡ with_all draft.old (with_counted_cell (cell_by names.now.named held.0) (counted_meant names.now.named strings.now.named held.1) [])) }
+    ensures light { OnOk result (draft.new.spelled ≤ draft.old.limits.weight) }
+    ensures why { IfErr result (λ why. (why ≡ Memory) ⊎ ((why ≡ TooHeavy) × (draft.old.limits.weight < draft.old.spelled + cells_weight (expanded (with_counted_cell (cell_by names.now.named held.0) (counted_meant names.now.named strings.now.named held.1) []))))) }
+{
+    let HeldCell { cell, drawn } = held;
+    let Some(name) = name_meant(alloc, cell, names)? else {
+        return Ok(());
+    };
+    let place = match draft.add_cell(name) {
+        Ok(place) => place,
+        Err((why, _)) => return Err(why),
+    };
+    put_drawn(alloc, draft, place, drawn, names, strings)
+}
+
+/// Adds all cells.
+fn put_all(
+    alloc: Global,
+    draft: &mut Draft,
+    cells: Vec<HeldCell>,
+    names: &NameTable<Name>,
+    strings: &NameTable<Label>,
+) -> Result<(), Why>
+    requires apart { has_twice (names_held names.now.named cells.items) ≡ false }
+    requires fit { AllByRecursion (λ h. AllFit h.1) cells.items }
+    requires empty { draft.old.cells ≡ [] }
+    requires few { drawn_total (drawn_cells cells.items) ≤ draft.old.limits.elements }
+    requires light { draft.old.spelled ≤ draft.old.limits.weight }
+    ensures ok { OnOk result (draft.new ≡ with_all draft.old (held_meant names.now.named strings.now.named cells.items)) }
+    ensures light { OnOk result (draft.new.spelled ≤ draft.old.limits.weight) }
+    ensures why { IfErr result (λ why. (why ≡ Memory) ⊎ ((why ≡ TooHeavy) × (draft.old.limits.weight < draft.old.spelled + cells_weight (expanded (held_meant names.now.named strings.now.named cells.items))))) }
+{
+    for held in cells {
+        put_cell(alloc, draft, held, names, strings)?;
+    }
+    Ok(())
+}
