@@ -7,3 +7,4 @@ pub mod FillLemmas
 pub mod Filling
 pub mod FillingAll
 pub mod Twice
+pub mod Alike

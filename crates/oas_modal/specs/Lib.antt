@@ -10,3 +10,4 @@ pub mod NameLaws
 pub mod Names
 pub mod Meaning
 pub mod Finish
+pub mod Alike

@@ -13,6 +13,7 @@ ghost use Rattle.oas_modal.specs.declared.drawn.Drawn.{Drawn};
 ghost use Rattle.oas_modal.specs.Drawn.{drawn_cmp};
 ghost use Rattle.oas_modal.specs.DrawnLaws.{derived_cmp};
 ghost use Rattle.oas_modal.specs.Held.{AddingDrawn};
+ghost use Rattle.oas_modal.specs.Alike.{AlikeMeanings};
 
 /// One more record changes the modal variables by what it gives alone. The records are listed oldest first.
 pub fn one_more_record()
@@ -40,4 +41,10 @@ pub fn drawn_order()
 /// What is drawn so many times more adds to its own count, and to no other.
 pub fn drawing_more()
     ensures { AddingDrawn }
+{}
+
+/// Cells in which each thing is drawn as often are refused alike at END, and mean the same, whatever the order in which it
+/// is drawn.
+pub fn alike_cells()
+    ensures { AlikeMeanings }
 {}

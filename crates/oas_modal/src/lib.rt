@@ -21,7 +21,8 @@
 //!   (`meaning_by`, specs/Meaning.antt). It refuses exactly where, and by the first reason that, `end_reason` says, or else
 //!   for want of memory.
 //! - [`laws`] says, over the definitions alone, that one more record changes the variables by what it gives, what looking
-//!   back finds, that no two of the things that are drawn tie in their order, and that more of one adds to its count alone.
+//!   back finds, that no two of the things that are drawn tie in their order, that more of one adds to its count alone, and
+//!   that cells mean the same in which each thing is drawn as often.
 //!
 //! Not there yet: what an element record draws, and the reader that takes record after record.
 #![tactic(auto)]
