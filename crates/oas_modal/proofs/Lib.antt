@@ -10,3 +10,4 @@ pub mod FillLemmas
 pub mod Filling
 pub mod FillingAll
 pub mod Twice
+pub mod Alike

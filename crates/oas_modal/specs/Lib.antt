@@ -14,3 +14,4 @@ pub mod Reasons
 pub mod References
 pub mod Meaning
 pub mod Finish
+pub mod Alike

@@ -18,6 +18,7 @@ ghost use Rattle.oas_modal.specs.declared.drawn.Drawn.{Drawn};
 ghost use Rattle.oas_modal.specs.Drawn.{drawn_cmp};
 ghost use Rattle.oas_modal.specs.DrawnLaws.{derived_cmp};
 ghost use Rattle.oas_modal.specs.Held.{AddingDrawn};
+ghost use Rattle.oas_modal.specs.Alike.{AlikeMeanings};
 
 /// One more record changes the modal variables by what it gives alone. The records are listed oldest first.
 pub fn one_more_record()
@@ -52,4 +53,10 @@ pub fn refused_copy_by_copy()
     ensures before { (limits : Limits) (count weight : ℕ) (m : ModalState) (r : OneRecord) (kind : Kind) (why : Why) → kind_of r ≡ Some kind → kind_reason limits count weight m kind (repeats r) ≡ Some why → draw_reason limits count weight m r ≡ Some why }
     ensures copy { (limits : Limits) (count weight : ℕ) (m : ModalState) (r : OneRecord) (kind : Kind) (i : ℕ) (why : Why) → kind_of r ≡ Some kind → kind_reason limits count weight m kind (repeats r) ≡ None → i < number_if (repeats r) m.repetition → fault_of (drawn_by m kind (offset_if (repeats r) m.repetition i)) ≡ Some why → draw_reason limits count weight m r ≡ Some why }
     ensures none { (limits : Limits) (count weight : ℕ) (m : ModalState) (r : OneRecord) (kind : Kind) → kind_of r ≡ Some kind → kind_reason limits count weight m kind (repeats r) ≡ None → ((i : ℕ) → i < number_if (repeats r) m.repetition → fault_of (drawn_by m kind (offset_if (repeats r) m.repetition i)) ≡ None) → draw_reason limits count weight m r ≡ None }
+{}
+
+/// Cells in which each thing is drawn as often are refused alike at END, and mean the same, whatever the order in which it
+/// is drawn.
+pub fn alike_cells()
+    ensures { AlikeMeanings }
 {}

@@ -22,7 +22,8 @@
 //!   (`meaning_by`, specs/Meaning.antt). It refuses exactly where, and by the first reason that, `end_reason` says, or else
 //!   for want of memory.
 //! - [`laws`] says, over the definitions alone, that one more record changes the variables by what it gives, what looking
-//!   back finds, that no two of the things that are drawn tie in their order, and that more of one adds to its count alone.
+//!   back finds, that no two of the things that are drawn tie in their order, that more of one adds to its count alone, and
+//!   that cells mean the same in which each thing is drawn as often.
 //! - What an element record draws is defined over the variables after it: `drawn_at` and `elements_at` (specs/Drawing.antt),
 //!   and why it is refused, `draw_reason` (specs/Reasons.antt). [`ModalVariables::copies`] and [`ModalVariables::copy`] are
 //!   these, copy by copy; of a [`Drawn`] element the cell or the string may still be a number.

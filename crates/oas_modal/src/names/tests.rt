@@ -1,5 +1,6 @@
 //! Tables of names whose answers are known from outside.
 
+mod layouts;
 mod memory;
 
 use crate::{NameTable, cell_meant, string_meant};
