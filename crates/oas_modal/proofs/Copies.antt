@@ -1,9 +1,9 @@
 -- the copies of a record, one after another
-use Rattle.std.proofs.Common.{◌≡◌, ℕ, zero, suc, ◌+◌, ◌<◌, ◌≤◌, [], ◌∷◌, map, refl, sym, ap, ◌∙◌, subst, arith, Bool, true, false}
-use Rattle.std.proofs.lemmas.List.FromFn.{length-map-range_with_len, get_or-map-range_with_len}
+use Rattle.std.proofs.Common.{◌≡◌, ℕ, zero, suc, ◌+◌, ◌<◌, ◌≤◌, List, [], ◌∷◌, ◌++◌, append_assoc, map, refl, sym, ap, ◌∙◌, subst, arith, Bool, true, false}
+use Rattle.std.proofs.lemmas.List.FromFn.{length-map-range_with_len, get_or-map-range_with_len, map-range_with_len_more}
 use Rattle.std.proofs.lemmas.List.Folds.{list_all_at}
 use Rattle.std.specs.Prelude.{Option, None, Some, cond, not, is_none, ◌&&◌}
-use Rattle.std.specs.Option.{option_or}
+use Rattle.std.specs.Option.{option_or, option_to_list}
 use Rattle.std.specs.List.{list_all, range_with_len}
 use Rattle.oas_num.specs.declared.refusals.Why.{Why}
 use Rattle.oas_num.specs.declared.refusals.Why.TheVariants.{CoordinateRange, ModalUndefined}
@@ -24,7 +24,7 @@ use Rattle.oas_modal.specs.declared.kinds.Kind.TheVariants.{Placement, Text, Rec
 use Rattle.oas_modal.specs.Modal.{ModalState}
 use Rattle.oas_modal.specs.Turns.{turned}
 use Rattle.oas_modal.specs.Drawn.{drawn_fits}
-use Rattle.oas_modal.specs.Drawing.{kind_of, repeats, placement_at, text_at, rectangle_at, polygon_at, path_at, circle_at, kind_at, place_of, point_from, drawn_by, offset_if, number_if}
+use Rattle.oas_modal.specs.Drawing.{kind_of, repeats, placement_at, text_at, rectangle_at, polygon_at, path_at, circle_at, kind_at, place_of, point_from, drawn_by, offset_if, number_if, drawn_at, copies_at, first_offsets}
 use Rattle.oas_modal.specs.Reasons.{first_of, fits_if, fault_of, kind_reason, all_fit, reason_if, draw_reason}
 use Rattle.std.specs.Prelude.{ℤ}
 
@@ -139,3 +139,20 @@ pub allowed_all : (limits : Limits) (count weight : ℕ) (m : ModalState) (r : R
 allowed_all limits count weight m r kind e none h =
     let fits : all_fit m kind (repeats r) ≡ true = all_pass (λ d. fits_if (drawn_by m kind d)) (offset_if (repeats r) m.repetition) (number_if (repeats r) m.repetition) 0 (λ i low high. faultless (drawn_by m kind (offset_if (repeats r) m.repetition i)) (h i (omega arith))) in
     at_kind limits count weight m r kind e ∙ (last_reason _ (all_fit m kind (repeats r)) none ∙ ap (λ (b : Bool). first_of ((not b, CoordinateRange) ∷ [])) fits)
+
+copies-append : (m : ModalState) (r : Record) (ds es : List GDelta) → copies_at m r (ds ++ es) ≡ copies_at m r ds ++ copies_at m r es
+copies-append m r [] es = refl
+copies-append m r (d ∷ ds) es =
+    ap (λ (rest : List Drawn). option_to_list (drawn_at m r d) ++ rest) (copies-append m r ds es) ∙
+    sym (append_assoc (option_to_list (drawn_at m r d)) (copies_at m r ds) (copies_at m r es))
+
+one_copy : (o : Option Drawn) → option_to_list o ++ [] ≡ option_to_list o
+one_copy None = refl
+one_copy (Some d) = refl
+
+-- the first copies, and one more
+pub one_more : (m : ModalState) (r : Record) (n : ℕ) → copies_at m r (first_offsets m r (n + 1)) ≡ copies_at m r (first_offsets m r n) ++ option_to_list (drawn_at m r (offset_if (repeats r) m.repetition n))
+one_more m r n =
+    ap (copies_at m r) (map-range_with_len_more (offset_if (repeats r) m.repetition) 0 n n (omega arith)) ∙
+    (copies-append m r (first_offsets m r n) (offset_if (repeats r) m.repetition n ∷ []) ∙
+    ap (λ (rest : List Drawn). copies_at m r (first_offsets m r n) ++ rest) (one_copy (drawn_at m r (offset_if (repeats r) m.repetition n))))

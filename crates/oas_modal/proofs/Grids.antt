@@ -9,6 +9,9 @@ use Rattle.oas_ring.specs.declared.point.Point.{Point}
 use Rattle.oas_shape.specs.Steps.{IsNear, IsInRange, moved, still}
 use Rattle.oas_shape.specs.Polylines.{Polyline, vertices_of, VerticesMay}
 use Rattle.oas_layout.specs.Grid.{is_coordinate, is_grid_point}
+use Rattle.oas_modal.specs.declared.positions.Position.{Position}
+use Rattle.oas_modal.specs.Positions as positions
+use Rattle.oas_modal.specs.Reasons.{is_on_grid}
 
 near : (x : ℤ) → is_coordinate x ≡ true → IsNear (2 ^ 60) x
 near x h = grind (arith, ints)
@@ -50,3 +53,11 @@ pub vertices_fault : (why : Why) (ps : List Point) → VerticesMay why ps → (w
 vertices_fault CoordinateRange ps v = inr (refl, far_vertices ps v)
 vertices_fault Memory ps v = inl refl
 vertices_fault _ ps v = absurd v
+
+-- a position on the grid is within the limits
+pub on_grid : (at : Position) → is_on_grid at ≡ true → positions.IsNear at
+on_grid at h =
+    let b = both (is_coordinate at.x) (is_coordinate at.y) h in
+    let x = near at.x b.0 in
+    let y = near at.y b.1 in
+    record { x = record { low = x.0; high = x.1 }; y = record { low = y.0; high = y.1 } }

@@ -126,6 +126,10 @@ offsets_if repeated modal = map (offset_if repeated modal) (range_with_len 0 (nu
 abbrev pub offsets_of : ModalState → Record → List GDelta
 offsets_of m r = offsets_if (repeats r) m.repetition
 
+-- those of the first copies of a record
+abbrev pub first_offsets : ModalState → Record → ℕ → List GDelta
+first_offsets m r n = map (offset_if (repeats r) m.repetition) (range_with_len 0 n)
+
 -- the element at each of the offsets
 abbrev pub copies_at : ModalState → Record → List GDelta → List Drawn
 copies_at m r [] = []

@@ -1,5 +1,5 @@
 -- Why an element record is refused. m are the variables after it.
-use Rattle.std.specs.Prelude.{ℕ, ◌+◌, ◌*◌, nat_lt, not, Bool, true, false, cond, is_none, Option, None, Some, List, [], ◌∷◌}
+use Rattle.std.specs.Prelude.{ℕ, ◌+◌, ◌*◌, ◌&&◌, nat_lt, not, Bool, true, false, cond, is_none, Option, None, Some, List, [], ◌∷◌}
 use Rattle.std.specs.List.{list_all}
 use Rattle.std.specs.Option.{option_or}
 use Rattle.oas_num.specs.declared.refusals.Why.{Why}
@@ -9,14 +9,16 @@ use Rattle.oas_record.specs.declared.placements.Turn.TheVariants.{Degrees}
 use Rattle.oas_record.specs.declared.records.Record.{Record}
 use Rattle.oas_layout.specs.declared.limits.Limits.{Limits}
 use Rattle.oas_layout.specs.Weight.{lacks_points}
+use Rattle.oas_layout.specs.Grid.{is_coordinate}
 use Rattle.oas_modal.specs.declared.drawn.Drawn.{Drawn}
 use Rattle.oas_modal.specs.declared.drawn.Drawn.TheVariants.{Named}
 use Rattle.oas_modal.specs.declared.kinds.Kind.{Kind}
 use Rattle.oas_modal.specs.declared.kinds.Kind.TheVariants.{Placement}
+use Rattle.oas_modal.specs.declared.positions.Position.{Position}
 use Rattle.oas_modal.specs.Modal.{ModalState}
 use Rattle.oas_modal.specs.Turns.{is_one, is_quarters}
 use Rattle.oas_modal.specs.Drawn.{weight_so_far, drawn_fits}
-use Rattle.oas_modal.specs.Drawing.{kind_of, repeats, drawn_by, number_if, lacks_repetition, offsets_if}
+use Rattle.oas_modal.specs.Drawing.{kind_of, repeats, place_of, drawn_by, number_if, lacks_repetition, offsets_if}
 
 -- the first reason whose condition holds
 abbrev pub first_of : List (Bool × Why) → Option Why
@@ -43,6 +45,10 @@ abbrev pub lacks_if : Option Drawn → Bool
 lacks_if (Some (Named e)) = lacks_points e
 lacks_if _ = false
 
+-- a position lies within the grid, as copy 0 does, which stands there
+abbrev pub is_on_grid : Position → Bool
+is_on_grid at = is_coordinate at.x && is_coordinate at.y
+
 -- an element lies within the grid, whatever its number means
 abbrev pub fits_if : Option Drawn → Bool
 fits_if None = true
@@ -52,7 +58,7 @@ fits_if (Some d) = drawn_fits d
 abbrev pub fault_of : Option Drawn → Option Why
 fault_of o = first_of ((is_none o, ModalUndefined) ∷ (not (fits_if o), CoordinateRange) ∷ [])
 
--- why a record is refused whatever the places of its copies, where so many elements stand before it and weigh so much
+-- why a record is refused whatever its offsets, where so many elements stand before it and weigh so much
 abbrev pub kind_reason : Limits → ℕ → ℕ → ModalState → Kind → Bool → Option Why
 kind_reason limits count weight m kind repeated =
     first_of (
@@ -62,7 +68,8 @@ kind_reason limits count weight m kind repeated =
     (is_askew kind, Angle) ∷
     (nat_lt limits.elements (count + number_if repeated m.repetition), TooManyElements) ∷
     (nat_lt limits.weight (weight + number_if repeated m.repetition * weight_if (drawn_by m kind still)), TooHeavy) ∷
-    (lacks_if (drawn_by m kind still), PointCount) ∷ [])
+    (lacks_if (drawn_by m kind still), PointCount) ∷
+    (not (is_on_grid (place_of m kind)), CoordinateRange) ∷ [])
 
 -- whether each copy lies within the grid
 abbrev pub all_fit : ModalState → Kind → Bool → Bool

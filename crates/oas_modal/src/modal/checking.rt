@@ -1,20 +1,32 @@
 //! Whether an element record is refused, by the modal variables after it.
-ghost use Rattle.std.specs.Prelude.{◌≡◌, ◌≤◌, ◌+◌, ◌^◌, length, Bool, None, Some, IfOk, IfErr, IfSome, SomeIff};
+ghost use Rattle.std.specs.Prelude.{◌≡◌, ◌≤◌, ◌+◌, ◌^◌, length, Bool, None, Some, IfOk, IfErr, IfSome, SomeIff, OnOk, IsTrue};
 ghost use Rattle.std.specs.Option.{option_map};
 ghost use Rattle.oas_ring.specs.declared.point.Point.{Point as OnePoint};
 ghost use Rattle.oas_shape.specs.Polylines.{vertices_of};
 ghost use Rattle.oas_layout.specs.declared.element.Turns.{Turns};
+ghost use Rattle.oas_modal.specs.Positions.{IsNear};
 ghost use Rattle.oas_modal.specs.Drawn.{weight_so_far};
-ghost use Rattle.oas_modal.specs.Drawing.{placement_at, text_at, path_at, kind_at, number_if};
-ghost use Rattle.oas_modal.specs.Reasons.{lacks_if, kind_reason};
+ghost use Rattle.oas_modal.specs.Drawing.{placement_at, text_at, path_at, kind_at, place_of, number_if};
+ghost use Rattle.oas_modal.specs.Reasons.{lacks_if, is_on_grid, kind_reason};
 
 use super::ModalVariables;
+use super::drawing::coordinate;
 use crate::kinds::Kind;
+use crate::positions::Position;
 use crate::turning::{is_askew, is_magnified};
 use oas_layout::Limits;
 use oas_num::Why;
 use oas_record::{CellRef, TextRef};
 use oas_shape::PointList;
+
+/// Whether a position lies within the grid.
+#[tactic(auto, using(crate::proofs::Grids::on_grid))]
+fn is_on_grid(at: Position) -> bool
+    ensures value { result ≡ is_on_grid at }
+    ensures near { IsTrue result → IsNear at }
+{
+    coordinate(at.x).is_some() && coordinate(at.y).is_some()
+}
 
 /// What an element of these points weighs.
 fn points_weight(points: &PointList) -> u128
@@ -112,11 +124,22 @@ impl ModalVariables {
         }
     }
 
-    /// How many copies an element record has, where it isn't refused for more than the places of its copies. `count` elements
+    /// The position of the class of a kind.
+    fn place_of(&self, kind: Kind) -> Position
+        ensures { result ≡ place_of self.now kind }
+    {
+        match kind {
+            Kind::Placement { .. } => self.placement,
+            Kind::Text => self.text,
+            _ => self.geometry,
+        }
+    }
+
+    /// How many copies an element record has, where it isn't refused for more than their offsets. `count` elements
     /// that weigh `weight` stand before it.
     ///
-    /// It is refused by `ModalUndefined`, `Magnification`, `Angle`, `TooManyElements`, `TooHeavy` and `PointCount`, in this
-    /// order.
+    /// It is refused by `ModalUndefined`, `Magnification`, `Angle`, `TooManyElements`, `TooHeavy`, `PointCount` and
+    /// `CoordinateRange`, in this order. Its position is then within the limits.
     pub fn copies(
         &self,
         kind: Kind,
@@ -128,6 +151,7 @@ impl ModalVariables {
         requires few { count ≤ limits.elements }
         requires light { weight ≤ limits.weight }
         ensures ok { IfOk result (λ number. (kind_reason limits count weight self.now kind repeated ≡ None) × (number ≡ number_if repeated self.now.repetition)) }
+        ensures near { OnOk result (IsNear (place_of self.now kind)) }
         ensures err { IfErr result (λ why. kind_reason limits count weight self.now kind repeated ≡ Some why) }
     {
         let Some(one) = self.weight_of_one(kind) else {
@@ -150,6 +174,9 @@ impl ModalVariables {
         }
         if self.lacks_points(kind) {
             return Err(Why::PointCount);
+        }
+        if !is_on_grid(self.place_of(kind)) {
+            return Err(Why::CoordinateRange);
         }
         Ok(number)
     }

@@ -25,7 +25,7 @@ use std::alloc::Global;
 const FURTHEST: i128 = 1 << 60;
 
 /// A coordinate, where it is within the grid.
-fn coordinate(z: i128) -> Option<i64>
+pub(super) fn coordinate(z: i128) -> Option<i64>
     ensures { SomeIff result (is_coordinate z ≡ true) z }
 {
     if z < -FURTHEST || z > FURTHEST {
