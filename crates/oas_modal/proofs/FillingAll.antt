@@ -13,7 +13,7 @@ use Rattle.oas_layout.specs.ContentsLaws.{length-items, cells_sum-push}
 use Rattle.oas_layout.specs.Weight.{weight_of}
 use Rattle.oas_layout.specs.Meaning.{element_count, cells_weight}
 use Rattle.oas_layout.specs.Contents.{Contents, names, expanded, with_cell, cell_refusal}
-use Rattle.oas_modal.specs.declared.drawn.Drawn.{Drawn}
+use Rattle.oas_drawing.specs.declared.drawn.Drawn.{Drawn}
 use Rattle.oas_modal.specs.Names.{same_string}
 use Rattle.oas_modal.specs.References.{cell_by}
 use Rattle.oas_modal.specs.Held.{Held}

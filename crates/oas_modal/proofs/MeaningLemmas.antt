@@ -13,7 +13,7 @@ use Rattle.oas_layout.specs.declared.element.Element.{Element}
 use Rattle.oas_layout.specs.Bag.{items}
 use Rattle.oas_layout.specs.Contents.{expanded}
 use Rattle.oas_layout.specs.Meaning.{element_count, cells_weight}
-use Rattle.oas_modal.specs.declared.drawn.Drawn.{Drawn}
+use Rattle.oas_drawing.specs.declared.drawn.Drawn.{Drawn}
 use Rattle.oas_modal.specs.References.{cell_by}
 use Rattle.oas_modal.specs.Held.{Held}
 use Rattle.oas_modal.specs.Meaning.{element_by, with_element, elements_meant, with_named, cells_meant, is_unnamed, cell_lacks, lacks_name, has_twice, end_reason}

@@ -7,8 +7,8 @@ use Rattle.std.specs.Map.{lookup, keys_of}
 use Rattle.std.specs.BTreeMap.{is_at}
 use Rattle.oas_record.specs.declared.references.CellRef.{CellRef}
 use Rattle.oas_layout.specs.Bag.{items, put_more}
-use Rattle.oas_modal.specs.declared.drawn.Drawn.{Drawn}
-use Rattle.oas_modal.specs.Drawn.{drawn_cmp}
+use Rattle.oas_drawing.specs.declared.drawn.Drawn.{Drawn}
+use Rattle.oas_drawing.specs.Drawn.{drawn_cmp}
 
 abbrev pub Held : Type 0
 Held = CellRef × List (Drawn × ℕ)

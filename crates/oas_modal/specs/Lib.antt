@@ -1,16 +1,6 @@
-pub mod Looking
-pub mod Values
-pub mod Positions
-pub mod Modal
-pub mod Latest
-pub mod Drawn
-pub mod DrawnLaws
 pub mod Held
 pub mod NameLaws
 pub mod Names
-pub mod Turns
-pub mod Drawing
-pub mod Reasons
 pub mod References
 pub mod Meaning
 pub mod Finish

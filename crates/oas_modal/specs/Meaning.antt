@@ -14,9 +14,10 @@ use Rattle.oas_layout.specs.declared.element.Element.{Element}
 use Rattle.oas_layout.specs.declared.element.Element.TheVariants.{Placement, Text}
 use Rattle.oas_layout.specs.declared.limits.Limits.{Limits}
 use Rattle.oas_layout.specs.Meaning.{Meaning, cells_weight}
-use Rattle.oas_modal.specs.declared.drawn.Drawn.{Drawn}
-use Rattle.oas_modal.specs.declared.drawn.Drawn.TheVariants.{Named, PlacementBy, TextBy}
-use Rattle.oas_modal.specs.Names.{name_of, same_string, first_of}
+use Rattle.oas_drawing.specs.declared.drawn.Drawn.{Drawn}
+use Rattle.oas_drawing.specs.declared.drawn.Drawn.TheVariants.{Named, PlacementBy, TextBy}
+use Rattle.oas_drawing.specs.Reasons.{first_of}
+use Rattle.oas_modal.specs.Names.{name_of, same_string}
 use Rattle.oas_modal.specs.References.{cell_by}
 
 -- a CELL's reference, and what its records draw, a thing as often as they draw it

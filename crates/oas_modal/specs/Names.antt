@@ -10,6 +10,7 @@ use Rattle.oas_num.specs.declared.refusals.Why.{Why}
 use Rattle.oas_num.specs.declared.refusals.Why.TheVariants.{MixedNumbering, NumberTwice}
 use Rattle.oas_record.specs.declared.records.Record.{Record}
 use Rattle.oas_record.specs.declared.records.Record.TheVariants as record_of
+use Rattle.oas_drawing.specs.Reasons.{first_of}
 use Rattle.oas_modal.specs.declared.names.Form.{Form}
 use Rattle.oas_modal.specs.declared.names.Form.TheVariants.{Implicit, Explicit}
 
@@ -40,11 +41,6 @@ is_mixed (Some Implicit) Implicit = false
 is_mixed (Some Implicit) Explicit = true
 is_mixed (Some Explicit) Implicit = true
 is_mixed (Some Explicit) Explicit = false
-
--- the first reason whose condition holds
-abbrev pub first_of : List (Bool × Why) → Option Why
-first_of [] = None
-first_of (c ∷ cs) = cond c.0 (Some c.1) (first_of cs)
 
 -- what a table holds: its form, and numbers with their strings
 pub record Table (S : Type 0) : Type 0 where

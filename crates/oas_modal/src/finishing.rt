@@ -13,7 +13,7 @@ ghost use Rattle.oas_modal.specs.References.{cell_by};
 ghost use Rattle.oas_modal.specs.Meaning.{element_by, is_unnamed, cell_lacks, has_twice, meaning_by, end_reason};
 ghost use Rattle.oas_modal.specs.Finish.{drawn_cells, drawn_total, IsFit, AllFit, IsWithinLimits, with_counted, counted_meant, with_counted_cell, held_meant, names_held, IsFresh, given, with_all};
 
-use crate::drawn::Drawn;
+use oas_drawing::Drawn;
 use crate::held::HeldCell;
 use crate::names::{NameTable, cell_meant};
 use oas_layout::{Draft, Element, Layout, Limits, Profile};

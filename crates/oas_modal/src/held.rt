@@ -2,10 +2,10 @@
 
 ghost use Rattle.std.specs.Prelude.{◌≡◌, ◌+◌, ◌<◌, ◌^◌, [], unwrap_or, OnOk, OnErr, IfErr};
 ghost use Rattle.std.specs.BTreeMap.{get, insert_entry, IsOrdered, IsUnchanged};
-ghost use Rattle.oas_modal.specs.DrawnLaws.{derived_cmp};
+ghost use Rattle.oas_drawing.specs.DrawnLaws.{derived_cmp};
 ghost use Rattle.oas_modal.specs.Held.{times_drawn, with_drawn};
 
-use crate::drawn::Drawn;
+use oas_drawing::Drawn;
 use oas_record::CellRef;
 use std::alloc::Global;
 use std::collections::BTreeMap;

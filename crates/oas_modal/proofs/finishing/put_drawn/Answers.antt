@@ -1,5 +1,5 @@
 use Rattle.std.proofs.Common.{rules, ◌≡◌, ℕ, List, ◌∷◌, subst}
-use Rattle.oas_modal.specs.declared.drawn.Drawn.{Drawn}
+use Rattle.oas_drawing.specs.declared.drawn.Drawn.{Drawn}
 use Rattle.oas_modal.proofs.Filling.{Filling, filling_more}
 use Rattle.oas_modal.proofs.finishing.put_drawn.Goals as goal
 

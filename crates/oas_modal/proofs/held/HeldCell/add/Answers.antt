@@ -1,6 +1,6 @@
 use Rattle.std.proofs.Common.{◌+◌, ◌∙◌, ap, unwrap_or, arith}
 use Rattle.std.specs.BTreeMap.{get}
-use Rattle.oas_modal.specs.DrawnLaws.{derived_cmp}
+use Rattle.oas_drawing.specs.DrawnLaws.{derived_cmp}
 use Rattle.oas_modal.specs.Held.{Held, times_drawn}
 use Rattle.oas_modal.proofs.HeldLemmas.{times_drawn-derived, with_drawn-inserted, IsHeld-insert_entry}
 use Rattle.oas_modal.proofs.held.HeldCell.add.Goals as goal

@@ -1,0 +1,4 @@
+pub mod Latest
+pub mod Steps
+pub mod Grids
+pub mod Copies

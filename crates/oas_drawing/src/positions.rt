@@ -1,0 +1,51 @@
+//! The modal positions.
+ghost use Rattle.std.specs.Prelude.{◌≡◌};
+ghost use Rattle.oas_drawing.specs.Positions.{IsNear, IsWithin};
+ghost use Rattle.oas_drawing.specs.Modal.{moved, moved_by, origin};
+
+use oas_record::Spot;
+
+/// Where the latest element of a class stands, in grid steps. It may be past the limits, where the record that gave it is
+/// to be refused.
+#[derive(Clone, Copy, Debug, PartialEq, Eq)]
+pub struct Position {
+    pub x: i128,
+    pub y: i128,
+}
+
+impl Position {
+    /// Where a CELL puts it.
+    pub(crate) fn origin() -> Position
+        ensures { result ≡ origin }
+    {
+        Position { x: 0, y: 0 }
+    }
+
+    /// The position of the next element of the class, by the coordinates that it gives.
+    pub(crate) fn moved_by(&self, relative: bool, spot: &Spot) -> Position
+        requires { IsNear self.now }
+        ensures { result ≡ moved_by relative self.now spot.now }
+    {
+        Position {
+            x: moved(relative, self.x, spot.x),
+            y: moved(relative, self.y, spot.y),
+        }
+    }
+}
+
+/// A coordinate after another may be given: in relative mode that is added to it.
+fn moved(relative: bool, at: i128, given: Option<i64>) -> i128
+    requires { IsWithin at }
+    ensures { result ≡ moved relative at given }
+{
+    match given {
+        None => at,
+        Some(z) => {
+            if relative {
+                at + i128::from(z)
+            } else {
+                i128::from(z)
+            }
+        }
+    }
+}

@@ -1,5 +1,0 @@
-use Rattle.oas_modal.specs.DrawnLaws.{order_is_stated_of, drawn_total, exact_drawn}
-use Rattle.oas_modal.proofs.laws.drawn_order.Goals as goal
-
-pub returns : goal.returns
-returns c = record { stated = order_is_stated_of; total = drawn_total; exact = exact_drawn }
