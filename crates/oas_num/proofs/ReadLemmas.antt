@@ -55,7 +55,8 @@ module _ {V W : Type 0} (spells : V → List ℕ → Type 0) (next : W → List 
     takes = Takes-then old mid new front f.bytes takes f.takes;
     reason = let r = f.reason in record { front = front ++ r.front; last = r.last; joined = ap (λ (x : List ℕ). front ++ x) r.joined ∙ sym (append_assoc front r.front r.last); begun = begun r.front r.begun; holds = allows r.last r.holds };
     format = λ is. NoneFits-after front f.bytes wants (f.format is);
-    truncated = λ is. let g = f.truncated is in (NoneWithin-after front f.bytes wants g.0, g.1);
+    cut = λ is. NoneWithin-after front f.bytes wants (f.cut is);
+    truncated = f.truncated;
     device = f.device;
     too_long = f.too_long;
   }
@@ -79,6 +80,7 @@ piece_fails {A = A} some f = record {
   takes = f.takes;
   reason = let r = f.reason in record { front = r.front; last = r.last; joined = r.joined; begun = Before-begins true A some r.front r.begun; holds = r.holds };
   format = f.format;
+  cut = f.cut;
   truncated = f.truncated;
   device = f.device;
   too_long = f.too_long;

@@ -15,6 +15,13 @@ is_format InputTooLong = false
 is_format Memory = false
 is_format _ = true
 
+-- The input ended, or stopped, before the bytes decided.
+abbrev pub is_cut : Why → Bool
+is_cut Truncated = true
+is_cut Read = true
+is_cut InputTooLong = true
+is_cut _ = false
+
 -- The tables below say of each reason what the bytes are that decided: those with which what was read ends.
 
 -- the first bytes of an integer of which more follow, or none
@@ -129,7 +136,8 @@ pub record FailsBy {V : Type 0} (piece : Bool) (spells : V → List ℕ → Type
   pub takes : Takes old bytes new
   pub reason : Decides piece spells (may why) bytes
   pub format : IsTrue (is_format why) → NoneFits spells bytes
-  pub truncated : why ≡ Truncated → NoneWithin spells bytes × IsAtEnd new
+  pub cut : IsTrue (is_cut why) → NoneWithin spells bytes
+  pub truncated : why ≡ Truncated → IsAtEnd new
   pub device : why ≡ Read → HasFailed new
   pub too_long : why ≡ InputTooLong → IsTooLong new
 
