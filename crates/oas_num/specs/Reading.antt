@@ -124,6 +124,11 @@ pub record NoneFits {V : Type 0} (spells : V → List ℕ → Type 0) (bytes : L
 pub record NoneWithin {V : Type 0} (spells : V → List ℕ → Type 0) (bytes : List ℕ) : Type 0 where
   pub none : (v : V) (front rest : List ℕ) → spells v front → front ++ rest ≢ bytes
 
+-- What was read of a value so far, which ends with bytes of which that holds, and of which no front spells one.
+pub record IsCutOff {V : Type 0} (spells : V → List ℕ → Type 0) (P : List ℕ → Type 0) (bytes : List ℕ) : Type 0 where
+  pub reason : Decides false spells P bytes
+  pub none : NoneWithin spells bytes
+
 -- A value was read: exactly a spelling of it was taken.
 pub record ReadsValue {V : Type 0} (spells : V → List ℕ → Type 0) (old : Script) (v : V) (new : Script) : Type 0 where
   pub bytes : List ℕ
