@@ -5,7 +5,7 @@ use Rattle.std.proofs.lemmas.Slice.Eq.{slice_eq-Decides}
 use Rattle.std.proofs.lemmas.Bool.Decides.{Decides-eqb}
 use Rattle.std.proofs.Common.{Decides, eqb, ◌≡◌, ◌≢◌, ℕ, Bool, true, false, List, [], inl, inr, refl, sym, ap, subst, ◌∙◌}
 use Rattle.oas_num.specs.declared.refusals.Why.{Why}
-use Rattle.oas_num.specs.declared.refusals.Why.TheVariants.{Version, Unit as BadUnit, OffsetFlag, OutOfPlace}
+use Rattle.oas_num.specs.declared.refusals.Why.TheVariants.{Truncated, Version, Unit as BadUnit, OffsetFlag, OutOfPlace, Read, InputTooLong, Memory}
 use Rattle.oas_num.specs.declared.reals.Real.{Real}
 use Rattle.oas_num.specs.Script.{Script}
 use Rattle.oas_num.specs.Grammar.{IsPair, IsCount}
@@ -16,9 +16,8 @@ use Rattle.oas_num.specs.RealLaws.{OneFront-SpellsReal}
 use Rattle.oas_num.specs.Style.{Any}
 use Rattle.oas_num.specs.Texts.{SpellsLabel}
 use Rattle.oas_num.specs.TextLaws.{OneFront-label}
-use Rattle.oas_num.specs.Begun as begun
-use Rattle.oas_num.specs.Reading.{Fails, FailsPiece, ReadsValue, IntegerMay, LabelMay}
-use Rattle.oas_num.proofs.ReadLemmas.{Takes-none, Fails-after}
+use Rattle.oas_num.specs.Reading.{Fails, FailsPiece, ReadsValue, IntegerMay, LabelMay, IsCutOff}
+use Rattle.oas_num.proofs.ReadLemmas.{Takes-none, Fails-after, within_none, fails_cut_off}
 use Rattle.oas_num.proofs.GrammarLemmas.{Midway, ◌▸◌, fails_at, such_read}
 use Rattle.oas_canon.specs.File.{IsNumber, IsAbove, unit_in, version, IsVersion, StartParts, IsStartParts, start_parts, IsStart, offsets_in, IsTwelve}
 use Rattle.oas_canon.specs.FileLaws.{OneFront-number, OneFront-version, OneFront-unit}
@@ -33,22 +32,27 @@ StartMay-integer (OutOfPlace id) last h = absurd h
 StartMay-integer OffsetFlag last h = absurd h
 StartMay-integer _ last h = inl h
 
-pub VersionMay-label : (why : Why) (last : List ℕ) → begun.Decides false SpellsLabel (LabelMay why) last → VersionMay why last
-VersionMay-label Version last h = absurd h.holds
-VersionMay-label _ last h = h
+-- why an a-string couldn't be read
+version_took : {old new : Script} (why : Why) → (f : Fails SpellsLabel LabelMay old why new) → VersionMay why f.bytes
+version_took Version f = absurd f.reason.holds
+version_took Memory f = f.reason
+version_took Truncated f = record { reason = f.reason; none = f.cut refl }
+version_took Read f = record { reason = f.reason; none = f.cut refl }
+version_took InputTooLong f = record { reason = f.reason; none = f.cut refl }
+version_took _ f = record { reason = f.reason; none = within_none (f.format refl) }
 
 pub StartMay-version : (why : Why) (last : List ℕ) → VersionMay why last → StartMay why last
-StartMay-version (OutOfPlace id) last h = absurd h.holds
-StartMay-version OffsetFlag last h = absurd h.holds
+StartMay-version (OutOfPlace id) last h = absurd h.reason.holds
+StartMay-version OffsetFlag last h = absurd h.reason.holds
 StartMay-version _ last h = inr (inl h)
 
-UnitMay-real : (why : Why) (last : List ℕ) → begun.Decides false SpellsReal (RealMay why) last → UnitMay why last
-UnitMay-real BadUnit last h = absurd h.holds
+UnitMay-real : (why : Why) (last : List ℕ) → IsCutOff SpellsReal (RealMay why) last → UnitMay why last
+UnitMay-real BadUnit last h = absurd h.reason.holds
 UnitMay-real _ last h = h
 
 StartMay-unit : (why : Why) (last : List ℕ) → UnitMay why last → StartMay why last
-StartMay-unit (OutOfPlace id) last h = absurd h.holds
-StartMay-unit OffsetFlag last h = absurd h.holds
+StartMay-unit (OutOfPlace id) last h = absurd h.reason.holds
+StartMay-unit OffsetFlag last h = absurd h.reason.holds
 StartMay-unit _ last h = inr (inr h)
 
 -- ---- what a comparison of texts tells
@@ -102,7 +106,7 @@ starts s = record {
 }
 
 pub version_fails : {old new : Script} {why : Why} → Fails SpellsLabel LabelMay old why new → FailsPiece (IsVersion Any) VersionMay old why new
-version_fails {why = why} f = pinned_fails version f (VersionMay-label why f.bytes f.reason)
+version_fails {why = why} f = pinned_fails version f (version_took why f)
 
 pub version_read : {old new : Script} {text : List ℕ} → text ≡ version → ReadsValue SpellsLabel old text new → ReadsValue (IsVersion Any) old tt new
 version_read same read = pinned_read version same read
@@ -123,6 +127,7 @@ unit_refused {u = u} other read = record {
   takes = read.takes;
   reason = record { front = []; last = read.bytes; joined = refl; begun = refl; holds = inr (inr (u, read.spelled, other)) };
   format = λ _. record { none = λ v p r more s e. let one = OneFront-SpellsReal.one v u p read.bytes r more s.spelled read.spelled e in other (subst IsAbove one.1 s.holds) };
+  cut = λ is. absurd cc;
   truncated = λ is. cc;
   device = λ is. cc;
   too_long = λ is. cc;
@@ -137,7 +142,7 @@ module _ {s0 s1 : Script} {id : ℕ} (is : id ≡ 1) (id_read : ReadsValue IsUns
     with_version = with_id ▸ (OneFront-version, version_read)
 
     pub unit_fails : {s3 : Script} {why : Why} → Fails SpellsReal RealMay s2 why s3 → Fails (IsStart Any) StartMay s0 why s3
-    unit_fails {why = why} f = fails_at with_version (λ _ _ h. h) (whole_fails [] (Takes-none s2) (record { wants = λ v p r rest s e. (v, p, r, s.spelled, e) }) f (StartMay-unit why f.bytes (UnitMay-real why f.bytes f.reason)))
+    unit_fails {why = why} f = fails_at with_version (λ _ _ h. h) (whole_fails [] (Takes-none s2) (record { wants = λ v p r rest s e. (v, p, r, s.spelled, e) }) f (StartMay-unit why f.bytes (UnitMay-real why f.bytes (fails_cut_off (λ _ h. h) f))))
 
     pub unit_other : {s3 : Script} {u : Real} → ¬ IsAbove u → ReadsValue SpellsReal s2 u s3 → Fails (IsStart Any) StartMay s0 BadUnit s3
     unit_other {s3 = s3} {u = u} other read = fails_at with_version (λ _ _ h. h) (unit_refused other read)

@@ -1,12 +1,12 @@
 -- Why a read may fail, and which bytes then decided: those with which what it took ends.
 use Rattle.std.specs.Prelude.{◌≡◌, ◌≢◌, ℕ, false, List, [], ◌∷◌, ◌++◌, length, ◌⊎◌}
 use Rattle.oas_num.specs.declared.refusals.Why.{Why}
-use Rattle.oas_num.specs.declared.refusals.Why.TheVariants.{Magic, Unit as BadUnit, Version, OffsetFlag, RecordLeftOut, UnknownRecord, OutOfPlace, InfoByte, EndLength, ValidationScheme}
+use Rattle.oas_num.specs.declared.refusals.Why.TheVariants.{Magic, Unit as BadUnit, Version, Memory, OffsetFlag, RecordLeftOut, UnknownRecord, OutOfPlace, InfoByte, EndLength, ValidationScheme}
 use Rattle.oas_num.specs.declared.reals.Real.{Real}
 use Rattle.oas_num.specs.declared.texts.Padding.{Padding}
 use Rattle.oas_num.specs.Begun.{Decides}
 use Rattle.oas_num.specs.Integers.{IsUnsigned}
-use Rattle.oas_num.specs.Reading.{ByteMay, IntegerMay, NameMay, LabelMay}
+use Rattle.oas_num.specs.Reading.{ByteMay, IntegerMay, NameMay, LabelMay, IsCutOff}
 use Rattle.oas_num.specs.Reals.{SpellsReal, RealMay}
 use Rattle.oas_num.specs.Texts.{IsBetween, SpellsLabel}
 use Rattle.oas_canon.specs.File.{IsAbove, version, IsEndParts}
@@ -20,12 +20,13 @@ MagicMay why last = ByteMay why last
 -- the version, an a-string that is read whole: it is another
 abbrev pub VersionMay : Why → List ℕ → Type 0
 VersionMay Version last = (text : List ℕ) × SpellsLabel text last × (text ≢ version)
-VersionMay why last = Decides false SpellsLabel (LabelMay why) last
+VersionMay Memory last = Decides false SpellsLabel (LabelMay Memory) last
+VersionMay why last = IsCutOff SpellsLabel (LabelMay why) last
 
 -- the unit, a real that is read whole: it isn't above zero
 abbrev pub UnitMay : Why → List ℕ → Type 0
 UnitMay BadUnit last = (u : Real) × SpellsReal u last × ¬ IsAbove u
-UnitMay why last = Decides false SpellsReal (RealMay why) last
+UnitMay why last = IsCutOff SpellsReal (RealMay why) last
 
 -- START: its id, its version, its unit or its offset-flag is another
 abbrev pub StartMay : Why → List ℕ → Type 0
@@ -38,13 +39,13 @@ abbrev pub EndMay : Why → List ℕ → Type 0
 EndMay ValidationScheme last = (scheme : ℕ) × IsUnsigned scheme last × (scheme ≢ 0)
 EndMay why last = IntegerMay why last
 
--- END's id, and then bytes of which that holds last, and which begin the rest of an END of some length before
+-- END's id, and then bytes of which that holds last, which begin the rest of an END of some length before, and of which no front is that rest
 pub record IsOfEnd (P : List ℕ → Type 0) (last : List ℕ) : Type 0 where
   pub id : List ℕ
   pub rest : List ℕ
   pub spelled : IsUnsigned 2 id
   pub joined : last ≡ id ++ rest
-  pub decided : Decides false IsEnding P rest
+  pub decided : IsCutOff IsEnding P rest
 
 -- the fields of a RECTANGLE: its info byte isn't 7B
 abbrev pub RectangleMay : Why → List ℕ → Type 0

@@ -9,7 +9,7 @@ use Rattle.oas_num.specs.GrammarLaws.{after_same}
 use Rattle.oas_num.specs.Combinators.{IsKeyed}
 use Rattle.oas_num.specs.Begun.{HasSome, Begins, Before}
 use Rattle.oas_num.specs.BegunLaws.{HasSome-first, HasSome-second_of, HasSome-count, Before-begins, Before-as}
-use Rattle.oas_num.specs.Reading.{ReadsValue, FailsBy, Fails, FailsPiece}
+use Rattle.oas_num.specs.Reading.{ReadsValue, FailsBy, Fails, FailsPiece, is_cut}
 use Rattle.oas_num.proofs.ReadLemmas.{Takes-none, Takes-then, Wants, Fails-after, Begins-after, Before-after}
 
 -- The fields so far were read, and a spelling of the rest, of which there is one, makes the whole.
@@ -109,6 +109,13 @@ image_fails {A = A} {may = may} {piece = piece} {old = old} {new = new} {why = w
     Fails-after (IsImage f A) A may may old old new why [] (λ _ h. h) (Takes-none old) (record { wants = λ v p r rest s e. (s.from, p, r, s.spelled, e) })
     (Before-as piece A (IsImage f A) (λ a b. record { value = f b.value; rest = b.rest; spelled = record { from = b.value; is = refl; spelled = b.spelled } })) g
 
+-- the other reasons are of what was read, or of the memory
+pub uncut : (why : Why) → why ≢ Truncated → why ≢ Read → why ≢ InputTooLong → ¬ IsTrue (is_cut why)
+uncut Truncated a b c is = a refl
+uncut Read a b c is = b refl
+uncut InputTooLong a b c is = c refl
+uncut _ a b c is = cc
+
 -- a value that is refused, by a reason that its bytes show
 module _ {V : Type 0} (P : V → Type 0) (A : V → List ℕ → Type 0) where
   pub refused : (may : Why → List ℕ → Type 0) (old new : Script) (why : Why) (v : V) → OneFront A → (read : ReadsValue A old v new) → ¬ P v → may why read.bytes
@@ -118,6 +125,7 @@ module _ {V : Type 0} (P : V → Type 0) (A : V → List ℕ → Type 0) where
     takes = read.takes;
     reason = record { front = []; last = read.bytes; joined = refl; begun = refl; holds = reason };
     format = λ _. record { none = λ w p r more s e. let one = law.one w v p read.bytes r more s.spelled read.spelled e in isnt (subst P one.1 s.holds) };
+    cut = λ is. absurd (uncut why a b c is);
     truncated = λ is. absurd (a is);
     device = λ is. absurd (b is);
     too_long = λ is. absurd (c is);
@@ -130,6 +138,7 @@ no_memory A may old new front last begun allows takes = record {
   takes = takes;
   reason = record { front = front; last = last; joined = refl; begun = begun; holds = allows };
   format = λ is. absurd cc;
+  cut = λ is. absurd cc;
   truncated = λ is. absurd cc;
   device = λ is. absurd cc;
   too_long = λ is. absurd cc;

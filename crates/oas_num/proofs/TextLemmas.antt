@@ -74,7 +74,8 @@ text_fails {whole = whole} {next = next} {old = old} {mid = mid} {new = new} m f
   takes = Takes-then old mid new m.bytes f.bytes m.takes f.takes;
   reason = reason;
   format = λ is. NoneFits-after whole next m.bytes f.bytes m.wants (f.format is);
-  truncated = λ is. let g = f.truncated is in (NoneWithin-after whole next m.bytes f.bytes m.wants g.0, g.1);
+  cut = λ is. NoneWithin-after whole next m.bytes f.bytes m.wants (f.cut is);
+  truncated = f.truncated;
   device = f.device;
   too_long = f.too_long;
 }

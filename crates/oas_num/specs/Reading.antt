@@ -15,6 +15,13 @@ is_format InputTooLong = false
 is_format Memory = false
 is_format _ = true
 
+-- The input ended, or stopped, before the bytes decided.
+abbrev pub is_cut : Why → Bool
+is_cut Truncated = true
+is_cut Read = true
+is_cut InputTooLong = true
+is_cut _ = false
+
 -- The tables below say of each reason what the bytes are that decided: those with which what was read ends.
 
 -- the first bytes of an integer of which more follow, or none
@@ -117,6 +124,11 @@ pub record NoneFits {V : Type 0} (spells : V → List ℕ → Type 0) (bytes : L
 pub record NoneWithin {V : Type 0} (spells : V → List ℕ → Type 0) (bytes : List ℕ) : Type 0 where
   pub none : (v : V) (front rest : List ℕ) → spells v front → front ++ rest ≢ bytes
 
+-- What was read of a value so far, which ends with bytes of which that holds, and of which no front spells one.
+pub record IsCutOff {V : Type 0} (spells : V → List ℕ → Type 0) (P : List ℕ → Type 0) (bytes : List ℕ) : Type 0 where
+  pub reason : Decides false spells P bytes
+  pub none : NoneWithin spells bytes
+
 -- A value was read: exactly a spelling of it was taken.
 pub record ReadsValue {V : Type 0} (spells : V → List ℕ → Type 0) (old : Script) (v : V) (new : Script) : Type 0 where
   pub bytes : List ℕ
@@ -129,7 +141,8 @@ pub record FailsBy {V : Type 0} (piece : Bool) (spells : V → List ℕ → Type
   pub takes : Takes old bytes new
   pub reason : Decides piece spells (may why) bytes
   pub format : IsTrue (is_format why) → NoneFits spells bytes
-  pub truncated : why ≡ Truncated → NoneWithin spells bytes × IsAtEnd new
+  pub cut : IsTrue (is_cut why) → NoneWithin spells bytes
+  pub truncated : why ≡ Truncated → IsAtEnd new
   pub device : why ≡ Read → HasFailed new
   pub too_long : why ≡ InputTooLong → IsTooLong new
 

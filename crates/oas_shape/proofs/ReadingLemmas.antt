@@ -37,6 +37,7 @@ as_piece so f = record {
   takes = f.takes;
   reason = record { front = []; last = f.bytes; joined = refl; begun = refl; holds = so f.bytes f.reason };
   format = f.format;
+  cut = f.cut;
   truncated = f.truncated;
   device = f.device;
   too_long = f.too_long;
@@ -56,6 +57,7 @@ from_piece so f = record {
   takes = f.takes;
   reason = so f.bytes (whole_piece f);
   format = f.format;
+  cut = f.cut;
   truncated = f.truncated;
   device = f.device;
   too_long = f.too_long;
@@ -68,6 +70,7 @@ no_memory_piece A took old new bytes holds takes = record {
   takes = takes;
   reason = record { front = []; last = bytes; joined = refl; begun = refl; holds = holds };
   format = λ is. absurd cc;
+  cut = λ is. absurd cc;
   truncated = λ is. absurd cc;
   device = λ is. absurd cc;
   too_long = λ is. absurd cc;
@@ -81,7 +84,8 @@ fails_behind spells next {old = old} {mid = mid} {new = new} front so takes want
   takes = Takes-then old mid new front f.bytes takes f.takes;
   reason = record { front = []; last = front ++ f.bytes; joined = refl; begun = refl; holds = so f.bytes (whole_piece f) };
   format = λ is. NoneFits-after spells next front f.bytes wants (f.format is);
-  truncated = λ is. let g = f.truncated is in (NoneWithin-after spells next front f.bytes wants g.0, g.1);
+  cut = λ is. NoneWithin-after spells next front f.bytes wants (f.cut is);
+  truncated = f.truncated;
   device = f.device;
   too_long = f.too_long;
 }

@@ -98,6 +98,7 @@ by_list kind known along has_grid old new (Err why) e lists read =
       takes = read.takes;
       reason = record { front = []; last = read.bytes; joined = refl; begun = refl; holds = elim (whole_piece read) [ inl d ↦ inl d | inr l ↦ inr (record { along = along; has_grid = has_grid; lists = lists; listed = l }) ] };
       format = read.format;
+      cut = read.cut;
       truncated = read.truncated;
       device = read.device;
       too_long = read.too_long;
