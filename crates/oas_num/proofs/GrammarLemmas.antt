@@ -208,10 +208,14 @@ module _ {V : Type 0} (A : V → List ℕ → Type 0) (count : ℕ) where
         spelled = record { len = omega (arith, length-append vs (b.value ∷ more.value), more.spelled.len, left.1); each = subst (λ (c : List ℕ). IsEach A items c) (sym joined) all };
       }
 
+  -- after items, fewer than there are to be, another is wanted
+  pub listed_wants : {old now : Script} {vs : List V} → OneFront A → (l : Listed A old now vs) → length vs < count → Wants (IsCount A count) l.bytes A
+  listed_wants {vs = vs} law l lt = record { wants = λ x p r rest s e. each_wants A law vs x l.bytes p r rest (omega (arith, s.len, lt)) l.each s.each e }
+
   pub listed_fails : {piece : Bool} (may there : Why → List ℕ → Type 0) (old mid new : Script) (why : Why) (vs : List V) → OneFront A → HasSome A → ((last : List ℕ) → there why last → may why last) → length vs < count → Listed A old mid vs → FailsBy piece A there mid why new → Fails (IsCount A count) may old why new
   listed_fails {piece} may there old mid new why vs law some allows lt l f =
       Fails-after (IsCount A count) A may there old mid new why l.bytes allows l.takes
-      (record { wants = λ x p r rest s e. each_wants A law vs x l.bytes p r rest (omega (arith, s.len, lt)) l.each s.each e })
+      (listed_wants law l lt)
       (λ a h. count_begun vs l.bytes a lt l.each (Before-begins piece A some a h))
       f
 
@@ -281,9 +285,9 @@ module _ {V : Type 0} (P : V → Type 0) (A : V → List ℕ → Type 0) where
 pub wrapped_read : {W V : Type 0} {A : V → List ℕ → Type 0} {old new : Script} {w : W} (of : W → V) → ReadsValue A old (of w) new → ReadsValue (λ u bytes. A (of u) bytes) old w new
 wrapped_read of read = record { bytes = read.bytes; spelled = read.spelled; takes = read.takes }
 
-pub wrapped_fails : {W V : Type 0} {A : V → List ℕ → Type 0} {may : Why → List ℕ → Type 0} {old new : Script} {why : Why} (of : W → V) → HasSome (λ (u : W) bytes. A (of u) bytes) → FailsPiece A may old why new → Fails (λ (u : W) bytes. A (of u) bytes) may old why new
-wrapped_fails {A = A} {may = may} {old = old} {new = new} {why = why} of some f =
-    Fails-after (λ u bytes. A (of u) bytes) A may may old old new why [] (λ _ h. h) (Takes-none old) (record { wants = λ v p r rest s e. (of v, p, r, s, e) }) (λ a none. Before-begins true (λ u bytes. A (of u) bytes) some a none) f
+pub wrapped_fails : {W V : Type 0} {A : V → List ℕ → Type 0} {may : Why → List ℕ → Type 0} {old new : Script} {why : Why} (of : W → V) → FailsPiece A may old why new → FailsPiece (λ (u : W) bytes. A (of u) bytes) may old why new
+wrapped_fails {A = A} {may = may} {old = old} {new = new} {why = why} of f =
+    Fails-after (λ u bytes. A (of u) bytes) A may may old old new why [] (λ _ h. h) (Takes-none old) (record { wants = λ v p r rest s e. (of v, p, r, s, e) }) (λ _ none. none) f
 
 -- a value that is keyed by what is read before it, as a string by its length
 module _ {K V T : Type 0} (whole : T → List ℕ → Type 0) (key : V → K) (A : K → List ℕ → Type 0) (B : K → V → List ℕ → Type 0) (build : V → T) where

@@ -4,8 +4,10 @@ use Rattle.oas_num.specs.declared.refusals.Why.{Why}
 use Rattle.oas_num.specs.declared.refusals.Why.TheVariants.{Truncated, IntegerRange, StringByte, EmptyName, Read, InputTooLong, Memory}
 use Rattle.oas_num.specs.Script.{Script, Takes, IsAtEnd, HasFailed, IsTooLong}
 use Rattle.oas_num.specs.Integers.{IsOpen, IsUnsigned}
-use Rattle.oas_num.specs.Texts.{IsNameByte, IsLabelByte}
+use Rattle.oas_num.specs.Grammar.{IsSuch, IsByte}
+use Rattle.oas_num.specs.Texts.{IsNameByte, IsLabelByte, IsPositive}
 use Rattle.oas_num.specs.Begun.{Decides}
+use Rattle.oas_num.specs.Pieces.{PairTook, CountTook}
 
 -- The bytes that were read decided, and not the source or the memory.
 abbrev pub is_format : Why → Bool
@@ -108,6 +110,29 @@ LabelMay IntegerRange last = IsOutOfRange last
 LabelMay StringByte last = IsOutside IsLabelByte last
 LabelMay _ last = ⊥
 
+-- The tables below say of each reason what all bytes are that were read.
+
+-- where a read of the length of an n-string may fail
+abbrev pub NameLengthMay : Why → List ℕ → Type 0
+NameLengthMay EmptyName bytes = IsUnsigned 0 bytes
+NameLengthMay why bytes = IntegerMay why bytes
+
+-- where in it a read of so many bytes of a string may fail
+abbrev pub TextTook : (ℕ → Type 0) → ℕ → Why → List ℕ → Type 0
+TextTook class count = CountTook (IsSuch class IsByte) count (TextMay class)
+
+-- where in it a read of an n-string may fail
+abbrev pub NameTook : Why → List ℕ → Type 0
+NameTook = PairTook (IsSuch IsPositive IsUnsigned) NameLengthMay (TextTook IsNameByte)
+
+-- where in it a read of an a-string may fail
+abbrev pub LabelTook : Why → List ℕ → Type 0
+LabelTook = PairTook IsUnsigned IntegerMay (TextTook IsLabelByte)
+
+-- where in it a read of a string that is passed over may fail
+abbrev pub PaddingTook : Why → List ℕ → Type 0
+PaddingTook = PairTook IsUnsigned IntegerMay (λ count. CountTook IsByte count ByteMay)
+
 -- the bytes spell an item
 abbrev pub IsItem : {V : Type 0} → (V → List ℕ → Type 0) → List ℕ → Type 0
 IsItem {V} spells last = (v : V) × spells v last
@@ -168,3 +193,8 @@ ReadsPiece spells may old (Err why) new = FailsPiece spells may old why new
 abbrev pub ReadsAs : {X V : Type 0} → (X → V) → (V → List ℕ → Type 0) → (Why → List ℕ → Type 0) → Script → Result X Why → Script → Type 0
 ReadsAs view spells may old (Ok x) new = ReadsValue spells old (view x) new
 ReadsAs view spells may old (Err why) new = Fails spells may old why new
+
+-- The same, of one piece.
+abbrev pub ReadsPieceAs : {X V : Type 0} → (X → V) → (V → List ℕ → Type 0) → (Why → List ℕ → Type 0) → Script → Result X Why → Script → Type 0
+ReadsPieceAs view spells may old (Ok x) new = ReadsValue spells old (view x) new
+ReadsPieceAs view spells may old (Err why) new = FailsPiece spells may old why new
