@@ -18,6 +18,8 @@ use Rattle.oas_num.specs.Script.{Script, Takes, IsAtEnd}
 use Rattle.oas_num.specs.Style.{Any}
 use Rattle.oas_num.specs.Texts.{IsNameByte, IsOf, IsName, name_in}
 use Rattle.oas_num.proofs.ReadLemmas.{Takes-then}
+use Rattle.oas_num.proofs.RealLemmas.{real_decides}
+use Rattle.oas_num.proofs.TextLemmas.{label_decides}
 use Rattle.oas_canon.specs.declared.collecting.Collected.{Collected}
 use Rattle.oas_canon.specs.declared.limits.Limits.{Limits}
 use Rattle.oas_canon.specs.declared.rectangles.Rectangle.{Rectangle}
@@ -62,8 +64,8 @@ after_magic front left whole more is file e =
 
 not_writing : (last : List ℕ) → StartMay Write last → ⊥
 not_writing last (inl h) = h
-not_writing last (inr (inl h)) = h.reason.holds
-not_writing last (inr (inr h)) = h.reason.holds
+not_writing last (inr (inl h)) = (label_decides Write last h.0).holds
+not_writing last (inr (inr h)) = (real_decides Write last h.0).holds
 
 pub start_refused : {old mid new : Script} {why : Why} (limits : Limits) → ReadsValue (IsExactly magic) old tt mid → Fails (IsStart Any) StartMay mid why new → IsRefused limits old why new
 start_refused {old = old} {mid = mid} {new = new} {why = why} limits m f = record {

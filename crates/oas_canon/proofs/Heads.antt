@@ -11,18 +11,21 @@ use Rattle.oas_num.specs.Script.{Script}
 use Rattle.oas_num.specs.Grammar.{IsPair, IsCount}
 use Rattle.oas_num.specs.Integers.{IsUnsigned}
 use Rattle.oas_num.specs.IntegerLaws.{OneFront-IsUnsigned}
-use Rattle.oas_num.specs.Reals.{SpellsReal, RealMay}
+use Rattle.oas_num.specs.Reals.{SpellsReal, RealTook}
 use Rattle.oas_num.specs.RealLaws.{OneFront-SpellsReal}
 use Rattle.oas_num.specs.Style.{Any}
 use Rattle.oas_num.specs.Texts.{SpellsLabel}
 use Rattle.oas_num.specs.TextLaws.{OneFront-label}
-use Rattle.oas_num.specs.Reading.{Fails, FailsPiece, ReadsValue, IntegerMay, LabelMay, IsCutOff}
-use Rattle.oas_num.proofs.ReadLemmas.{Takes-none, Fails-after, within_none, fails_cut_off}
+use Rattle.oas_num.specs.Reading.{Fails, FailsPiece, ReadsValue, IntegerMay, NoneWithin, LabelTook}
+use Rattle.oas_num.proofs.ReadLemmas.{Takes-none, Fails-after, within_none, none_whole}
+use Rattle.oas_num.proofs.PieceLemmas.{whole_piece}
+use Rattle.oas_num.proofs.RealLemmas.{real_decides}
+use Rattle.oas_num.proofs.TextLemmas.{label_decides}
 use Rattle.oas_num.proofs.GrammarLemmas.{Midway, ◌▸◌, fails_at, such_read}
 use Rattle.oas_canon.specs.File.{IsNumber, IsAbove, unit_in, version, IsVersion, StartParts, IsStartParts, start_parts, IsStart, offsets_in, IsTwelve}
 use Rattle.oas_canon.specs.FileLaws.{OneFront-number, OneFront-version, OneFront-unit}
 use Rattle.oas_canon.specs.Reasons.{VersionMay, UnitMay, StartMay}
-use Rattle.oas_canon.proofs.Pins.{piece_reason, whole_fails, pinned_read, pinned_fails, pinned_refused}
+use Rattle.oas_canon.proofs.Pins.{whole_fails, pinned_read, pinned_fails, pinned_refused}
 use Rattle.oas_canon.proofs.Somes.{HasSome-start_parts}
 
 -- ---- reasons
@@ -33,26 +36,26 @@ StartMay-integer OffsetFlag last h = absurd h
 StartMay-integer _ last h = inl h
 
 -- why an a-string couldn't be read
-version_took : {old new : Script} (why : Why) → (f : Fails SpellsLabel LabelMay old why new) → VersionMay why f.bytes
-version_took Version f = absurd f.reason.holds
-version_took Memory f = f.reason
-version_took Truncated f = record { reason = f.reason; none = f.cut refl }
-version_took Read f = record { reason = f.reason; none = f.cut refl }
-version_took InputTooLong f = record { reason = f.reason; none = f.cut refl }
-version_took _ f = record { reason = f.reason; none = within_none (f.format refl) }
+version_took : {old new : Script} (why : Why) → (f : FailsPiece SpellsLabel LabelTook old why new) → VersionMay why f.bytes
+version_took Version f = absurd (label_decides Version f.bytes (whole_piece f)).holds
+version_took Memory f = whole_piece f
+version_took Truncated f = (whole_piece f, f.cut refl)
+version_took Read f = (whole_piece f, f.cut refl)
+version_took InputTooLong f = (whole_piece f, f.cut refl)
+version_took _ f = (whole_piece f, within_none (f.format refl))
 
 pub StartMay-version : (why : Why) (last : List ℕ) → VersionMay why last → StartMay why last
-StartMay-version (OutOfPlace id) last h = absurd h.reason.holds
-StartMay-version OffsetFlag last h = absurd h.reason.holds
+StartMay-version (OutOfPlace id) last h = absurd (label_decides (OutOfPlace id) last h.0).holds
+StartMay-version OffsetFlag last h = absurd (label_decides OffsetFlag last h.0).holds
 StartMay-version _ last h = inr (inl h)
 
-UnitMay-real : (why : Why) (last : List ℕ) → IsCutOff SpellsReal (RealMay why) last → UnitMay why last
-UnitMay-real BadUnit last h = absurd h.reason.holds
+UnitMay-real : (why : Why) (last : List ℕ) → RealTook why last × NoneWithin SpellsReal last → UnitMay why last
+UnitMay-real BadUnit last h = absurd (real_decides BadUnit last h.0).holds
 UnitMay-real _ last h = h
 
 StartMay-unit : (why : Why) (last : List ℕ) → UnitMay why last → StartMay why last
-StartMay-unit (OutOfPlace id) last h = absurd h.reason.holds
-StartMay-unit OffsetFlag last h = absurd h.reason.holds
+StartMay-unit (OutOfPlace id) last h = absurd (real_decides (OutOfPlace id) last h.0).holds
+StartMay-unit OffsetFlag last h = absurd (real_decides OffsetFlag last h.0).holds
 StartMay-unit _ last h = inr (inr h)
 
 -- ---- what a comparison of texts tells
@@ -105,7 +108,7 @@ starts s = record {
   some = HasSome-start_parts;
 }
 
-pub version_fails : {old new : Script} {why : Why} → Fails SpellsLabel LabelMay old why new → FailsPiece (IsVersion Any) VersionMay old why new
+pub version_fails : {old new : Script} {why : Why} → FailsPiece SpellsLabel LabelTook old why new → FailsPiece (IsVersion Any) VersionMay old why new
 version_fails {why = why} f = pinned_fails version f (version_took why f)
 
 pub version_read : {old new : Script} {text : List ℕ} → text ≡ version → ReadsValue SpellsLabel old text new → ReadsValue (IsVersion Any) old tt new
@@ -115,7 +118,7 @@ pub version_other : {old new : Script} {text : List ℕ} → text ≢ version �
 version_other {text = text} other read = pinned_refused version (OneFront-label Any) read other (text, read.spelled, other) (record { ended = λ e. cc; device = λ e. cc; long = λ e. cc })
 
 pub id_fails : {old new : Script} {why : Why} → FailsPiece IsUnsigned IntegerMay old why new → Fails (IsStart Any) StartMay old why new
-id_fails {why = why} f = fails_at (starts _) (λ _ _ h. h) (pinned_fails 1 f (StartMay-integer why f.bytes (piece_reason f)))
+id_fails {why = why} f = fails_at (starts _) (λ _ _ h. h) (pinned_fails 1 f (StartMay-integer why f.bytes (whole_piece f)))
 
 pub id_other : {old new : Script} {id : ℕ} → id ≢ 1 → ReadsValue IsUnsigned old id new → Fails (IsStart Any) StartMay old (OutOfPlace id) new
 id_other other read = fails_at (starts _) (λ _ _ h. h) (pinned_refused 1 OneFront-IsUnsigned read other (read.spelled, other) (record { ended = λ e. cc; device = λ e. cc; long = λ e. cc }))
@@ -141,8 +144,8 @@ module _ {s0 s1 : Script} {id : ℕ} (is : id ≡ 1) (id_read : ReadsValue IsUns
     pub with_version : Midway (IsStart Any) AfterVersion (λ (p : Real × (Unit {0} × Unit {0})). p.0) s0 s2
     with_version = with_id ▸ (OneFront-version, version_read)
 
-    pub unit_fails : {s3 : Script} {why : Why} → Fails SpellsReal RealMay s2 why s3 → Fails (IsStart Any) StartMay s0 why s3
-    unit_fails {why = why} f = fails_at with_version (λ _ _ h. h) (whole_fails [] (Takes-none s2) (record { wants = λ v p r rest s e. (v, p, r, s.spelled, e) }) f (StartMay-unit why f.bytes (UnitMay-real why f.bytes (fails_cut_off (λ _ h. h) f))))
+    pub unit_fails : {s3 : Script} {why : Why} → FailsPiece SpellsReal RealTook s2 why s3 → Fails (IsStart Any) StartMay s0 why s3
+    unit_fails {why = why} f = fails_at with_version (λ _ _ h. h) (whole_fails [] (Takes-none s2) (record { wants = λ v p r rest s e. (v, p, r, s.spelled, e) }) f (StartMay-unit why f.bytes (UnitMay-real why f.bytes (whole_piece f, none_whole (λ last h. (real_decides Memory last h).holds) f))))
 
     pub unit_other : {s3 : Script} {u : Real} → ¬ IsAbove u → ReadsValue SpellsReal s2 u s3 → Fails (IsStart Any) StartMay s0 BadUnit s3
     unit_other {s3 = s3} {u = u} other read = fails_at with_version (λ _ _ h. h) (unit_refused other read)
@@ -152,7 +155,7 @@ module _ {s0 s1 : Script} {id : ℕ} (is : id ≡ 1) (id_read : ReadsValue IsUns
       with_unit = with_version ▸ (OneFront-unit, such_read IsAbove SpellsReal s2 s3 u above unit_read)
 
       pub flag_fails : {s4 : Script} {why : Why} → FailsPiece IsUnsigned IntegerMay s3 why s4 → Fails (IsStart Any) StartMay s0 why s4
-      flag_fails {why = why} f = fails_at with_unit (λ _ _ h. h) (pinned_fails 0 f (StartMay-integer why f.bytes (piece_reason f)))
+      flag_fails {why = why} f = fails_at with_unit (λ _ _ h. h) (pinned_fails 0 f (StartMay-integer why f.bytes (whole_piece f)))
 
       pub flag_other : {s4 : Script} {flag : ℕ} → flag ≢ 0 → ReadsValue IsUnsigned s3 flag s4 → Fails (IsStart Any) StartMay s0 OffsetFlag s4
       flag_other {flag = flag} other read = fails_at with_unit (λ _ _ h. h) (pinned_refused 0 OneFront-IsUnsigned read other (flag, read.spelled, other) (record { ended = λ e. cc; device = λ e. cc; long = λ e. cc }))

@@ -19,10 +19,6 @@ pub record IsOfBytes (why : Why) : Type 0 where
   pub device : why ≢ Read
   pub long : why ≢ InputTooLong
 
--- what holds of the bytes of a piece that decided holds of all that was read
-pub piece_reason : {V : Type 0} {A : V → List ℕ → Type 0} {there : Why → List ℕ → Type 0} {old new : Script} {why : Why} (f : FailsPiece A there old why new) → there why f.bytes
-piece_reason {there = there} {why = why} f = let r = f.reason in subst (λ (b : List ℕ). there why b) (sym (r.joined ∙ ap (λ (c : List ℕ). c ++ r.last) r.begun)) r.holds
-
 -- after a front a part fails, and all of it is read as one piece: what was read of it decided
 pub whole_fails : {V W : Type 0} {piece : Bool} {A : V → List ℕ → Type 0} {B : W → List ℕ → Type 0} {may there : Why → List ℕ → Type 0} {old mid new : Script} {why : Why} (front : List ℕ) → Takes old front mid → Wants B front A → (f : FailsBy piece A there mid why new) → may why (front ++ f.bytes) → FailsPiece B may old why new
 whole_fails {old = old} {mid = mid} {new = new} front takes wants f reason = record {

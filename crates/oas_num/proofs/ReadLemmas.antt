@@ -88,11 +88,12 @@ kinds Memory isnt = absurd (isnt refl)
 kinds _ isnt = inl refl
 
 -- so a read that fails for want of anything else had no whole spelling
+pub none_whole : {V : Type 0} {piece : Bool} {A : V → List ℕ → Type 0} {may : Why → List ℕ → Type 0} {old new : Script} {why : Why} → ((last : List ℕ) → ¬ may Memory last) → (f : FailsBy piece A may old why new) → NoneWithin A f.bytes
+none_whole {may = may} {why = why} never f =
+    elim (kinds why (λ e. never f.reason.last (subst (λ (w : Why). may w f.reason.last) e f.reason.holds))) [ inl is ↦ within_none (f.format is) | inr is ↦ f.cut is ]
+
 pub fails_cut_off : {V : Type 0} {A : V → List ℕ → Type 0} {may : Why → List ℕ → Type 0} {old new : Script} {why : Why} → ((last : List ℕ) → ¬ may Memory last) → (f : Fails A may old why new) → IsCutOff A (may why) f.bytes
-fails_cut_off {may = may} {why = why} never f = record {
-  reason = f.reason;
-  none = elim (kinds why (λ e. never f.reason.last (subst (λ (w : Why). may w f.reason.last) e f.reason.holds))) [ inl is ↦ within_none (f.format is) | inr is ↦ f.cut is ];
-}
+fails_cut_off never f = record { reason = f.reason; none = none_whole never f }
 
 -- what is of one piece begins by nothing
 pub piece_fails : {V : Type 0} {A : V → List ℕ → Type 0} {may : Why → List ℕ → Type 0} {old new : Script} {why : Why} → HasSome A → FailsPiece A may old why new → Fails A may old why new

@@ -1,5 +1,5 @@
 -- Reading the front of a file.
-use Rattle.std.proofs.Common.{◌≡◌, ◌≢◌, ℕ, ◌+◌, ◌*◌, ◌<◌, ◌≤◌, false, List, [], ◌∷◌, ◌++◌, length, get_or, Err, IsTrue, inl, inr, refl, sym, ap, subst, ◌∙◌, append_assoc, arith}
+use Rattle.std.proofs.Common.{Bool, ◌≡◌, ◌≢◌, ℕ, ◌+◌, ◌*◌, ◌<◌, ◌≤◌, false, List, [], ◌∷◌, ◌++◌, length, get_or, Err, IsTrue, inl, inr, refl, sym, ap, subst, ◌∙◌, append_assoc, arith}
 use Rattle.std.specs.Prelude.{◌⊎◌, ◌==◌}
 use Rattle.std.proofs.lemmas.List.{append-nil, append_cancel_left, length-append}
 use Rattle.std.proofs.lemmas.Nat.{mul-le}
@@ -14,13 +14,15 @@ use Rattle.oas_num.specs.IntegerLaws.{OneFront-IsUnsigned}
 use Rattle.oas_num.specs.Style.{Any}
 use Rattle.oas_num.specs.Texts.{IsLabelByte, IsOf, IsText, label_in, SpellsLabel}
 use Rattle.oas_num.specs.TextLaws.{OneFront-label, OneFront-class, HasSome-label, HasSome-class}
-use Rattle.oas_num.specs.Reals.{real_in, RealMay}
+use Rattle.oas_num.specs.Reals.{real_in, RealTook}
 use Rattle.oas_num.specs.RealLaws.{OneFront-real}
 use Rattle.oas_num.specs.declared.texts.TextClass.TheVariants as classes
 use Rattle.oas_num.specs.Begun.{HasSome, Begins}
 use Rattle.oas_num.specs.BegunLaws.{Begins-none}
-use Rattle.oas_num.specs.Reading.{ReadsValue, Fails, FailsPiece, ByteMay, IntegerMay, ClassMay, IsCutOff}
-use Rattle.oas_num.proofs.ReadLemmas.{Takes-none, Takes-then, Wants, NoneFits-after, NoneWithin-after, Fails-after, fails_cut_off}
+use Rattle.oas_num.specs.Reading.{ReadsValue, Fails, FailsBy, FailsPiece, ByteMay, IntegerMay, ClassMay}
+use Rattle.oas_num.proofs.ReadLemmas.{Takes-none, Takes-then, Wants, NoneFits-after, NoneWithin-after, Fails-after, none_whole, fails_cut_off}
+use Rattle.oas_num.proofs.PieceLemmas.{whole_piece}
+use Rattle.oas_num.proofs.RealLemmas.{real_decides}
 use Rattle.oas_num.proofs.TextLemmas.{with_label_length}
 use Rattle.oas_num.proofs.GrammarLemmas.{Midway, begins, seen, ◌▸◌, fails_at_piece, fails_last, key_fails, such_read, such_fails_by, refused, Listed, listed_none, listed_more, listed_fails, listed_all}
 use Rattle.oas_record.specs.declared.heads.Head.{Head}
@@ -124,12 +126,12 @@ magic_done old new count v is m = record { bytes = m.front; spelled = none_left 
 -- ---- what is read as one piece
 
 -- a part of it decided
-pub as_whole : {U V : Type 0} {whole : U → List ℕ → Type 0} {A : V → List ℕ → Type 0} {may there : Why → List ℕ → Type 0} {old new : Script} {why : Why}
-    → HasSome whole → Wants whole [] A → ((last : List ℕ) → ¬ there Memory last) → ((why : Why) (last : List ℕ) → IsCutOff A (there why) last → may why last) → Fails A there old why new → Fails whole may old why new
-as_whole {whole = whole} {A = A} {why = why} some wants never allows f = record {
+pub as_whole : {U V : Type 0} {piece : Bool} {whole : U → List ℕ → Type 0} {A : V → List ℕ → Type 0} {may there : Why → List ℕ → Type 0} {old new : Script} {why : Why}
+    → HasSome whole → Wants whole [] A → (f : FailsBy piece A there old why new) → may why f.bytes → Fails whole may old why new
+as_whole {whole = whole} {A = A} some wants f holds = record {
   bytes = f.bytes;
   takes = f.takes;
-  reason = record { front = []; last = f.bytes; joined = refl; begun = Begins-none whole some; holds = allows why f.bytes (fails_cut_off never f) };
+  reason = record { front = []; last = f.bytes; joined = refl; begun = Begins-none whole some; holds = holds };
   format = λ is. NoneFits-after whole A [] f.bytes wants (f.format is);
   cut = λ is. NoneWithin-after whole A [] f.bytes wants (f.cut is);
   truncated = f.truncated;
@@ -141,7 +143,8 @@ as_whole {whole = whole} {A = A} {why = why} some wants never allows f = record 
 
 -- the a-string fails
 label_fails : {old new : Script} {why : Why} → Fails SpellsLabel PassedMay old why new → Fails (version_in Any) VersionMay old why new
-label_fails f = as_whole {A = SpellsLabel} {there = PassedMay} HasSome-version (record { wants = λ v p r rest s e. (version, p, r, s, e) }) (λ _ h. h) VersionMay-passed f
+label_fails {why = why} f =
+    as_whole HasSome-version (record { wants = λ v p r rest s e. (version, p, r, s, e) }) f (VersionMay-passed why f.bytes (fails_cut_off (λ _ h. h) f))
 
 -- its length fails
 pub version_length_fails : {old new : Script} {why : Why} → FailsPiece IsUnsigned IntegerMay old why new → Fails (version_in Any) VersionMay old why new
@@ -224,8 +227,9 @@ product_some a b n p q e = let m : 1 * 1 ≤ a * b = mul-le 1 1 a b p q in omega
 positive_unit : (r : Real) (unit : Ratio) → IsUnit r unit → IsPositiveReal r
 positive_unit r unit h = (h.positive, (product_some unit.num h.reduces.divisor r.num h.reduces.lowest.num_some h.reduces.some h.reduces.num_is, product_some unit.den h.reduces.divisor r.den h.reduces.lowest.den_some h.reduces.some h.reduces.den_is))
 
-pub unit_fails : {old new : Script} {why : Why} → Fails (real_in Any) RealMay old why new → Fails SpellsUnit UnitMay old why new
-unit_fails f = as_whole {A = real_in Any} {there = RealMay} HasSome-unit (record { wants = λ v p r rest s e. (s.real, p, r, s.spelled, e) }) (λ _ h. h) UnitMay-real f
+pub unit_fails : {old new : Script} {why : Why} → FailsPiece (real_in Any) RealTook old why new → Fails SpellsUnit UnitMay old why new
+unit_fails {why = why} f =
+    as_whole HasSome-unit (record { wants = λ v p r rest s e. (s.real, p, r, s.spelled, e) }) f (UnitMay-real why f.bytes (whole_piece f, none_whole (λ last h. (real_decides Memory last h).holds) f))
 
 pub unit_refused : {old new : Script} (r : Real) → ¬ IsPositiveReal r → ReadsValue (real_in Any) old r new → Fails SpellsUnit UnitMay old UnitIsRefused new
 unit_refused r isnt read = record {

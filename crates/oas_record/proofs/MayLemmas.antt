@@ -4,8 +4,9 @@ use Rattle.oas_num.specs.declared.refusals.Why.{Why}
 use Rattle.oas_num.specs.declared.refusals.Why.TheVariants.{Truncated, IntegerRange, StringByte, EmptyName, FloatReal, RealType, RecordLeftOut, UnknownRecord, OutOfPlace, ListKind, PointCount, RepetitionKind, CoordinateRange, EndLength, InputTooLong, Read, Memory, Version, OffsetFlag, Unit as UnitIsRefused}
 use Rattle.oas_num.specs.Style.{Any}
 use Rattle.oas_num.specs.Texts.{IsLabelByte, label_in}
-use Rattle.oas_num.specs.Reals.{real_in, RealMay}
-use Rattle.oas_num.specs.Reading.{ByteMay, IntegerMay, NameMay, LabelMay, ClassMay, IsCutOff}
+use Rattle.oas_num.specs.Reals.{real_in, RealMay, RealTook}
+use Rattle.oas_num.specs.Reading.{ByteMay, IntegerMay, NameMay, LabelMay, ClassMay, NoneWithin, IsCutOff}
+use Rattle.oas_num.proofs.RealLemmas.{real_decides}
 use Rattle.oas_num.proofs.IntegerLemmas.{unended_none}
 use Rattle.oas_shape.specs.declared.list_use.ListUse.{ListUse}
 use Rattle.oas_shape.specs.PointLists.{PointListMay}
@@ -128,8 +129,8 @@ pub VersionMay-passed : (why : Why) (last : List ℕ) → IsCutOff (label_in Any
 VersionMay-passed Version last d = absurd d.reason.holds
 VersionMay-passed _ last d = d
 
-pub UnitMay-real : (why : Why) (last : List ℕ) → IsCutOff (real_in Any) (RealMay why) last → UnitMay why last
-UnitMay-real UnitIsRefused last d = absurd d.reason.holds
+pub UnitMay-real : (why : Why) (last : List ℕ) → RealTook why last × NoneWithin (real_in Any) last → UnitMay why last
+UnitMay-real UnitIsRefused last d = absurd (real_decides UnitIsRefused last d.0).holds
 UnitMay-real _ last d = d
 
 pub StartMay-integer : (why : Why) (last : List ℕ) → IntegerMay why last → StartMay why last
@@ -143,6 +144,6 @@ StartMay-version (OutOfPlace id) last d = absurd d.reason.holds
 StartMay-version _ last h = inr (inl h)
 
 pub StartMay-unit : (why : Why) (last : List ℕ) → UnitMay why last → StartMay why last
-StartMay-unit OffsetFlag last d = absurd d.reason.holds
-StartMay-unit (OutOfPlace id) last d = absurd d.reason.holds
+StartMay-unit OffsetFlag last d = absurd (real_decides OffsetFlag last d.0).holds
+StartMay-unit (OutOfPlace id) last d = absurd (real_decides (OutOfPlace id) last d.0).holds
 StartMay-unit _ last h = inr (inr h)

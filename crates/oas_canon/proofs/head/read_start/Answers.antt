@@ -23,7 +23,7 @@ returns-in_err-read_version g c =
 pub returns-in_err-unit : goal.returns-in_err-unit
 returns-in_err-unit g c =
     let p = err_from_is_err_and c.from_residual-in_err-unit.result c.from_residual-in_err-unit.ensures.1 in
-    rw (p.1, p.2) (unit_fails c.if-id-ne-START.false c.in_ok-id.ensures c.in_ok-read_version.ensures c.in_err-unit.ensures.reads)
+    rw (p.1, p.2) (unit_fails c.if-id-ne-START.false c.in_ok-id.ensures c.in_ok-read_version.ensures c.in_err-unit.ensures.took)
 
 pub returns-then-not-is_above : goal.returns-then-not-is_above
 returns-then-not-is_above g c = unit_other c.if-id-ne-START.false c.in_ok-id.ensures c.in_ok-read_version.ensures (λ h. no_above (c.if-not-is_above.ensures.1 h)) c.in_ok-unit.ensures.reads

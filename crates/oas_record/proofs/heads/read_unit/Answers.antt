@@ -6,7 +6,7 @@ use Rattle.oas_record.proofs.heads.read_unit.Goals as goal
 pub returns-in_err-real : goal.returns-in_err-real
 returns-in_err-real g c =
     let p = err_from_is_err_and c.from_residual.result c.from_residual.ensures.1 in
-    rw (p.1, p.2) (unit_fails c.in_err-real.ensures.reads)
+    rw (p.1, p.2) (unit_fails c.in_err-real.ensures.took)
 
 pub returns-then-real : goal.returns-then-real
 returns-then-real g c = unit_refused _ (negative_isnt _ c.if-real.true) c.in_ok-real.ensures.reads
