@@ -42,7 +42,7 @@ module _ {W : Type 0} where
     pub works : o.failed ≡ false
     pub none : unsent o ≡ []
 
-  -- and was flushed after the last byte of it
+  -- and a flush after the last byte of it is on record
   pub record IsSent (o : Outlet W) : Type 0 where
     pub works : o.failed ≡ false
     pub none : unsent o ≡ []
