@@ -68,9 +68,12 @@ module _ {V W : Type 0} {A : V → List ℕ → Type 0} {B : V → W → List �
   }
 
   -- the second part, after the first was read
+  pub fails_second : {there took : Why → List ℕ → Type 0} {old mid new : Script} {v : V} {why : Why} → OneFront A → (read : ReadsValue A old v mid) → ((bytes : List ℕ) → there why bytes → took why (read.bytes ++ bytes)) → FailsPiece (B v) there mid why new → FailsPiece (IsPair A B) took old why new
+  fails_second {v = v} law read so f = fails_behind (IsPair A B) (B v) read.bytes so read.takes (second_wanted v read.bytes law read.spelled) f
+
   pub second_fails : {first : Why → List ℕ → Type 0} {second : V → Why → List ℕ → Type 0} {old mid new : Script} {v : V} {why : Why} → OneFront A → ReadsValue A old v mid → FailsPiece (B v) (second v) mid why new → FailsPiece (IsPair A B) (PairTook A first second) old why new
   second_fails {v = v} law read f =
-      fails_behind (IsPair A B) (B v) read.bytes (λ bytes h. inr (record { value = v; front = read.bytes; last = bytes; spelled = read.spelled; holds = h; joined = refl })) read.takes (second_wanted v read.bytes law read.spelled) f
+      fails_second law read (λ bytes h. inr (record { value = v; front = read.bytes; last = bytes; spelled = read.spelled; holds = h; joined = refl })) f
 
 -- what is keyed by what stands before it
 pub keyed_fails : {K V : Type 0} (key : V → K) {A : K → List ℕ → Type 0} {B : K → V → List ℕ → Type 0} {took : Why → List ℕ → Type 0} {old new : Script} {why : Why} → FailsPiece (IsPair A B) took old why new → FailsPiece (IsKeyed key A B) took old why new

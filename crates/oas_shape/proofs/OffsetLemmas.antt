@@ -14,13 +14,14 @@ use Rattle.oas_num.specs.Grammar.{IsImage, IsCount, IsSuch}
 use Rattle.oas_num.specs.Reading.{ReadsValue, Fails, FailsPiece, IntegerMay}
 use Rattle.oas_num.proofs.ReadLemmas.{Wants, fails_cut_off}
 use Rattle.oas_num.proofs.GrammarLemmas.{Listed, listed_none, listed_more, listed_all, such_read, such_fails, refused}
+use Rattle.oas_num.proofs.PieceLemmas.{fails_behind}
 use Rattle.oas_shape.specs.declared.offsets.Along.{Along}
 use Rattle.oas_shape.specs.Steps.{still, added, times, sums_after, IsNear, IsPartialSum}
 use Rattle.oas_shape.specs.Offsets.{offsets_by}
 use Rattle.oas_shape.specs.Repetitions.{displacement_in, IsOffsets, StepMay, AreOffsetsSoFar}
 use Rattle.oas_shape.specs.RepetitionLaws.{OneFront-displacement, still_is, still_near}
 use Rattle.oas_shape.proofs.SumLemmas.{all_more, at_middle, at_front}
-use Rattle.oas_shape.proofs.ReadingLemmas.{image_read, next_item, fails_behind, no_memory_piece}
+use Rattle.oas_shape.proofs.ReadingLemmas.{image_read, next_item, no_memory_piece}
 
 -- the sum of all steps, on top of what was before
 abbrev pub total : GDelta → List GDelta → GDelta
