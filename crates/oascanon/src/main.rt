@@ -5,8 +5,9 @@
 //! the streams of the process and calls them. What they promise to `main`:
 //!
 //! - [`run::run_canon`] answers status 0 where `oas_canon::canonicalize` answered Ok, and 1 where it refused. What was
-//!   read and written is what that call says of its answer (`Canonicalizes`, specs/Runs.antt), and what the error output
-//!   took is a front of the refusal's line, and nothing after an Ok (`AppendsFront`).
+//!   read and written is all that the contract of that call says of its answer (`Canonicalizes`, specs/Runs.antt), the
+//!   offset and the reason of a refusal among it, and what the error output took is a front of that refusal's line, and
+//!   nothing after an Ok (`AppendsFront`).
 //! - [`run::canon_telling`] is the same over a sink for that line, whose contract counts failures: the line was put, unless
 //!   the sink failed (`Ends`).
 //! - [`output::put_refusal`] puts the line `NAME: refused N at OFFSET` (`refusal_line`, specs/Lines.antt).

@@ -1,7 +1,8 @@
 //! Each growth refused in turn: a refused call answers want of memory, hands back what it was given and changes nothing.
 //!
-//! The heap is filled up and given back a small piece at a time, so that each call meets every state of want in its turn.
-//! Where the heap cannot be filled, as under a checker of addresses, no call is refused, and the answers are the same.
+//! The heap is filled up before a call, and given back a small piece after each refusal, so that the call meets every state
+//! of want in its turn. Where the heap cannot be filled, as under a checker of addresses, no call is refused, and the
+//! answers are the same.
 
 use super::{draft_of_a, element, holds, name, put};
 use crate::{Draft, Element, Limits, Profile};
@@ -10,12 +11,21 @@ use std::alloc::{AllocError, Global};
 use std::process::Abort;
 use std::test::Fail;
 
-/// Takes pieces of memory, from `most` bytes down to 16, until none is left or `held` is full.
+/// More bytes than any piece of memory that is there.
+const LARGEST: usize = 68_719_476_736;
+
+/// The bytes of the smallest piece.
+const SMALLEST: usize = 16;
+
+/// Below so many bytes each size of a piece is asked for: an allocator may keep what was given back apart by its size.
+const SMALL: usize = 2048;
+
+/// Takes pieces of memory, from `most` bytes down to the smallest, until none is left or `held` is full.
 fn fill(alloc: Global, most: usize, held: &mut Vec<Vec<u8>>) {
     let mut size = most;
-    for _ in 0..40u32 {
-        for _ in 0..200000u32 {
-            if held.len() >= held.capacity() || size < 16 {
+    for _ in 0..200u32 {
+        for _ in 0..200_000u32 {
+            if held.len() >= held.capacity() || size < SMALLEST {
                 break;
             }
             match Vec::with_capacity(alloc, size) {
@@ -25,35 +35,87 @@ fn fill(alloc: Global, most: usize, held: &mut Vec<Vec<u8>>) {
                 Err(AllocError) => break,
             }
         }
-        size /= 2;
+        size -= if size > SMALL {
+            size / 2
+        } else {
+            size.min(SMALLEST)
+        };
     }
 }
 
-/// All memory, but for some that can be had back a small piece at a time.
-fn take_all(alloc: Global) -> Result<Vec<Vec<u8>>, Fail> {
-    let mut held = Vec::with_capacity(alloc, 300000)?;
-    let room = Vec::<u8>::with_capacity(alloc, 65536)?;
-    fill(alloc, 68719476736, &mut held);
-    drop(room);
-    fill(alloc, 16, &mut held);
-    Ok(held)
+/// All memory, kept from the calls that a test makes.
+#[derive(Drop)]
+struct Hoard {
+    alloc: Global,
+    /// What is given back, a small piece at a time.
+    pieces: Vec<Vec<u8>>,
+    /// All else.
+    rest: Vec<Vec<u8>>,
+    /// Whether the heap could be filled.
+    is_full: bool,
+    /// How many calls were refused since it was filled.
+    refused: u32,
+}
+
+impl Hoard {
+    /// All memory that is there.
+    fn new(alloc: Global) -> Result<Hoard, AllocError> {
+        let mut pieces = Vec::with_capacity(alloc, 20_000)?;
+        let mut rest = Vec::with_capacity(alloc, 300_000)?;
+        let mut room = Vec::with_capacity(alloc, 8)?;
+        for _ in 0..8u32 {
+            room.push(Vec::<u8>::with_capacity(alloc, 65536)?)?;
+        }
+        fill(alloc, LARGEST, &mut rest);
+        drop(room);
+        fill(alloc, SMALLEST, &mut pieces);
+        let is_full = Vec::<u8>::with_capacity(alloc, SMALLEST).is_err();
+        Ok(Hoard {
+            alloc,
+            pieces,
+            rest,
+            is_full,
+            refused: 0,
+        })
+    }
+
+    /// Counts a refused call, and gives back a piece.
+    fn give_back(&mut self) {
+        self.refused = self.refused.saturating_add(1);
+        let _ = self.pieces.pop();
+    }
+
+    /// Counts a refused call, fills the heap again, and gives back a piece more than after the one before.
+    fn give_back_anew(&mut self) {
+        self.refused = self.refused.saturating_add(1);
+        fill(self.alloc, LARGEST, &mut self.rest);
+        for _ in 0..self.refused {
+            let _ = self.pieces.pop();
+        }
+    }
+
+    /// Fills the heap again, and answers whether a call was refused since it was last full.
+    fn fill_again(&mut self) -> bool {
+        let refused = self.refused > 0;
+        self.refused = 0;
+        fill(self.alloc, LARGEST, &mut self.rest);
+        refused
+    }
 }
 
 /// A draft, once there is memory for it.
-fn insist_on_draft(alloc: Global, unit: Fraction, held: &mut Vec<Vec<u8>>) -> Option<Draft> {
+fn insist_on_draft(unit: Fraction, hoard: &mut Hoard) -> Option<Draft> {
     for _ in 0..4000u32 {
-        match Draft::new(alloc, unit, Limits::standard(), Profile::Two) {
+        match Draft::new(hoard.alloc, unit, Limits::standard(), Profile::Two) {
             Ok(draft) => return Some(draft),
-            Err(AllocError) => {
-                let _ = held.pop();
-            }
+            Err(AllocError) => hoard.give_back(),
         }
     }
     None
 }
 
 /// Adds a cell with a name of one byte, and gives back a piece of memory after each refusal.
-fn insist_on_cell(rt: &impl Abort, draft: &mut Draft, mut name: Name, held: &mut Vec<Vec<u8>>) {
+fn insist_on_cell(rt: &impl Abort, draft: &mut Draft, mut name: Name, hoard: &mut Hoard) {
     let before = draft.cells();
     for _ in 0..4000u32 {
         match draft.add_cell(name) {
@@ -68,9 +130,24 @@ fn insist_on_cell(rt: &impl Abort, draft: &mut Draft, mut name: Name, held: &mut
                 name = back;
             }
         }
-        let _ = held.pop();
+        hoard.give_back();
     }
     assert!(rt; false, "a cell is never added");
+}
+
+/// Adds cells of these names. How many of them were refused at first.
+fn insist_on_cells(
+    rt: &impl Abort,
+    draft: &mut Draft,
+    names: Vec<Name>,
+    hoard: &mut Hoard,
+) -> usize {
+    let mut refused = 0usize;
+    for name in names {
+        insist_on_cell(rt, draft, name, hoard);
+        refused = refused.saturating_add(usize::from(hoard.fill_again()));
+    }
+    refused
 }
 
 /// Adds the element to the first cell so many times, or hands it back.
@@ -92,7 +169,7 @@ fn insist_on_element(
     mut element: Element,
     wanted: &Element,
     times: u64,
-    held: &mut Vec<Vec<u8>>,
+    hoard: &mut Hoard,
 ) {
     for _ in 0..4000u32 {
         match put_many(draft, element, times) {
@@ -102,16 +179,41 @@ fn insist_on_element(
                 element = back;
             }
         }
-        let _ = held.pop();
+        hoard.give_back();
     }
     assert!(rt; false, "an element is never added");
 }
 
-const LINES: &str = "rectangle 1 0 10 20 0 0
+/// More elements than a node of the tree holds, among them a polygon that is kept in another reading.
+const LINES: &str = "circle 1 0 1 0 0
+circle 1 0 2 0 0
+circle 1 0 3 0 0
+circle 1 0 4 0 0
+circle 1 0 5 0 0
+circle 1 0 6 0 0
+circle 1 0 7 0 0
+circle 1 0 8 0 0
+circle 1 0 9 0 0
+circle 1 0 10 0 0
+circle 1 0 11 0 0
+circle 1 0 12 0 0
+circle 1 0 13 0 0
+circle 1 0 14 0 0
+circle 1 0 15 0 0
+circle 1 0 16 0 0
+circle 1 0 17 0 0
+circle 1 0 18 0 0
+circle 1 0 19 0 0
+circle 1 0 20 0 0
+rectangle 1 0 10 20 0 0
 polygon 1 0 10,20 10,0 5,5 0,0 0,20
 polygon 1 0 0,0 10,0 10,20 0,20
 rectangle 1 0 10 20 0 0
 text 3 0 0 0 Hi";
+
+/// What the cell then holds, in its order.
+const HELD: &str =
+    "1 text 3 0 0 0 Hi;10 rectangle 1 0 10 20 0 0;4 polygon 1 0 0,0 0,20 10,20 10,0 5,5;25 circle 1 0 1 0 0;24 circle 1 0 2 0 0;23 circle 1 0 3 0 0;22 circle 1 0 4 0 0;21 circle 1 0 5 0 0;20 circle 1 0 6 0 0;19 circle 1 0 7 0 0;18 circle 1 0 8 0 0;17 circle 1 0 9 0 0;16 circle 1 0 10 0 0;15 circle 1 0 11 0 0;14 circle 1 0 12 0 0;13 circle 1 0 13 0 0;12 circle 1 0 14 0 0;11 circle 1 0 15 0 0;10 circle 1 0 16 0 0;9 circle 1 0 17 0 0;8 circle 1 0 18 0 0;7 circle 1 0 19 0 0;6 circle 1 0 20 0 0";
 
 fn elements(alloc: Global) -> Result<Vec<Element>, Fail> {
     let mut list = Vec::new(alloc);
@@ -121,45 +223,70 @@ fn elements(alloc: Global) -> Result<Vec<Element>, Fail> {
     Ok(list)
 }
 
-/// Adds the elements, the last once, the one before it twice, and so on.
-fn insist_on_all(
+fn names(alloc: Global) -> Result<Vec<Name>, Fail> {
+    let mut list = Vec::new(alloc);
+    for text in "A B C D E F G H I J K L".split_whitespace() {
+        list.push(name(alloc, text)?)?;
+    }
+    Ok(list)
+}
+
+/// Adds the elements, the last once, the one before it twice, and so on. How many of them were refused at first.
+fn insist_on_elements(
     rt: &impl Abort,
     draft: &mut Draft,
     mut elements: Vec<Element>,
     wanted: &[Element],
-    held: &mut Vec<Vec<u8>>,
-) {
+    hoard: &mut Hoard,
+) -> usize {
     let mut times = 1;
+    let mut refused = 0usize;
     for wanted in wanted.iter().rev() {
         if let Some(element) = elements.pop() {
-            insist_on_element(rt, draft, element, wanted, times, held);
+            insist_on_element(rt, draft, element, wanted, times, hoard);
         }
+        refused = refused.saturating_add(usize::from(hoard.fill_again()));
         times = u64::min(times, 100) + 1;
     }
+    refused
+}
+
+/// A draft of the names' cells, the first of them with the elements. Where the heap was full, the draft was refused at
+/// first, and so were a cell for which the draft had no room, the cell's first element, one more than a node of the tree
+/// holds, and the polygon that is kept in another reading.
+fn insist_on_all(
+    rt: &impl Abort,
+    names: Vec<Name>,
+    elements: Vec<Element>,
+    wanted: &[Element],
+    hoard: &mut Hoard,
+) -> Option<Draft> {
+    let unit = Fraction::reduced(1000, 1)?;
+    let mut draft = insist_on_draft(unit, hoard)?;
+    let drafts = hoard.fill_again();
+    let cells = insist_on_cells(rt, &mut draft, names, hoard);
+    let elements = insist_on_elements(rt, &mut draft, elements, wanted, hoard);
+    assert!(rt; !hoard.is_full || drafts, "no draft was refused");
+    assert!(rt; !hoard.is_full || cells > 0, "no cell was refused");
+    assert!(rt;
+        !hoard.is_full || elements >= 3,
+        "too few elements were refused"
+    );
+    Some(draft)
 }
 
 #[test]
 fn drafts_without_memory(rt: HostRuntime) -> Result<(), Fail> {
     let alloc = rt.alloc();
-    let unit = Fraction::reduced(1000, 1).ok_or("no unit")?;
-    let a = name(alloc, "A")?;
+    let names = names(alloc)?;
     let given = elements(alloc)?;
     let wanted = elements(alloc)?;
-    let mut held = take_all(alloc)?;
-    let draft = insist_on_draft(alloc, unit, &mut held);
-    let Some(mut draft) = draft else {
-        held.clear();
-        return Err(Fail::new("a draft is never made"));
-    };
-    insist_on_cell(&rt, &mut draft, a, &mut held);
-    insist_on_all(&rt, &mut draft, given, &wanted, &mut held);
-    held.clear();
-    drop(held);
-    let layout = draft.seal()?;
-    assert_eq!(rt; layout.count(), 15);
-    let pairs =
-        "1 text 3 0 0 0 Hi;10 rectangle 1 0 10 20 0 0;4 polygon 1 0 0,0 0,20 10,20 10,0 5,5";
-    holds(&rt, alloc, &layout, 0, pairs)
+    let mut hoard = Hoard::new(alloc)?;
+    let draft = insist_on_all(&rt, names, given, &wanted, &mut hoard);
+    drop(hoard);
+    let layout = draft.ok_or("a draft is never made")?.seal()?;
+    assert!(rt; layout.cells() == 12 && layout.count() == 325);
+    holds(&rt, alloc, &layout, 0, HELD)
 }
 
 /// A draft of 26 cells, the last named first, with three circles.
@@ -172,8 +299,8 @@ fn draft_of_many(alloc: Global) -> Result<Draft, Fail> {
     Ok(draft)
 }
 
-/// Seals one draft after the other, and gives back a piece of memory after each refusal. Whether the last was sealed.
-fn seal_all(rt: &impl Abort, drafts: Vec<Draft>, held: &mut Vec<Vec<u8>>) -> bool {
+/// Seals one draft after the other, each after a refusal with a piece of memory more. Whether the last was sealed.
+fn seal_all(rt: &impl Abort, drafts: Vec<Draft>, hoard: &mut Hoard) -> bool {
     let mut sealed = false;
     for draft in drafts {
         match draft.seal() {
@@ -182,10 +309,10 @@ fn seal_all(rt: &impl Abort, drafts: Vec<Draft>, held: &mut Vec<Vec<u8>>) -> boo
                 sealed = true;
             }
             Err(AllocError) => {
+                hoard.give_back_anew();
                 sealed = false;
             }
         }
-        let _ = held.pop();
     }
     sealed
 }
@@ -197,10 +324,9 @@ fn seals_without_memory(rt: HostRuntime) -> Result<(), Fail> {
     for _ in 0..200u32 {
         drafts.push(draft_of_many(alloc)?)?;
     }
-    let mut held = take_all(alloc)?;
-    let sealed = seal_all(&rt, drafts, &mut held);
-    held.clear();
-    drop(held);
+    let mut hoard = Hoard::new(alloc)?;
+    let sealed = seal_all(&rt, drafts, &mut hoard);
+    assert!(rt; !hoard.is_full || hoard.refused > 0, "no seal was refused");
     assert!(rt; sealed, "a draft is never sealed");
     Ok(())
 }

@@ -1,15 +1,27 @@
+//! Each growth refused in turn: a call answers want of memory, or what it answers where there is memory.
+//!
+//! The heap is filled up, and given back a small piece at a time. Where it cannot be filled, as under a checker of
+//! addresses, no call is refused, and the answers are the same.
+
 use crate::{ListUse, PointList, RepField};
 use oas_num::{SliceSource, Why};
 use oas_ring::Point;
 use std::alloc::{AllocError, Global};
+use std::process::Abort;
 use std::test::Fail;
 
-/// Takes what memory there is, in pieces of `most` bytes and then ever smaller ones down to 16.
+/// More bytes than any piece of memory that is there.
+const LARGEST: usize = 68_719_476_736;
+
+/// The bytes of the smallest piece.
+const SMALLEST: usize = 16;
+
+/// Takes pieces of memory, of `most` bytes and then ever smaller ones, until none is left or `held` is full.
 fn fill(alloc: Global, most: usize, held: &mut Vec<Vec<u8>>) {
     let mut size = most;
     for _ in 0..40u32 {
         for _ in 0..200_000u32 {
-            if held.len() >= held.capacity() || size < 16 {
+            if held.len() >= held.capacity() || size < SMALLEST {
                 break;
             }
             match Vec::with_capacity(alloc, size) {
@@ -23,87 +35,137 @@ fn fill(alloc: Global, most: usize, held: &mut Vec<Vec<u8>>) {
     }
 }
 
-/// What a trial under little memory came to.
-#[derive(Clone, Copy, Debug, PartialEq, Eq)]
-enum Trial {
-    Done,
-    NoMemory,
-    Wrong,
+/// All memory, kept from the calls that a test makes.
+#[derive(Drop)]
+struct Hoard {
+    /// What is given back, a small piece at a time.
+    pieces: Vec<Vec<u8>>,
+    /// All else.
+    rest: Vec<Vec<u8>>,
+    /// Whether the heap could be filled.
+    is_full: bool,
 }
 
-/// Reads a polygon of type 0 with 16 deltas, copies it, and asks for its vertices.
-fn try_list(alloc: Global) -> Trial {
-    let bytes = [0, 16, 4, 4, 4, 4, 4, 4, 4, 4, 4, 4, 4, 4, 4, 4, 4, 4];
-    let list = match PointList::read(alloc, &mut SliceSource::new(&bytes, 100), ListUse::Polygon) {
-        Ok(list) => list,
-        Err(Why::Memory) => return Trial::NoMemory,
-        Err(_) => return Trial::Wrong,
-    };
-    let Ok(copy) = list.try_clone(alloc) else {
-        return Trial::NoMemory;
-    };
-    match copy.vertices(alloc, Point { x: 1, y: 2 }) {
-        Ok(points) => {
-            if points.len() == 18 && points[17] == (Point { x: 1, y: 18 }) {
-                Trial::Done
-            } else {
-                Trial::Wrong
-            }
-        }
-        Err(Why::Memory) => Trial::NoMemory,
-        Err(_) => Trial::Wrong,
+impl Hoard {
+    /// All memory that is there.
+    fn new(alloc: Global) -> Result<Hoard, AllocError> {
+        let mut pieces = Vec::with_capacity(alloc, 4096)?;
+        let mut rest = Vec::with_capacity(alloc, 300_000)?;
+        let room = Vec::<u8>::with_capacity(alloc, 65536)?;
+        fill(alloc, LARGEST, &mut rest);
+        drop(room);
+        fill(alloc, SMALLEST, &mut pieces);
+        let is_full = Vec::<u8>::with_capacity(alloc, SMALLEST).is_err();
+        Ok(Hoard {
+            pieces,
+            rest,
+            is_full,
+        })
     }
 }
 
-/// Reads a repetition of type 10 with 16 displacements, and copies it.
-fn try_repetition(alloc: Global) -> Trial {
+/// Reads a polygon of type 0 with 16 deltas.
+fn read_list(alloc: Global) -> Result<PointList, Why> {
+    let bytes = [0, 16, 4, 4, 4, 4, 4, 4, 4, 4, 4, 4, 4, 4, 4, 4, 4, 4];
+    PointList::read(alloc, &mut SliceSource::new(&bytes, 100), ListUse::Polygon)
+}
+
+/// Reads a repetition of type 10 with 16 displacements.
+fn read_repetition(alloc: Global) -> Result<RepField, Why> {
     let bytes = [
         10, 15, 16, 16, 16, 16, 16, 16, 16, 16, 16, 16, 16, 16, 16, 16, 16, 16,
     ];
-    let repetition = match RepField::read(alloc, &mut SliceSource::new(&bytes, 100)) {
-        Ok(RepField::New(repetition)) => repetition,
-        Err(Why::Memory) => return Trial::NoMemory,
-        _ => return Trial::Wrong,
-    };
-    let Ok(copy) = repetition.try_clone(alloc) else {
-        return Trial::NoMemory;
-    };
-    match copy.count() {
-        Some(17) => {
-            if copy.offset(16) == (16, 0) {
-                Trial::Done
-            } else {
-                Trial::Wrong
-            }
+    RepField::read(alloc, &mut SliceSource::new(&bytes, 100))
+}
+
+/// Whether the list isn't read, for want of memory.
+fn is_list_refused(rt: &impl Abort, alloc: Global) -> bool {
+    match read_list(alloc) {
+        Ok(list) => {
+            assert_eq!(rt; list.len(), 18);
+            false
         }
-        _ => Trial::Wrong,
+        Err(why) => {
+            assert_eq!(rt; why, Why::Memory);
+            true
+        }
     }
 }
 
-/// Each growth is refused in turn, with a budget of memory that grows by one small piece, until all succeed.
-#[test]
-fn growths_are_refused(rt: HostRuntime) -> Result<(), Fail> {
-    let alloc = rt.alloc();
-    let mut held: Vec<Vec<u8>> = Vec::with_capacity(alloc, 300_000)?;
-    let room: Vec<u8> = Vec::with_capacity(alloc, 65536)?;
-    fill(alloc, 68_719_476_736, &mut held);
-    let large = held.len();
-    drop(room);
-    fill(alloc, 16, &mut held);
-    let is_full = Vec::<u8>::with_capacity(alloc, 16).is_err();
-    let mut refused = 0u32;
-    for _ in large..held.len() {
-        let trials = [try_list(alloc), try_repetition(alloc)];
-        assert!(rt; trials[0] != Trial::Wrong);
-        assert!(rt; trials[1] != Trial::Wrong);
-        if trials[0] == Trial::NoMemory {
-            refused = refused.saturating_add(1);
+/// Whether the list's vertices aren't given, for want of memory.
+fn are_vertices_refused(rt: &impl Abort, alloc: Global, list: &PointList) -> bool {
+    match list.vertices(alloc, Point { x: 1, y: 2 }) {
+        Ok(points) => {
+            assert!(rt; points.len() == 18 && points[17] == (Point { x: 1, y: 18 }));
+            false
         }
-        let _ = held.pop();
+        Err(why) => {
+            assert_eq!(rt; why, Why::Memory);
+            true
+        }
     }
-    held.clear();
-    assert!(rt; !is_full || refused > 0);
-    assert_eq!(rt; try_list(alloc), Trial::Done);
-    assert_eq!(rt; try_repetition(alloc), Trial::Done);
+}
+
+/// Whether the repetition isn't read, for want of memory.
+fn is_repetition_refused(rt: &impl Abort, alloc: Global) -> bool {
+    match read_repetition(alloc) {
+        Ok(RepField::New(repetition)) => {
+            assert_eq!(rt; repetition.count(), Some(17));
+            false
+        }
+        Ok(RepField::Again) => {
+            assert!(rt; false, "another repetition");
+            false
+        }
+        Err(why) => {
+            assert_eq!(rt; why, Why::Memory);
+            true
+        }
+    }
+}
+
+#[test]
+fn lists_without_memory(rt: HostRuntime) -> Result<(), Fail> {
+    let alloc = rt.alloc();
+    let list = read_list(alloc)?;
+    let mut hoard = Hoard::new(alloc)?;
+    let mut reads = 0u32;
+    let mut copies = 0u32;
+    let mut walks = 0u32;
+    for _ in 0..hoard.pieces.len() {
+        reads = reads.saturating_add(u32::from(is_list_refused(&rt, alloc)));
+        copies = copies.saturating_add(u32::from(list.try_clone(alloc).is_err()));
+        walks = walks.saturating_add(u32::from(are_vertices_refused(&rt, alloc, &list)));
+        let _ = hoard.pieces.pop();
+    }
+    assert!(rt; !hoard.is_full || reads > 0, "no list was refused");
+    assert!(rt; !hoard.is_full || copies > 0, "no copy was refused");
+    assert!(rt; !hoard.is_full || walks > 0, "no vertices were refused");
+    drop(hoard);
+    assert!(rt; !is_list_refused(&rt, alloc));
+    assert!(rt; list.try_clone(alloc).is_ok());
+    assert!(rt; !are_vertices_refused(&rt, alloc, &list));
+    Ok(())
+}
+
+#[test]
+fn repetitions_without_memory(rt: HostRuntime) -> Result<(), Fail> {
+    let alloc = rt.alloc();
+    let RepField::New(repetition) = read_repetition(alloc)? else {
+        return Err(Fail::new("another repetition"));
+    };
+    let mut hoard = Hoard::new(alloc)?;
+    let mut reads = 0u32;
+    let mut copies = 0u32;
+    for _ in 0..hoard.pieces.len() {
+        reads = reads.saturating_add(u32::from(is_repetition_refused(&rt, alloc)));
+        copies = copies.saturating_add(u32::from(repetition.try_clone(alloc).is_err()));
+        let _ = hoard.pieces.pop();
+    }
+    assert!(rt; !hoard.is_full || reads > 0, "no repetition was refused");
+    assert!(rt; !hoard.is_full || copies > 0, "no copy was refused");
+    drop(hoard);
+    assert!(rt; !is_repetition_refused(&rt, alloc));
+    assert!(rt; repetition.try_clone(alloc).is_ok());
     Ok(())
 }

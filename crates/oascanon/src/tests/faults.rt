@@ -2,8 +2,8 @@
 
 use super::devices::{After, Full, Reader, Writer};
 use super::rows::{RECTANGLE, bytes_of, record_at};
-use crate::run::run_canon;
-use oas_num::{INPUT_MAX, ReaderSource, SliceSource};
+use crate::run::{run_canon, run_refused};
+use oas_num::{INPUT_MAX, ReaderSource, Refusal, SliceSource, Why};
 use std::alloc::Global;
 use std::process::Abort;
 use std::test::Fail;
@@ -147,4 +147,16 @@ fn error_outputs_that_fail(rt: HostRuntime) -> Result<(), Fail> {
         assert!(rt; out.taken.is_empty(), "at {room}");
     }
     Ok(())
+}
+
+#[test]
+fn run_that_cannot_begin(rt: HostRuntime) {
+    let mut err: Vec<u8> = Vec::new(rt.alloc());
+    let why = Why::Memory;
+    let status = run_refused("standard input", Refusal { at: 0, why }, &mut err);
+    assert_eq!(rt; status, 1);
+    assert_eq!(rt;
+        err.as_slice(),
+        "standard input: refused 34 at 0\n".as_bytes()
+    );
 }
