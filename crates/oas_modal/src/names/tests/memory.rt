@@ -3,8 +3,9 @@
 //! The heap is filled up and given back a small piece at a time, so that the table meets every state of want in its turn.
 //! Where the heap cannot be filled, as under a checker of addresses, no call is refused, and the answers are the same.
 
-use crate::NameTable;
+use crate::{Drawn, HeldCell, NameTable};
 use oas_num::Why;
+use oas_record::CellRef;
 use std::alloc::{AllocError, Global};
 use std::process::Abort;
 use std::test::Fail;
@@ -84,5 +85,46 @@ fn names_without_memory(rt: HostRuntime) -> Result<(), Fail> {
     assert!(rt; !is_full || refused > 0);
     assert!(rt; holds(&names, 100));
     assert!(rt; names.name(0, Some(0)) == Err(Why::MixedNumbering));
+    Ok(())
+}
+
+/// A text whose string has this number.
+fn text(number: u64) -> Drawn {
+    Drawn::TextBy {
+        number,
+        textlayer: 1,
+        texttype: 2,
+        x: -3,
+        y: 4,
+    }
+}
+
+/// Draws a text in a new cell, and gives back a piece of memory after each refusal. How many there were.
+fn insist_on_text(rt: &impl Abort, alloc: Global, number: u64, held: &mut Vec<Vec<u8>>) -> u32 {
+    let mut drawn = text(number);
+    for refused in 0..4000u32 {
+        let mut cell = HeldCell::new(alloc, CellRef::Number(number));
+        match cell.add(drawn, 5) {
+            Ok(()) => return refused,
+            Err(back) => {
+                assert!(rt; back == text(number));
+                drawn = back;
+            }
+        }
+        let _ = held.pop();
+    }
+    assert!(rt; false, "a text is never drawn");
+    0
+}
+
+#[test]
+fn drawn_without_memory(rt: HostRuntime) -> Result<(), Fail> {
+    let alloc = rt.alloc();
+    let mut held = take_all(alloc)?;
+    let is_full = Vec::<u8>::with_capacity(alloc, 64).is_err();
+    let refused = insist_on_text(&rt, alloc, 7, &mut held);
+    held.clear();
+    drop(held);
+    assert!(rt; !is_full || refused > 0);
     Ok(())
 }
