@@ -9,13 +9,14 @@ ghost use Rattle.oas_layout.specs.BagLaws.{total};
 ghost use Rattle.oas_layout.specs.Weight.{weight_of};
 ghost use Rattle.oas_layout.specs.Meaning.{element_count, cells_weight, SameLayout};
 ghost use Rattle.oas_layout.specs.Contents.{expanded, meaning_of, has_cell};
+ghost use Rattle.oas_modal.specs.Names.{name_of};
 ghost use Rattle.oas_modal.specs.References.{cell_by};
 ghost use Rattle.oas_modal.specs.Meaning.{element_by, is_unnamed, cell_lacks, has_twice, meaning_by, end_reason};
 ghost use Rattle.oas_modal.specs.Finish.{drawn_cells, drawn_total, IsFit, AllFit, IsWithinLimits, with_counted, counted_meant, with_counted_cell, held_meant, names_held, IsFresh, given, with_all};
 
-use oas_drawing::Drawn;
 use crate::held::HeldCell;
 use crate::names::{NameTable, cell_meant};
+use oas_drawing::Drawn;
 use oas_layout::{Draft, Element, Layout, Limits, Profile};
 use oas_num::{Fraction, Label, Name, Why};
 use oas_record::CellRef;
@@ -131,61 +132,70 @@ fn element_meant(
             y,
             turns,
             flip,
-        } => {
-            let Some(name) = names.get(number) else {
-                return Ok(None);
-            };
-            let Ok(cell) = name.try_clone(alloc) else {
-                return Err(Why::Memory);
-            };
-            Ok(Some(Element::Placement {
-                cell,
-                x,
-                y,
-                turns,
-                flip,
-            }))
-        }
+        } => Ok(name_behind(alloc, number, names)?.map(|cell| Element::Placement {
+            cell,
+            x,
+            y,
+            turns,
+            flip,
+        })),
         Drawn::TextBy {
             number,
             textlayer,
             texttype,
             x,
             y,
-        } => {
-            let Some(label) = strings.get(number) else {
-                return Ok(None);
-            };
-            let Ok(string) = label.try_clone(alloc) else {
-                return Err(Why::Memory);
-            };
-            Ok(Some(Element::Text {
-                string,
-                textlayer,
-                texttype,
-                x,
-                y,
-            }))
-        }
+        } => Ok(string_behind(alloc, number, strings)?.map(|string| Element::Text {
+            string,
+            textlayer,
+            texttype,
+            x,
+            y,
+        })),
     }
 }
 
-/// The name of the cell that is meant; None where it is a number that has none. A name behind a number is copied.
+/// The name of the cell that is meant; None where it is a number that has none.
 fn name_meant(alloc: Global, cell: CellRef, names: &NameTable<Name>) -> Result<Option<Name>, Why>
     ensures ok { IfOk result (λ name. name ≡ cell_by names.now.named cell) }
     ensures err { IfErr result (λ why. why ≡ Memory) }
 {
-    let number = match cell {
-        CellRef::Name(name) => return Ok(Some(name)),
-        CellRef::Number(number) => number,
-    };
+    match cell {
+        CellRef::Name(name) => Ok(Some(name)),
+        CellRef::Number(number) => name_behind(alloc, number, names),
+    }
+}
+
+/// A copy of the name of a number; None where it has none.
+fn name_behind(alloc: Global, number: u64, names: &NameTable<Name>) -> Result<Option<Name>, Why>
+    ensures ok { IfOk result (λ name. name ≡ name_of names.now.named number) }
+    ensures err { IfErr result (λ why. why ≡ Memory) }
+{
     let Some(had) = names.get(number) else {
         return Ok(None);
     };
-    let Ok(name) = had.try_clone(alloc) else {
-        return Err(Why::Memory);
+    match had.try_clone(alloc) {
+        Ok(name) => Ok(Some(name)),
+        Err(_) => Err(Why::Memory),
+    }
+}
+
+/// A copy of the string of a number; None where it has none.
+fn string_behind(
+    alloc: Global,
+    number: u64,
+    strings: &NameTable<Label>,
+) -> Result<Option<Label>, Why>
+    ensures ok { IfOk result (λ string. string ≡ name_of strings.now.named number) }
+    ensures err { IfErr result (λ why. why ≡ Memory) }
+{
+    let Some(had) = strings.get(number) else {
+        return Ok(None);
     };
-    Ok(Some(name))
+    match had.try_clone(alloc) {
+        Ok(string) => Ok(Some(string)),
+        Err(_) => Err(Why::Memory),
+    }
 }
 
 /// Adds what is drawn so many times to a cell.
