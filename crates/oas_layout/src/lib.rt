@@ -26,6 +26,7 @@ mod element;
 mod elements;
 mod grid;
 mod kept;
+mod kinds;
 pub mod laws;
 mod layout;
 mod limits;
