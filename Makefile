@@ -3,7 +3,7 @@
 PREFIX ?= /usr/local
 JOBS ?= 2
 
-.PHONY: all install test test-large bench clean
+.PHONY: all install test test-large test-reference bench clean
 
 # The program: proves every crate that it stands on, builds it, and leaves it as ./oascanon.
 all:
@@ -20,6 +20,10 @@ test:
 # Files at the limits, given to the built program: too large for the gate.
 test-large: all
 	tests/large ./oascanon
+
+# Random files, given to the built program and to a plain, slow one that was written from the same rules.
+test-reference: all
+	tests/reference/compare ./oascanon
 
 # Speed and memory, beside a baseline in the same run.
 bench: all

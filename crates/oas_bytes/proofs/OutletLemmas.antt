@@ -1,9 +1,10 @@
 -- What an outlet was given, call by call.
-use Rattle.std.proofs.Common.{◌≡◌, ℕ, ◌+◌, ◌<◌, ◌^◌, min, List, [], ◌∷◌, ◌++◌, length, take, drop, Option, Bool, true, false, refl, sym, ap, ◌∙◌, append_assoc, append-nil, take-append-drop, length-append, ◌-◌, arith}
+use Rattle.std.proofs.Common.{◌≡◌, ℕ, ◌+◌, ◌<◌, ◌^◌, min, List, [], ◌∷◌, ◌++◌, length, take, drop, Option, Result, Ok, Err, Bool, true, false, refl, sym, ap, ◌∙◌, append_assoc, append-nil, take-append-drop, length-append, ◌-◌, arith}
 use Rattle.std.proofs.lemmas.List.{length-take-le}
 use Rattle.std.specs.Io.KnownBytes.{Appends, Keeps}
 use Rattle.oas_bytes.specs.declared.outlets.Outlet.{Outlet}
-use Rattle.oas_bytes.specs.Writing.{Puts, PutsFront}
+use Rattle.oas_bytes.specs.declared.sinks.SinkFault.{SinkFault}
+use Rattle.oas_bytes.specs.Writing.{Puts, PutsFront, Writes}
 use Rattle.oas_bytes.specs.Outlets.{unsent, failures_of, IsGiven}
 use Rattle.oas_bytes.specs.OutletLaws.{Appends-then, Appends-kept}
 use Rattle.oas_bytes.proofs.WritingLemmas.{Puts-then}
@@ -127,3 +128,8 @@ module _ {W : Type 0} where
     puts = Puts-then (IsGiven contents) failures_of o m p [] b.front a b.puts;
     failed = b.failed;
   }
+
+  -- a call after one that put nothing
+  pub writes_after : (contents : W → Option (List ℕ)) (o m p : Outlet W) (answer : Result Unit SinkFault) → Puts (IsGiven contents) failures_of o [] m → Writes (IsGiven contents) failures_of m [] answer p → Writes (IsGiven contents) failures_of o [] answer p
+  writes_after contents o m p (Ok done) a b = Puts-then (IsGiven contents) failures_of o m p [] [] a b
+  writes_after contents o m p (Err fault) a b = fails_after contents o m p a b

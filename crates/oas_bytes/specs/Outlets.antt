@@ -38,9 +38,15 @@ module _ {W : Type 0} where
     pub waits : now.failed ≡ false → kept ≡ unsent now
 
   -- the writer has taken all that it was given
+  pub record NoneWaits (o : Outlet W) : Type 0 where
+    pub works : o.failed ≡ false
+    pub none : unsent o ≡ []
+
+  -- and a flush after the last byte of it is on record
   pub record IsSent (o : Outlet W) : Type 0 where
     pub works : o.failed ≡ false
     pub none : unsent o ≡ []
+    pub flushed : o.flush_record.flushed ≡ true
 
   -- a call after a fault answers it and changes nothing, and a call that meets one keeps it
   pub record Answers (old : Outlet W) (answer : Result Unit SinkFault) (new : Outlet W) : Type 0 where

@@ -8,9 +8,11 @@
 //!   reader cuts them (specs/Readers.antt).
 //! - A [`Sink`] is given bytes, and `Writes` (specs/Writing.antt) says which, also where it failed: then a front of them.
 //! - An [`Outlet`] is a sink over a borrowed writer: what the writer took is a front of what was put, and after `close` all
-//!   of it: `IsGiven` and `TakesFront` (specs/Outlets.antt), with their laws in specs/OutletLaws.antt.
+//!   of it, with a flush behind it: `IsGiven`, `TakesFront` and `IsSent` (specs/Outlets.antt), with their laws in
+//!   specs/OutletLaws.antt.
 #![tactic(auto)]
 
+mod flushing;
 mod outlets;
 mod readers;
 mod sinks;

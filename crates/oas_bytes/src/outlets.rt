@@ -1,5 +1,6 @@
-ghost use Rattle.std.specs.Prelude.{◌≡◌, true, length, [], ◌∷◌, OnOk};
+ghost use Rattle.std.specs.Prelude.{◌≡◌, true, false, length, [], ◌∷◌, OnOk};
 
+use crate::flushing::FlushRecord;
 use crate::sinks::{Sink, SinkFault};
 use crate::windows::Window;
 use std::io::Write;
@@ -19,13 +20,14 @@ pub struct Outlet<'a, W> {
     writer: &'a mut W,
     window: Window,
     taken: u64,
+    flush_record: FlushRecord,
     // After a fault the window is full, so that `put` has one test to make.
     failed: bool,
     ghost full: { failed ≡ true → length window ≡ 8192 },
 }
 
 impl<'a, W: Write> Outlet<'a, W> {
-    ghost use Rattle.oas_bytes.specs.Outlets.{Opens, IsGiven, HasFailed, IsSent, Answers, failures_of};
+    ghost use Rattle.oas_bytes.specs.Outlets.{Opens, IsGiven, NoneWaits, IsSent, Answers, failures_of};
     ghost use Rattle.oas_bytes.specs.Writing.{Writes};
 
     /// One that was given nothing.
@@ -36,6 +38,7 @@ impl<'a, W: Write> Outlet<'a, W> {
             writer,
             window: Window::new(),
             taken: 0,
+            flush_record: FlushRecord::new(),
             failed: false,
         }
     }
@@ -48,15 +51,33 @@ impl<'a, W: Write> Outlet<'a, W> {
     }
 
     /// Has the writer take the rest, and flushes it.
+    #[tactic(auto, using(crate::proofs::OutletLemmas::writes_after))]
     pub fn close(&mut self) -> Result<(), SinkFault>
         ensures writes { Writes (IsGiven W.contents) failures_of self.old [] result self.new }
         ensures all { OnOk result (IsSent self.new) }
         ensures settled { Answers self.old result self.new }
     {
         self.spill()?;
-        match self.writer.flush() {
-            Ok(()) => Ok(()),
-            Err(_) => {
+        self.flush()
+    }
+
+    /// Has the writer take what the window holds.
+    fn spill(&mut self) -> Result<(), SinkFault>
+        ensures writes { Writes (IsGiven W.contents) failures_of self.old [] result self.new }
+        ensures all { OnOk result (NoneWaits self.new) }
+        ensures unflushed { OnOk result (self.new.flush_record.flushed ≡ false) }
+        ensures settled { Answers self.old result self.new }
+    {
+        if self.failed {
+            return Err(SinkFault::Device);
+        }
+        match self.window.send_to(self.writer, &mut self.flush_record) {
+            Ok(count) => {
+                self.taken = self.taken.saturating_add(count);
+                Ok(())
+            }
+            Err(count) => {
+                self.taken = self.taken.saturating_add(count);
                 self.window.fill();
                 self.failed = true;
                 Err(SinkFault::Device)
@@ -64,22 +85,16 @@ impl<'a, W: Write> Outlet<'a, W> {
         }
     }
 
-    /// Has the writer take what the window holds.
-    fn spill(&mut self) -> Result<(), SinkFault>
+    /// Flushes the writer.
+    fn flush(&mut self) -> Result<(), SinkFault>
+        requires { NoneWaits self.old }
         ensures writes { Writes (IsGiven W.contents) failures_of self.old [] result self.new }
         ensures all { OnOk result (IsSent self.new) }
         ensures settled { Answers self.old result self.new }
     {
-        if self.failed {
-            return Err(SinkFault::Device);
-        }
-        match self.window.send_to(self.writer) {
-            Ok(count) => {
-                self.taken = self.taken.saturating_add(count);
-                Ok(())
-            }
-            Err(count) => {
-                self.taken = self.taken.saturating_add(count);
+        match self.flush_record.flush(self.writer) {
+            Ok(()) => Ok(()),
+            Err(_) => {
                 self.window.fill();
                 self.failed = true;
                 Err(SinkFault::Device)

@@ -13,9 +13,13 @@ mod tests;
 /// How a reader's bytes ended.
 #[derive(Clone, Copy, Debug, PartialEq, Eq)]
 pub enum Ending {
+    /// They have not ended.
     Open,
+    /// The reader had no byte more.
     Ended,
+    /// The reader failed.
     Failed,
+    /// A byte stands after the limit.
     TooLong,
 }
 

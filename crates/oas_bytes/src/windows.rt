@@ -1,6 +1,7 @@
-ghost use Rattle.std.specs.Prelude.{◌≡◌, ◌≤◌, ◌<◌, true, false, length, take, [], ◌∷◌, ◌++◌, OnOk, IfOk, IfErr};
+ghost use Rattle.std.specs.Prelude.{◌≡◌, ◌≤◌, ◌<◌, true, false, length, take, [], ◌∷◌, ◌++◌, IfOk, IfErr};
 ghost use Rattle.std.specs.Io.KnownBytes.{Appends};
 
+use crate::flushing::FlushRecord;
 use std::io::Write;
 use std::marker::Model;
 
@@ -78,13 +79,18 @@ impl Window {
 
     /// Has a writer take the bytes, and then drops them. Where the writer fails the answer is how many it took, and the
     /// bytes stay.
-    pub(crate) fn send_to<W: Write>(&mut self, writer: &mut W) -> Result<u64, u64>
+    pub(crate) fn send_to<W: Write>(
+        &mut self,
+        writer: &mut W,
+        flush_record: &mut FlushRecord,
+    ) -> Result<u64, u64>
         ensures ok { IfOk result (λ count. (self.new ≡ []) × (count ≡ length self.old)
             × Appends (W.contents writer.old) (W.contents writer.new) self.old) }
         ensures err { IfErr result (λ count. (self.new ≡ self.old) × (count < length self.old)
             × Appends (W.contents writer.old) (W.contents writer.new) (take count self.old)) }
+        ensures unflushed { flush_record.new.flushed ≡ false }
     {
-        match send(writer, self.as_slice()) {
+        match flush_record.send(writer, self.as_slice()) {
             Ok(()) => {
                 let count = self.held as u64;
                 self.clear();
@@ -93,21 +99,4 @@ impl Window {
             Err(count) => Err(count as u64),
         }
     }
-}
-
-/// Has a writer take all of the bytes, by as many calls as it wants. Where it fails the answer is how many it took.
-fn send<W: Write>(writer: &mut W, bytes: &[u8]) -> Result<(), usize>
-    ensures ok { OnOk result (Appends (W.contents writer.old) (W.contents writer.new) bytes.now) }
-    ensures err { IfErr result (λ count. (count < length bytes.now)
-        × Appends (W.contents writer.old) (W.contents writer.new) (take count bytes.now)) }
-{
-    let mut sent = 0;
-    while sent < bytes.len() {
-        match writer.write(&bytes[sent..]) {
-            Ok(0) => return Err(sent),
-            Ok(count) => sent += count,
-            Err(_) => return Err(sent),
-        }
-    }
-    Ok(())
 }

@@ -18,6 +18,8 @@ use Rattle.oas_num.specs.Script.{Script, Takes, IsAtEnd}
 use Rattle.oas_num.specs.Style.{Any}
 use Rattle.oas_num.specs.Texts.{IsNameByte, IsOf, IsName, name_in}
 use Rattle.oas_num.proofs.ReadLemmas.{Takes-then}
+use Rattle.oas_num.proofs.RealLemmas.{real_decides}
+use Rattle.oas_num.proofs.TextLemmas.{label_decides}
 use Rattle.oas_canon.specs.declared.collecting.Collected.{Collected}
 use Rattle.oas_canon.specs.declared.limits.Limits.{Limits}
 use Rattle.oas_canon.specs.declared.rectangles.Rectangle.{Rectangle}
@@ -25,14 +27,14 @@ use Rattle.oas_canon.specs.declared.records.Record.{Record}
 use Rattle.oas_canon.specs.declared.records.Record.TheVariants.{Pad, Cell, Rectangle as Shape}
 use Rattle.oas_canon.specs.Canonical.{Fits, IsUnitHeld}
 use Rattle.oas_canon.specs.Collecting.{held}
-use Rattle.oas_canon.specs.File.{Fields, IsFields, IsRecord, IsStart, IsAbove, IsEnd, magic, FileOf, FrontOf}
-use Rattle.oas_canon.specs.FileLaws.{IsApart-end, OneFront-end}
+use Rattle.oas_canon.specs.File.{Fields, IsFields, IsRecord, IsStart, IsAbove, IsEnd, magic, parts, FileOf, FrontOf}
+use Rattle.oas_canon.specs.FileLaws.{IsApart-end, OneFront-end, OneFront-file}
 use Rattle.oas_canon.specs.Gathering.{IsHead, HasBegun, HasAll, MissesEnd}
 use Rattle.oas_canon.specs.Meaning.{Layout, Cells, leading, cells, count_of_all, weight_of, AreInRange}
 use Rattle.oas_canon.specs.Reasons.{MagicMay, StartMay}
 use Rattle.oas_canon.specs.Run.{IsRefused, IsPlaced, IsDrafted}
 use Rattle.oas_canon.specs.Places.{AfterLast}
-use Rattle.oas_canon.proofs.Fronts.{decides_format, file_goes_on}
+use Rattle.oas_canon.proofs.Fronts.{decides_format, ended_cut, file_goes_on}
 
 -- ---- the head
 
@@ -44,24 +46,26 @@ magic_refused {why = why} limits f = record {
   bytes = f.bytes;
   takes = f.takes;
   decided = λ is more a. let s = a.file.spelled in (f.format (decides_format why is)).none tt s.front s.back more s.first (sym s.joined);
-  truncated = λ is. let t = f.truncated is in ((λ a. let s = a.file.spelled in t.0.none tt s.front s.back s.first (sym s.joined)), t.1);
+  cut = λ is whole rest e a. let s = a.file.spelled in absurd ((f.cut is).none tt s.front (s.back ++ rest) s.first (sym (append_assoc s.front s.back rest) ∙ ap (λ (c : List ℕ). c ++ rest) (sym s.joined) ∙ e));
+  truncated = λ is. ((λ a. let s = a.file.spelled in (f.cut (ended_cut why is)).none tt s.front s.back s.first (sym s.joined)), f.truncated is);
   device = f.device;
   too_long = f.too_long;
   reading = no_write why (λ w. MagicMay w f.reason.last) f.reason.holds (λ h. h);
 }
 
 -- what a file has after the magic
-after_magic : {unit : Real} {records : List Record} (front left : List ℕ) → front ≡ magic → FileOf unit records (front ++ left) → (start : List ℕ) × (rest : List ℕ) × IsStart Any unit start × (start ++ rest ≡ left)
-after_magic front left is file =
+after_magic : {unit : Real} {records : List Record} (front left whole more : List ℕ) → front ≡ magic → FileOf unit records whole → whole ++ more ≡ front ++ left → (start : List ℕ) × (rest : List ℕ) × IsStart Any unit start × (start ++ rest ≡ left)
+after_magic front left whole more is file e =
     let s = file.spelled in
-    let whole : magic ++ left ≡ magic ++ (s.second.front ++ s.second.back) =
-    ap (λ (c : List ℕ). c ++ left) (sym is) ∙ s.joined ∙ ap (λ (c : List ℕ). c ++ s.back) s.first ∙ ap (λ (c : List ℕ). magic ++ c) s.second.joined in
-    (s.second.front, s.second.back, s.second.first, sym (append_cancel_left magic left (s.second.front ++ s.second.back) whole))
+    let parts : whole ≡ magic ++ (s.second.front ++ s.second.back) = s.joined ∙ ap (λ (c : List ℕ). c ++ s.back) s.first ∙ ap (λ (c : List ℕ). magic ++ c) s.second.joined in
+    let all : magic ++ left ≡ magic ++ (s.second.front ++ (s.second.back ++ more)) =
+    ap (λ (c : List ℕ). c ++ left) (sym is) ∙ sym e ∙ ap (λ (c : List ℕ). c ++ more) parts ∙ append_assoc magic (s.second.front ++ s.second.back) more ∙ ap (λ (c : List ℕ). magic ++ c) (append_assoc s.second.front s.second.back more) in
+    (s.second.front, s.second.back ++ more, s.second.first, sym (append_cancel_left magic left (s.second.front ++ (s.second.back ++ more)) all))
 
 not_writing : (last : List ℕ) → StartMay Write last → ⊥
 not_writing last (inl h) = h
-not_writing last (inr (inl h)) = h.holds
-not_writing last (inr (inr h)) = h.holds
+not_writing last (inr (inl h)) = (label_decides Write last h.0).holds
+not_writing last (inr (inr h)) = (real_decides Write last h.0).holds
 
 pub start_refused : {old mid new : Script} {why : Why} (limits : Limits) → ReadsValue (IsExactly magic) old tt mid → Fails (IsStart Any) StartMay mid why new → IsRefused limits old why new
 start_refused {old = old} {mid = mid} {new = new} {why = why} limits m f = record {
@@ -69,11 +73,13 @@ start_refused {old = old} {mid = mid} {new = new} {why = why} limits m f = recor
   takes = Takes-then old mid new m.bytes f.bytes m.takes f.takes;
   decided = λ is more a.
       let file : FileOf a.unit a.records (m.bytes ++ (f.bytes ++ more)) = subst (λ (b : List ℕ). FileOf a.unit a.records b) (append_assoc m.bytes f.bytes more) a.file in
-      let s = after_magic m.bytes (f.bytes ++ more) m.spelled file in
+      let s = after_magic m.bytes (f.bytes ++ more) (m.bytes ++ (f.bytes ++ more)) [] m.spelled file (append-nil (m.bytes ++ (f.bytes ++ more))) in
       (f.format (decides_format why is)).none a.unit s.0 s.1 more s.2 s.3;
-  truncated = λ is.
-      let t = f.truncated is in
-      ((λ a. let s = after_magic m.bytes f.bytes m.spelled a.file in t.0.none a.unit s.0 s.1 s.2 s.3), t.1);
+  cut = λ is whole rest e a. let s = after_magic m.bytes f.bytes whole rest m.spelled a.file e in absurd ((f.cut is).none a.unit s.0 s.1 s.2 s.3);
+  truncated = λ is. (
+    λ a. let s = after_magic m.bytes f.bytes (m.bytes ++ f.bytes) [] m.spelled a.file (append-nil (m.bytes ++ f.bytes)) in (f.cut (ended_cut why is)).none a.unit s.0 s.1 s.2 s.3,
+    f.truncated is,
+  );
   device = f.device;
   too_long = f.too_long;
   reading = no_write why (λ w. StartMay w f.reason.last) f.reason.holds (not_writing f.reason.last);
@@ -214,6 +220,13 @@ module _ {limits : Limits} {old mid : Script} {u : Real} {end_at : ℕ} {c : Col
       let e1 : each.0 ++ (each.1 ++ last) ≡ m.last ++ (byte ∷ more) = sym (append_assoc each.0 each.1 last) ∙ ap (λ (d : List ℕ). d ++ last) (sym each.4) ∙ sym e in
       IsApart-end.apart r tt each.0 m.last (each.1 ++ last) (byte ∷ more) each.2 m.end e1
 
+  -- no file stands in front of this one
+  all_taken : {v : Real} {ss : List Record} (whole rest : List ℕ) → whole ++ rest ≡ m.bytes ++ m.last → FileOf v ss whole → rest ≡ []
+  all_taken {v = v} {ss = ss} whole rest e file =
+      let all : whole ++ rest ≡ (m.bytes ++ m.last) ++ [] = e ∙ sym (append-nil (m.bytes ++ m.last)) in
+      let one = OneFront-file.one (parts v ss) (parts u m.records) whole (m.bytes ++ m.last) rest [] file.spelled (file_all m.front m.end).spelled all in
+      after_same whole (m.bytes ++ m.last) rest [] one.0 all
+
   pub not_ended : {new : Script} (why : Why) → MissesEnd mid why new → IsRefused limits old why new
   not_ended {new = new} TrailingBytes h = record {
     bytes = (m.bytes ++ m.last) ++ (h.0 ∷ []);
@@ -223,6 +236,7 @@ module _ {limits : Limits} {old mid : Script} {u : Real} {end_at : ℕ} {c : Col
         let file : FileOf a.unit a.records (m.bytes ++ (m.last ++ (h.0 ∷ more))) = subst (λ (b : List ℕ). FileOf a.unit a.records b) same a.file in
         let g = (file_goes_on (m.last ++ (h.0 ∷ more)) m.front file).1 in
         last_step g.tail g.rest g.last more h.0 g.each g.end g.joined;
+    cut = λ is. absurd cc;
     truncated = λ e. cc;
     device = λ e. cc;
     too_long = λ e. cc;
@@ -232,6 +246,7 @@ module _ {limits : Limits} {old mid : Script} {u : Real} {end_at : ℕ} {c : Col
     bytes = (m.bytes ++ m.last) ++ [];
     takes = Takes-then old mid new (m.bytes ++ m.last) [] m.takes h.0;
     decided = λ is. absurd cc;
+    cut = λ _ whole rest e a. all_taken whole rest (e ∙ append-nil (m.bytes ++ m.last)) a.file;
     truncated = λ e. cc;
     device = λ _. h.1;
     too_long = λ e. cc;
@@ -241,6 +256,7 @@ module _ {limits : Limits} {old mid : Script} {u : Real} {end_at : ℕ} {c : Col
     bytes = (m.bytes ++ m.last) ++ [];
     takes = Takes-then old mid new (m.bytes ++ m.last) [] m.takes h.0;
     decided = λ is. absurd cc;
+    cut = λ _ whole rest e a. all_taken whole rest (e ∙ append-nil (m.bytes ++ m.last)) a.file;
     truncated = λ e. cc;
     device = λ e. cc;
     too_long = λ _. h.1;

@@ -8,7 +8,7 @@ use Rattle.oas_num.specs.Grammar.{OneFront, IsEach}
 use Rattle.oas_num.specs.GrammarLaws.{after_same}
 use Rattle.oas_num.specs.Script.{Script, Takes}
 use Rattle.oas_num.specs.Style.{Any}
-use Rattle.oas_num.specs.Reading.{is_format, Fails}
+use Rattle.oas_num.specs.Reading.{is_format, is_cut, Fails}
 use Rattle.oas_num.proofs.ReadLemmas.{Takes-then}
 use Rattle.oas_canon.specs.declared.limits.Limits.{Limits}
 use Rattle.oas_canon.specs.declared.records.Record.{Record}
@@ -89,6 +89,38 @@ first_step rs ss left g = by_tail g.tail g.each where
   by_tail [] each = (None, g.last, [], g.end, append-nil g.last ∙ ap (λ (m : List ℕ). m ++ g.last) (sym each) ∙ sym g.joined)
   by_tail (r ∷ rs) each = (Some r, each.0, each.1 ++ g.last, each.2, sym (append_assoc each.0 each.1 g.last) ∙ ap (λ (m : List ℕ). m ++ g.last) (sym each.4) ∙ sym g.joined)
 
+-- what stands after some records where they and more hold a whole file in front: another of its records, or its END
+step_within : (rs ss : List Record) (a b c left more : List ℕ) → IsEach (IsRecord Any) rs a → IsEach (IsRecord Any) ss b → IsEnd Any tt c → a ++ left ≡ b ++ (c ++ more) → (step : Option Record) × (front : List ℕ) × (rest : List ℕ) × IsStep step front × (front ++ rest ≡ left)
+step_within [] [] a b c left more p q r e = (None, c, more, r, ap (λ (m : List ℕ). m ++ (c ++ more)) (sym q) ∙ sym e ∙ ap (λ (m : List ℕ). m ++ left) p)
+step_within [] (u ∷ us) a b c left more p q r e =
+    (Some u, q.0, q.1 ++ (c ++ more), q.2, sym (append_assoc q.0 q.1 (c ++ more)) ∙ ap (λ (m : List ℕ). m ++ (c ++ more)) (sym q.4) ∙ sym e ∙ ap (λ (m : List ℕ). m ++ left) p)
+step_within (t ∷ ts) [] a b c left more p q r e =
+    let e1 : p.0 ++ (p.1 ++ left) ≡ c ++ more = sym (append_assoc p.0 p.1 left) ∙ ap (λ (m : List ℕ). m ++ left) (sym p.4) ∙ e ∙ ap (λ (m : List ℕ). m ++ (c ++ more)) q in
+    absurd (IsApart-end.apart t tt p.0 c (p.1 ++ left) more p.2 r e1)
+step_within (t ∷ ts) (u ∷ us) a b c left more p q r e =
+    let e1 : p.0 ++ (p.1 ++ left) ≡ q.0 ++ (q.1 ++ (c ++ more)) =
+    sym (append_assoc p.0 p.1 left) ∙ ap (λ (m : List ℕ). m ++ left) (sym p.4) ∙ e ∙ ap (λ (m : List ℕ). m ++ (c ++ more)) q.4 ∙ append_assoc q.0 q.1 (c ++ more) in
+    let one = OneFront-record.one t u p.0 q.0 (p.1 ++ left) (q.1 ++ (c ++ more)) p.2 q.2 e1 in
+    step_within ts us p.1 q.1 c left more p.3 q.3 r (after_same p.0 q.0 (p.1 ++ left) (q.1 ++ (c ++ more)) one.0 e1)
+
+-- the same after the front of a file
+file_step : {u v : Real} {rs ss : List Record} {bytes : List ℕ} (left whole more : List ℕ) → FrontOf u rs bytes → FileOf v ss whole → whole ++ more ≡ bytes ++ left → (step : Option Record) × (front : List ℕ) × (rest : List ℕ) × IsStep step front × (front ++ rest ≡ left)
+file_step {u = u} {v = v} {rs = rs} {ss = ss} {bytes = bytes} left whole more f file e =
+    let s = file.spelled in
+    let start = s.second.front in
+    let body = s.second.second.front in
+    let last = s.second.second.back in
+    let first : magic ++ (f.start ++ (f.body ++ left)) ≡ bytes ++ left =
+    ap (λ (m : List ℕ). magic ++ m) (sym (append_assoc f.start f.body left)) ∙ sym (append_assoc magic (f.start ++ f.body) left) ∙ ap (λ (m : List ℕ). m ++ left) (sym f.joined) in
+    let parts : whole ≡ magic ++ (start ++ (body ++ last)) =
+    s.joined ∙ ap (λ (m : List ℕ). m ++ s.back) s.first ∙ ap (λ (m : List ℕ). magic ++ m) (s.second.joined ∙ ap (λ (m : List ℕ). start ++ m) s.second.second.joined) in
+    let second : whole ++ more ≡ magic ++ (start ++ (body ++ (last ++ more))) =
+    ap (λ (m : List ℕ). m ++ more) parts ∙ append_assoc magic (start ++ (body ++ last)) more ∙ ap (λ (m : List ℕ). magic ++ m) (append_assoc start (body ++ last) more ∙ ap (λ (m : List ℕ). start ++ m) (append_assoc body last more)) in
+    let e1 = append_cancel_left magic (f.start ++ (f.body ++ left)) (start ++ (body ++ (last ++ more))) (first ∙ sym e ∙ second) in
+    let one = OneFront-start.one u v f.start start (f.body ++ left) (body ++ (last ++ more)) f.begun s.second.first e1 in
+    let e2 = after_same f.start start (f.body ++ left) (body ++ (last ++ more)) one.0 e1 in
+    step_within rs ss f.body body last left more f.each s.second.second.first s.second.second.second e2
+
 -- ---- a read that fails there refuses the file
 
 pub decides_format : (why : Why) → IsTrue (decides why) → IsTrue (is_format why)
@@ -99,6 +131,10 @@ decides_format Memory h = h
 decides_format Write h = refl
 decides_format _ h = h
 
+-- the end of the input cuts it off
+pub ended_cut : (why : Why) → why ≡ Truncated → IsTrue (is_cut why)
+ended_cut why e = subst (λ (w : Why). IsTrue (is_cut w)) (sym e) refl
+
 pub step_refused : {u : Real} {rs : List Record} {old mid new : Script} {bytes : List ℕ} {may : Why → List ℕ → Type 0} {why : Why} (limits : Limits) → FrontOf u rs bytes → Takes old bytes mid → Fails IsStep may mid why new → why ≢ Write → IsRefused limits old why new
 step_refused {u = u} {rs = rs} {old = old} {mid = mid} {new = new} {bytes = bytes} {why = why} limits front takes f reading = record {
   bytes = bytes ++ f.bytes;
@@ -108,14 +144,14 @@ step_refused {u = u} {rs = rs} {old = old} {mid = mid} {new = new} {bytes = byte
       let g = file_goes_on (f.bytes ++ more) front file in
       let s = first_step rs a.records (f.bytes ++ more) g.1 in
       (f.format (decides_format why is)).none s.0 s.1 s.2 more s.3 s.4;
-  truncated = λ is.
-      let t = f.truncated is in (
-        λ a.
-            let g = file_goes_on f.bytes front a.file in
-            let s = first_step rs a.records f.bytes g.1 in
-            t.0.none s.0 s.1 s.2 s.3 s.4,
-        t.1,
-      );
+  cut = λ is whole rest e a. let s = file_step f.bytes whole rest front a.file e in absurd ((f.cut is).none s.0 s.1 s.2 s.3 s.4);
+  truncated = λ is. (
+    λ a.
+        let g = file_goes_on f.bytes front a.file in
+        let s = first_step rs a.records f.bytes g.1 in
+        (f.cut (ended_cut why is)).none s.0 s.1 s.2 s.3 s.4,
+    f.truncated is,
+  );
   device = f.device;
   too_long = f.too_long;
   reading = reading;

@@ -7,6 +7,7 @@ use Rattle.oas_num.specs.declared.reals.Real.{Real}
 use Rattle.oas_num.specs.Script.{Script, Takes}
 use Rattle.oas_num.specs.Reading.{ReadsValue, Fails}
 use Rattle.oas_num.proofs.ReadLemmas.{Takes-then}
+use Rattle.oas_num.proofs.GrammarLemmas.{uncut}
 use Rattle.oas_canon.specs.declared.collecting.Collected.{Collected}
 use Rattle.oas_canon.specs.declared.limits.Limits.{Limits}
 use Rattle.oas_canon.specs.declared.rectangles.Rectangle.{Rectangle}
@@ -133,7 +134,7 @@ module _ {limits : Limits} {origin mid : Script} {unit : Real} {c : Collected} (
   not_writing : (last : List ℕ) → StepMay Write last → ⊥
   not_writing last (inl h) = h
   not_writing last (inr (inl h)) = h
-  not_writing last (inr (inr h)) = h.decided.holds
+  not_writing last (inr (inr h)) = h.decided.reason.holds
 
   step_reasons : (why : Why) (last : List ℕ) → StepMay why last → why ≢ Write
   step_reasons why last h e = not_writing last (subst (λ (w : Why). StepMay w last) e h)
@@ -189,6 +190,7 @@ module _ {limits : Limits} {origin mid : Script} {unit : Real} {c : Collected} (
         bytes = m.bytes ++ read.bytes;
         takes = both;
         decided = λ is. absurd (undecided why e is);
+        cut = λ f. absurd (uncut why (λ e2. cc) (λ e2. cc) (λ e2. cc) f);
         truncated = λ f. absurd cc;
         device = λ f. absurd cc;
         too_long = λ f. absurd cc;
@@ -202,6 +204,7 @@ module _ {limits : Limits} {origin mid : Script} {unit : Real} {c : Collected} (
         decided = λ is more a.
             let g = file_goes_on more front a.file in
             n.4 (allowed_front (m.records ++ r ∷ []) g.1.tail (subst (λ (ss : List Record). Allowed limits ss) g.1.all a.allowed));
+        cut = λ f. absurd (uncut why n.1 n.2 n.3 f);
         truncated = λ f. absurd (n.1 f);
         device = λ f. absurd (n.2 f);
         too_long = λ f. absurd (n.3 f);

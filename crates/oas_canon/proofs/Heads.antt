@@ -5,25 +5,27 @@ use Rattle.std.proofs.lemmas.Slice.Eq.{slice_eq-Decides}
 use Rattle.std.proofs.lemmas.Bool.Decides.{Decides-eqb}
 use Rattle.std.proofs.Common.{Decides, eqb, ◌≡◌, ◌≢◌, ℕ, Bool, true, false, List, [], inl, inr, refl, sym, ap, subst, ◌∙◌}
 use Rattle.oas_num.specs.declared.refusals.Why.{Why}
-use Rattle.oas_num.specs.declared.refusals.Why.TheVariants.{Version, Unit as BadUnit, OffsetFlag, OutOfPlace}
+use Rattle.oas_num.specs.declared.refusals.Why.TheVariants.{Truncated, Version, Unit as BadUnit, OffsetFlag, OutOfPlace, Read, InputTooLong, Memory}
 use Rattle.oas_num.specs.declared.reals.Real.{Real}
 use Rattle.oas_num.specs.Script.{Script}
 use Rattle.oas_num.specs.Grammar.{IsPair, IsCount}
 use Rattle.oas_num.specs.Integers.{IsUnsigned}
 use Rattle.oas_num.specs.IntegerLaws.{OneFront-IsUnsigned}
-use Rattle.oas_num.specs.Reals.{SpellsReal, RealMay}
+use Rattle.oas_num.specs.Reals.{SpellsReal, RealTook}
 use Rattle.oas_num.specs.RealLaws.{OneFront-SpellsReal}
 use Rattle.oas_num.specs.Style.{Any}
 use Rattle.oas_num.specs.Texts.{SpellsLabel}
 use Rattle.oas_num.specs.TextLaws.{OneFront-label}
-use Rattle.oas_num.specs.Begun as begun
-use Rattle.oas_num.specs.Reading.{Fails, FailsPiece, ReadsValue, IntegerMay, LabelMay}
-use Rattle.oas_num.proofs.ReadLemmas.{Takes-none, Fails-after}
+use Rattle.oas_num.specs.Reading.{Fails, FailsPiece, ReadsValue, IntegerMay, NoneWithin, LabelTook}
+use Rattle.oas_num.proofs.ReadLemmas.{Takes-none, Fails-after, within_none, none_whole}
+use Rattle.oas_num.proofs.PieceLemmas.{whole_piece}
+use Rattle.oas_num.proofs.RealLemmas.{real_decides}
+use Rattle.oas_num.proofs.TextLemmas.{label_decides}
 use Rattle.oas_num.proofs.GrammarLemmas.{Midway, ◌▸◌, fails_at, such_read}
 use Rattle.oas_canon.specs.File.{IsNumber, IsAbove, unit_in, version, IsVersion, StartParts, IsStartParts, start_parts, IsStart, offsets_in, IsTwelve}
 use Rattle.oas_canon.specs.FileLaws.{OneFront-number, OneFront-version, OneFront-unit}
 use Rattle.oas_canon.specs.Reasons.{VersionMay, UnitMay, StartMay}
-use Rattle.oas_canon.proofs.Pins.{piece_reason, whole_fails, pinned_read, pinned_fails, pinned_refused}
+use Rattle.oas_canon.proofs.Pins.{whole_fails, pinned_read, pinned_fails, pinned_refused}
 use Rattle.oas_canon.proofs.Somes.{HasSome-start_parts}
 
 -- ---- reasons
@@ -33,22 +35,27 @@ StartMay-integer (OutOfPlace id) last h = absurd h
 StartMay-integer OffsetFlag last h = absurd h
 StartMay-integer _ last h = inl h
 
-pub VersionMay-label : (why : Why) (last : List ℕ) → begun.Decides false SpellsLabel (LabelMay why) last → VersionMay why last
-VersionMay-label Version last h = absurd h.holds
-VersionMay-label _ last h = h
+-- why an a-string couldn't be read
+version_took : {old new : Script} (why : Why) → (f : FailsPiece SpellsLabel LabelTook old why new) → VersionMay why f.bytes
+version_took Version f = absurd (label_decides Version f.bytes (whole_piece f)).holds
+version_took Memory f = whole_piece f
+version_took Truncated f = (whole_piece f, f.cut refl)
+version_took Read f = (whole_piece f, f.cut refl)
+version_took InputTooLong f = (whole_piece f, f.cut refl)
+version_took _ f = (whole_piece f, within_none (f.format refl))
 
 pub StartMay-version : (why : Why) (last : List ℕ) → VersionMay why last → StartMay why last
-StartMay-version (OutOfPlace id) last h = absurd h.holds
-StartMay-version OffsetFlag last h = absurd h.holds
+StartMay-version (OutOfPlace id) last h = absurd (label_decides (OutOfPlace id) last h.0).holds
+StartMay-version OffsetFlag last h = absurd (label_decides OffsetFlag last h.0).holds
 StartMay-version _ last h = inr (inl h)
 
-UnitMay-real : (why : Why) (last : List ℕ) → begun.Decides false SpellsReal (RealMay why) last → UnitMay why last
-UnitMay-real BadUnit last h = absurd h.holds
+UnitMay-real : (why : Why) (last : List ℕ) → RealTook why last × NoneWithin SpellsReal last → UnitMay why last
+UnitMay-real BadUnit last h = absurd (real_decides BadUnit last h.0).holds
 UnitMay-real _ last h = h
 
 StartMay-unit : (why : Why) (last : List ℕ) → UnitMay why last → StartMay why last
-StartMay-unit (OutOfPlace id) last h = absurd h.holds
-StartMay-unit OffsetFlag last h = absurd h.holds
+StartMay-unit (OutOfPlace id) last h = absurd (real_decides (OutOfPlace id) last h.0).holds
+StartMay-unit OffsetFlag last h = absurd (real_decides OffsetFlag last h.0).holds
 StartMay-unit _ last h = inr (inr h)
 
 -- ---- what a comparison of texts tells
@@ -101,8 +108,8 @@ starts s = record {
   some = HasSome-start_parts;
 }
 
-pub version_fails : {old new : Script} {why : Why} → Fails SpellsLabel LabelMay old why new → FailsPiece (IsVersion Any) VersionMay old why new
-version_fails {why = why} f = pinned_fails version f (VersionMay-label why f.bytes f.reason)
+pub version_fails : {old new : Script} {why : Why} → FailsPiece SpellsLabel LabelTook old why new → FailsPiece (IsVersion Any) VersionMay old why new
+version_fails {why = why} f = pinned_fails version f (version_took why f)
 
 pub version_read : {old new : Script} {text : List ℕ} → text ≡ version → ReadsValue SpellsLabel old text new → ReadsValue (IsVersion Any) old tt new
 version_read same read = pinned_read version same read
@@ -111,7 +118,7 @@ pub version_other : {old new : Script} {text : List ℕ} → text ≢ version �
 version_other {text = text} other read = pinned_refused version (OneFront-label Any) read other (text, read.spelled, other) (record { ended = λ e. cc; device = λ e. cc; long = λ e. cc })
 
 pub id_fails : {old new : Script} {why : Why} → FailsPiece IsUnsigned IntegerMay old why new → Fails (IsStart Any) StartMay old why new
-id_fails {why = why} f = fails_at (starts _) (λ _ _ h. h) (pinned_fails 1 f (StartMay-integer why f.bytes (piece_reason f)))
+id_fails {why = why} f = fails_at (starts _) (λ _ _ h. h) (pinned_fails 1 f (StartMay-integer why f.bytes (whole_piece f)))
 
 pub id_other : {old new : Script} {id : ℕ} → id ≢ 1 → ReadsValue IsUnsigned old id new → Fails (IsStart Any) StartMay old (OutOfPlace id) new
 id_other other read = fails_at (starts _) (λ _ _ h. h) (pinned_refused 1 OneFront-IsUnsigned read other (read.spelled, other) (record { ended = λ e. cc; device = λ e. cc; long = λ e. cc }))
@@ -123,6 +130,7 @@ unit_refused {u = u} other read = record {
   takes = read.takes;
   reason = record { front = []; last = read.bytes; joined = refl; begun = refl; holds = inr (inr (u, read.spelled, other)) };
   format = λ _. record { none = λ v p r more s e. let one = OneFront-SpellsReal.one v u p read.bytes r more s.spelled read.spelled e in other (subst IsAbove one.1 s.holds) };
+  cut = λ is. absurd cc;
   truncated = λ is. cc;
   device = λ is. cc;
   too_long = λ is. cc;
@@ -136,8 +144,8 @@ module _ {s0 s1 : Script} {id : ℕ} (is : id ≡ 1) (id_read : ReadsValue IsUns
     pub with_version : Midway (IsStart Any) AfterVersion (λ (p : Real × (Unit {0} × Unit {0})). p.0) s0 s2
     with_version = with_id ▸ (OneFront-version, version_read)
 
-    pub unit_fails : {s3 : Script} {why : Why} → Fails SpellsReal RealMay s2 why s3 → Fails (IsStart Any) StartMay s0 why s3
-    unit_fails {why = why} f = fails_at with_version (λ _ _ h. h) (whole_fails [] (Takes-none s2) (record { wants = λ v p r rest s e. (v, p, r, s.spelled, e) }) f (StartMay-unit why f.bytes (UnitMay-real why f.bytes f.reason)))
+    pub unit_fails : {s3 : Script} {why : Why} → FailsPiece SpellsReal RealTook s2 why s3 → Fails (IsStart Any) StartMay s0 why s3
+    unit_fails {why = why} f = fails_at with_version (λ _ _ h. h) (whole_fails [] (Takes-none s2) (record { wants = λ v p r rest s e. (v, p, r, s.spelled, e) }) f (StartMay-unit why f.bytes (UnitMay-real why f.bytes (whole_piece f, none_whole (λ last h. (real_decides Memory last h).holds) f))))
 
     pub unit_other : {s3 : Script} {u : Real} → ¬ IsAbove u → ReadsValue SpellsReal s2 u s3 → Fails (IsStart Any) StartMay s0 BadUnit s3
     unit_other {s3 = s3} {u = u} other read = fails_at with_version (λ _ _ h. h) (unit_refused other read)
@@ -147,7 +155,7 @@ module _ {s0 s1 : Script} {id : ℕ} (is : id ≡ 1) (id_read : ReadsValue IsUns
       with_unit = with_version ▸ (OneFront-unit, such_read IsAbove SpellsReal s2 s3 u above unit_read)
 
       pub flag_fails : {s4 : Script} {why : Why} → FailsPiece IsUnsigned IntegerMay s3 why s4 → Fails (IsStart Any) StartMay s0 why s4
-      flag_fails {why = why} f = fails_at with_unit (λ _ _ h. h) (pinned_fails 0 f (StartMay-integer why f.bytes (piece_reason f)))
+      flag_fails {why = why} f = fails_at with_unit (λ _ _ h. h) (pinned_fails 0 f (StartMay-integer why f.bytes (whole_piece f)))
 
       pub flag_other : {s4 : Script} {flag : ℕ} → flag ≢ 0 → ReadsValue IsUnsigned s3 flag s4 → Fails (IsStart Any) StartMay s0 OffsetFlag s4
       flag_other {flag = flag} other read = fails_at with_unit (λ _ _ h. h) (pinned_refused 0 OneFront-IsUnsigned read other (flag, read.spelled, other) (record { ended = λ e. cc; device = λ e. cc; long = λ e. cc }))

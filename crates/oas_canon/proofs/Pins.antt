@@ -11,16 +11,13 @@ use Rattle.oas_num.specs.Begun.{Begins}
 use Rattle.oas_num.specs.BegunLaws.{HasSome-exactly, Before-begins}
 use Rattle.oas_num.specs.Reading.{Fails, FailsBy, FailsPiece, ReadsValue}
 use Rattle.oas_num.proofs.ReadLemmas.{Takes-none, Takes-then, Wants, Fails-after}
+use Rattle.oas_num.proofs.GrammarLemmas.{uncut}
 
 -- a reason that only the bytes give
 pub record IsOfBytes (why : Why) : Type 0 where
   pub ended : why ≢ Truncated
   pub device : why ≢ Read
   pub long : why ≢ InputTooLong
-
--- what holds of the bytes of a piece that decided holds of all that was read
-pub piece_reason : {V : Type 0} {A : V → List ℕ → Type 0} {there : Why → List ℕ → Type 0} {old new : Script} {why : Why} (f : FailsPiece A there old why new) → there why f.bytes
-piece_reason {there = there} {why = why} f = let r = f.reason in subst (λ (b : List ℕ). there why b) (sym (r.joined ∙ ap (λ (c : List ℕ). c ++ r.last) r.begun)) r.holds
 
 -- after a front a part fails, and all of it is read as one piece: what was read of it decided
 pub whole_fails : {V W : Type 0} {piece : Bool} {A : V → List ℕ → Type 0} {B : W → List ℕ → Type 0} {may there : Why → List ℕ → Type 0} {old mid new : Script} {why : Why} (front : List ℕ) → Takes old front mid → Wants B front A → (f : FailsBy piece A there mid why new) → may why (front ++ f.bytes) → FailsPiece B may old why new
@@ -29,7 +26,8 @@ whole_fails {old = old} {mid = mid} {new = new} front takes wants f reason = rec
   takes = Takes-then old mid new front f.bytes takes f.takes;
   reason = record { front = []; last = front ++ f.bytes; joined = refl; begun = refl; holds = reason };
   format = λ is. record { none = λ v p r more s e. let w = wants.wants v p r (f.bytes ++ more) s (e ∙ append_assoc front f.bytes more) in (f.format is).none w.0 w.1 w.2 more w.3 w.4 };
-  truncated = λ is. let t = f.truncated is in (record { none = λ v p r s e. let w = wants.wants v p r f.bytes s e in t.0.none w.0 w.1 w.2 w.3 w.4 }, t.1);
+  cut = λ is. record { none = λ v p r s e. let w = wants.wants v p r f.bytes s e in (f.cut is).none w.0 w.1 w.2 w.3 w.4 };
+  truncated = f.truncated;
   device = f.device;
   too_long = f.too_long;
 }
@@ -42,11 +40,12 @@ module _ {V : Type 0} {A : V → List ℕ → Type 0} (n : V) where
   pinned_fails {old = old} f reason = whole_fails [] (Takes-none old) (record { wants = λ v p r rest s e. (n, p, r, s, e) }) f reason
 
   pub pinned_refused : {may : Why → List ℕ → Type 0} {old new : Script} {why : Why} {v : V} → OneFront A → (read : ReadsValue A old v new) → v ≢ n → may why read.bytes → IsOfBytes why → FailsPiece (λ (done : Unit {0}) bytes. A n bytes) may old why new
-  pinned_refused {v = v} law read other reason of = record {
+  pinned_refused {why = why} {v = v} law read other reason of = record {
     bytes = read.bytes;
     takes = read.takes;
     reason = record { front = []; last = read.bytes; joined = refl; begun = refl; holds = reason };
     format = λ _. record { none = λ done p r more s e. let one = law.one n v p read.bytes r more s read.spelled e in other (sym one.1) };
+    cut = λ is. absurd (uncut why of.ended of.device of.long is);
     truncated = λ is. absurd (of.ended is);
     device = λ is. absurd (of.device is);
     too_long = λ is. absurd (of.long is);
@@ -63,11 +62,12 @@ module _ (n : ℕ) where
   heads v p q r more s t e = let e2 : n ∷ r ≡ v ∷ more = ap (λ (c : List ℕ). c ++ r) (sym s) ∙ e ∙ ap (λ (c : List ℕ). c ++ more) t in cc
 
   pub byte_refused : {may : Why → List ℕ → Type 0} {old new : Script} {why : Why} {v : ℕ} → (read : ReadsValue IsByte old v new) → v ≢ n → may why read.bytes → IsOfBytes why → FailsPiece (IsExactly (n ∷ [])) may old why new
-  byte_refused {v = v} read other reason of = record {
+  byte_refused {why = why} {v = v} read other reason of = record {
     bytes = read.bytes;
     takes = read.takes;
     reason = record { front = []; last = read.bytes; joined = refl; begun = refl; holds = reason };
     format = λ _. record { none = λ done p r more s e. other (heads v p read.bytes r more s read.spelled.only e) };
+    cut = λ is. absurd (uncut why of.ended of.device of.long is);
     truncated = λ is. absurd (of.ended is);
     device = λ is. absurd (of.device is);
     too_long = λ is. absurd (of.long is);

@@ -18,6 +18,7 @@ use Rattle.oas_canon.specs.Places.{ByMagic, ByStart, ByRecord}
 use Rattle.oas_canon.specs.Reasons.{MagicMay, StartMay}
 use Rattle.oas_canon.specs.Run.{is_of_file, IsPlaced}
 use Rattle.oas_canon.specs.Steps.{IsStep}
+use Rattle.oas_canon.proofs.Fronts.{ended_cut}
 
 format_or_end : (why : Why) → IsTrue (is_of_file why) → IsTrue (is_format why) ⊎ (why ≡ Truncated)
 format_or_end Truncated h = inr refl
@@ -32,7 +33,7 @@ pub none_stands : {V : Type 0} {spells : V → List ℕ → Type 0} {may : Why �
 none_stands {why = why} f is more ended v front rest s e =
     elim (format_or_end why is) [
       | inl format ↦ (f.format format).none v front rest more s (sym e)
-      | inr end ↦ let t = f.truncated end in t.0.none v front rest s (sym e ∙ ap (λ (c : List ℕ). f.bytes ++ c) (ended t.1) ∙ append-nil f.bytes)
+      | inr end ↦ (f.cut (ended_cut why end)).none v front rest s (sym e ∙ ap (λ (c : List ℕ). f.bytes ++ c) (ended (f.truncated end)) ∙ append-nil f.bytes)
     ]
 
 module _ {limits : Limits} where

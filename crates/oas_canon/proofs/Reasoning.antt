@@ -26,13 +26,13 @@ use Rattle.oas_canon.specs.Run.{IsDrafted}
 
 module _ {limits : Limits} where
   pub magic_reasoned : {old new : Script} (refusal : Refusal) → refusal.at ≡ old.given → Fails (IsExactly magic) MagicMay old refusal.why new → IsReasoned limits old refusal new
-  magic_reasoned refusal at f = record { bytes = f.bytes; takes = f.takes; decided = λ fresh. TheMagic (record { place = at ∙ fresh; decides = f.reason }) }
+  magic_reasoned refusal at f = record { bytes = f.bytes; takes = f.takes; decided = λ fresh. TheMagic (record { place = at ∙ fresh; decides = f.reason; cut = f.cut }) }
 
   pub start_reasoned : {old mid new : Script} (refusal : Refusal) → ReadsValue (IsExactly magic) old tt mid → refusal.at ≡ mid.given → Fails (IsStart Any) StartMay mid refusal.why new → IsReasoned limits old refusal new
   start_reasoned {old = old} {mid = mid} {new = new} refusal m at f = record {
     bytes = m.bytes ++ f.bytes;
     takes = Takes-then old mid new m.bytes f.bytes m.takes f.takes;
-    decided = λ fresh. TheStart (record { left = f.bytes; place = omega (arith, at, m.takes.given, fresh, ap length m.spelled); joined = ap (λ (c : List ℕ). c ++ f.bytes) m.spelled; decides = f.reason });
+    decided = λ fresh. TheStart (record { left = f.bytes; place = omega (arith, at, m.takes.given, fresh, ap length m.spelled); joined = ap (λ (c : List ℕ). c ++ f.bytes) m.spelled; decides = f.reason; cut = f.cut });
   }
 
 -- ---- a record
@@ -66,6 +66,7 @@ module _ {limits : Limits} {origin mid : Script} {unit : Real} {c : Collected} (
       records = m.records;
       before = record { unit = unit; before = m.bytes; front = m.front; allowed = m.stands.allowed; place = omega (arith, at, m.takes.given, fresh); joined = refl };
       decides = f.reason;
+      cut = f.cut;
     });
   }
 

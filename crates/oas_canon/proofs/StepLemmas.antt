@@ -19,8 +19,9 @@ use Rattle.oas_num.specs.Texts.{SpellsName, SpellsPadding}
 use Rattle.oas_num.specs.TextLaws.{OneFront-padding}
 use Rattle.oas_num.specs.Reading.{Fails, FailsPiece, ReadsValue, ByteMay, IntegerMay, NameMay}
 use Rattle.oas_num.proofs.IntegerLemmas.{IntegerMay-byte}
-use Rattle.oas_num.proofs.ReadLemmas.{Takes-none, Takes-then, Wants, Fails-after, piece_fails}
-use Rattle.oas_num.proofs.GrammarLemmas.{Midway, begins, seen, ◌▸◌, fails_at, fails_last, is_read}
+use Rattle.oas_num.proofs.ReadLemmas.{Takes-none, Takes-then, Wants, Fails-after, piece_fails, fails_cut_off}
+use Rattle.oas_num.proofs.GrammarLemmas.{Midway, begins, seen, ◌▸◌, fails_at, fails_last, is_read, uncut}
+use Rattle.oas_num.proofs.PieceLemmas.{whole_piece}
 use Rattle.oas_canon.specs.declared.rectangles.Rectangle.{Rectangle}
 use Rattle.oas_canon.specs.declared.records.Record.{Record}
 use Rattle.oas_canon.specs.declared.records.Record.TheVariants.{Pad, Cell, Rectangle as Shape}
@@ -28,7 +29,7 @@ use Rattle.oas_canon.specs.File.{IsNumber, IsFields, rectangle_of, shape_of, IsR
 use Rattle.oas_canon.specs.FileLaws.{OneFront-number, OneFront-rest}
 use Rattle.oas_canon.specs.Steps.{IsStep, IsRectangle, ending_of, IsEnding, end_of, LooseRest, step_of, IsLoose}
 use Rattle.oas_canon.specs.Reasons.{RectangleMay, EndMay, IsOfEnd, StepMay, IsNotRead, IsOmitted, IsRefusal}
-use Rattle.oas_canon.proofs.Pins.{IsOfBytes, piece_reason, whole_fails, pinned_read, pinned_fails, pinned_refused, byte_read, byte_refused}
+use Rattle.oas_canon.proofs.Pins.{IsOfBytes, whole_fails, pinned_read, pinned_fails, pinned_refused, byte_read, byte_refused}
 use Rattle.oas_canon.proofs.Somes.{HasSome-rectangle, HasSome-ending, HasSome-step}
 
 -- ---- the fields of a RECTANGLE
@@ -99,7 +100,7 @@ module _ {s0 s1 : Script} {padding : Padding} (padding_read : ReadsValue SpellsP
   with_padding = ending_starts s0 ▸ (OneFront-padding, padding_read)
 
   pub scheme_fails : {s2 : Script} {why : Why} → FailsPiece IsUnsigned IntegerMay s1 why s2 → Fails IsEnding EndMay s0 why s2
-  scheme_fails {why = why} f = fails_last with_padding (λ _ _ h. h) (pinned_fails 0 f (EndMay-integer why f.bytes (piece_reason f)))
+  scheme_fails {why = why} f = fails_last with_padding (λ _ _ h. h) (pinned_fails 0 f (EndMay-integer why f.bytes (whole_piece f)))
 
   pub scheme_other : {s2 : Script} {scheme : ℕ} → scheme ≢ 0 → ReadsValue IsUnsigned s1 scheme s2 → Fails IsEnding EndMay s0 ValidationScheme s2
   scheme_other {scheme = scheme} other read = fails_last with_padding (λ _ _ h. h) (pinned_refused 0 OneFront-IsUnsigned read other (scheme, read.spelled, other) (record { ended = λ e. cc; device = λ e. cc; long = λ e. cc }))
@@ -168,15 +169,15 @@ StepMay-rectangle EndLength last h = absurd h
 StepMay-rectangle _ last h = inl h
 
 StepMay-end : (why : Why) (last : List ℕ) → IsOfEnd (EndMay why) last → StepMay why last
-StepMay-end (RecordLeftOut id) last h = absurd h.decided.holds
-StepMay-end (UnknownRecord id) last h = absurd h.decided.holds
-StepMay-end (OutOfPlace id) last h = absurd h.decided.holds
-StepMay-end InfoByte last h = absurd h.decided.holds
-StepMay-end EndLength last h = absurd h.decided.holds
+StepMay-end (RecordLeftOut id) last h = absurd h.decided.reason.holds
+StepMay-end (UnknownRecord id) last h = absurd h.decided.reason.holds
+StepMay-end (OutOfPlace id) last h = absurd h.decided.reason.holds
+StepMay-end InfoByte last h = absurd h.decided.reason.holds
+StepMay-end EndLength last h = absurd h.decided.reason.holds
 StepMay-end _ last h = inr (inr h)
 
 pub id_fails : {s0 s1 : Script} {why : Why} → FailsPiece IsUnsigned IntegerMay s0 why s1 → Fails IsStep StepMay s0 why s1
-id_fails {s0 = s0} {why = why} f = piece_fails HasSome-step (whole_fails [] (Takes-none s0) id_first f (StepMay-integer why f.bytes (piece_reason f)))
+id_fails {s0 = s0} {why = why} f = piece_fails HasSome-step (whole_fails [] (Takes-none s0) id_first f (StepMay-integer why f.bytes (whole_piece f)))
 
 module _ {s0 s1 : Script} {id : ℕ} (id_read : ReadsValue IsUnsigned s0 id s1) where
   id_is : (k : ℕ) → id ≡ k → IsUnsigned k id_read.bytes
@@ -266,7 +267,7 @@ module _ {s0 s1 : Script} {id : ℕ} (id_read : ReadsValue IsUnsigned s0 id s1) 
   pub end_fails : {s2 : Script} {why : Why} → id ≡ 2 → Fails IsEnding EndMay s1 why s2 → Fails IsStep StepMay s0 why s2
   end_fails {why = why} is f =
       piece_fails HasSome-step
-      (whole_fails id_read.bytes id_read.takes (end_then is) f (StepMay-end why (id_read.bytes ++ f.bytes) (record { id = id_read.bytes; rest = f.bytes; spelled = id_is 2 is; joined = refl; decided = f.reason })))
+      (whole_fails id_read.bytes id_read.takes (end_then is) f (StepMay-end why (id_read.bytes ++ f.bytes) (record { id = id_read.bytes; rest = f.bytes; spelled = id_is 2 is; joined = refl; decided = fails_cut_off (λ _ h. h) f })))
 
   module _ {s2 : Script} (is : id ≡ 2) (read : ReadsValue IsEnding s1 tt s2) where
     both : Takes s0 (id_read.bytes ++ read.bytes) s2
@@ -312,6 +313,7 @@ module _ {s0 s1 : Script} {id : ℕ} (id_read : ReadsValue IsUnsigned s0 id s1) 
         holds = (read.spelled.from.0, record { front = id_read.bytes; back = read.bytes; first = id_is 2 is; second = read.spelled.spelled; joined = refl }, long other);
       };
       format = λ _. record { none = wrong other };
+      cut = λ e. absurd cc;
       truncated = λ e. cc;
       device = λ e. cc;
       too_long = λ e. cc;
@@ -337,6 +339,7 @@ module _ {s0 s1 : Script} {id : ℕ} (id_read : ReadsValue IsUnsigned s0 id s1) 
     takes = id_read.takes;
     reason = record { front = []; last = id_read.bytes; joined = refl; begun = Begins-none IsStep HasSome-step; holds = reason };
     format = λ _. record { none = none_fits not };
+    cut = λ is. absurd (uncut why of.ended of.device of.long is);
     truncated = λ is. absurd (of.ended is);
     device = λ is. absurd (of.device is);
     too_long = λ is. absurd (of.long is);

@@ -7,6 +7,7 @@ use Rattle.oas_num.specs.declared.refusals.Why.TheVariants.{Truncated, Read, Inp
 use Rattle.oas_num.specs.declared.refusals.Refusal.{Refusal}
 use Rattle.oas_num.specs.declared.reals.Real.{Real}
 use Rattle.oas_num.specs.Script.{Script, Rest, Gave, NoneLeft}
+use Rattle.oas_num.proofs.GrammarLemmas.{uncut}
 use Rattle.oas_canon.specs.declared.limits.Limits.{Limits}
 use Rattle.oas_canon.specs.declared.records.Record.{Record}
 use Rattle.oas_canon.specs.Canonical.{canonical_bytes}
@@ -55,6 +56,7 @@ module _ {limits : Limits} {old new : Script} {draft : Layout} {end : ℕ} (d : 
     bytes = d.bytes;
     takes = d.takes;
     decided = λ is. absurd (undecided why e is);
+    cut = λ f. absurd (uncut why (λ e2. cc) (λ e2. cc) (λ e2. cc) f);
     truncated = λ f. absurd cc;
     device = λ f. absurd cc;
     too_long = λ f. absurd cc;
@@ -68,6 +70,7 @@ module _ {limits : Limits} {old new : Script} {draft : Layout} {end : ℕ} (d : 
     decided = λ is more a.
         let same = same_records more a.unit a.records a.file in
         t.1 (subst (λ (cs : Cells). IsDistinct (keys_of cs)) (sym (ap cells same) ∙ d.is) a.whole.distinct);
+    cut = λ f. let e = t.0 in absurd (uncut why (λ e2. cc) (λ e2. cc) (λ e2. cc) f);
     truncated = λ f. let e = t.0 in absurd cc;
     device = λ f. let e = t.0 in absurd cc;
     too_long = λ f. let e = t.0 in absurd cc;

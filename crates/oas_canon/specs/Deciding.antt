@@ -1,11 +1,13 @@
 -- Which bytes decide that a file is refused: those taken last, after bytes that begin what may stand at the refusal's place.
-use Rattle.std.specs.Prelude.{◌≡◌, ◌≢◌, ℕ, ◌+◌, ◌<◌, ◌≤◌, false, List, [], ◌∷◌, ◌++◌, length, ◌⊎◌}
+-- Where the input was cut off, none of that stood whole before.
+use Rattle.std.specs.Prelude.{◌≡◌, ◌≢◌, ℕ, ◌+◌, ◌<◌, ◌≤◌, false, List, [], ◌∷◌, ◌++◌, length, IsTrue, ◌⊎◌}
 use Rattle.std.specs.Map.{keys_of}
 use Rattle.oas_num.specs.declared.refusals.Why.{Why}
 use Rattle.oas_num.specs.declared.refusals.Why.TheVariants.{Read, InputTooLong, Memory, OutOfPlace, CoordinateRange, TooManyElements, TooHeavy, TrailingBytes, DuplicateCell}
 use Rattle.oas_num.specs.declared.refusals.Refusal.{Refusal}
 use Rattle.oas_num.specs.Begun.{Decides}
 use Rattle.oas_num.specs.Combinators.{IsExactly}
+use Rattle.oas_num.specs.Reading.{is_cut, NoneWithin}
 use Rattle.oas_num.specs.Script.{Script, Takes}
 use Rattle.oas_num.specs.Style.{Any}
 use Rattle.oas_canon.specs.declared.limits.Limits.{Limits}
@@ -21,6 +23,7 @@ use Rattle.oas_canon.specs.Steps.{IsStep}
 pub record InMagic (taken : List ℕ) (at : ℕ) (why : Why) : Type 0 where
   pub place : at ≡ 0
   pub decides : Decides false (IsExactly magic) (MagicMay why) taken
+  pub cut : IsTrue (is_cut why) → NoneWithin (IsExactly magic) taken
 
 -- in START
 pub record InStart (taken : List ℕ) (at : ℕ) (why : Why) : Type 0 where
@@ -28,6 +31,7 @@ pub record InStart (taken : List ℕ) (at : ℕ) (why : Why) : Type 0 where
   pub place : at ≡ 13
   pub joined : taken ≡ magic ++ left
   pub decides : Decides false (IsStart Any) (StartMay why) left
+  pub cut : IsTrue (is_cut why) → NoneWithin (IsStart Any) left
 
 -- in a record or END
 pub record InRecord (limits : Limits) (taken : List ℕ) (at : ℕ) (why : Why) : Type 0 where
@@ -35,6 +39,7 @@ pub record InRecord (limits : Limits) (taken : List ℕ) (at : ℕ) (why : Why) 
   pub records : List Record
   pub before : IsBefore limits taken left at records
   pub decides : Decides false IsStep (StepMay why) left
+  pub cut : IsTrue (is_cut why) → NoneWithin IsStep left
 
 -- why a record that was read isn't taken after these: of a RECTANGLE the first of these that holds
 abbrev pub TakeMay : Limits → List Record → Record → Why → Type 0

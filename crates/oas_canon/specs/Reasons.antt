@@ -1,13 +1,12 @@
 -- Why a read may fail, and which bytes then decided: those with which what it took ends.
-use Rattle.std.specs.Prelude.{◌≡◌, ◌≢◌, ℕ, false, List, [], ◌∷◌, ◌++◌, length, ◌⊎◌}
+use Rattle.std.specs.Prelude.{◌≡◌, ◌≢◌, ℕ, List, [], ◌∷◌, ◌++◌, length, ◌⊎◌}
 use Rattle.oas_num.specs.declared.refusals.Why.{Why}
-use Rattle.oas_num.specs.declared.refusals.Why.TheVariants.{Magic, Unit as BadUnit, Version, OffsetFlag, RecordLeftOut, UnknownRecord, OutOfPlace, InfoByte, EndLength, ValidationScheme}
+use Rattle.oas_num.specs.declared.refusals.Why.TheVariants.{Magic, Unit as BadUnit, Version, Memory, OffsetFlag, RecordLeftOut, UnknownRecord, OutOfPlace, InfoByte, EndLength, ValidationScheme}
 use Rattle.oas_num.specs.declared.reals.Real.{Real}
 use Rattle.oas_num.specs.declared.texts.Padding.{Padding}
-use Rattle.oas_num.specs.Begun.{Decides}
 use Rattle.oas_num.specs.Integers.{IsUnsigned}
-use Rattle.oas_num.specs.Reading.{ByteMay, IntegerMay, NameMay, LabelMay}
-use Rattle.oas_num.specs.Reals.{SpellsReal, RealMay}
+use Rattle.oas_num.specs.Reading.{ByteMay, IntegerMay, NameMay, LabelTook, NoneWithin, IsCutOff}
+use Rattle.oas_num.specs.Reals.{SpellsReal, RealTook}
 use Rattle.oas_num.specs.Texts.{IsBetween, SpellsLabel}
 use Rattle.oas_canon.specs.File.{IsAbove, version, IsEndParts}
 use Rattle.oas_canon.specs.Steps.{IsEnding}
@@ -17,15 +16,16 @@ abbrev pub MagicMay : Why → List ℕ → Type 0
 MagicMay Magic last = (byte : ℕ) × (last ≡ byte ∷ [])
 MagicMay why last = ByteMay why last
 
--- the version, an a-string that is read whole: it is another
+-- the version, an a-string that is read whole: it is another, or can't be read
 abbrev pub VersionMay : Why → List ℕ → Type 0
 VersionMay Version last = (text : List ℕ) × SpellsLabel text last × (text ≢ version)
-VersionMay why last = Decides false SpellsLabel (LabelMay why) last
+VersionMay Memory last = LabelTook Memory last
+VersionMay why last = LabelTook why last × NoneWithin SpellsLabel last
 
--- the unit, a real that is read whole: it isn't above zero
+-- the unit, a real that is read whole: it isn't above zero, or can't be read, and no front of it is a whole one
 abbrev pub UnitMay : Why → List ℕ → Type 0
 UnitMay BadUnit last = (u : Real) × SpellsReal u last × ¬ IsAbove u
-UnitMay why last = Decides false SpellsReal (RealMay why) last
+UnitMay why last = RealTook why last × NoneWithin SpellsReal last
 
 -- START: its id, its version, its unit or its offset-flag is another
 abbrev pub StartMay : Why → List ℕ → Type 0
@@ -38,13 +38,13 @@ abbrev pub EndMay : Why → List ℕ → Type 0
 EndMay ValidationScheme last = (scheme : ℕ) × IsUnsigned scheme last × (scheme ≢ 0)
 EndMay why last = IntegerMay why last
 
--- END's id, and then bytes of which that holds last, and which begin the rest of an END of some length before
+-- END's id, and then bytes of which that holds last, which begin the rest of an END of some length before, and of which no front is that rest
 pub record IsOfEnd (P : List ℕ → Type 0) (last : List ℕ) : Type 0 where
   pub id : List ℕ
   pub rest : List ℕ
   pub spelled : IsUnsigned 2 id
   pub joined : last ≡ id ++ rest
-  pub decided : Decides false IsEnding P rest
+  pub decided : IsCutOff IsEnding P rest
 
 -- the fields of a RECTANGLE: its info byte isn't 7B
 abbrev pub RectangleMay : Why → List ℕ → Type 0

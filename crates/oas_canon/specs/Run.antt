@@ -5,6 +5,7 @@ use Rattle.oas_num.specs.declared.refusals.Why.{Why}
 use Rattle.oas_num.specs.declared.refusals.Refusal.{Refusal}
 use Rattle.oas_num.specs.declared.refusals.Why.TheVariants.{Truncated, Read, InputTooLong, Write, Memory, DuplicateCell}
 use Rattle.oas_num.specs.Script.{Script, Rest, Takes, IsAtEnd, HasFailed, IsTooLong}
+use Rattle.oas_num.specs.Reading.{is_cut}
 use Rattle.oas_canon.specs.declared.limits.Limits.{Limits}
 use Rattle.std.specs.Map.{keys_of}
 use Rattle.oas_num.specs.declared.reals.Real.{Real}
@@ -52,11 +53,12 @@ pub record IsDrafted (limits : Limits) (old : Script) (draft : Layout) (end : �
   pub joined : bytes ≡ before ++ last
   pub place : end ≡ old.given + length before
 
--- no accepted file begins with what was taken, or the source has ended and what was taken is none, or a device or the memory failed
+-- No accepted file begins with what was taken, or the source has ended and what was taken is none, or a device or the memory failed. Where the input was cut off, what was taken goes on after no accepted file.
 pub record IsRefused (limits : Limits) (old : Script) (why : Why) (new : Script) : Type 0 where
   pub bytes : List ℕ
   pub takes : Takes old bytes new
   pub decided : IsTrue (decides why) → (more : List ℕ) → Accepted limits (bytes ++ more) → ⊥
+  pub cut : IsTrue (is_cut why) → (front rest : List ℕ) → front ++ rest ≡ bytes → Accepted limits front → rest ≡ []
   pub truncated : why ≡ Truncated → (Accepted limits bytes → ⊥) × IsAtEnd new
   pub device : why ≡ Read → HasFailed new
   pub too_long : why ≡ InputTooLong → IsTooLong new

@@ -9,7 +9,7 @@ use Rattle.oas_num.specs.GrammarLaws.{after_same}
 use Rattle.oas_num.specs.Combinators.{IsKeyed}
 use Rattle.oas_num.specs.Begun.{HasSome, Begins, Before}
 use Rattle.oas_num.specs.BegunLaws.{HasSome-first, HasSome-second_of, HasSome-count, Before-begins, Before-as}
-use Rattle.oas_num.specs.Reading.{ReadsValue, FailsBy, Fails, FailsPiece}
+use Rattle.oas_num.specs.Reading.{ReadsValue, FailsBy, Fails, FailsPiece, is_cut}
 use Rattle.oas_num.proofs.ReadLemmas.{Takes-none, Takes-then, Wants, Fails-after, Begins-after, Before-after}
 
 -- The fields so far were read, and a spelling of the rest, of which there is one, makes the whole.
@@ -109,6 +109,13 @@ image_fails {A = A} {may = may} {piece = piece} {old = old} {new = new} {why = w
     Fails-after (IsImage f A) A may may old old new why [] (λ _ h. h) (Takes-none old) (record { wants = λ v p r rest s e. (s.from, p, r, s.spelled, e) })
     (Before-as piece A (IsImage f A) (λ a b. record { value = f b.value; rest = b.rest; spelled = record { from = b.value; is = refl; spelled = b.spelled } })) g
 
+-- the other reasons are of what was read, or of the memory
+pub uncut : (why : Why) → why ≢ Truncated → why ≢ Read → why ≢ InputTooLong → ¬ IsTrue (is_cut why)
+uncut Truncated a b c is = a refl
+uncut Read a b c is = b refl
+uncut InputTooLong a b c is = c refl
+uncut _ a b c is = cc
+
 -- a value that is refused, by a reason that its bytes show
 module _ {V : Type 0} (P : V → Type 0) (A : V → List ℕ → Type 0) where
   pub refused : (may : Why → List ℕ → Type 0) (old new : Script) (why : Why) (v : V) → OneFront A → (read : ReadsValue A old v new) → ¬ P v → may why read.bytes
@@ -118,6 +125,7 @@ module _ {V : Type 0} (P : V → Type 0) (A : V → List ℕ → Type 0) where
     takes = read.takes;
     reason = record { front = []; last = read.bytes; joined = refl; begun = refl; holds = reason };
     format = λ _. record { none = λ w p r more s e. let one = law.one w v p read.bytes r more s.spelled read.spelled e in isnt (subst P one.1 s.holds) };
+    cut = λ is. absurd (uncut why a b c is);
     truncated = λ is. absurd (a is);
     device = λ is. absurd (b is);
     too_long = λ is. absurd (c is);
@@ -130,6 +138,7 @@ no_memory A may old new front last begun allows takes = record {
   takes = takes;
   reason = record { front = front; last = last; joined = refl; begun = begun; holds = allows };
   format = λ is. absurd cc;
+  cut = λ is. absurd cc;
   truncated = λ is. absurd cc;
   device = λ is. absurd cc;
   too_long = λ is. absurd cc;
@@ -199,10 +208,14 @@ module _ {V : Type 0} (A : V → List ℕ → Type 0) (count : ℕ) where
         spelled = record { len = omega (arith, length-append vs (b.value ∷ more.value), more.spelled.len, left.1); each = subst (λ (c : List ℕ). IsEach A items c) (sym joined) all };
       }
 
+  -- after items, fewer than there are to be, another is wanted
+  pub listed_wants : {old now : Script} {vs : List V} → OneFront A → (l : Listed A old now vs) → length vs < count → Wants (IsCount A count) l.bytes A
+  listed_wants {vs = vs} law l lt = record { wants = λ x p r rest s e. each_wants A law vs x l.bytes p r rest (omega (arith, s.len, lt)) l.each s.each e }
+
   pub listed_fails : {piece : Bool} (may there : Why → List ℕ → Type 0) (old mid new : Script) (why : Why) (vs : List V) → OneFront A → HasSome A → ((last : List ℕ) → there why last → may why last) → length vs < count → Listed A old mid vs → FailsBy piece A there mid why new → Fails (IsCount A count) may old why new
   listed_fails {piece} may there old mid new why vs law some allows lt l f =
       Fails-after (IsCount A count) A may there old mid new why l.bytes allows l.takes
-      (record { wants = λ x p r rest s e. each_wants A law vs x l.bytes p r rest (omega (arith, s.len, lt)) l.each s.each e })
+      (listed_wants law l lt)
       (λ a h. count_begun vs l.bytes a lt l.each (Before-begins piece A some a h))
       f
 
@@ -272,9 +285,9 @@ module _ {V : Type 0} (P : V → Type 0) (A : V → List ℕ → Type 0) where
 pub wrapped_read : {W V : Type 0} {A : V → List ℕ → Type 0} {old new : Script} {w : W} (of : W → V) → ReadsValue A old (of w) new → ReadsValue (λ u bytes. A (of u) bytes) old w new
 wrapped_read of read = record { bytes = read.bytes; spelled = read.spelled; takes = read.takes }
 
-pub wrapped_fails : {W V : Type 0} {A : V → List ℕ → Type 0} {may : Why → List ℕ → Type 0} {old new : Script} {why : Why} (of : W → V) → HasSome (λ (u : W) bytes. A (of u) bytes) → FailsPiece A may old why new → Fails (λ (u : W) bytes. A (of u) bytes) may old why new
-wrapped_fails {A = A} {may = may} {old = old} {new = new} {why = why} of some f =
-    Fails-after (λ u bytes. A (of u) bytes) A may may old old new why [] (λ _ h. h) (Takes-none old) (record { wants = λ v p r rest s e. (of v, p, r, s, e) }) (λ a none. Before-begins true (λ u bytes. A (of u) bytes) some a none) f
+pub wrapped_fails : {W V : Type 0} {A : V → List ℕ → Type 0} {may : Why → List ℕ → Type 0} {old new : Script} {why : Why} (of : W → V) → FailsPiece A may old why new → FailsPiece (λ (u : W) bytes. A (of u) bytes) may old why new
+wrapped_fails {A = A} {may = may} {old = old} {new = new} {why = why} of f =
+    Fails-after (λ u bytes. A (of u) bytes) A may may old old new why [] (λ _ h. h) (Takes-none old) (record { wants = λ v p r rest s e. (of v, p, r, s, e) }) (λ _ none. none) f
 
 -- a value that is keyed by what is read before it, as a string by its length
 module _ {K V T : Type 0} (whole : T → List ℕ → Type 0) (key : V → K) (A : K → List ℕ → Type 0) (B : K → V → List ℕ → Type 0) (build : V → T) where

@@ -137,7 +137,8 @@ module _ (old mid : Script) (i v w : ℕ) (so_far : Partway old mid i v w) where
         takes = Takes-then old mid new so_far.front f.bytes so_far.takes f.takes;
         reason = cut_off why so_far.front f.bytes so_far.are_open (omega (arith, so_far.len)) f.reason;
         format = λ is. NoneFits-after IsUnsigned IsByte so_far.front f.bytes wants (f.format is);
-        truncated = λ is. let g = f.truncated is in (NoneWithin-after IsUnsigned IsByte so_far.front f.bytes wants g.0, g.1);
+        cut = λ is. NoneWithin-after IsUnsigned IsByte so_far.front f.bytes wants (f.cut is);
+        truncated = f.truncated;
         device = f.device;
         too_long = f.too_long;
       }
@@ -179,6 +180,7 @@ out_of_range old mid new i v w b so_far ninth read above =
             let m = open_front so_far.front p r (b ∷ more) so_far.are_open s.closed (e ∙ append_assoc so_far.front (b ∷ []) more) in
             tenth so_far.front m.0 r more b u (so_far.len ∙ ninth) above m.2 (rw m.1 at s) m.3;
       };
+      cut = λ is. absurd cc;
       truncated = λ is. absurd cc;
       device = λ is. absurd cc;
       too_long = λ is. absurd cc;

@@ -1,17 +1,21 @@
 -- The parts of a real, one after another.
-use Rattle.std.proofs.Common.{ℕ, ◌<◌, ◌≤◌, List, arith}
+use Rattle.std.proofs.Common.{ℕ, ◌<◌, ◌≤◌, List, [], Option, false, arith}
 use Rattle.oas_num.specs.declared.refusals.Why.{Why}
 use Rattle.oas_num.specs.declared.refusals.Why.TheVariants.{Truncated, IntegerRange, FloatReal, RealType, Read, InputTooLong}
 use Rattle.oas_num.specs.Script.{Script}
-use Rattle.oas_num.specs.Grammar.{IsPair, IsSuch}
+use Rattle.oas_num.specs.Grammar.{IsPair, IsSuch, IsThere}
+use Rattle.oas_num.specs.Begun.{HasSome, Decides}
+use Rattle.oas_num.specs.BegunLaws.{HasSome-pair}
 use Rattle.oas_num.specs.Integers.{IsUnsigned}
 use Rattle.oas_num.specs.IntegerLaws.{OneFront-IsUnsigned}
-use Rattle.oas_num.specs.Reals.{IsFraction, SpellsParts, SpellsReal, RealMay, Parts, real_of}
-use Rattle.oas_num.specs.RealLaws.{OneFront-kind, HasSome-parts, HasSome-SpellsReal}
-use Rattle.oas_num.specs.Reading.{ReadsValue, Fails, IntegerMay}
-use Rattle.oas_num.proofs.GrammarLemmas.{Midway, begins, seen, ◌▹◌, fails_at_piece, such_read, refused}
+use Rattle.oas_num.specs.Pieces.{ThereTook}
+use Rattle.oas_num.specs.Reals.{IsFraction, SpellsParts, SpellsReal, RealMay, PartsTook, RealTook, Parts, real_of, has_num, has_den}
+use Rattle.oas_num.specs.RealLaws.{OneFront-kind, OneFront-part, HasSome-kind, HasSome-part, HasSome-parts, HasSome-SpellsReal}
+use Rattle.oas_num.specs.Reading.{ReadsValue, FailsPiece, IntegerMay}
+use Rattle.oas_num.proofs.GrammarLemmas.{Midway, begins, seen, ◌▹◌, such_read, such_fails_by, refused, image_fails}
+use Rattle.oas_num.proofs.PieceLemmas.{first_fails, second_fails, there_fails_in, image_decides, pair_decides, there_may, there_decides, behind_decides}
 
-pub RealMay-integer : (why : Why) (last : List ℕ) → IntegerMay why last → RealMay why last
+RealMay-integer : (why : Why) (last : List ℕ) → IntegerMay why last → RealMay why last
 RealMay-integer Truncated last h = h
 RealMay-integer IntegerRange last h = h
 RealMay-integer Read last h = h
@@ -24,10 +28,39 @@ starts s = seen SpellsReal real_of (IsPair (IsSuch IsFraction IsUnsigned) Spells
 pub with_kind : (old new : Script) (kind : ℕ) → kind < 6 → ReadsValue IsUnsigned old kind new → Midway SpellsReal (SpellsParts kind) (λ (p : Parts). real_of (kind, p)) old new
 with_kind old new kind lt read = starts old ▹ (OneFront-kind, HasSome-parts kind, such_read IsFraction IsUnsigned old new kind lt read)
 
-pub unknown : (old new : Script) (kind : ℕ) → 8 ≤ kind → ReadsValue IsUnsigned old kind new → Fails SpellsReal RealMay old RealType new
-unknown old new kind le read =
-    fails_at_piece (starts old) (λ _ _ h. h) (refused IsFraction IsUnsigned RealMay old new RealType kind OneFront-IsUnsigned read (λ (lt : kind < 6). omega arith) (kind, read.spelled, le) (λ e. cc) (λ e. cc) (λ e. cc))
+-- ---- where a real goes wrong
 
-pub float : (old new : Script) (kind : ℕ) → 6 ≤ kind → kind < 8 → ReadsValue IsUnsigned old kind new → Fails SpellsReal RealMay old FloatReal new
-float old new kind le below read =
-    fails_at_piece (starts old) (λ _ _ h. h) (refused IsFraction IsUnsigned RealMay old new FloatReal kind OneFront-IsUnsigned read (λ (lt : kind < 6). omega arith) (kind, read.spelled, le, below) (λ e. cc) (λ e. cc) (λ e. cc))
+-- in a part it is an integer that decided
+parts_decides : (kind : ℕ) (why : Why) (bytes : List ℕ) → PartsTook kind why bytes → Decides false (SpellsParts kind) (IntegerMay why) bytes
+parts_decides kind why bytes took =
+    pair_decides (ThereTook (has_num kind) IntegerMay) (λ _. ThereTook (has_den kind) IntegerMay) IntegerMay why bytes (HasSome-parts kind)
+    (there_may IntegerMay why (has_num kind)) (λ _ rest h. there_decides IsUnsigned IntegerMay why (has_den kind) rest (HasSome-part (has_den kind)) h) took
+
+HasSome-fields : HasSome (IsPair (IsSuch IsFraction IsUnsigned) SpellsParts)
+HasSome-fields = HasSome-pair (IsSuch IsFraction IsUnsigned) SpellsParts HasSome-kind (HasSome-parts HasSome-kind.value)
+
+-- and else the type, as a whole
+pub real_decides : (why : Why) (bytes : List ℕ) → RealTook why bytes → Decides false SpellsReal (RealMay why) bytes
+real_decides why bytes took =
+    image_decides real_of (pair_decides RealMay PartsTook RealMay why bytes HasSome-fields (λ _ h. h) (λ kind rest h. behind_decides [] rest (parts_decides kind why rest h) (λ _ b. b) (RealMay-integer why)) took)
+
+pub kind_fails : {old new : Script} {why : Why} → FailsPiece IsUnsigned IntegerMay old why new → FailsPiece SpellsReal RealTook old why new
+kind_fails {old = old} {new = new} {why = why} f = image_fails real_of (first_fails (such_fails_by IsFraction IsUnsigned RealMay IntegerMay old new why RealMay-integer f))
+
+pub unknown : {old new : Script} {kind : ℕ} → 8 ≤ kind → ReadsValue IsUnsigned old kind new → FailsPiece SpellsReal RealTook old RealType new
+unknown {old = old} {new = new} {kind = kind} le read =
+    image_fails real_of (first_fails (refused IsFraction IsUnsigned RealMay old new RealType kind OneFront-IsUnsigned read (λ (lt : kind < 6). omega arith) (kind, read.spelled, le) (λ e. cc) (λ e. cc) (λ e. cc)))
+
+pub float : {old new : Script} {kind : ℕ} → 6 ≤ kind → kind < 8 → ReadsValue IsUnsigned old kind new → FailsPiece SpellsReal RealTook old FloatReal new
+float {old = old} {new = new} {kind = kind} le below read =
+    image_fails real_of (first_fails (refused IsFraction IsUnsigned RealMay old new FloatReal kind OneFront-IsUnsigned read (λ (lt : kind < 6). omega arith) (kind, read.spelled, le, below) (λ e. cc) (λ e. cc) (λ e. cc)))
+
+-- a part, after the type
+part_fails : {old mid new : Script} {kind : ℕ} {why : Why} → kind < 6 → ReadsValue IsUnsigned old kind mid → FailsPiece (SpellsParts kind) (PartsTook kind) mid why new → FailsPiece SpellsReal RealTook old why new
+part_fails {old = old} {mid = mid} {kind = kind} lt read f = image_fails real_of (second_fails OneFront-kind (such_read IsFraction IsUnsigned old mid kind lt read) f)
+
+pub num_fails : {old mid new : Script} {kind : ℕ} {why : Why} → kind < 6 → ReadsValue IsUnsigned old kind mid → FailsPiece (IsThere (has_num kind) IsUnsigned) IntegerMay mid why new → FailsPiece SpellsReal RealTook old why new
+num_fails {kind = kind} lt read f = part_fails lt read (first_fails (there_fails_in IsUnsigned IntegerMay (has_num kind) (λ _ h. h) f))
+
+pub den_fails : {old mid then new : Script} {kind : ℕ} {num : Option ℕ} {why : Why} → kind < 6 → ReadsValue IsUnsigned old kind mid → ReadsValue (IsThere (has_num kind) IsUnsigned) mid num then → FailsPiece (IsThere (has_den kind) IsUnsigned) IntegerMay then why new → FailsPiece SpellsReal RealTook old why new
+den_fails {kind = kind} lt read num f = part_fails lt read (second_fails (OneFront-part (has_num kind)) num (there_fails_in IsUnsigned IntegerMay (has_den kind) (λ _ h. h) f))

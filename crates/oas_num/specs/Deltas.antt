@@ -7,6 +7,9 @@ use Rattle.oas_num.specs.declared.deltas.GDelta.{GDelta}
 use Rattle.oas_num.specs.Grammar.{IsPair, IsThere, IsImage}
 use Rattle.oas_num.specs.Integers.{IsUnsigned, IsSigned, signed_of}
 use Rattle.oas_num.specs.Style.{Style, Any, Shortest, unsigned_in, code}
+use Rattle.oas_num.specs.declared.refusals.Why.{Why}
+use Rattle.oas_num.specs.Pieces.{PairTook, ThereTook}
+use Rattle.oas_num.specs.Reading.{IntegerMay}
 
 -- a step by its two components: east is +x, north is +y
 abbrev pub step : ℤ → ℤ → GDelta
@@ -70,3 +73,7 @@ gdelta_in Shortest d bytes = IsPair (unsigned_in Shortest) (λ _. unsigned_in Sh
 
 abbrev pub SpellsGDelta : GDelta → List ℕ → Type 0
 SpellsGDelta = gdelta_in Any
+
+-- where in it a read of a g-delta may fail: in its first number, or in the second, where there is one
+abbrev pub GDeltaTook : Why → List ℕ → Type 0
+GDeltaTook = PairTook IsUnsigned IntegerMay (λ first. ThereTook (has_second first) IntegerMay)

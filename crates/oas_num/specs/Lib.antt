@@ -19,6 +19,7 @@ pub mod Style
 pub mod StyleLaws
 pub mod Texts
 pub mod TextLaws
+pub mod Pieces
 pub mod Reading
 pub mod Reals
 pub mod RealLaws

@@ -4,8 +4,10 @@ use Rattle.oas_num.specs.declared.refusals.Why.{Why}
 use Rattle.oas_num.specs.declared.refusals.Why.TheVariants.{Truncated, IntegerRange, StringByte, EmptyName, Read, InputTooLong, Memory}
 use Rattle.oas_num.specs.Script.{Script, Takes, IsAtEnd, HasFailed, IsTooLong}
 use Rattle.oas_num.specs.Integers.{IsOpen, IsUnsigned}
-use Rattle.oas_num.specs.Texts.{IsNameByte, IsLabelByte}
+use Rattle.oas_num.specs.Grammar.{IsSuch, IsByte}
+use Rattle.oas_num.specs.Texts.{IsNameByte, IsLabelByte, IsPositive}
 use Rattle.oas_num.specs.Begun.{Decides}
+use Rattle.oas_num.specs.Pieces.{PairTook, CountTook}
 
 -- The bytes that were read decided, and not the source or the memory.
 abbrev pub is_format : Why → Bool
@@ -14,6 +16,13 @@ is_format Read = false
 is_format InputTooLong = false
 is_format Memory = false
 is_format _ = true
+
+-- The input ended, or stopped, before the bytes decided.
+abbrev pub is_cut : Why → Bool
+is_cut Truncated = true
+is_cut Read = true
+is_cut InputTooLong = true
+is_cut _ = false
 
 -- The tables below say of each reason what the bytes are that decided: those with which what was read ends.
 
@@ -101,6 +110,29 @@ LabelMay IntegerRange last = IsOutOfRange last
 LabelMay StringByte last = IsOutside IsLabelByte last
 LabelMay _ last = ⊥
 
+-- The tables below say of each reason what all bytes are that were read.
+
+-- where a read of the length of an n-string may fail
+abbrev pub NameLengthMay : Why → List ℕ → Type 0
+NameLengthMay EmptyName bytes = IsUnsigned 0 bytes
+NameLengthMay why bytes = IntegerMay why bytes
+
+-- where in it a read of so many bytes of a string may fail
+abbrev pub TextTook : (ℕ → Type 0) → ℕ → Why → List ℕ → Type 0
+TextTook class count = CountTook (IsSuch class IsByte) count (TextMay class)
+
+-- where in it a read of an n-string may fail
+abbrev pub NameTook : Why → List ℕ → Type 0
+NameTook = PairTook (IsSuch IsPositive IsUnsigned) NameLengthMay (TextTook IsNameByte)
+
+-- where in it a read of an a-string may fail
+abbrev pub LabelTook : Why → List ℕ → Type 0
+LabelTook = PairTook IsUnsigned IntegerMay (TextTook IsLabelByte)
+
+-- where in it a read of a string that is passed over may fail
+abbrev pub PaddingTook : Why → List ℕ → Type 0
+PaddingTook = PairTook IsUnsigned IntegerMay (λ count. CountTook IsByte count ByteMay)
+
 -- the bytes spell an item
 abbrev pub IsItem : {V : Type 0} → (V → List ℕ → Type 0) → List ℕ → Type 0
 IsItem {V} spells last = (v : V) × spells v last
@@ -117,6 +149,11 @@ pub record NoneFits {V : Type 0} (spells : V → List ℕ → Type 0) (bytes : L
 pub record NoneWithin {V : Type 0} (spells : V → List ℕ → Type 0) (bytes : List ℕ) : Type 0 where
   pub none : (v : V) (front rest : List ℕ) → spells v front → front ++ rest ≢ bytes
 
+-- What was read of a value so far, which ends with bytes of which that holds, and of which no front spells one.
+pub record IsCutOff {V : Type 0} (spells : V → List ℕ → Type 0) (P : List ℕ → Type 0) (bytes : List ℕ) : Type 0 where
+  pub reason : Decides false spells P bytes
+  pub none : NoneWithin spells bytes
+
 -- A value was read: exactly a spelling of it was taken.
 pub record ReadsValue {V : Type 0} (spells : V → List ℕ → Type 0) (old : Script) (v : V) (new : Script) : Type 0 where
   pub bytes : List ℕ
@@ -129,7 +166,8 @@ pub record FailsBy {V : Type 0} (piece : Bool) (spells : V → List ℕ → Type
   pub takes : Takes old bytes new
   pub reason : Decides piece spells (may why) bytes
   pub format : IsTrue (is_format why) → NoneFits spells bytes
-  pub truncated : why ≡ Truncated → NoneWithin spells bytes × IsAtEnd new
+  pub cut : IsTrue (is_cut why) → NoneWithin spells bytes
+  pub truncated : why ≡ Truncated → IsAtEnd new
   pub device : why ≡ Read → HasFailed new
   pub too_long : why ≡ InputTooLong → IsTooLong new
 
@@ -155,3 +193,8 @@ ReadsPiece spells may old (Err why) new = FailsPiece spells may old why new
 abbrev pub ReadsAs : {X V : Type 0} → (X → V) → (V → List ℕ → Type 0) → (Why → List ℕ → Type 0) → Script → Result X Why → Script → Type 0
 ReadsAs view spells may old (Ok x) new = ReadsValue spells old (view x) new
 ReadsAs view spells may old (Err why) new = Fails spells may old why new
+
+-- The same, of one piece.
+abbrev pub ReadsPieceAs : {X V : Type 0} → (X → V) → (V → List ℕ → Type 0) → (Why → List ℕ → Type 0) → Script → Result X Why → Script → Type 0
+ReadsPieceAs view spells may old (Ok x) new = ReadsValue spells old (view x) new
+ReadsPieceAs view spells may old (Err why) new = FailsPiece spells may old why new

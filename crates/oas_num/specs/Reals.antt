@@ -7,7 +7,8 @@ use Rattle.oas_num.specs.Grammar.{IsPair, IsSuch, IsImage, IsThere}
 use Rattle.oas_num.specs.Combinators.{IsKeyed}
 use Rattle.oas_num.specs.Integers.{IsUnsigned}
 use Rattle.oas_num.specs.Style.{Style, Any, Shortest, IsShortest}
-use Rattle.oas_num.specs.Reading.{IsOutOfRange, IsUnended}
+use Rattle.oas_num.specs.Pieces.{PairTook, ThereTook}
+use Rattle.oas_num.specs.Reading.{IsOutOfRange, IsUnended, IntegerMay}
 
 -- types 2 and 3 have no numerator
 abbrev pub has_num : ℕ → Bool
@@ -67,3 +68,11 @@ RealMay IntegerRange last = IsOutOfRange last
 RealMay FloatReal last = (kind : ℕ) × IsUnsigned kind last × (6 ≤ kind) × (kind < 8)
 RealMay RealType last = (kind : ℕ) × IsUnsigned kind last × (8 ≤ kind)
 RealMay _ last = ⊥
+
+-- where in them a read of the parts that a type has may fail
+abbrev pub PartsTook : ℕ → Why → List ℕ → Type 0
+PartsTook kind = PairTook (IsThere (has_num kind) IsUnsigned) (ThereTook (has_num kind) IntegerMay) (λ _. ThereTook (has_den kind) IntegerMay)
+
+-- where in it a read of a real may fail: in its type, or in a part that the type has
+abbrev pub RealTook : Why → List ℕ → Type 0
+RealTook = PairTook (IsSuch IsFraction IsUnsigned) RealMay PartsTook

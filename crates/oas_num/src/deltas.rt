@@ -1,6 +1,7 @@
 ghost use Rattle.std.specs.Prelude.{◌≡◌, ◌<◌, ◌^◌, List, ℕ};
 ghost use Rattle.oas_num.specs.Deltas.{toward, delta2_of, delta3_of, gdelta_from};
 ghost use Rattle.oas_num.specs.Integers.{signed_of};
+ghost use Rattle.oas_num.specs.Reading.{Reads, ReadsPiece, IntegerMay};
 
 use crate::integers::{read_signed, read_unsigned, read_unsigned_if};
 use crate::refusals::Why;
@@ -35,7 +36,6 @@ pub struct GDelta {
 
 impl Spelled for Delta1 {
     ghost use Rattle.oas_num.specs.Deltas.{SpellsDelta1};
-    ghost use Rattle.oas_num.specs.Reading.{IntegerMay};
     ghost use Rattle.oas_num.specs.DeltaLaws.{Delta1-one_front, Delta1-some};
 
     ghost spells = { SpellsDelta1 };
@@ -46,14 +46,16 @@ impl Spelled for Delta1 {
 
     ghost some = { Delta1-some };
 
-    fn read<S: Source>(_alloc: Global, source: &mut S) -> Result<Delta1, Why> {
+    fn read<S: Source>(_alloc: Global, source: &mut S) -> Result<Delta1, Why>
+        ensures reads { Reads SpellsDelta1 IntegerMay (S.script source.old) result (S.script source.new) }
+        ensures took { ReadsPiece SpellsDelta1 IntegerMay (S.script source.old) result (S.script source.new) }
+    {
         Ok(Delta1(read_signed(source)?))
     }
 }
 
 impl Spelled for Delta2 {
     ghost use Rattle.oas_num.specs.Deltas.{SpellsDelta2};
-    ghost use Rattle.oas_num.specs.Reading.{IntegerMay};
     ghost use Rattle.oas_num.specs.DeltaLaws.{Delta2-one_front, Delta2-some};
 
     ghost spells = { SpellsDelta2 };
@@ -64,7 +66,10 @@ impl Spelled for Delta2 {
 
     ghost some = { Delta2-some };
 
-    fn read<S: Source>(_alloc: Global, source: &mut S) -> Result<Delta2, Why> {
+    fn read<S: Source>(_alloc: Global, source: &mut S) -> Result<Delta2, Why>
+        ensures reads { Reads SpellsDelta2 IntegerMay (S.script source.old) result (S.script source.new) }
+        ensures took { ReadsPiece SpellsDelta2 IntegerMay (S.script source.old) result (S.script source.new) }
+    {
         let coded = read_unsigned(source)?;
         Ok(delta2_from(coded))
     }
@@ -72,7 +77,6 @@ impl Spelled for Delta2 {
 
 impl Spelled for Delta3 {
     ghost use Rattle.oas_num.specs.Deltas.{SpellsDelta3};
-    ghost use Rattle.oas_num.specs.Reading.{IntegerMay};
     ghost use Rattle.oas_num.specs.DeltaLaws.{Delta3-one_front, Delta3-some};
 
     ghost spells = { SpellsDelta3 };
@@ -83,15 +87,17 @@ impl Spelled for Delta3 {
 
     ghost some = { Delta3-some };
 
-    fn read<S: Source>(_alloc: Global, source: &mut S) -> Result<Delta3, Why> {
+    fn read<S: Source>(_alloc: Global, source: &mut S) -> Result<Delta3, Why>
+        ensures reads { Reads SpellsDelta3 IntegerMay (S.script source.old) result (S.script source.new) }
+        ensures took { ReadsPiece SpellsDelta3 IntegerMay (S.script source.old) result (S.script source.new) }
+    {
         let coded = read_unsigned(source)?;
         Ok(delta3_from(coded))
     }
 }
 
 impl Spelled for GDelta {
-    ghost use Rattle.oas_num.specs.Deltas.{SpellsGDelta};
-    ghost use Rattle.oas_num.specs.Reading.{IntegerMay};
+    ghost use Rattle.oas_num.specs.Deltas.{SpellsGDelta, GDeltaTook};
     ghost use Rattle.oas_num.specs.DeltaLaws.{GDelta-one_front, GDelta-some};
 
     ghost spells = { SpellsGDelta };
@@ -102,7 +108,10 @@ impl Spelled for GDelta {
 
     ghost some = { GDelta-some };
 
-    fn read<S: Source>(_alloc: Global, source: &mut S) -> Result<GDelta, Why> {
+    fn read<S: Source>(_alloc: Global, source: &mut S) -> Result<GDelta, Why>
+        ensures reads { Reads SpellsGDelta IntegerMay (S.script source.old) result (S.script source.new) }
+        ensures took { ReadsPiece SpellsGDelta GDeltaTook (S.script source.old) result (S.script source.new) }
+    {
         let first = read_unsigned(source)?;
         let second = read_unsigned_if(first % 2 == 1, source)?;
         Ok(step_from(first, second))

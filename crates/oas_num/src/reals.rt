@@ -20,7 +20,8 @@ pub struct Real {
 }
 
 impl Spelled for Real {
-    ghost use Rattle.oas_num.specs.Reals.{SpellsReal, RealMay};
+    ghost use Rattle.oas_num.specs.Reading.{Reads, ReadsPiece};
+    ghost use Rattle.oas_num.specs.Reals.{SpellsReal, RealMay, RealTook};
     ghost use Rattle.oas_num.specs.RealLaws.{OneFront-SpellsReal, HasSome-SpellsReal};
 
     ghost spells = { SpellsReal };
@@ -31,7 +32,10 @@ impl Spelled for Real {
 
     ghost some = { HasSome-SpellsReal };
 
-    fn read<S: Source>(_alloc: Global, source: &mut S) -> Result<Real, Why> {
+    fn read<S: Source>(_alloc: Global, source: &mut S) -> Result<Real, Why>
+        ensures reads { Reads SpellsReal RealMay (S.script source.old) result (S.script source.new) }
+        ensures took { ReadsPiece SpellsReal RealTook (S.script source.old) result (S.script source.new) }
+    {
         let kind = read_unsigned(source)?;
         if kind >= 8 {
             return Err(Why::RealType);

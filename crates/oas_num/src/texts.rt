@@ -5,7 +5,8 @@ ghost use Rattle.std.specs.Cmp.Rules.{comparing, hashing};
 ghost use Rattle.std.specs.Cmp.Lexicographic.{slice_cmp, pointwise};
 ghost use Rattle.std.specs.Ordering.{nat_cmp, as_partial_cmp};
 ghost use Rattle.std.specs.Hash as fed;
-ghost use Rattle.oas_num.specs.Reading.{Reads, ReadsPiece, ReadsAs, ByteMay, ClassMay, TextMay};
+ghost use Rattle.oas_num.specs.Pieces.{CountTook};
+ghost use Rattle.oas_num.specs.Reading.{Reads, ReadsPiece, ReadsPieceAs, ByteMay, ClassMay, TextTook};
 ghost use Rattle.oas_num.specs.Grammar.{IsSuch, IsByte};
 ghost use Rattle.oas_num.specs.Texts.{IsIn, IsText, IsName, IsLabel, IsPassed};
 
@@ -57,7 +58,7 @@ pub fn read_text<S: Source>(
     count: u64,
     source: &mut S,
 ) -> Result<Vec<u8>, Why>
-    ensures { ReadsAs (λ text. text.items) (IsText (IsIn class) count) (TextMay (IsIn class)) (S.script source.old) result (S.script source.new) }
+    ensures { ReadsPieceAs (λ text. text.items) (IsText (IsIn class) count) (TextTook (IsIn class) count) (S.script source.old) result (S.script source.new) }
 {
     let mut text = Vec::new(alloc);
     for _ in 0..count {
@@ -113,7 +114,7 @@ impl Spelled for Name {
     ghost use Rattle.oas_num.specs.Texts.{SpellsName};
     ghost use Rattle.oas_num.specs.Style.{Any};
     ghost use Rattle.oas_num.specs.TextLaws.{OneFront-name, HasSome-name};
-    ghost use Rattle.oas_num.specs.Reading.{NameMay};
+    ghost use Rattle.oas_num.specs.Reading.{NameMay, NameTook};
 
     ghost spells = { SpellsName };
 
@@ -123,7 +124,10 @@ impl Spelled for Name {
 
     ghost some = { HasSome-name Any };
 
-    fn read<S: Source>(alloc: Global, source: &mut S) -> Result<Name, Why> {
+    fn read<S: Source>(alloc: Global, source: &mut S) -> Result<Name, Why>
+        ensures reads { Reads SpellsName NameMay (S.script source.old) result (S.script source.new) }
+        ensures took { ReadsPiece SpellsName NameTook (S.script source.old) result (S.script source.new) }
+    {
         let length = read_unsigned(source)?;
         if length == 0 {
             return Err(Why::EmptyName);
@@ -218,7 +222,7 @@ impl Spelled for Label {
     ghost use Rattle.oas_num.specs.Texts.{SpellsLabel};
     ghost use Rattle.oas_num.specs.Style.{Any};
     ghost use Rattle.oas_num.specs.TextLaws.{OneFront-label, HasSome-label};
-    ghost use Rattle.oas_num.specs.Reading.{LabelMay};
+    ghost use Rattle.oas_num.specs.Reading.{LabelMay, LabelTook};
 
     ghost spells = { SpellsLabel };
 
@@ -228,7 +232,10 @@ impl Spelled for Label {
 
     ghost some = { HasSome-label Any };
 
-    fn read<S: Source>(alloc: Global, source: &mut S) -> Result<Label, Why> {
+    fn read<S: Source>(alloc: Global, source: &mut S) -> Result<Label, Why>
+        ensures reads { Reads SpellsLabel LabelMay (S.script source.old) result (S.script source.new) }
+        ensures took { ReadsPiece SpellsLabel LabelTook (S.script source.old) result (S.script source.new) }
+    {
         let length = read_unsigned(source)?;
         let bytes = read_text(alloc, TextClass::Label, length, source)?;
         Ok(Label { bytes })
@@ -292,7 +299,7 @@ pub struct Padding {
 
 /// So many bytes of any kind.
 fn pass_over<S: Source>(count: u64, source: &mut S) -> Result<Padding, Why>
-    ensures { Reads (IsPassed count) ByteMay (S.script source.old) result (S.script source.new) }
+    ensures { ReadsPiece (IsPassed count) (CountTook IsByte count ByteMay) (S.script source.old) result (S.script source.new) }
 {
     for _ in 0..count {
         next_byte(source)?;
@@ -303,7 +310,7 @@ fn pass_over<S: Source>(count: u64, source: &mut S) -> Result<Padding, Why>
 impl Spelled for Padding {
     ghost use Rattle.oas_num.specs.Texts.{SpellsPadding};
     ghost use Rattle.oas_num.specs.TextLaws.{OneFront-padding, HasSome-padding};
-    ghost use Rattle.oas_num.specs.Reading.{IntegerMay};
+    ghost use Rattle.oas_num.specs.Reading.{IntegerMay, PaddingTook};
 
     ghost spells = { SpellsPadding };
 
@@ -313,7 +320,10 @@ impl Spelled for Padding {
 
     ghost some = { HasSome-padding };
 
-    fn read<S: Source>(_alloc: Global, source: &mut S) -> Result<Padding, Why> {
+    fn read<S: Source>(_alloc: Global, source: &mut S) -> Result<Padding, Why>
+        ensures reads { Reads SpellsPadding IntegerMay (S.script source.old) result (S.script source.new) }
+        ensures took { ReadsPiece SpellsPadding PaddingTook (S.script source.old) result (S.script source.new) }
+    {
         let length = read_unsigned(source)?;
         pass_over(length, source)
     }

@@ -1,10 +1,10 @@
 -- Reading the front of a file.
-use Rattle.std.proofs.Common.{◌≡◌, ◌≢◌, ℕ, ◌+◌, ◌*◌, ◌<◌, ◌≤◌, false, List, [], ◌∷◌, ◌++◌, length, get_or, Err, IsTrue, inl, inr, refl, sym, ap, subst, ◌∙◌, append_assoc, arith}
+use Rattle.std.proofs.Common.{Bool, ◌≡◌, ◌≢◌, ℕ, ◌+◌, ◌*◌, ◌<◌, ◌≤◌, false, List, [], ◌∷◌, ◌++◌, length, get_or, Err, IsTrue, inl, inr, refl, sym, ap, subst, ◌∙◌, append_assoc, arith}
 use Rattle.std.specs.Prelude.{◌⊎◌, ◌==◌}
 use Rattle.std.proofs.lemmas.List.{append-nil, append_cancel_left, length-append}
 use Rattle.std.proofs.lemmas.Nat.{mul-le}
 use Rattle.oas_num.specs.declared.refusals.Why.{Why}
-use Rattle.oas_num.specs.declared.refusals.Why.TheVariants.{Magic, Version, OffsetFlag, OutOfPlace, Unit as UnitIsRefused}
+use Rattle.oas_num.specs.declared.refusals.Why.TheVariants.{Magic, Version, OffsetFlag, OutOfPlace, Memory, Unit as UnitIsRefused}
 use Rattle.oas_num.specs.declared.reals.Real.{Real}
 use Rattle.oas_num.specs.Script.{Script, Takes}
 use Rattle.oas_num.specs.Ratio.{Ratio}
@@ -14,13 +14,15 @@ use Rattle.oas_num.specs.IntegerLaws.{OneFront-IsUnsigned}
 use Rattle.oas_num.specs.Style.{Any}
 use Rattle.oas_num.specs.Texts.{IsLabelByte, IsOf, IsText, label_in, SpellsLabel}
 use Rattle.oas_num.specs.TextLaws.{OneFront-label, OneFront-class, HasSome-label, HasSome-class}
-use Rattle.oas_num.specs.Reals.{real_in, RealMay}
+use Rattle.oas_num.specs.Reals.{real_in, RealTook}
 use Rattle.oas_num.specs.RealLaws.{OneFront-real}
 use Rattle.oas_num.specs.declared.texts.TextClass.TheVariants as classes
-use Rattle.oas_num.specs.Begun.{HasSome, Begins, Decides}
+use Rattle.oas_num.specs.Begun.{HasSome, Begins}
 use Rattle.oas_num.specs.BegunLaws.{Begins-none}
-use Rattle.oas_num.specs.Reading.{ReadsValue, Fails, FailsPiece, ByteMay, IntegerMay, ClassMay}
-use Rattle.oas_num.proofs.ReadLemmas.{Takes-none, Takes-then, Wants, NoneFits-after, NoneWithin-after, Fails-after}
+use Rattle.oas_num.specs.Reading.{ReadsValue, Fails, FailsBy, FailsPiece, ByteMay, IntegerMay, ClassMay}
+use Rattle.oas_num.proofs.ReadLemmas.{Takes-none, Takes-then, Wants, NoneFits-after, NoneWithin-after, Fails-after, none_whole, fails_cut_off}
+use Rattle.oas_num.proofs.PieceLemmas.{whole_piece}
+use Rattle.oas_num.proofs.RealLemmas.{real_decides}
 use Rattle.oas_num.proofs.TextLemmas.{with_label_length}
 use Rattle.oas_num.proofs.GrammarLemmas.{Midway, begins, seen, ◌▸◌, fails_at_piece, fails_last, key_fails, such_read, such_fails_by, refused, Listed, listed_none, listed_more, listed_fails, listed_all}
 use Rattle.oas_record.specs.declared.heads.Head.{Head}
@@ -108,6 +110,7 @@ module _ (old mid new : Script) (count : ℕ) (lt : count < 13) (m : Matched old
               let head : left.0 ≡ byte = cc in
               isnt (sym head);
         };
+        cut = λ is. absurd cc;
         truncated = λ is. absurd cc;
         device = λ is. absurd cc;
         too_long = λ is. absurd cc;
@@ -123,14 +126,15 @@ magic_done old new count v is m = record { bytes = m.front; spelled = none_left 
 -- ---- what is read as one piece
 
 -- a part of it decided
-pub as_whole : {U V : Type 0} {whole : U → List ℕ → Type 0} {A : V → List ℕ → Type 0} {may there : Why → List ℕ → Type 0} {old new : Script} {why : Why}
-    → HasSome whole → Wants whole [] A → ((why : Why) (last : List ℕ) → Decides false A (there why) last → may why last) → Fails A there old why new → Fails whole may old why new
-as_whole {whole = whole} {A = A} {why = why} some wants allows f = record {
+pub as_whole : {U V : Type 0} {piece : Bool} {whole : U → List ℕ → Type 0} {A : V → List ℕ → Type 0} {may there : Why → List ℕ → Type 0} {old new : Script} {why : Why}
+    → HasSome whole → Wants whole [] A → (f : FailsBy piece A there old why new) → may why f.bytes → Fails whole may old why new
+as_whole {whole = whole} {A = A} some wants f holds = record {
   bytes = f.bytes;
   takes = f.takes;
-  reason = record { front = []; last = f.bytes; joined = refl; begun = Begins-none whole some; holds = allows why f.bytes f.reason };
+  reason = record { front = []; last = f.bytes; joined = refl; begun = Begins-none whole some; holds = holds };
   format = λ is. NoneFits-after whole A [] f.bytes wants (f.format is);
-  truncated = λ is. let g = f.truncated is in (NoneWithin-after whole A [] f.bytes wants g.0, g.1);
+  cut = λ is. NoneWithin-after whole A [] f.bytes wants (f.cut is);
+  truncated = f.truncated;
   device = f.device;
   too_long = f.too_long;
 }
@@ -139,7 +143,8 @@ as_whole {whole = whole} {A = A} {why = why} some wants allows f = record {
 
 -- the a-string fails
 label_fails : {old new : Script} {why : Why} → Fails SpellsLabel PassedMay old why new → Fails (version_in Any) VersionMay old why new
-label_fails f = as_whole {A = SpellsLabel} {there = PassedMay} HasSome-version (record { wants = λ v p r rest s e. (version, p, r, s, e) }) VersionMay-passed f
+label_fails {why = why} f =
+    as_whole HasSome-version (record { wants = λ v p r rest s e. (version, p, r, s, e) }) f (VersionMay-passed why f.bytes (fails_cut_off (λ _ h. h) f))
 
 -- its length fails
 pub version_length_fails : {old new : Script} {why : Why} → FailsPiece IsUnsigned IntegerMay old why new → Fails (version_in Any) VersionMay old why new
@@ -182,6 +187,7 @@ version_wrong {old = old} {new = new} text isnt read bytes =
       takes = label.takes;
       reason = record { front = []; last = label.bytes; joined = refl; begun = Begins-none (version_in Any) HasSome-version; holds = (text, label.spelled, isnt) };
       format = λ _. record { none = λ v p r more s e. let one = (OneFront-label Any).one version text p label.bytes r more s label.spelled e in isnt (sym one.1) };
+      cut = λ is. absurd cc;
       truncated = λ is. absurd cc;
       device = λ is. absurd cc;
       too_long = λ is. absurd cc;
@@ -221,8 +227,9 @@ product_some a b n p q e = let m : 1 * 1 ≤ a * b = mul-le 1 1 a b p q in omega
 positive_unit : (r : Real) (unit : Ratio) → IsUnit r unit → IsPositiveReal r
 positive_unit r unit h = (h.positive, (product_some unit.num h.reduces.divisor r.num h.reduces.lowest.num_some h.reduces.some h.reduces.num_is, product_some unit.den h.reduces.divisor r.den h.reduces.lowest.den_some h.reduces.some h.reduces.den_is))
 
-pub unit_fails : {old new : Script} {why : Why} → Fails (real_in Any) RealMay old why new → Fails SpellsUnit UnitMay old why new
-unit_fails f = as_whole {A = real_in Any} {there = RealMay} HasSome-unit (record { wants = λ v p r rest s e. (s.real, p, r, s.spelled, e) }) UnitMay-real f
+pub unit_fails : {old new : Script} {why : Why} → FailsPiece (real_in Any) RealTook old why new → Fails SpellsUnit UnitMay old why new
+unit_fails {why = why} f =
+    as_whole HasSome-unit (record { wants = λ v p r rest s e. (s.real, p, r, s.spelled, e) }) f (UnitMay-real why f.bytes (whole_piece f, none_whole (λ last h. (real_decides Memory last h).holds) f))
 
 pub unit_refused : {old new : Script} (r : Real) → ¬ IsPositiveReal r → ReadsValue (real_in Any) old r new → Fails SpellsUnit UnitMay old UnitIsRefused new
 unit_refused r isnt read = record {
@@ -230,6 +237,7 @@ unit_refused r isnt read = record {
   takes = read.takes;
   reason = record { front = []; last = read.bytes; joined = refl; begun = Begins-none SpellsUnit HasSome-unit; holds = (r, read.spelled, isnt) };
   format = λ _. record { none = λ u p rest more s e. let one = (OneFront-real Any).one s.real r p read.bytes rest more s.spelled read.spelled e in isnt (subst IsPositiveReal one.1 (positive_unit s.real u s.is_unit)) };
+  cut = λ is. absurd cc;
   truncated = λ is. absurd cc;
   device = λ is. absurd cc;
   too_long = λ is. absurd cc;

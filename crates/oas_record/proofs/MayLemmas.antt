@@ -1,12 +1,12 @@
 -- The reasons of a part are reasons of the whole.
-use Rattle.std.proofs.Common.{ℕ, Bool, false, List, inl, inr}
+use Rattle.std.proofs.Common.{ℕ, Bool, List, inl, inr}
 use Rattle.oas_num.specs.declared.refusals.Why.{Why}
 use Rattle.oas_num.specs.declared.refusals.Why.TheVariants.{Truncated, IntegerRange, StringByte, EmptyName, FloatReal, RealType, RecordLeftOut, UnknownRecord, OutOfPlace, ListKind, PointCount, RepetitionKind, CoordinateRange, EndLength, InputTooLong, Read, Memory, Version, OffsetFlag, Unit as UnitIsRefused}
-use Rattle.oas_num.specs.Begun.{Decides}
 use Rattle.oas_num.specs.Style.{Any}
 use Rattle.oas_num.specs.Texts.{IsLabelByte, label_in}
-use Rattle.oas_num.specs.Reals.{real_in, RealMay}
-use Rattle.oas_num.specs.Reading.{ByteMay, IntegerMay, NameMay, LabelMay, ClassMay}
+use Rattle.oas_num.specs.Reals.{real_in, RealMay, RealTook}
+use Rattle.oas_num.specs.Reading.{ByteMay, IntegerMay, NameMay, LabelMay, ClassMay, NoneWithin, IsCutOff}
+use Rattle.oas_num.proofs.RealLemmas.{real_decides}
 use Rattle.oas_num.proofs.IntegerLemmas.{unended_none}
 use Rattle.oas_shape.specs.declared.list_use.ListUse.{ListUse}
 use Rattle.oas_shape.specs.PointLists.{PointListMay}
@@ -97,10 +97,10 @@ pub RecordMay-integer : (in_end : Bool) (why : Why) (last : List ℕ) → Intege
 RecordMay-integer in_end why last h = RecordMay-field in_end why last (FieldMay-integer why last h)
 
 pub RecordMay-end : (in_end : Bool) (why : Why) (last : List ℕ) → IsEndSoFar in_end why last → RecordMay in_end why last
-RecordMay-end in_end (RecordLeftOut id) last h = absurd h.decides.holds
-RecordMay-end in_end (UnknownRecord id) last h = absurd h.decides.holds
-RecordMay-end in_end (OutOfPlace id) last h = absurd h.decides.holds
-RecordMay-end in_end EndLength last h = absurd h.decides.holds
+RecordMay-end in_end (RecordLeftOut id) last h = absurd h.decides.reason.holds
+RecordMay-end in_end (UnknownRecord id) last h = absurd h.decides.reason.holds
+RecordMay-end in_end (OutOfPlace id) last h = absurd h.decides.reason.holds
+RecordMay-end in_end EndLength last h = absurd h.decides.reason.holds
 RecordMay-end in_end _ last h = inr h
 
 -- ---- of the front
@@ -125,12 +125,12 @@ PassedMay-integer InputTooLong last h = h
 PassedMay-integer IntegerRange last h = h
 PassedMay-integer _ last h = absurd h
 
-pub VersionMay-passed : (why : Why) (last : List ℕ) → Decides false (label_in Any) (PassedMay why) last → VersionMay why last
-VersionMay-passed Version last d = absurd d.holds
+pub VersionMay-passed : (why : Why) (last : List ℕ) → IsCutOff (label_in Any) (PassedMay why) last → VersionMay why last
+VersionMay-passed Version last d = absurd d.reason.holds
 VersionMay-passed _ last d = d
 
-pub UnitMay-real : (why : Why) (last : List ℕ) → Decides false (real_in Any) (RealMay why) last → UnitMay why last
-UnitMay-real UnitIsRefused last d = absurd d.holds
+pub UnitMay-real : (why : Why) (last : List ℕ) → RealTook why last × NoneWithin (real_in Any) last → UnitMay why last
+UnitMay-real UnitIsRefused last d = absurd (real_decides UnitIsRefused last d.0).holds
 UnitMay-real _ last d = d
 
 pub StartMay-integer : (why : Why) (last : List ℕ) → IntegerMay why last → StartMay why last
@@ -139,11 +139,11 @@ StartMay-integer (OutOfPlace id) last h = absurd h
 StartMay-integer _ last h = inl h
 
 pub StartMay-version : (why : Why) (last : List ℕ) → VersionMay why last → StartMay why last
-StartMay-version OffsetFlag last d = absurd d.holds
-StartMay-version (OutOfPlace id) last d = absurd d.holds
+StartMay-version OffsetFlag last d = absurd d.reason.holds
+StartMay-version (OutOfPlace id) last d = absurd d.reason.holds
 StartMay-version _ last h = inr (inl h)
 
 pub StartMay-unit : (why : Why) (last : List ℕ) → UnitMay why last → StartMay why last
-StartMay-unit OffsetFlag last d = absurd d.holds
-StartMay-unit (OutOfPlace id) last d = absurd d.holds
+StartMay-unit OffsetFlag last d = absurd (real_decides OffsetFlag last d.0).holds
+StartMay-unit (OutOfPlace id) last d = absurd (real_decides (OutOfPlace id) last d.0).holds
 StartMay-unit _ last h = inr (inr h)

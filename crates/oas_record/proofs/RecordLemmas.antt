@@ -10,8 +10,8 @@ use Rattle.oas_num.specs.Begun.{HasSome}
 use Rattle.oas_num.specs.BegunLaws.{HasSome-image, Begins-none, Before-begins}
 use Rattle.oas_num.specs.Style.{Any}
 use Rattle.oas_num.specs.Reading.{Reads, ReadsValue, Fails, FailsPiece, IntegerMay}
-use Rattle.oas_num.proofs.ReadLemmas.{Takes-none, Takes-then, Wants, NoneFits-after, NoneWithin-after, Fails-after}
-use Rattle.oas_num.proofs.GrammarLemmas.{Midway, begins, key_read, is_read, fails_last}
+use Rattle.oas_num.proofs.ReadLemmas.{Takes-none, Takes-then, Wants, NoneFits-after, NoneWithin-after, Fails-after, fails_cut_off}
+use Rattle.oas_num.proofs.GrammarLemmas.{Midway, begins, key_read, is_read, fails_last, uncut}
 use Rattle.oas_record.specs.declared.records.Record.{Record}
 use Rattle.oas_record.specs.declared.records.Record.TheVariants as record_of
 use Rattle.oas_record.specs.Ends.{end_in}
@@ -52,6 +52,7 @@ unknown_id in_end id why isnt read reason a b c = record {
         let one = OneFront-IsUnsigned.one (id_of v) id b.front read.bytes (b.back ++ r) more b.first read.spelled (id_joined in_end v p r (read.bytes ++ more) b e) in
         isnt (subst IsKnown one.1 (known_id v));
   };
+  cut = λ is. absurd (uncut why a b c is);
   truncated = λ is. absurd (a is);
   device = λ is. absurd (b is);
   too_long = λ is. absurd (c is);
@@ -107,9 +108,10 @@ end_fails {old = old} {mid = mid} {new = new} {id = id} {why = why} in_end is re
     record {
       bytes = so_far;
       takes = Takes-then old mid new read.bytes f.bytes read.takes f.takes;
-      reason = record { front = []; last = so_far; joined = refl; begun = Begins-none (record_in Any in_end) (HasSome-record in_end); holds = RecordMay-end in_end why so_far (record { id = read.bytes; back = f.bytes; is_end = subst (λ k. IsUnsigned k read.bytes) is read.spelled; decides = f.reason; joined = refl }) };
+      reason = record { front = []; last = so_far; joined = refl; begun = Begins-none (record_in Any in_end) (HasSome-record in_end); holds = RecordMay-end in_end why so_far (record { id = read.bytes; back = f.bytes; is_end = subst (λ k. IsUnsigned k read.bytes) is read.spelled; decides = fails_cut_off (λ _ h. h) f; joined = refl }) };
       format = λ h. NoneFits-after (record_in Any in_end) (end_in Any in_end) read.bytes f.bytes (end_wants in_end is read) (f.format h);
-      truncated = λ h. let g = f.truncated h in (NoneWithin-after (record_in Any in_end) (end_in Any in_end) read.bytes f.bytes (end_wants in_end is read) g.0, g.1);
+      cut = λ h. NoneWithin-after (record_in Any in_end) (end_in Any in_end) read.bytes f.bytes (end_wants in_end is read) (f.cut h);
+      truncated = f.truncated;
       device = f.device;
       too_long = f.too_long;
     }
@@ -132,6 +134,7 @@ end_refused {old = old} {new = new} in_end wrong read =
             let one = (OneFront-parts Any in_end).one v record_of.End p read.bytes rest more s.parts read.spelled same in
             long (sym (ap length one.0) ∙ s.whole one.1);
       };
+      cut = λ is. absurd cc;
       truncated = λ is. absurd cc;
       device = λ is. absurd cc;
       too_long = λ is. absurd cc;

@@ -10,9 +10,8 @@ use Rattle.oas_num.specs.Combinators.{IsExactly}
 use Rattle.oas_num.specs.Integers.{IsUnsigned}
 use Rattle.oas_num.specs.Style.{Style, Any, Shortest, unsigned_in}
 use Rattle.oas_num.specs.Texts.{IsLabelByte, IsText, label_in}
-use Rattle.oas_num.specs.Reals.{real_in, RealMay}
-use Rattle.oas_num.specs.Begun.{Decides}
-use Rattle.oas_num.specs.Reading.{IsUnended, IsOutOfRange, IntegerMay, ClassMay, ReadsValue, Fails}
+use Rattle.oas_num.specs.Reals.{real_in, RealTook}
+use Rattle.oas_num.specs.Reading.{IsUnended, IsOutOfRange, IntegerMay, ClassMay, NoneWithin, IsCutOff, ReadsValue, Fails}
 use Rattle.oas_num.specs.Script.{Script, Takes}
 use Rattle.oas_record.specs.declared.heads.Head.{Head}
 use Rattle.oas_record.specs.Ends.{nothing, IsNumber, offsets_if}
@@ -135,12 +134,13 @@ PassedMay _ last = ⊥
 -- it isn't 1.0: what decided is all of it so far.
 abbrev pub VersionMay : Why → List ℕ → Type 0
 VersionMay Version last = (text : List ℕ) × label_in Any text last × (text ≢ version)
-VersionMay why last = Decides false (label_in Any) (PassedMay why) last
+VersionMay why last = IsCutOff (label_in Any) (PassedMay why) last
 
--- Where a read of the unit may fail. It is read as one real, even where its type has shown already that it is negative.
+-- Where a read of the unit may fail. It is read as one real, even where its type has shown already that it is negative:
+-- what decided is all of it so far, of which no front is a whole real.
 abbrev pub UnitMay : Why → List ℕ → Type 0
 UnitMay UnitIsRefused last = (real : Real) × real_in Any real last × ¬ IsPositiveReal real
-UnitMay why last = Decides false (real_in Any) (RealMay why) last
+UnitMay why last = RealTook why last × NoneWithin (real_in Any) last
 
 -- where a read of START may fail: one of its integers, the version or the unit
 abbrev pub StartMay : Why → List ℕ → Type 0

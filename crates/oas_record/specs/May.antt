@@ -1,12 +1,11 @@
 -- Why a read of a record may fail.
-use Rattle.std.specs.Prelude.{◌≡◌, ◌≢◌, ℕ, ◌<◌, ◌≤◌, Bool, false, List, [], ◌∷◌, ◌++◌, length, ◌⊎◌, Option, Some, None, Result, Ok, Err}
+use Rattle.std.specs.Prelude.{◌≡◌, ◌≢◌, ℕ, ◌<◌, ◌≤◌, Bool, List, [], ◌∷◌, ◌++◌, length, ◌⊎◌, Option, Some, None, Result, Ok, Err}
 use Rattle.oas_num.specs.declared.refusals.Why.{Why}
 use Rattle.oas_num.specs.declared.refusals.Why.TheVariants.{Truncated, IntegerRange, StringByte, EmptyName, FloatReal, RealType, RecordLeftOut, UnknownRecord, OutOfPlace, InfoByte, ListKind, PointCount, RepetitionKind, CoordinateRange, EndLength, ValidationScheme, InputTooLong, Read, Memory}
 use Rattle.oas_num.specs.declared.refusals.Refusal.{Refusal}
 use Rattle.oas_num.specs.Integers.{IsUnsigned}
 use Rattle.oas_num.specs.Reals.{RealMay}
-use Rattle.oas_num.specs.Begun.{Decides}
-use Rattle.oas_num.specs.Reading.{IsUnended, IsOutOfRange, ReadsValue, Fails, LabelMay, NameMay}
+use Rattle.oas_num.specs.Reading.{IsUnended, IsOutOfRange, IsCutOff, ReadsValue, Fails, LabelMay, NameMay}
 use Rattle.oas_num.specs.Style.{Any}
 use Rattle.oas_num.specs.Script.{Script}
 use Rattle.oas_shape.specs.declared.list_use.ListUse.{ListUse}
@@ -74,7 +73,7 @@ pub record IsEndSoFar (in_end : Bool) (why : Why) (bytes : List ℕ) : Type 0 wh
   pub id : List ℕ
   pub back : List ℕ
   pub is_end : IsUnsigned 2 id
-  pub decides : Decides false (end_in Any in_end) (EndMay why) back
+  pub decides : IsCutOff (end_in Any in_end) (EndMay why) back
   pub joined : bytes ≡ id ++ back
 
 -- END in all its parts, but not of 256 bytes

@@ -4,23 +4,24 @@ use Rattle.std.specs.Prelude.{◌+ℤ◌, ◌*ℤ◌}
 use Rattle.std.specs.List.{AllByRecursion}
 use Rattle.std.proofs.lemmas.Int.{ints}
 use lib.IntN.{zero-*ℤ, suc_ℤ-*ℤ}
-use Rattle.std.proofs.lemmas.List.{length_push, append-nil}
+use Rattle.std.proofs.lemmas.List.{length_push}
 use Rattle.oas_num.specs.declared.refusals.Why.{Why}
 use Rattle.oas_num.specs.declared.refusals.Why.TheVariants.{Truncated, IntegerRange, CoordinateRange, Read, InputTooLong, Memory}
 use Rattle.oas_num.specs.declared.deltas.GDelta.{GDelta}
 use Rattle.oas_num.specs.Deltas.{step}
 use Rattle.oas_num.specs.Script.{Script}
 use Rattle.oas_num.specs.Grammar.{IsImage, IsCount, IsSuch}
-use Rattle.oas_num.specs.Reading.{ReadsValue, NoneFits, NoneWithin, Fails, FailsPiece, IntegerMay}
-use Rattle.oas_num.proofs.ReadLemmas.{Wants}
+use Rattle.oas_num.specs.Reading.{ReadsValue, Fails, FailsPiece, IntegerMay}
+use Rattle.oas_num.proofs.ReadLemmas.{Wants, fails_cut_off}
 use Rattle.oas_num.proofs.GrammarLemmas.{Listed, listed_none, listed_more, listed_all, such_read, such_fails, refused}
+use Rattle.oas_num.proofs.PieceLemmas.{fails_behind}
 use Rattle.oas_shape.specs.declared.offsets.Along.{Along}
 use Rattle.oas_shape.specs.Steps.{still, added, times, sums_after, IsNear, IsPartialSum}
 use Rattle.oas_shape.specs.Offsets.{offsets_by}
 use Rattle.oas_shape.specs.Repetitions.{displacement_in, IsOffsets, StepMay, AreOffsetsSoFar}
 use Rattle.oas_shape.specs.RepetitionLaws.{OneFront-displacement, still_is, still_near}
 use Rattle.oas_shape.proofs.SumLemmas.{all_more, at_middle, at_front}
-use Rattle.oas_shape.proofs.ReadingLemmas.{image_read, next_item, fails_behind, no_memory_piece}
+use Rattle.oas_shape.proofs.ReadingLemmas.{image_read, next_item, no_memory_piece}
 
 -- the sum of all steps, on top of what was before
 abbrev pub total : GDelta → List GDelta → GDelta
@@ -61,16 +62,12 @@ times_plus (suc g) a b =
 pub times-added : (grid : ℕ) (d e : GDelta) → times grid (added d e) ≡ added (times grid d) (times grid e)
 times-added grid d e = (λ i. step (times_plus grid d.dx e.dx i) (times_plus grid d.dy e.dy i))
 
--- no displacement is a front of what none fits
-none_within : {V : Type 0} {A : V → List ℕ → Type 0} {bytes : List ℕ} → NoneFits A bytes → NoneWithin A bytes
-none_within {bytes = bytes} none = record { none = λ v front rest spelled e. none.none v front rest [] spelled (e ∙ sym (append-nil bytes)) }
-
 -- why a displacement couldn't be read
 step_reason : (along : Along) (grid : ℕ) (ds : List GDelta) (old new : Script) (why : Why) → (f : Fails (displacement_in along) IntegerMay old why new) → StepMay along grid ds why f.bytes
-step_reason along grid ds old new Truncated f = record { reason = f.reason; none = (f.truncated refl).0 }
-step_reason along grid ds old new Read f = f.reason
-step_reason along grid ds old new InputTooLong f = f.reason
-step_reason along grid ds old new IntegerRange f = record { reason = f.reason; none = none_within (f.format refl) }
+step_reason along grid ds old new Truncated f = fails_cut_off (λ _ h. h) f
+step_reason along grid ds old new Read f = fails_cut_off (λ _ h. h) f
+step_reason along grid ds old new InputTooLong f = fails_cut_off (λ _ h. h) f
+step_reason along grid ds old new IntegerRange f = fails_cut_off (λ _ h. h) f
 step_reason along grid ds old new _ f = absurd f.reason.holds
 
 step_fails : (along : Along) (grid : ℕ) (ds : List GDelta) {old new : Script} {why : Why} → Fails (displacement_in along) IntegerMay old why new → FailsPiece (displacement_in along) (StepMay along grid ds) old why new
@@ -79,6 +76,7 @@ step_fails along grid ds {old = old} {new = new} {why = why} f = record {
   takes = f.takes;
   reason = record { front = []; last = f.bytes; joined = refl; begun = refl; holds = step_reason along grid ds old new why f };
   format = f.format;
+  cut = f.cut;
   truncated = f.truncated;
   device = f.device;
   too_long = f.too_long;

@@ -11,11 +11,12 @@ use Rattle.oas_num.specs.Integers.{IsUnsigned}
 use Rattle.oas_num.specs.IntegerLaws.{OneFront-IsUnsigned}
 use Rattle.oas_num.specs.Reading.{ReadsValue, Fails, FailsPiece, IntegerMay}
 use Rattle.oas_num.proofs.GrammarLemmas.{Midway, begins, seen, ◌▹◌, fails_at_piece, such_read, such_fails_by, refused, image_fails}
+use Rattle.oas_num.proofs.PieceLemmas.{from_piece, fails_second}
 use Rattle.oas_shape.specs.declared.list_use.ListUse.{ListUse}
 use Rattle.oas_shape.specs.ListUses.{IsFitting}
 use Rattle.oas_shape.specs.PointLists.{IsListKind, deltas_in, polyline_of, after_kind, IsPointList, DeltasMay, IsListBegun, PointListMay}
 use Rattle.oas_shape.specs.PointListLaws.{OneFront-kind, OneFront-fitting, HasSome-kind, HasSome-deltas, HasSome-after_kind, HasSome-point_list}
-use Rattle.oas_shape.proofs.ReadingLemmas.{as_piece, from_piece, second_fails, pair_begins}
+use Rattle.oas_shape.proofs.ReadingLemmas.{as_piece, pair_begins}
 
 -- what a number is refused by, a point list is refused by
 pub PointListMay-integer : (purpose : ListUse) (why : Why) (last : List ℕ) → IntegerMay why last → PointListMay purpose why last
@@ -120,7 +121,7 @@ module _ (purpose : ListUse) where
       let count_read = such_read (IsFitting purpose kind) IsUnsigned mid late count fits second in
       let deltas : FailsPiece (deltas_in kind count) (DeltasTook kind count) late why new = as_piece (λ bytes d. d) f in
       let after : FailsPiece (after_kind purpose kind) (CountTook purpose kind) mid why new =
-      second_fails (IsSuch (IsFitting purpose kind) IsUnsigned) (deltas_in kind) (OneFront-fitting purpose kind) count_read (λ bytes d. (count, count_read.bytes, bytes, count_read.spelled, d, refl)) deltas in
+      fails_second {A = IsSuch (IsFitting purpose kind) IsUnsigned} {B = deltas_in kind} (OneFront-fitting purpose kind) count_read (λ bytes d. (count, count_read.bytes, bytes, count_read.spelled, d, refl)) deltas in
       let parts : FailsPiece (IsParts purpose) (ListTook purpose) old why new =
-      second_fails (IsSuch IsListKind IsUnsigned) (after_kind purpose) OneFront-kind kind_read (λ bytes t. list_took purpose kind why kind_read.bytes bytes kind_read.spelled t) after in
-      image_fails (polyline_of purpose) (from_piece (λ bytes d. d) parts)
+      fails_second {A = IsSuch IsListKind IsUnsigned} {B = after_kind purpose} OneFront-kind kind_read (λ bytes t. list_took purpose kind why kind_read.bytes bytes kind_read.spelled t) after in
+      image_fails (polyline_of purpose) (from_piece (λ _ _ d. d) parts)

@@ -1,5 +1,5 @@
 -- Reading values that stand for others, or that follow others.
-use Rattle.std.proofs.Common.{◌≡◌, ℕ, ◌<◌, false, List, [], ◌∷◌, ◌++◌, length, refl, sym, ap, ◌∙◌, append_assoc, arith, subst}
+use Rattle.std.proofs.Common.{◌≡◌, ℕ, ◌<◌, false, List, [], ◌∷◌, ◌++◌, length, refl, sym, ap, ◌∙◌, append_assoc, arith}
 use Rattle.oas_num.specs.declared.refusals.Why.{Why}
 use Rattle.oas_num.specs.declared.refusals.Why.TheVariants.{Memory}
 use Rattle.oas_num.specs.Script.{Script, Takes}
@@ -7,7 +7,6 @@ use Rattle.oas_num.specs.Begun.{Begins, Decides}
 use Rattle.oas_num.specs.Grammar.{OneFront, IsPair, IsImage, IsEach}
 use Rattle.oas_num.specs.GrammarLaws.{after_same}
 use Rattle.oas_num.specs.Reading.{ReadsValue, Fails, FailsPiece}
-use Rattle.oas_num.proofs.ReadLemmas.{Takes-then, Wants, NoneFits-after, NoneWithin-after}
 
 module _ {U V : Type 0} (f : U → V) (A : U → List ℕ → Type 0) where
   -- a value was read, and so what it stands for
@@ -37,25 +36,7 @@ as_piece so f = record {
   takes = f.takes;
   reason = record { front = []; last = f.bytes; joined = refl; begun = refl; holds = so f.bytes f.reason };
   format = f.format;
-  truncated = f.truncated;
-  device = f.device;
-  too_long = f.too_long;
-}
-
--- all bytes that were taken
-pub whole_piece : {V : Type 0} {A : V → List ℕ → Type 0} {took : Why → List ℕ → Type 0} {old new : Script} {why : Why} → (f : FailsPiece A took old why new) → took why f.bytes
-whole_piece {took = took} {why = why} f =
-    let r = f.reason in
-    let e : f.bytes ≡ r.last = r.joined ∙ ap (λ (a : List ℕ). a ++ r.last) r.begun in
-    subst (took why) (sym e) r.holds
-
--- and such a condition as that of a read of several pieces
-pub from_piece : {V : Type 0} {A : V → List ℕ → Type 0} {may took : Why → List ℕ → Type 0} {old new : Script} {why : Why} → ((bytes : List ℕ) → took why bytes → Decides false A (may why) bytes) → FailsPiece A took old why new → Fails A may old why new
-from_piece so f = record {
-  bytes = f.bytes;
-  takes = f.takes;
-  reason = so f.bytes (whole_piece f);
-  format = f.format;
+  cut = f.cut;
   truncated = f.truncated;
   device = f.device;
   too_long = f.too_long;
@@ -68,38 +49,13 @@ no_memory_piece A took old new bytes holds takes = record {
   takes = takes;
   reason = record { front = []; last = bytes; joined = refl; begun = refl; holds = holds };
   format = λ is. absurd cc;
+  cut = λ is. absurd cc;
   truncated = λ is. absurd cc;
   device = λ is. absurd cc;
   too_long = λ is. absurd cc;
 }
 
--- what fails behind some bytes fails as a whole
-pub fails_behind : {V W : Type 0} (spells : V → List ℕ → Type 0) (next : W → List ℕ → Type 0) {there took : Why → List ℕ → Type 0} {old mid new : Script} {why : Why} (front : List ℕ)
-    → ((bytes : List ℕ) → there why bytes → took why (front ++ bytes)) → Takes old front mid → Wants spells front next → FailsPiece next there mid why new → FailsPiece spells took old why new
-fails_behind spells next {old = old} {mid = mid} {new = new} front so takes wants f = record {
-  bytes = front ++ f.bytes;
-  takes = Takes-then old mid new front f.bytes takes f.takes;
-  reason = record { front = []; last = front ++ f.bytes; joined = refl; begun = refl; holds = so f.bytes (whole_piece f) };
-  format = λ is. NoneFits-after spells next front f.bytes wants (f.format is);
-  truncated = λ is. let g = f.truncated is in (NoneWithin-after spells next front f.bytes wants g.0, g.1);
-  device = f.device;
-  too_long = f.too_long;
-}
-
 module _ {V W : Type 0} (A : V → List ℕ → Type 0) (B : V → W → List ℕ → Type 0) where
-  -- after the first part of a pair
-  second_wanted : (v : V) (front : List ℕ) → OneFront A → A v front → Wants (IsPair A B) front (B v)
-  second_wanted v front law first = record {
-    wants = λ u p r rest s e.
-        let joined : s.front ++ (s.back ++ r) ≡ front ++ rest = sym (append_assoc s.front s.back r) ∙ ap (λ (c : List ℕ). c ++ r) (sym s.joined) ∙ e in
-        let one = law.one u.0 v s.front front (s.back ++ r) rest s.first first joined in
-        (u.1, s.back, r, subst (λ (x : V). B x u.1 s.back) one.1 s.second, after_same s.front front (s.back ++ r) rest one.0 joined);
-  }
-
-  -- the second part of a pair fails
-  pub second_fails : {there took : Why → List ℕ → Type 0} {old mid new : Script} {v : V} {why : Why} → OneFront A → (read : ReadsValue A old v mid) → ((bytes : List ℕ) → there why bytes → took why (read.bytes ++ bytes)) → FailsPiece (B v) there mid why new → FailsPiece (IsPair A B) took old why new
-  second_fails {v = v} law read so f = fails_behind (IsPair A B) (B v) read.bytes so read.takes (second_wanted v read.bytes law read.spelled) f
-
   -- what begins the second part, behind the first
   pub pair_begins : {v : V} {a b : List ℕ} → A v a → Begins (B v) b → Begins (IsPair A B) (a ++ b)
   pair_begins {v = v} {a = a} {b = b} first begun = record {

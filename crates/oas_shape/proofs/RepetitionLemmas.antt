@@ -15,13 +15,14 @@ use Rattle.oas_num.specs.Deltas.{SpellsGDelta}
 use Rattle.oas_num.specs.Reading.{ReadsValue, Fails, FailsPiece, Reads, ReadsPiece, IntegerMay}
 use Rattle.oas_num.proofs.ReadLemmas.{Takes-none}
 use Rattle.oas_num.proofs.GrammarLemmas.{Midway, begins, seen, ◌▹◌, fails_at_piece, such_read, such_fails_by, refused, image_fails}
+use Rattle.oas_num.proofs.PieceLemmas.{whole_piece, from_piece, fails_second}
 use Rattle.oas_shape.specs.declared.offsets.Along.{Along}
 use Rattle.oas_shape.specs.declared.repetitions.Repetition.{Repetition}
 use Rattle.oas_shape.specs.declared.repetitions.RepField.{RepField}
 use Rattle.oas_shape.specs.declared.repetitions.RepField.TheVariants.{Again, New}
 use Rattle.oas_shape.specs.Repetitions.{IsRepetitionKind, AreTwo, matrix_of, IsMatrix, lattice_of, IsLattice, line_of, IsLine, IsOffsets, grid_of, listed_of, after_dim, IsListed, repetition_by, field_by, field_of, rep_field_in, listing_of, AreOffsetsSoFar, IsListedSoFar, IsListSoFar, ListedTook, FieldsTook, RepFieldMay}
 use Rattle.oas_shape.specs.RepetitionLaws.{OneFront-kind, OneFront-grid, HasSome-kind, HasSome-matrix, HasSome-lattice, HasSome-line, HasSome-listed, HasSome-after_dim, HasSome-field, HasSome-rep_field}
-use Rattle.oas_shape.proofs.ReadingLemmas.{image_read, as_piece, whole_piece, from_piece, second_fails, pair_begins}
+use Rattle.oas_shape.proofs.ReadingLemmas.{image_read, as_piece, pair_begins}
 
 pub starts_matrix : (s : Script) → Midway IsMatrix (IsPair AreTwo (λ _. AreTwo)) matrix_of s s
 starts_matrix s = seen IsMatrix matrix_of (IsPair AreTwo (λ _. AreTwo)) (λ v. v) s s (begins IsMatrix HasSome-matrix s)
@@ -74,9 +75,9 @@ module _ (along : Along) (has_grid : Bool) where
       → FailsPiece (IsOffsets along (grid_of grid) (dim + 1)) (AreOffsetsSoFar along (grid_of grid) (dim + 1)) late why new → FailsPiece (IsListed along has_grid) (ListedTook along has_grid) old why new
   offsets_fail {old = old} {mid = mid} {new = new} {dim = dim} {grid = grid} {why = why} first second f =
       let after : FailsPiece (after_dim along has_grid dim) (GridTook dim) mid why new =
-      second_fails (IsThere has_grid IsUnsigned) (λ grid. IsOffsets along (grid_of grid) (dim + 1)) (OneFront-grid has_grid) second (λ bytes h. (grid, second.bytes, bytes, second.spelled, h, refl)) f in
+      fails_second {A = IsThere has_grid IsUnsigned} {B = λ grid. IsOffsets along (grid_of grid) (dim + 1)} (OneFront-grid has_grid) second (λ bytes h. (grid, second.bytes, bytes, second.spelled, h, refl)) f in
       let parts : FailsPiece (IsPair IsUnsigned (after_dim along has_grid)) (ListedTook along has_grid) old why new =
-      second_fails IsUnsigned (after_dim along has_grid) OneFront-IsUnsigned first (λ bytes t. listed_took dim why first.bytes bytes first.spelled t) after in
+      fails_second {A = IsUnsigned} {B = after_dim along has_grid} OneFront-IsUnsigned first (λ bytes t. listed_took dim why first.bytes bytes first.spelled t) after in
       image_fails listed_of parts
 
 -- ---- the fields of the type
@@ -98,6 +99,7 @@ by_list kind known along has_grid old new (Err why) e lists read =
       takes = read.takes;
       reason = record { front = []; last = read.bytes; joined = refl; begun = refl; holds = elim (whole_piece read) [ inl d ↦ inl d | inr l ↦ inr (record { along = along; has_grid = has_grid; lists = lists; listed = l }) ] };
       format = read.format;
+      cut = read.cut;
       truncated = read.truncated;
       device = read.device;
       too_long = read.too_long;
@@ -189,5 +191,5 @@ pub fields_fail : {old mid new : Script} {kind : ℕ} {why : Why} → kind ≤ 1
 fields_fail {old = old} {mid = mid} {new = new} {kind = kind} {why = why} le isnt read f =
     let kind_read = such_read IsRepetitionKind IsUnsigned old mid kind (omega arith) read in
     let parts : FailsPiece IsParts FieldTook old why new =
-    second_fails (IsSuch IsRepetitionKind IsUnsigned) field_by OneFront-kind kind_read (λ bytes t. field_took kind why kind_read.bytes bytes isnt kind_read.spelled t) (new_fails isnt f) in
-    image_fails field_of (from_piece (λ bytes d. d) parts)
+    fails_second {A = IsSuch IsRepetitionKind IsUnsigned} {B = field_by} OneFront-kind kind_read (λ bytes t. field_took kind why kind_read.bytes bytes isnt kind_read.spelled t) (new_fails isnt f) in
+    image_fails field_of (from_piece (λ _ _ d. d) parts)

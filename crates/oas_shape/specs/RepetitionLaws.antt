@@ -1,5 +1,5 @@
 -- The laws of repetition fields: no spelling begins another; the shortest style has none.
-use Rattle.std.proofs.Common.{◌≡◌, ℕ, zero, suc, ℤ, pos, Bool, true, false, None, List, [], ◌∷◌, ◌++◌, length, map, ◌+◌, refl, sym, ap, subst, arith}
+use Rattle.std.proofs.Common.{◌≡◌, ℕ, zero, suc, pos, Bool, true, false, None, List, [], ◌∷◌, ◌++◌, length, map, ◌+◌, refl, sym, ap, subst, arith}
 use Rattle.std.specs.Prelude.{◌==◌, ◌*ℤ◌}
 use Rattle.std.proofs.lemmas.Int.{ints}
 use lib.IntN.{*ℤ-zero}

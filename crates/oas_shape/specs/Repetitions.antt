@@ -10,7 +10,7 @@ use Rattle.oas_num.specs.Integers.{IsUnsigned}
 use Rattle.oas_num.specs.Style.{Style, Any, Shortest}
 use Rattle.oas_num.specs.Deltas.{SpellsGDelta, step}
 use Rattle.oas_num.specs.Begun.{Decides}
-use Rattle.oas_num.specs.Reading.{IsUnended, IsOutOfRange, IntegerMay, NoneWithin}
+use Rattle.oas_num.specs.Reading.{IsUnended, IsOutOfRange, IntegerMay, IsCutOff}
 use Rattle.oas_shape.specs.declared.offsets.Along.{Along}
 use Rattle.oas_shape.specs.declared.offsets.Along.TheVariants.{X, Y, Free}
 use Rattle.oas_shape.specs.declared.repetitions.Repetition.{Repetition}
@@ -135,18 +135,13 @@ listing_of kind =
     (if kind == 10 then Some (Free, false) else
     (if kind == 11 then Some (Free, true) else None)))))
 
--- A displacement so far, of which no front is a whole one, and which ends with bytes of which that holds. It is taken as
--- a whole, as the first number of a g-delta may have taken a sum past the limit already.
-pub record IsCutOff (along : Along) (P : List ℕ → Type 0) (bytes : List ℕ) : Type 0 where
-  pub reason : Decides false (displacement_in along) P bytes
-  pub none : NoneWithin (displacement_in along) bytes
-
--- what follows such displacements, where a list is refused
+-- What follows such displacements, where a list is refused. A displacement is taken as a whole, as the first number of a
+-- g-delta may have taken a sum past the limit already.
 abbrev pub StepMay : Along → ℕ → List GDelta → Why → List ℕ → Type 0
-StepMay along grid displacements Truncated last = IsCutOff along IsUnended last
-StepMay along grid displacements Read last = Decides false (displacement_in along) IsUnended last
-StepMay along grid displacements InputTooLong last = Decides false (displacement_in along) IsUnended last
-StepMay along grid displacements IntegerRange last = IsCutOff along IsOutOfRange last
+StepMay along grid displacements Truncated last = IsCutOff (displacement_in along) IsUnended last
+StepMay along grid displacements Read last = IsCutOff (displacement_in along) IsUnended last
+StepMay along grid displacements InputTooLong last = IsCutOff (displacement_in along) IsUnended last
+StepMay along grid displacements IntegerRange last = IsCutOff (displacement_in along) IsOutOfRange last
 StepMay along grid displacements CoordinateRange last = (d : GDelta) × displacement_in along d last × ¬ AllByRecursion IsPartialSum (offsets_by grid (displacements ++ d ∷ []))
 StepMay along grid displacements Memory last = (d : GDelta) × displacement_in along d last × AllByRecursion IsPartialSum (offsets_by grid (displacements ++ d ∷ []))
 StepMay along grid displacements _ last = ⊥

@@ -7,9 +7,11 @@ use std::io;
 use std::test::Fail;
 
 /// A writer that takes at most `most` bytes a call and `room` in all. Then it answers an error, or that it took none.
+/// `waiting` is how many bytes it took since it was flushed.
 #[derive(Drop)]
 struct Narrow {
     took: Vec<u8>,
+    waiting: usize,
     most: usize,
     room: usize,
     refuses: bool,
@@ -21,6 +23,7 @@ impl Narrow {
     fn new(rt: &HostRuntime, most: usize, room: usize) -> Narrow {
         Narrow {
             took: Vec::new(rt.alloc()),
+            waiting: 0,
             most,
             room,
             refuses: true,
@@ -39,16 +42,17 @@ impl Write for Narrow {
         }
         self.took.extend_from_slice(&piece[..count])?;
         self.room -= count;
+        self.waiting = self.waiting.saturating_add(count);
         Ok(count)
     }
 
     fn flush(&mut self) -> io::Result<()> {
         self.calls = self.calls.saturating_add(1);
-        if self.flushes {
-            Ok(())
-        } else {
-            Err(io::Error::from(io::ErrorKind::Other))
+        if !self.flushes {
+            return Err(io::Error::from(io::ErrorKind::Other));
         }
+        self.waiting = 0;
+        Ok(())
     }
 }
 
@@ -86,6 +90,7 @@ fn a_writer_gets_all_in_order_however_it_takes_it(rt: HostRuntime) {
         assert_eq!(rt; outlet.close(), Ok(()));
         assert_eq!(rt; outlet.taken(), 20000);
         assert_eq!(rt; writer.took.len(), 20000);
+        assert_eq!(rt; writer.waiting, 0, "flushed after the last byte");
         assert!(rt; are_first(writer.took.as_slice()));
     }
 }

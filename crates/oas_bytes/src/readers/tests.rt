@@ -1,23 +1,31 @@
 use super::*;
 use crate::slices::SliceSource;
+use std::alloc::AllocError;
 use std::io;
 
-/// A reader that gives at most so many bytes a call, and after some of them fails, or never ends.
+/// What a reader does after its bytes.
+#[derive(Clone, Copy, PartialEq, Eq)]
+enum Then {
+    Ends,
+    Fails,
+    GivesSevens,
+}
+
+/// A reader that gives at most so many bytes a call.
 #[derive(Drop)]
 struct Cut<'a> {
     bytes: &'a [u8],
     most: usize,
-    fails: bool,
-    endless: bool,
+    then: Then,
 }
 
 impl<'a> Read for Cut<'a> {
     fn read(&mut self, buf: &mut [u8]) -> io::Result<usize> {
         if self.bytes.is_empty() {
-            if self.fails {
+            if self.then == Then::Fails {
                 return Err(io::Error::from(io::ErrorKind::Interrupted));
             }
-            if self.endless && !buf.is_empty() {
+            if self.then == Then::GivesSevens && !buf.is_empty() {
                 buf[0] = 7;
                 return Ok(1);
             }
@@ -30,58 +38,53 @@ impl<'a> Read for Cut<'a> {
     }
 }
 
-/// What a source gives, up to 20 bytes, and how it ends.
-fn drain<S: Source>(source: &mut S) -> (u64, u64, Result<Option<u8>, SourceFault>) {
-    let mut hash = 0u64;
-    for count in 0..20u64 {
-        match source.next() {
-            Ok(Some(byte)) => hash = hash.wrapping_mul(31).wrapping_add(u64::from(byte)),
-            last => return (count, hash, last),
+/// Whether a source gives these bytes, and then this answer at each call.
+fn gives<S: Source>(source: &mut S, bytes: &[u8], last: Result<Option<u8>, SourceFault>) -> bool {
+    for byte in bytes {
+        if source.next() != Ok(Some(*byte)) {
+            return false;
         }
     }
-    (20, hash, Ok(None))
+    source.next() == last && source.next() == last && source.at() == bytes.len() as u64
 }
 
 #[test]
-fn cuts(rt: HostRuntime) -> Result<(), std::alloc::AllocError> {
+fn a_reader_gives_what_a_slice_gives_however_it_is_cut(rt: HostRuntime) -> Result<(), AllocError> {
     let bytes: &[u8] = &[3, 72, 105, 33, 3, 200, 1, 0, 9, 130, 4];
-    let want = drain(&mut SliceSource::new(bytes, 100));
+    for (limit, end) in [
+        (100, Ok(None)),
+        (11, Ok(None)),
+        (10, Err(SourceFault::TooLong)),
+    ] {
+        let given = &bytes[..bytes.len().min(limit as usize)];
+        assert!(rt; gives(&mut SliceSource::new(bytes, limit), given, end));
+        for most in [1, 2, 3, 7, 11] {
+            let then = Then::Ends;
+            let mut source = ReaderSource::new(rt.alloc(), Cut { bytes, most, then }, limit)?;
+            assert!(rt; gives(&mut source, given, end));
+        }
+    }
+    Ok(())
+}
+
+#[test]
+fn a_fault_comes_after_the_bytes_and_stays(rt: HostRuntime) -> Result<(), AllocError> {
+    let bytes: &[u8] = &[3, 72, 105, 33, 3, 200, 1, 0, 9, 130, 4];
     for most in [1, 2, 3, 7, 11] {
-        let reader = Cut {
-            bytes,
-            most,
-            fails: false,
-            endless: false,
-        };
-        let mut source = ReaderSource::new(rt.alloc(), reader, 100)?;
-        assert!(rt; drain(&mut source) == want);
-        assert_eq!(rt; source.at(), 11);
-        let reader = Cut {
-            bytes,
-            most,
-            fails: true,
-            endless: false,
-        };
-        let mut source = ReaderSource::new(rt.alloc(), reader, 100)?;
-        assert!(rt; drain(&mut source) == (want.0, want.1, Err(SourceFault::Device)));
-        assert!(rt; source.next() == Err(SourceFault::Device));
-        let reader = Cut {
-            bytes,
-            most,
-            fails: false,
-            endless: true,
-        };
-        let mut source = ReaderSource::new(rt.alloc(), reader, 13)?;
-        let given = drain(&mut source);
-        assert!(rt; given.0 == 13 && given.2 == Err(SourceFault::TooLong));
-        let reader = Cut {
-            bytes,
-            most,
-            fails: false,
-            endless: false,
-        };
-        let mut source = ReaderSource::new(rt.alloc(), reader, 11)?;
-        assert!(rt; drain(&mut source) == want);
+        let then = Then::Fails;
+        let mut source = ReaderSource::new(rt.alloc(), Cut { bytes, most, then }, 100)?;
+        assert!(rt; gives(&mut source, bytes, Err(SourceFault::Device)));
+    }
+    Ok(())
+}
+
+#[test]
+fn a_reader_without_end_is_too_long(rt: HostRuntime) -> Result<(), AllocError> {
+    let bytes: &[u8] = &[3, 72, 105];
+    for most in [1, 2, 3] {
+        let then = Then::GivesSevens;
+        let mut source = ReaderSource::new(rt.alloc(), Cut { bytes, most, then }, 5)?;
+        assert!(rt; gives(&mut source, &[3, 72, 105, 7, 7], Err(SourceFault::TooLong)));
     }
     Ok(())
 }

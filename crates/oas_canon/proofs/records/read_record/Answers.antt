@@ -16,7 +16,7 @@ returns-in_err-read_end-in-2 g c =
 pub returns-in_err-read-in-14 : goal.returns-in_err-read-in-14
 returns-in_err-read-in-14 g c =
     let p = err_from_is_err_and c.from_residual-in_err-read-in-14.result c.from_residual-in_err-read-in-14.ensures.1 in
-    rw (p.1, p.2) (name_fails c.in_ok-id.ensures c.in-14.is c.in_err-read-in-14.ensures)
+    rw (p.1, p.2) (name_fails c.in_ok-id.ensures c.in-14.is c.in_err-read-in-14.ensures.reads)
 
 pub returns-in_err-read_rectangle-in-20 : goal.returns-in_err-read_rectangle-in-20
 returns-in_err-read_rectangle-in-20 g c =
@@ -30,7 +30,7 @@ pub returns-else-at-start-ne-END_LENGTH : goal.returns-else-at-start-ne-END_LENG
 returns-else-at-start-ne-END_LENGTH g c = end_read c.in_ok-id.ensures c.in-2.is c.in_ok-read_end-in-2.ensures (rw (c.at.ensures, c.at-start.ensures) at c.if-at-start-ne-END_LENGTH.false)
 
 pub returns-in_ok-read-in-14 : goal.returns-in_ok-read-in-14
-returns-in_ok-read-in-14 g c = name_read c.in_ok-id.ensures c.in-14.is c.in_ok-read-in-14.ensures
+returns-in_ok-read-in-14 g c = name_read c.in_ok-id.ensures c.in-14.is c.in_ok-read-in-14.ensures.reads
 
 pub returns-in_ok-read_rectangle-in-20 : goal.returns-in_ok-read_rectangle-in-20
 returns-in_ok-read_rectangle-in-20 g c = rectangle_read c.in_ok-id.ensures c.in-20.is c.in_ok-read_rectangle-in-20.ensures

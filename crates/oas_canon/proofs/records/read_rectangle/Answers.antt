@@ -2,14 +2,15 @@ use Rattle.std.proofs.lemmas.Result.{err_from_is_err_and}
 use Rattle.std.proofs.Common.{arith, rules, w64}
 use Rattle.std.proofs.lemmas.Int.{to_z-of_z}
 use Rattle.oas_num.proofs.GrammarLemmas.{fails_at, fails_last, is_read}
-use Rattle.oas_canon.proofs.Pins.{byte_fails, piece_reason}
+use Rattle.oas_num.proofs.PieceLemmas.{whole_piece}
+use Rattle.oas_canon.proofs.Pins.{byte_fails}
 use Rattle.oas_canon.proofs.StepLemmas.{RectangleMay-byte, RectangleMay-integer, rectangle_starts, info_other, with_info, with_layer, with_datatype, with_width, with_height, with_x}
 use Rattle.oas_canon.proofs.records.read_rectangle.Goals as goal
 
 pub returns-in_err-info : goal.returns-in_err-info
 returns-in_err-info g c =
     let p = err_from_is_err_and c.from_residual.result c.from_residual.ensures.1 in
-    rw (p.1, p.2) (fails_at (rectangle_starts _) (λ _ _ h. h) (byte_fails 123 (omega arith) c.in_err-info.ensures (RectangleMay-byte _ _ (piece_reason c.in_err-info.ensures))))
+    rw (p.1, p.2) (fails_at (rectangle_starts _) (λ _ _ h. h) (byte_fails 123 (omega arith) c.in_err-info.ensures (RectangleMay-byte _ _ (whole_piece c.in_err-info.ensures))))
 
 pub returns-then-info-ne-ALL_FIELDS : goal.returns-then-info-ne-ALL_FIELDS
 returns-then-info-ne-ALL_FIELDS g c = info_other c.if-info-ne-ALL_FIELDS.true c.in_ok-info.ensures

@@ -13,12 +13,12 @@ returns-in_err-n_dim g c =
 pub returns-in_err-n : goal.returns-in_err-n
 returns-in_err-n g c =
     let p = err_from_is_err_and c.from_residual-in_err-n.result c.from_residual-in_err-n.ensures.1 in
-    rw (p.1, p.2) (fails_at (starts_lattice _ ▸ (OneFront-two, c.in_ok-n_dim.ensures)) (λ _ _ h. h) c.in_err-n.ensures)
+    rw (p.1, p.2) (fails_at (starts_lattice _ ▸ (OneFront-two, c.in_ok-n_dim.ensures)) (λ _ _ h. h) c.in_err-n.ensures.reads)
 
 pub returns-in_err-m : goal.returns-in_err-m
 returns-in_err-m g c =
     let p = err_from_is_err_and c.from_residual-in_err-m.result c.from_residual-in_err-m.ensures.1 in
-    rw (p.1, p.2) (fails_last (starts_lattice _ ▸ (OneFront-two, c.in_ok-n_dim.ensures) ▸ (GDelta-one_front, c.in_ok-n.ensures)) (λ _ _ h. h) c.in_err-m.ensures)
+    rw (p.1, p.2) (fails_last (starts_lattice _ ▸ (OneFront-two, c.in_ok-n_dim.ensures) ▸ (GDelta-one_front, c.in_ok-n.ensures.reads)) (λ _ _ h. h) c.in_err-m.ensures.reads)
 
 pub returns : goal.returns
-returns g c = is_read (starts_lattice _ ▸ (OneFront-two, c.in_ok-n_dim.ensures) ▸ (GDelta-one_front, c.in_ok-n.ensures)) c.in_ok-m.ensures
+returns g c = is_read (starts_lattice _ ▸ (OneFront-two, c.in_ok-n_dim.ensures) ▸ (GDelta-one_front, c.in_ok-n.ensures.reads)) c.in_ok-m.ensures.reads

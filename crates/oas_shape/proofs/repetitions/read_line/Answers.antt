@@ -12,7 +12,7 @@ returns-in_err-dim g c =
 pub returns-in_err-by : goal.returns-in_err-by
 returns-in_err-by g c =
     let p = err_from_is_err_and c.from_residual-in_err-by.result c.from_residual-in_err-by.ensures.1 in
-    rw (p.1, p.2) (fails_last (starts_line _ ▸ (OneFront-IsUnsigned, c.in_ok-dim.ensures)) (λ _ _ h. h) c.in_err-by.ensures)
+    rw (p.1, p.2) (fails_last (starts_line _ ▸ (OneFront-IsUnsigned, c.in_ok-dim.ensures)) (λ _ _ h. h) c.in_err-by.ensures.reads)
 
 pub returns : goal.returns
-returns g c = is_read (starts_line _ ▸ (OneFront-IsUnsigned, c.in_ok-dim.ensures)) c.in_ok-by.ensures
+returns g c = is_read (starts_line _ ▸ (OneFront-IsUnsigned, c.in_ok-dim.ensures)) c.in_ok-by.ensures.reads

@@ -3,7 +3,7 @@ use Rattle.std.proofs.Math.Seq.{take-add}
 use Rattle.std.proofs.lemmas.List.{take-take, length-take}
 use Rattle.std.specs.Io.KnownBytes.{Appends}
 use Rattle.oas_bytes.specs.OutletLaws.{Appends-then}
-use Rattle.oas_bytes.proofs.windows.send.Goals as goal
+use Rattle.oas_bytes.proofs.flushing.FlushRecord.send.Goals as goal
 
 pub loop-sent-preserved : goal.loop-sent-preserved
 loop-sent-preserved g c =
@@ -13,4 +13,4 @@ loop-sent-preserved g c =
     let fits = c.in-Ok.ensures.bound in
     let most = length-take (length xs - sent) (drop sent xs) in
     let joined = ap (λ l. take sent xs ++ l) (take-take n (length xs - sent) (drop sent xs) (omega arith)) ∙ sym (take-add sent n xs) in
-    record { within = omega arith; took = subst (Appends _ _) joined (Appends-then _ _ _ _ _ c.loop-sent.invariant.took c.in-Ok.ensures.bytes) }
+    record { within = omega arith; unflushed = c.loop-sent.invariant.unflushed; took = subst (Appends _ _) joined (Appends-then _ _ _ _ _ c.loop-sent.invariant.took c.in-Ok.ensures.bytes) }

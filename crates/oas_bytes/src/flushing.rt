@@ -1,0 +1,55 @@
+ghost use Rattle.std.specs.Prelude.{◌≡◌, ◌<◌, true, false, length, take, OnOk, OnErr, IfErr};
+ghost use Rattle.std.specs.Io.KnownBytes.{Appends, Keeps};
+
+use std::io::{self, Write};
+
+/// A record of whether a writer was flushed after the last byte that it took.
+///
+/// The field is private to this file, so `flush` alone makes the record, and `send` takes it away. It stands beside the
+/// writer and not round it: of a `&mut` in a struct in a struct its lender would learn nothing afterwards.
+#[derive(Drop)]
+pub(crate) struct FlushRecord {
+    flushed: bool,
+}
+
+impl FlushRecord {
+    /// No flush is known of.
+    pub(crate) fn new() -> FlushRecord
+        ensures { result.flushed ≡ false }
+    {
+        FlushRecord { flushed: false }
+    }
+
+    /// Has a writer take all of the bytes, by as many calls as it wants. Where it fails the answer is how many it took.
+    pub(crate) fn send<W: Write>(&mut self, writer: &mut W, bytes: &[u8]) -> Result<(), usize>
+        ensures ok { OnOk result (Appends (W.contents writer.old) (W.contents writer.new) bytes.now) }
+        ensures err { IfErr result (λ count. (count < length bytes.now)
+            × Appends (W.contents writer.old) (W.contents writer.new) (take count bytes.now)) }
+        ensures unflushed { self.new.flushed ≡ false }
+    {
+        self.flushed = false;
+        let mut sent = 0;
+        while sent < bytes.len() {
+            match writer.write(&bytes[sent..]) {
+                Ok(0) => return Err(sent),
+                Ok(count) => sent += count,
+                Err(_) => return Err(sent),
+            }
+        }
+        Ok(())
+    }
+
+    /// Flushes a writer.
+    ///
+    /// That the writer's own `flush` is called is to be read here. No clause can demand it: all that `Write::flush`
+    /// promises, that the writer keeps its bytes, holds without the call too.
+    pub(crate) fn flush<W: Write>(&mut self, writer: &mut W) -> io::Result<()>
+        ensures keeps { Keeps (W.contents writer.old) (W.contents writer.new) }
+        ensures flushed { OnOk result (self.new.flushed ≡ true) }
+        ensures as_before { OnErr result (self.new ≡ self.old) }
+    {
+        writer.flush()?;
+        self.flushed = true;
+        Ok(())
+    }
+}

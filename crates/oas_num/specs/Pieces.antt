@@ -1,0 +1,26 @@
+-- Where a value goes wrong that is read as one piece: conditions of all bytes that were read, part by part.
+use Rattle.std.specs.Prelude.{◌≡◌, ℕ, ◌<◌, Bool, true, false, List, ◌++◌, length, ◌⊎◌}
+use Rattle.oas_num.specs.declared.refusals.Why.{Why}
+use Rattle.oas_num.specs.Grammar.{IsEach}
+
+-- a value is spelled, and of it and the bytes behind it that holds
+pub record IsBehind {V : Type 0} (spells P : V → List ℕ → Type 0) (bytes : List ℕ) : Type 0 where
+  pub value : V
+  pub front : List ℕ
+  pub last : List ℕ
+  pub spelled : spells value front
+  pub holds : P value last
+  pub joined : bytes ≡ front ++ last
+
+-- of a pair: in the first part, or the first part is spelled and then in the second
+abbrev pub PairTook : {V : Type 0} → (V → List ℕ → Type 0) → (Why → List ℕ → Type 0) → (V → Why → List ℕ → Type 0) → Why → List ℕ → Type 0
+PairTook spells first second why bytes = first why bytes ⊎ IsBehind spells (λ v. second v why) bytes
+
+-- of a field that is there, or not: in the field
+abbrev pub ThereTook : Bool → (Why → List ℕ → Type 0) → Why → List ℕ → Type 0
+ThereTook true took why bytes = took why bytes
+ThereTook false took why bytes = ⊥
+
+-- of so many items: fewer are spelled, and then in the next
+abbrev pub CountTook : {V : Type 0} → (V → List ℕ → Type 0) → ℕ → (Why → List ℕ → Type 0) → Why → List ℕ → Type 0
+CountTook spells count took why bytes = IsBehind (IsEach spells) (λ items last. (length items < count) × took why last) bytes
