@@ -1,7 +1,7 @@
 use crate::rectangles::Rectangle;
 use oas_num::Name;
 
-/// A cell: its name, and its rectangles, each as often as it is there.
+/// A cell (SEMI P39, CELL record): its name, and its rectangles, each as often as it is there.
 #[derive(Debug, Drop)]
 pub struct Cell {
     pub name: Name,

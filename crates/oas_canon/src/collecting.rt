@@ -23,7 +23,7 @@ pub struct Collected {
     pub cells: Vec<Cell>,
     /// How many rectangles they hold.
     pub elements: u64,
-    /// What they weigh.
+    /// What they weigh: for each cell one and the bytes of its name, for each rectangle one (own rule).
     pub weight: u64,
 }
 
@@ -41,7 +41,8 @@ impl Collected {
         }
     }
 
-    /// Takes a record, where the limits allow it.
+    /// Takes a record, where the limits allow it. Else a cell is refused by `TooHeavy`, a rectangle by the first that holds
+    /// of `OutOfPlace` (no cell has begun), `TooManyElements`, `TooHeavy` and `CoordinateRange`, and both by `Memory`.
     pub fn take(&mut self, alloc: Global, next: Record, limits: &Limits) -> Result<(), Why>
         ensures { Collects limits.now self.old next result self.new }
     {

@@ -20,7 +20,7 @@ const START: u64 = 1;
 /// How many numbers the table-offsets are: six pairs of a flag and an offset.
 const OFFSETS: u8 = 12;
 
-/// Takes the magic.
+/// Takes the magic. It is refused by `Magic` at the first byte that is another.
 pub fn read_magic<S: Source>(source: &mut S) -> Result<(), Why>
     ensures { Reads (IsExactly magic) MagicMay (S.script source.old) result (S.script source.new) }
 {
@@ -33,7 +33,8 @@ pub fn read_magic<S: Source>(source: &mut S) -> Result<(), Why>
     Ok(())
 }
 
-/// Takes START, and answers its unit, the grid steps in a micron, above zero.
+/// Takes START (SEMI P39, START record), and answers its unit, the grid steps in a micron, above zero. The reasons by
+/// which it refuses are those of `StartMay` (specs/Reasons.antt).
 pub fn read_start<S: Source>(alloc: Global, source: &mut S) -> Result<Real, Why>
     ensures { Reads (IsStart Any) StartMay (S.script source.old) result (S.script source.new) }
 {
@@ -54,7 +55,7 @@ pub fn read_start<S: Source>(alloc: Global, source: &mut S) -> Result<Real, Why>
     Ok(unit)
 }
 
-/// Takes the version.
+/// Takes the version, an a-string that is read whole before it is compared.
 fn read_version<S: Source>(alloc: Global, source: &mut S) -> Result<(), Why>
     ensures { ReadsPiece (IsVersion Any) VersionMay (S.script source.old) result (S.script source.new) }
 {

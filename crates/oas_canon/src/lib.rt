@@ -9,6 +9,10 @@
 //!   of the source's limit that the source said so.
 //! - [`put_canonical`] and [`write_canonical`] give the canonical bytes of a layout: `canonical_bytes` (specs/Canonical.antt).
 //! - [`canonicalize`] is both, one after the other; nothing is written before the whole file was accepted.
+//! - Of a source that had given nothing before: a refusal of the two whose reason lies in the file has as its offset a
+//!   place at which every file that goes on so is refused (`IsPlaced`, specs/Run.antt); and each refusal but `Why::Write`
+//!   says which of the bytes that were taken decided, and that its reason holds of them (`IsReasoned`,
+//!   specs/Deciding.antt).
 //! - The laws stand over the definitions alone: [`laws`].
 //!
 //! The definitions, none of which follows the code: what a file is, in a style (specs/File.antt); which files are accepted,

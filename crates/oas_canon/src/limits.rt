@@ -6,7 +6,7 @@ ghost use Rattle.oas_canon.specs.Meaning.{standard};
 pub struct Limits {
     /// How many elements, over all cells.
     pub elements: u64,
-    /// How much they and the names of the cells weigh.
+    /// How much they and the cells weigh: one for each rectangle, one for each cell, and the bytes of its name.
     pub weight: u64,
 }
 

@@ -10,21 +10,22 @@ use std::alloc::Global;
 /// A record between START and END.
 #[derive(Debug, Drop)]
 pub enum Record {
-    /// PAD, which means nothing.
+    /// PAD, which means nothing (SEMI P39, PAD record).
     Pad,
-    /// CELL by name: a cell begins.
+    /// CELL by name: a cell begins (SEMI P39, CELL record).
     Cell(Name),
-    /// RECTANGLE, an element of the cell that it stands in.
+    /// RECTANGLE, an element of the cell that it stands in (SEMI P39, RECTANGLE record).
     Rectangle(Rectangle),
 }
 
 /// The info byte of a RECTANGLE that gives all its fields and no repetition.
 const ALL_FIELDS: u8 = 0x7B;
 
-/// How many bytes END has, its id among them.
+/// How many bytes END has, its id among them (SEMI P39, END record).
 const END_LENGTH: u64 = 256;
 
-/// Takes the next record, or END: None.
+/// Takes the next record, or END: None. The reasons by which it refuses, and what holds of the bytes that decide, are
+/// those of `StepMay` (specs/Reasons.antt).
 pub fn read_record<S: Source>(alloc: Global, source: &mut S) -> Result<Option<Record>, Why>
     ensures { Reads IsStep StepMay (S.script source.old) result (S.script source.new) }
 {
@@ -45,7 +46,7 @@ pub fn read_record<S: Source>(alloc: Global, source: &mut S) -> Result<Option<Re
     }
 }
 
-/// Why a record of such an id isn't read.
+/// Why a record of such an id isn't read: a second START, one that the profile leaves out for good, any other.
 fn why_not(id: u64) -> Why
     ensures { IsRefusal id result }
 {

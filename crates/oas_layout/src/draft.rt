@@ -26,8 +26,11 @@ pub struct Draft {
     limits: Limits,
     profile: Profile,
     cells: IndexMap<Name, Bag>,
+    /// How many elements are held, equal ones each counted.
     count: u64,
+    /// What is held weighs this.
     weight: u64,
+    /// What was given weighed this: at least as much as what is held.
     spelled: u64,
     alloc: Global,
 }
@@ -43,7 +46,7 @@ impl Model for Draft {
 }
 
 impl Draft {
-    /// A draft of no cells, with room for one.
+    /// A draft of no cells, with room for one, or want of memory.
     pub fn new(
         alloc: Global,
         unit: Fraction,
@@ -72,7 +75,10 @@ impl Draft {
         self.cells.len()
     }
 
-    /// Adds a cell with no elements, and answers how many cells stand before it.
+    /// Adds a cell with no elements, and answers how many cells stand before it. Such a place is what `add` takes.
+    ///
+    /// It hands the name back, and the draft is as it was, where there is a cell of that name (`DuplicateCell`), where the
+    /// weight passes its limit (`TooHeavy`), or for want of memory (`Memory`).
     pub fn add_cell(&mut self, name: Name) -> Result<usize, (Why, Name)>
         ensures ok { IfOk result (λ i. (cell_refusal self.old name ≡ None) × (i ≡ length self.old.cells) × (self.new ≡ with_cell self.old name)) }
         ensures why { IfErr result (λ e. (e.0 ≡ Memory) ⊎ (cell_refusal self.old name ≡ Some e.0)) }
@@ -96,7 +102,7 @@ impl Draft {
         Ok(before)
     }
 
-    /// Adds an element to a cell, or hands it back.
+    /// Adds an element to the cell at that place, or hands it back, as `add_many` does.
     pub fn add(&mut self, cell: usize, element: Element) -> Result<(), (Why, Element)>
         requires { cell < length self.old.cells }
         ensures ok { OnOk result ((refusal self.old element 1 ≡ None) × (self.new ≡ added self.old cell element 1)) }
@@ -107,7 +113,11 @@ impl Draft {
         self.add_many(cell, element, 1)
     }
 
-    /// Adds so many equal elements to a cell, or hands the element back.
+    /// Adds so many equal elements to the cell at that place.
+    ///
+    /// It hands the element back, and the draft is as it was, for the first of these that holds: too few points
+    /// (`PointCount`), more elements or weight than the limits allow (`TooManyElements`, `TooHeavy`), a part outside the
+    /// grid (`CoordinateRange`), want of memory (`Memory`).
     pub fn add_many(
         &mut self,
         cell: usize,
@@ -178,7 +188,7 @@ impl Draft {
         Ok(())
     }
 
-    /// The layout of what is held, its cells by ascending names. A refused seal gives the draft up.
+    /// The layout of what is held, its cells by ascending names, or want of memory, and then the draft is gone.
     pub fn seal(self) -> Result<Layout, AllocError>
         ensures { IfOk result (λ l. IsSealed self l) }
     {

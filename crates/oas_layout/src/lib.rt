@@ -2,7 +2,8 @@
 //!
 //! What this crate promises to the crates above it:
 //!
-//! - An [`Element`] is one of six kinds, with a total order in which no two tie (`element_cmp`, specs/Element.antt).
+//! - An [`Element`] is one of six kinds, with a total order in which no two tie (`element_cmp`, specs/Element.antt). The
+//!   definitions write its fields by their places; which field that is, `Element::circle` and its like say.
 //! - Two elements are the same (`SameElement`, specs/Same.antt) where kind and fields are equal, but that a polygon is a
 //!   ring: it begins anywhere and runs in either direction; and that under [`Profile::Two`] a polygon which goes round a
 //!   rectangle is that rectangle. Each element has one form in which it is kept (`normal`), and two elements are the same
@@ -26,6 +27,7 @@ mod element;
 mod elements;
 mod grid;
 mod kept;
+mod kinds;
 pub mod laws;
 mod layout;
 mod limits;

@@ -6,6 +6,8 @@
 /// rectangle with positive sides is also the same as that rectangle.
 #[derive(Clone, Copy, Debug, PartialEq, Eq)]
 pub enum Profile {
+    /// A polygon is no rectangle.
     One,
+    /// A polygon that goes round a rectangle is that rectangle.
     Two,
 }

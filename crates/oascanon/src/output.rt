@@ -1,4 +1,3 @@
-ghost use Rattle.std.specs.Prelude.{◌≡◌};
 ghost use Rattle.oas_num.specs.Refusals.{number_of};
 ghost use Rattle.oas_num.specs.Writing.{Writes};
 ghost use Rattle.oascanon.specs.Lines.{refusal_line};

@@ -86,45 +86,20 @@ pub fn expect(
 fn expect_row(rt: &impl Abort, alloc: Global, row: &str) -> Result<(), Fail> {
     let (name, rest) = row.split_once(" | ").ok_or("a row has a file")?;
     let (file, answer) = rest.split_once(" | ").ok_or("a row has an answer")?;
-    let input = bytes_of(alloc, file)?;
+    let file = bytes_of(alloc, file)?;
+    let input = file.as_slice();
     if let Some((number, at)) = answer.split_once('@') {
         let refusal = format!(in alloc; "{number} at {at}")?;
-        return expect(
-            rt,
-            alloc,
-            name,
-            input.as_slice(),
-            INPUT_MAX,
-            Err(refusal.as_str()),
-        );
+        let wanted = Err(refusal.as_str());
+        return expect(rt, alloc, name, input, INPUT_MAX, wanted);
     }
     if answer == "same" {
-        return expect(
-            rt,
-            alloc,
-            name,
-            input.as_slice(),
-            INPUT_MAX,
-            Ok(input.as_slice()),
-        );
+        return expect(rt, alloc, name, input, INPUT_MAX, Ok(input));
     }
-    let output = bytes_of(alloc, answer)?;
-    expect(
-        rt,
-        alloc,
-        name,
-        input.as_slice(),
-        INPUT_MAX,
-        Ok(output.as_slice()),
-    )?;
-    expect(
-        rt,
-        alloc,
-        name,
-        output.as_slice(),
-        INPUT_MAX,
-        Ok(output.as_slice()),
-    )
+    let canonical = bytes_of(alloc, answer)?;
+    let output = canonical.as_slice();
+    expect(rt, alloc, name, input, INPUT_MAX, Ok(output))?;
+    expect(rt, alloc, name, output, INPUT_MAX, Ok(output))
 }
 
 #[test]
@@ -178,41 +153,23 @@ fn each_prefix(rt: HostRuntime) -> Result<(), Fail> {
 fn each_limit(rt: HostRuntime) -> Result<(), Fail> {
     let alloc = rt.alloc();
     let file = bytes_of(alloc, RECTANGLE)?;
+    let file = file.as_slice();
     let mut longer = bytes_of(alloc, RECTANGLE)?;
     longer.push(0)?;
+    let longer = longer.as_slice();
     for limit in 0..301usize {
         let at = record_at(limit);
         let refusal = format!(in alloc; "31 at {at}")?;
-        expect(
-            &rt,
-            alloc,
-            "a limit",
-            file.as_slice(),
-            limit as u64,
-            Err(refusal.as_str()),
-        )?;
+        let wanted = Err(refusal.as_str());
+        expect(&rt, alloc, "a limit", file, limit as u64, wanted)?;
     }
-    expect(
-        &rt,
-        alloc,
-        "the limit",
-        file.as_slice(),
-        301,
-        Ok(file.as_slice()),
-    )?;
-    expect(
-        &rt,
-        alloc,
-        "one byte more",
-        longer.as_slice(),
-        301,
-        Err("31 at 301"),
-    )?;
+    expect(&rt, alloc, "the limit", file, 301, Ok(file))?;
+    expect(&rt, alloc, "one byte more", longer, 301, Err("31 at 301"))?;
     expect(
         &rt,
         alloc,
         "and a limit more",
-        longer.as_slice(),
+        longer,
         302,
         Err("30 at 301"),
     )
