@@ -7,3 +7,10 @@ pub mod Filling
 pub mod FillingAll
 pub mod Twice
 pub mod Alike
+pub mod StandingSteps
+pub mod CopyLemmas
+pub mod PlaceLemmas
+pub mod TakeLemmas
+pub mod DrawLemmas
+pub mod ReaderLemmas
+pub mod FinishLemmas

@@ -5,3 +5,7 @@ pub mod References
 pub mod Meaning
 pub mod Finish
 pub mod Alike
+pub mod Standing
+pub mod Stands
+pub mod Parts
+pub mod Copying

@@ -17,18 +17,26 @@
 //!   for want of memory.
 //! - [`laws`] says, over the definitions alone, that more of what is drawn adds to its count alone, and that cells mean the
 //!   same in which each thing is drawn as often.
+//! - A [`Reader`] takes record after record. It stands for a list of records (`StandsFor`, specs/Stands.antt), and stands for
+//!   one more once that is taken; it refuses exactly where, and by the first reason that, `refusal` says, or else for want of
+//!   memory, and answers a refusal again from then on. Its `finish` gives a layout that is the same as what the records mean
+//!   (`records_mean`), or refuses by `end_refusal`. [`reader_laws`]: one more record changes where it stands by itself alone.
 //!
 //! The modal variables, and what a record draws by them, are those of `oas_drawing`.
-//!
-//! Not there yet: the reader that takes record after record.
 #![tactic(auto)]
 
+mod copying;
 mod finishing;
 mod held;
 pub mod laws;
 pub mod name_laws;
 mod names;
+mod parts;
+mod reader;
+pub mod reader_laws;
+mod taking;
 
 pub use finishing::finish;
 pub use held::HeldCell;
 pub use names::{Form, NameTable, cell_meant, string_meant};
+pub use reader::Reader;

@@ -1,0 +1,110 @@
+-- the copies of a record that are held, one by one
+use Rattle.std.proofs.Common.{◌≡◌, ℕ, zero, suc, ◌+◌, ◌*◌, ◌<◌, ◌≤◌, List, [], ◌∷◌, ◌++◌, map, length, refl, sym, ap, ◌∙◌, subst, arith, Bool, true, false, append_assoc, length-append}
+use Rattle.std.specs.Prelude.{Option, None, Some, is_none, sum_by, cond, unwrap_or, replicate, nat_lt, ◌^◌}
+use Rattle.std.specs.Map.{lookup}
+use Rattle.std.specs.BTreeMap.{is_at}
+use Rattle.std.proofs.lemmas.List.{length-replicate}
+use Rattle.std.proofs.lemmas.Bool.Decides.{nat_tests}
+use Rattle.oas_drawing.specs.Reasons.{fault_of}
+use Rattle.std.specs.Option.{option_to_list, option_map}
+use Rattle.std.specs.List.{range_with_len, AllByRecursion}
+use Rattle.std.proofs.lemmas.List.FromFn.{map-range_with_len_more}
+use Rattle.std.proofs.lemmas.List.Sums.{sum_by-append}
+use Rattle.oas_num.specs.declared.deltas.GDelta.{GDelta}
+use Rattle.oas_shape.specs.Steps.{still}
+use Rattle.oas_record.specs.declared.references.CellRef.{CellRef}
+use Rattle.oas_record.specs.declared.records.Record.{Record}
+use Rattle.oas_layout.specs.Bag.{items}
+use Rattle.oas_layout.specs.BagLaws.{total, sum_by-items, total-put_more}
+use Rattle.oas_drawing.specs.declared.drawn.Drawn.{Drawn}
+use Rattle.oas_drawing.specs.declared.kinds.Kind.{Kind}
+use Rattle.oas_drawing.specs.Modal.{ModalState}
+use Rattle.oas_drawing.specs.Drawn.{drawn_cmp, weight_so_far}
+use Rattle.oas_drawing.specs.Drawing.{kind_of, repeats, drawn_if, drawn_at, copies_at, offset_if, number_if, offsets_of, drawn_by}
+use Rattle.oas_modal.specs.Held.{Held, with_drawn, times_drawn}
+use Rattle.oas_modal.specs.Standing.{put_all, drew, drawn_of}
+use Rattle.oas_modal.specs.Copying.{copies_by, first_copies}
+
+pub put_all-append : (held : List (Drawn × ℕ)) (xs ys : List Drawn) → put_all held (xs ++ ys) ≡ put_all (put_all held xs) ys
+put_all-append held [] ys = refl
+put_all-append held (x ∷ xs) ys = put_all-append (with_drawn held x 1) xs ys
+
+copies_by-append : (m : ModalState) (kind : Kind) (xs ys : List GDelta) → copies_by m kind (xs ++ ys) ≡ copies_by m kind xs ++ copies_by m kind ys
+copies_by-append m kind [] ys = refl
+copies_by-append m kind (x ∷ xs) ys = ap (λ (ds : List Drawn). option_to_list (drawn_by m kind x) ++ ds) (copies_by-append m kind xs ys) ∙ sym (append_assoc (option_to_list (drawn_by m kind x)) (copies_by m kind xs) (copies_by m kind ys))
+
+append_nil : {A : Type 0} (xs : List A) → xs ++ [] ≡ xs
+append_nil [] = refl
+append_nil (x ∷ xs) = ap (λ ys. x ∷ ys) (append_nil xs)
+
+-- one copy more
+pub next_copy : (m : ModalState) (kind : Kind) (repeated : Bool) (n : ℕ) → first_copies m kind repeated (n + 1) ≡ first_copies m kind repeated n ++ option_to_list (drawn_by m kind (offset_if repeated m.repetition n))
+next_copy m kind repeated n =
+    ap (copies_by m kind) (map-range_with_len_more (offset_if repeated m.repetition) 0 n n (omega arith))
+    ∙ copies_by-append m kind (map (offset_if repeated m.repetition) (range_with_len 0 n)) (offset_if repeated m.repetition n ∷ [])
+    ∙ ap (λ (ds : List Drawn). first_copies m kind repeated n ++ ds) (append_nil (option_to_list (drawn_by m kind (offset_if repeated m.repetition n))))
+
+one_copy : (m : ModalState) (kind : Kind) (repeated : Bool) (n : ℕ) (d : Drawn) → drawn_by m kind (offset_if repeated m.repetition n) ≡ Some d → first_copies m kind repeated (n + 1) ≡ first_copies m kind repeated n ++ d ∷ []
+one_copy m kind repeated n d e = next_copy m kind repeated n ∙ ap (λ (o : Option Drawn). first_copies m kind repeated n ++ option_to_list o) e
+
+abbrev held_pair : CellRef → List (Drawn × ℕ) → Held
+held_pair c ps = (c, ps)
+
+-- and held
+pub held_next : (m : ModalState) (kind : Kind) (repeated : Bool) (n : ℕ) (d : Drawn) (before now after : Held) → drawn_by m kind (offset_if repeated m.repetition n) ≡ Some d → now ≡ drew before (first_copies m kind repeated n) → after ≡ held_pair now.0 (with_drawn now.1 d 1) → after ≡ drew before (first_copies m kind repeated (n + 1))
+held_next m kind repeated n d before now after e is then =
+    then ∙ (ap (λ (h : Held). held_pair h.0 (with_drawn h.1 d 1)) is
+    ∙ ap (held_pair before.0) (sym (put_all-append before.1 (first_copies m kind repeated n) (d ∷ [])) ∙ ap (put_all before.1) (sym (one_copy m kind repeated n d e))))
+
+-- the copies of a record are those of its kind
+copies_at-kind : (m : ModalState) (r : Record) (kind : Kind) (ds : List GDelta) → kind_of r ≡ Some kind → copies_at m r ds ≡ copies_by m kind ds
+copies_at-kind m r kind [] e = refl
+copies_at-kind m r kind (d ∷ ds) e = (λ i. option_to_list (drawn_if m (e i) d) ++ copies_at-kind m r kind ds e i)
+
+pub drawn_of-kind : (m : ModalState) (r : Record) (kind : Kind) → kind_of r ≡ Some kind → drawn_of m r ≡ first_copies m kind (repeats r) (number_if (repeats r) m.repetition)
+drawn_of-kind m r kind e = copies_at-kind m r kind (offsets_of m r) e
+
+-- how many things are held
+pub length-items_all : (ps : List (Drawn × ℕ)) → length (items ps) ≡ total (λ _. 1) ps
+length-items_all [] = refl
+length-items_all (p ∷ ps) = omega (arith, length-append (replicate p.1 p.0) (items ps), length-replicate p.1 p.0, length-items_all ps)
+
+length-with_drawn : (ps : List (Drawn × ℕ)) (d : Drawn) → length (items (with_drawn ps d 1)) ≡ length (items ps) + 1
+length-with_drawn ps d = omega (arith, length-items_all (with_drawn ps d 1), length-items_all ps, total-put_more drawn_cmp (λ _. 1) ps d 1 (λ x _. refl))
+
+pub length-put_all : (ps : List (Drawn × ℕ)) (ds : List Drawn) → length (items (put_all ps ds)) ≡ length (items ps) + length ds
+length-put_all ps [] = omega arith
+length-put_all ps (d ∷ ds) = omega (arith, length-put_all (with_drawn ps d 1) ds, length-with_drawn ps d)
+
+at_most_one : (o : Option Drawn) → length (option_to_list o) ≤ 1
+at_most_one None = omega arith
+at_most_one (Some d) = omega arith
+
+-- no more copies than offsets
+pub few_copies : (m : ModalState) (kind : Kind) (repeated : Bool) (n : ℕ) → length (first_copies m kind repeated n) ≤ n
+few_copies m kind repeated zero = omega arith
+few_copies m kind repeated (suc n) =
+    let n1 : n + 1 ≡ suc n = omega arith in
+    omega (arith, ap (λ (k : ℕ). length (first_copies m kind repeated k)) n1, ap length (next_copy m kind repeated n), length-append (first_copies m kind repeated n) (option_to_list (drawn_by m kind (offset_if repeated m.repetition n))), at_most_one (drawn_by m kind (offset_if repeated m.repetition n)), few_copies m kind repeated n)
+
+-- how often one thing is drawn is no more than how many there are
+times_few : (ps : List (Drawn × ℕ)) (d : Drawn) → times_drawn ps d ≤ length (items ps)
+times_few [] d = omega arith
+times_few (p ∷ ps) d =
+    elim (is_at (drawn_cmp d) p.0) as (λ b. unwrap_or (cond b (Some p.1) (lookup (is_at (drawn_cmp d)) ps)) 0 ≤ length (replicate p.1 p.0 ++ items ps)) [
+      | true ↦ omega (arith, length-append (replicate p.1 p.0) (items ps), length-replicate p.1 p.0)
+      | false ↦ omega (arith, length-append (replicate p.1 p.0) (items ps), times_few ps d)
+    ]
+
+-- there is room for one more
+pub room_next : (m : ModalState) (kind : Kind) (repeated : Bool) (n : ℕ) (d : Drawn) (before now : Held) → now ≡ drew before (first_copies m kind repeated n) → length (items before.1) ≤ 2 ^ 26 → n ≤ 2 ^ 26 → times_drawn now.1 d + 1 < 2 ^ 64
+room_next m kind repeated n d before now is room small =
+    omega (arith, times_few now.1 d, ap (λ (h : Held). length (items h.1)) is, length-put_all before.1 (first_copies m kind repeated n), few_copies m kind repeated n, room, small)
+
+-- and it lies within the grid
+pub fit_next : (m : ModalState) (kind : Kind) (repeated : Bool) (n : ℕ) → ((i : ℕ) → i < n → fault_of (drawn_by m kind (offset_if repeated m.repetition i)) ≡ None) → fault_of (drawn_by m kind (offset_if repeated m.repetition n)) ≡ None → (i : ℕ) → i < n + 1 → fault_of (drawn_by m kind (offset_if repeated m.repetition i)) ≡ None
+fit_next m kind repeated n before last i below =
+    elim (nat_lt i n) as (λ b. nat_lt i n ≡ b → fault_of (drawn_by m kind (offset_if repeated m.repetition i)) ≡ None) [
+      | true ↦ λ e. before i (grind (arith, nat_tests))
+      | false ↦ λ e. let same : n ≡ i = grind (arith, nat_tests) in subst (λ (k : ℕ). fault_of (drawn_by m kind (offset_if repeated m.repetition k)) ≡ None) same last
+    ] refl

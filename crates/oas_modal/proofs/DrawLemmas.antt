@@ -1,0 +1,323 @@
+-- an element record that is drawn
+use Rattle.std.proofs.Common.{◌≡◌, ℕ, zero, suc, ◌+◌, ◌*◌, ◌<◌, ◌≤◌, List, [], ◌∷◌, ◌++◌, length, refl, sym, ap, ◌∙◌, subst, arith, Bool, true, false, ◌⊎◌, inl, inr, length-append}
+use Rattle.std.proofs.lemmas.Bool.Decides.{nat_tests}
+use Rattle.std.proofs.lemmas.List.Sums.{sum_by-append}
+use Rattle.std.specs.Prelude.{Option, None, Some, is_some, is_none, nat_lt, not, cond, sum_by}
+use Rattle.std.specs.Option.{option_to_list, option_or}
+use Rattle.std.specs.List.{AllByRecursion}
+use Rattle.std.specs.Ordering.{match_ordering}
+use Rattle.std.specs.declared.cmp.Ordering.TheVariants.{Less, Equal, Greater}
+use Rattle.oas_num.specs.declared.refusals.Why.{Why}
+use Rattle.oas_num.specs.declared.refusals.Why.TheVariants.{OutOfPlace, CoordinateRange, Memory, ModalUndefined, Magnification, Angle, TooManyElements, TooHeavy, PointCount}
+use Rattle.oas_num.specs.declared.deltas.GDelta.{GDelta}
+use Rattle.oas_shape.specs.Steps.{still}
+use Rattle.oas_record.specs.declared.records.Record.{Record}
+use Rattle.oas_record.specs.declared.records.Record.TheVariants as record_of
+use Rattle.oas_record.specs.Records.{id_of}
+use Rattle.oas_layout.specs.declared.limits.Limits.{Limits}
+use Rattle.oas_layout.specs.Bag.{items}
+use Rattle.oas_drawing.specs.declared.drawn.Drawn.{Drawn}
+use Rattle.oas_drawing.specs.declared.drawn.Drawn.TheVariants.{Named, PlacementBy, TextBy}
+use Rattle.oas_drawing.specs.declared.kinds.Kind.{Kind}
+use Rattle.oas_modal.specs.declared.parts.Parts.{Parts}
+use Rattle.oas_drawing.specs.Positions.{IsNear}
+use Rattle.oas_drawing.specs.declared.positions.Position.{Position}
+use Rattle.oas_drawing.specs.Modal.{ModalState, stepped}
+use Rattle.oas_modal.specs.Names.{cell_names, text_strings, with_name, table_reason, same_string}
+use Rattle.oas_drawing.specs.Drawn.{drawn_cmp, weight_so_far, drawn_fits, drawn_lacks_points}
+use Rattle.oas_drawing.specs.Drawing.{kind_of, repeats, drawn_by, drawn_if, drawn_at, place_of, offset_if, number_if, lacks_repetition}
+use Rattle.oas_drawing.specs.Reasons.{first_of, is_magnified, is_askew, weight_if, lacks_if, fits_if, fault_of, kind_reason, all_fit, draw_reason, reason_if}
+use Rattle.oas_modal.specs.Held.{Held, with_drawn}
+use Rattle.oas_modal.specs.Finish.{IsFit, AllFit, drawn_cells, drawn_total}
+use Rattle.oas_modal.specs.Standing.{Standing, drawn_of, weight_with, open_after, took, place_reason, element_reason, reason, put_all, drew, drew_last, held_after}
+use Rattle.oas_modal.specs.Parts.{standing, cells, reason_of, Sound, SameFile, Took}
+use Rattle.oas_modal.specs.Copying.{first_copies}
+use Rattle.oas_drawing.proofs.Copies.{drawn_defined, refused_before, refused_at, allowed_all}
+use Rattle.oas_modal.proofs.CopyLemmas.{next_copy, drawn_of-kind, length-put_all}
+use Rattle.oas_modal.proofs.PlaceLemmas.{drawn_alike, near_place, no_fault}
+use Rattle.oas_modal.proofs.TakeLemmas.{standing_of, all_append, total_append}
+
+-- ---- what all element records have in common
+
+pub record IsElement (r : Record) : Type 0 where
+  pub judged : (limits : Limits) (names strings : Record → Option Why) (s : Standing) → reason limits names strings s r ≡ element_reason limits s (stepped s.modal r) r
+  pub held : (hs : List Held) (m : ModalState) → held_after hs m r ≡ drew_last (drawn_of m r) hs
+  pub inside : (b : Bool) → open_after b r ≡ b
+  pub weighs : (ds : List Drawn) → weight_with r ds ≡ sum_by weight_so_far ds
+  pub no_name : cell_names r ≡ None
+  pub no_string : text_strings r ≡ None
+
+pub is_element : (r : Record) (kind : Kind) → kind_of r ≡ Some kind → IsElement r
+is_element (record_of.Placement p) kind e = record { judged = λ l n t s. refl; held = λ hs m. refl; inside = λ b. refl; weighs = λ ds. refl; no_name = refl; no_string = refl }
+is_element (record_of.Text p) kind e = record { judged = λ l n t s. refl; held = λ hs m. refl; inside = λ b. refl; weighs = λ ds. refl; no_name = refl; no_string = refl }
+is_element (record_of.Rectangle p) kind e = record { judged = λ l n t s. refl; held = λ hs m. refl; inside = λ b. refl; weighs = λ ds. refl; no_name = refl; no_string = refl }
+is_element (record_of.Polygon p) kind e = record { judged = λ l n t s. refl; held = λ hs m. refl; inside = λ b. refl; weighs = λ ds. refl; no_name = refl; no_string = refl }
+is_element (record_of.Path p) kind e = record { judged = λ l n t s. refl; held = λ hs m. refl; inside = λ b. refl; weighs = λ ds. refl; no_name = refl; no_string = refl }
+is_element (record_of.Circle p) kind e = record { judged = λ l n t s. refl; held = λ hs m. refl; inside = λ b. refl; weighs = λ ds. refl; no_name = refl; no_string = refl }
+is_element record_of.Pad kind e = cc
+is_element record_of.End kind e = cc
+is_element (record_of.CellName name number) kind e = cc
+is_element (record_of.TextString label number) kind e = cc
+is_element (record_of.Cell c) kind e = cc
+is_element record_of.XyAbsolute kind e = cc
+is_element record_of.XyRelative kind e = cc
+
+abbrev place_if : ModalState → Option Kind → Position
+place_if m None = m.geometry
+place_if m (Some kind) = place_of m kind
+
+-- the positions after it
+abbrev AllNear : ModalState → Type 0
+AllNear m = IsNear m.placement × IsNear m.text × IsNear m.geometry
+
+near_case : (m : ModalState) (r : Record) (kind : Kind) → kind_of r ≡ Some kind → AllNear m → IsNear (place_if (stepped m r) (kind_of r)) → AllNear (stepped m r)
+near_case m (record_of.Placement p) kind e n h = (h, n.1, n.2)
+near_case m (record_of.Text p) kind e n h = (n.0, h, n.2)
+near_case m (record_of.Rectangle p) kind e n h = (n.0, n.1, h)
+near_case m (record_of.Polygon p) kind e n h = (n.0, n.1, h)
+near_case m (record_of.Path p) kind e n h = (n.0, n.1, h)
+near_case m (record_of.Circle p) kind e n h = (n.0, n.1, h)
+near_case m record_of.Pad kind e n h = cc
+near_case m record_of.End kind e n h = cc
+near_case m (record_of.CellName name number) kind e n h = cc
+near_case m (record_of.TextString label number) kind e n h = cc
+near_case m (record_of.Cell c) kind e n h = cc
+near_case m record_of.XyAbsolute kind e n h = cc
+near_case m record_of.XyRelative kind e n h = cc
+
+near_after : (m m' : ModalState) (r : Record) (kind : Kind) → kind_of r ≡ Some kind → m' ≡ stepped m r → AllNear m → IsNear (place_of m' kind) → AllNear m'
+near_after m m' r kind e is n h =
+    subst AllNear (sym is) (near_case m r kind e n (subst (λ (k : Option Kind). IsNear (place_if (stepped m r) k)) (sym e) (subst (λ (v : ModalState). IsNear (place_of v kind)) is h)))
+
+-- ---- what an element record that isn't refused keeps to
+
+passed : (b : Bool) (w : Why) (o : Option Why) → cond b (Some w) o ≡ None → (b ≡ false) × (o ≡ None)
+passed false w o h = (refl, h)
+passed true w o h = cc
+
+not_less : (a b : ℕ) → nat_lt a b ≡ false → b ≤ a
+not_less a b h = grind (arith, nat_tests)
+
+pub record IsPassed (limits : Limits) (count weight : ℕ) (m : ModalState) (kind : Kind) (repeated : Bool) : Type 0 where
+  pub there : is_none (drawn_by m kind still) ≡ false
+  pub few : count + number_if repeated m.repetition ≤ limits.elements
+  pub light : weight + number_if repeated m.repetition * weight_if (drawn_by m kind still) ≤ limits.weight
+  pub points : lacks_if (drawn_by m kind still) ≡ false
+
+pub is_passed : (limits : Limits) (count weight : ℕ) (m : ModalState) (kind : Kind) (repeated : Bool) → kind_reason limits count weight m kind repeated ≡ None → IsPassed limits count weight m kind repeated
+is_passed limits count weight m kind repeated h =
+    let a = passed (is_none (drawn_by m kind still)) ModalUndefined _ h in
+    let b = passed (lacks_repetition repeated m.repetition) ModalUndefined _ a.1 in
+    let c = passed (is_magnified kind) Magnification _ b.1 in
+    let d = passed (is_askew kind) Angle _ c.1 in
+    let e = passed (nat_lt limits.elements (count + number_if repeated m.repetition)) TooManyElements _ d.1 in
+    let f = passed (nat_lt limits.weight (weight + number_if repeated m.repetition * weight_if (drawn_by m kind still))) TooHeavy _ e.1 in
+    let g = passed (lacks_if (drawn_by m kind still)) PointCount _ f.1 in
+    record { there = a.0; few = not_less _ _ e.0; light = not_less _ _ f.0; points = g.0 }
+
+one_of : (o : Option Drawn) → is_none o ≡ false → length (option_to_list o) ≡ 1
+one_of None h = cc
+one_of (Some d) h = refl
+
+weight_of_one : (o : Option Drawn) → sum_by weight_so_far (option_to_list o) ≡ weight_if o
+weight_of_one None = refl
+weight_of_one (Some d) = omega arith
+
+on : (n : ℕ) → suc n ≡ n + 1
+on n = omega arith
+
+module _ (m : ModalState) (kind : Kind) (repeated : Bool) where
+  copy_number : is_none (drawn_by m kind still) ≡ false → (n : ℕ) → length (first_copies m kind repeated n) ≡ n
+  copy_number there zero = refl
+  copy_number there (suc n) =
+      omega (
+        arith,
+        ap (λ (k : ℕ). length (first_copies m kind repeated k)) (on n),
+        ap length (next_copy m kind repeated n),
+        length-append (first_copies m kind repeated n) (option_to_list (drawn_by m kind (offset_if repeated m.repetition n))),
+        one_of (drawn_by m kind (offset_if repeated m.repetition n)) (drawn_defined m kind (offset_if repeated m.repetition n) still ∙ there),
+        copy_number there n,
+      )
+
+  copy_weight : (n : ℕ) → sum_by weight_so_far (first_copies m kind repeated n) ≡ n * weight_if (drawn_by m kind still)
+  copy_weight zero = omega arith
+  copy_weight (suc n) =
+      omega (
+        arith,
+        ap (λ (k : ℕ). sum_by weight_so_far (first_copies m kind repeated k)) (on n),
+        ap (sum_by weight_so_far) (next_copy m kind repeated n),
+        sum_by-append weight_so_far (first_copies m kind repeated n) (option_to_list (drawn_by m kind (offset_if repeated m.repetition n))),
+        weight_of_one (drawn_by m kind (offset_if repeated m.repetition n)),
+        (drawn_alike m kind (offset_if repeated m.repetition n) still).0,
+        copy_weight n,
+      )
+
+  fit_one : (o : Option Drawn) → fault_of o ≡ None → lacks_if o ≡ false → AllByRecursion IsFit (option_to_list o)
+  fit_one None h l = cc
+  fit_one (Some (Named e)) h l = (record { points = l; inside = (no_fault (Some (Named e)) h).1 }, tt)
+  fit_one (Some (PlacementBy number x y turns flip)) h l = (record { points = refl; inside = (no_fault (Some (PlacementBy number x y turns flip)) h).1 }, tt)
+  fit_one (Some (TextBy number textlayer texttype x y)) h l = (record { points = refl; inside = (no_fault (Some (TextBy number textlayer texttype x y)) h).1 }, tt)
+
+  fit_copies : lacks_if (drawn_by m kind still) ≡ false → (n : ℕ) → ((i : ℕ) → i < n → fault_of (drawn_by m kind (offset_if repeated m.repetition i)) ≡ None) → AllByRecursion IsFit (first_copies m kind repeated n)
+  fit_copies points zero h = tt
+  fit_copies points (suc n) h =
+      subst (λ (k : ℕ). AllByRecursion IsFit (first_copies m kind repeated k)) (sym (on n)) (
+      subst (AllByRecursion IsFit) (sym (next_copy m kind repeated n)) (
+      all_append IsFit (first_copies m kind repeated n) (option_to_list (drawn_by m kind (offset_if repeated m.repetition n))) (fit_copies points n (λ i lt. h i (omega arith)))
+      (fit_one (drawn_by m kind (offset_if repeated m.repetition n)) (h n (omega arith)) ((drawn_alike m kind (offset_if repeated m.repetition n) still).1 ∙ points))))
+
+-- ---- what is held
+
+fit_more : (ps : List (Drawn × ℕ)) (d : Drawn) → AllFit ps → IsFit d → AllFit (with_drawn ps d 1)
+fit_more [] d a f = (f, tt)
+fit_more (p ∷ ps) d a f =
+    elim (drawn_cmp d p.0) as (λ r. AllFit (match_ordering r ((d, 1) ∷ p ∷ ps) ((p.0, p.1 + 1) ∷ ps) (p ∷ with_drawn ps d 1))) [
+      | Less ↦ (f, a)
+      | Equal ↦ (a.0, a.1)
+      | Greater ↦ (a.0, fit_more ps d a.1 f)
+    ]
+
+fit_put_all : (ps : List (Drawn × ℕ)) (ds : List Drawn) → AllFit ps → AllByRecursion IsFit ds → AllFit (put_all ps ds)
+fit_put_all ps [] a f = a
+fit_put_all ps (d ∷ ds) a f = fit_put_all (with_drawn ps d 1) ds (fit_more ps d a f.0) f.1
+
+drew_end : (hs : List Held) (h : Held) (ds : List Drawn) → drew_last ds (hs ++ h ∷ []) ≡ hs ++ drew h ds ∷ []
+drew_end [] h ds = refl
+drew_end (g ∷ []) h ds = refl
+drew_end (g ∷ f ∷ hs) h ds = ap (λ (gs : List Held). g ∷ gs) (drew_end (f ∷ hs) h ds)
+
+all_front : {A : Type 0} (P : A → Type 0) (xs ys : List A) → AllByRecursion P (xs ++ ys) → AllByRecursion P xs × AllByRecursion P ys
+all_front P [] ys a = (tt, a)
+all_front P (x ∷ xs) ys a = let b = all_front P xs ys a.1 in ((a.0, b.0), b.1)
+
+-- no more is held in the open cell than there is in all
+pub held_room : (p : Parts) (held : Held) → Sound p → p.cell ≡ Some held → length (items held.1) ≤ p.limits.elements
+held_room p held s is = omega (arith, s.few, s.total, ap (λ (o : Option Held). drawn_total (drawn_cells (p.done.items ++ option_to_list o))) is, total_append p.done.items (held ∷ []))
+
+-- ---- why it is refused
+
+fault_why : (o : Option Drawn) (why : Why) → is_none o ≡ false → fault_of o ≡ Some why → (Some CoordinateRange ≡ Some why) × (fits_if o ≡ false)
+fault_why None why n h = cc
+fault_why (Some d) why n h = unfit (drawn_fits d) h where
+  unfit : (b : Bool) → first_of ((not b, CoordinateRange) ∷ []) ≡ Some why → (Some CoordinateRange ≡ Some why) × (b ≡ false)
+  unfit true h = cc
+  unfit false h = (h, refl)
+
+either : (b : Bool) → option_or (first_of ((not b, CoordinateRange) ∷ [])) (Some CoordinateRange) ≡ Some CoordinateRange
+either true = refl
+either false = refl
+
+-- an element record in the open cell
+pub record InCell (p : Parts) (r : Record) (kind : Kind) (held : Held) (m : ModalState) (repeated : Bool) : Type 0 where
+  pub kind_is : kind_of r ≡ Some kind
+  pub held_is : p.cell ≡ Some held
+  pub modal_is : m ≡ stepped p.modal r
+  pub repeats_is : repeated ≡ repeats r
+  pub sound : Sound p
+
+module _ (p : Parts) (r : Record) (kind : Kind) (held : Held) (m : ModalState) (repeated : Bool) (c : InCell p r kind held m repeated) where
+  abbrev judged_with : Bool → ModalState → Option Why
+  judged_with b v = cond b (option_or (draw_reason p.limits p.count p.weight v r) (place_reason v r)) (Some (OutOfPlace (id_of r)))
+
+  judged_in : reason_of p r ≡ option_or (draw_reason p.limits p.count p.weight m r) (place_reason m r)
+  judged_in = (is_element r kind c.kind_is).judged p.limits (λ x. table_reason same_string p.names (cell_names x)) (λ x. table_reason same_string p.strings (text_strings x)) (standing p) ∙ (λ i. judged_with (is_some (c.held_is i)) (sym c.modal_is i))
+
+  by_repeats : (w : Option Why) → kind_reason p.limits p.count p.weight m kind repeated ≡ w → kind_reason p.limits p.count p.weight m kind (repeats r) ≡ w
+  by_repeats w h = ap (λ (b : Bool). kind_reason p.limits p.count p.weight m kind b) (sym c.repeats_is) ∙ h
+
+  pub refused_number : (why : Why) → kind_reason p.limits p.count p.weight m kind repeated ≡ Some why → reason_of p r ≡ Some why
+  refused_number why h = judged_in ∙ ap (λ (o : Option Why). option_or o (place_reason m r)) (refused_before p.limits p.count p.weight m r kind why c.kind_is (by_repeats (Some why) h))
+
+  place_by : place_reason m r ≡ first_of ((not (fits_if (drawn_by m kind still)), CoordinateRange) ∷ [])
+  place_by = ap (λ (k : Option Kind). first_of ((not (fits_if (drawn_if m k still)), CoordinateRange) ∷ [])) c.kind_is
+
+  after_number : kind_reason p.limits p.count p.weight m kind repeated ≡ None → draw_reason p.limits p.count p.weight m r ≡ first_of ((not (all_fit m kind (repeats r)), CoordinateRange) ∷ [])
+  after_number none =
+      ap (λ (k : Option Kind). reason_if p.limits p.count p.weight m k (repeats r)) c.kind_is
+      ∙ ap (λ (o : Option Why). option_or o (first_of ((not (all_fit m kind (repeats r)), CoordinateRange) ∷ []))) (by_repeats None none)
+
+  pub refused_place : (why : Why) → kind_reason p.limits p.count p.weight m kind repeated ≡ None → (why ≡ Memory) ⊎ (fault_of (drawn_by m kind still) ≡ Some why) → (why ≡ Memory) ⊎ (reason_of p r ≡ Some why)
+  refused_place why none (inl h) = inl h
+  refused_place why none (inr h) =
+      let f : (Some CoordinateRange ≡ Some why) × (fits_if (drawn_by m kind still) ≡ false) = fault_why (drawn_by m kind still) why (is_passed p.limits p.count p.weight m kind repeated none).there h in
+      let there : place_reason m r ≡ Some CoordinateRange = place_by ∙ ap (λ (b : Bool). first_of ((not b, CoordinateRange) ∷ [])) f.1 in
+      inr (judged_in ∙ ((λ i. option_or (after_number none i) (there i)) ∙ (either (all_fit m kind (repeats r)) ∙ f.0)))
+
+  abbrev Faulty : Bool → ℕ → Why → Type 0
+  Faulty b n why = (i : ℕ) × (i < n) × (fault_of (drawn_by m kind (offset_if b m.repetition i)) ≡ Some why)
+
+  pub refused_copy : (why : Why) (n : ℕ) → kind_reason p.limits p.count p.weight m kind repeated ≡ None → n ≡ number_if repeated m.repetition → (why ≡ Memory) ⊎ Faulty repeated n why → (why ≡ Memory) ⊎ (reason_of p r ≡ Some why)
+  refused_copy why n none number (inl h) = inl h
+  refused_copy why n none number (inr h) =
+      let g : Faulty (repeats r) (number_if (repeats r) m.repetition) why = subst (λ (b : Bool). Faulty b (number_if b m.repetition) why) c.repeats_is (subst (λ (k : ℕ). Faulty repeated k why) number h) in
+      inr (judged_in ∙ ap (λ (o : Option Why). option_or o (place_reason m r)) (refused_at p.limits p.count p.weight m r kind g.0 why c.kind_is (by_repeats None none) g.1 g.2))
+
+  abbrev AllIn : Bool → ℕ → Type 0
+  AllIn b n = (i : ℕ) → i < n → fault_of (drawn_by m kind (offset_if b m.repetition i)) ≡ None
+
+  pub allowed_draw : (n : ℕ) → kind_reason p.limits p.count p.weight m kind repeated ≡ None → n ≡ number_if repeated m.repetition → fault_of (drawn_by m kind still) ≡ None → AllIn repeated n → reason_of p r ≡ None
+  allowed_draw n none number place fit =
+      let g : AllIn (repeats r) (number_if (repeats r) m.repetition) = subst (λ (b : Bool). AllIn b (number_if b m.repetition)) c.repeats_is (subst (λ (k : ℕ). AllIn repeated k) number fit) in
+      let there : place_reason m r ≡ None = place_by ∙ ap (λ (b : Bool). first_of ((not b, CoordinateRange) ∷ [])) (no_fault (drawn_by m kind still) place).1 in
+      judged_in ∙ (λ i. option_or (allowed_all p.limits p.count p.weight m r kind c.kind_is (by_repeats None none) g i) (there i))
+
+  -- ---- what is kept after it
+
+  abbrev drew_with : Held → ℕ → ℕ → Parts
+  drew_with held' n one = record p { modal = m; cell = Some held'; count = p.count + n; weight = p.weight + n * one }
+
+  -- what the record draws
+  drawn_is : (n : ℕ) → n ≡ number_if repeated m.repetition → first_copies m kind repeated n ≡ drawn_of m r
+  drawn_is n number =
+      ap (first_copies m kind repeated) number ∙ ap (λ (b : Bool). first_copies m kind b (number_if b m.repetition)) c.repeats_is ∙ sym (drawn_of-kind m r kind c.kind_is)
+
+  pub took_draw : (held' : Held) (n one : ℕ) → kind_reason p.limits p.count p.weight m kind repeated ≡ None → n ≡ number_if repeated m.repetition → one ≡ weight_if (drawn_by m kind still) → held' ≡ drew held (first_copies m kind repeated n) → Took p r (drew_with held' n one)
+  took_draw held' n one none number weighs drawn =
+      let all : IsElement r = is_element r kind c.kind_is in
+      let there = (is_passed p.limits p.count p.weight m kind repeated none).there in
+      let count : n ≡ length (drawn_of (stepped p.modal r) r) =
+      sym (copy_number m kind repeated there n) ∙ (ap length (drawn_is n number) ∙ ap (λ (v : ModalState). length (drawn_of v r)) c.modal_is) in
+      let weight : n * one ≡ weight_with r (drawn_of (stepped p.modal r) r) =
+      ap (λ (k : ℕ). n * k) weighs ∙ (sym (copy_weight m kind repeated n) ∙ (ap (sum_by weight_so_far) (drawn_is n number) ∙ (sym (all.weighs (drawn_of m r)) ∙ ap (λ (v : ModalState). weight_with r (drawn_of v r)) c.modal_is))) in
+      let inside : true ≡ open_after (is_some p.cell) r = sym (all.inside (is_some p.cell) ∙ ap is_some c.held_is) in
+      record {
+        file = record { unit = refl; limits = refl; profile = refl };
+        standing = (λ i. standing_of (c.modal_is i) (inside i) (p.count + count i) (p.weight + weight i));
+        names = ap (with_name p.names) (sym all.no_name);
+        strings = ap (with_name p.strings) (sym all.no_string);
+        cells =
+            ap (λ (h : Held). p.done.items ++ h ∷ []) (drawn ∙ ap (drew held) (drawn_is n number)) ∙ (sym (drew_end p.done.items held (drawn_of m r))
+            ∙ (ap (λ (o : Option Held). drew_last (drawn_of m r) (p.done.items ++ option_to_list o)) (sym c.held_is) ∙ sym (all.held (cells p) m)));
+      }
+
+  pub sound_draw : (held' : Held) (n one : ℕ) → kind_reason p.limits p.count p.weight m kind repeated ≡ None → n ≡ number_if repeated m.repetition → one ≡ weight_if (drawn_by m kind still) → fault_of (drawn_by m kind still) ≡ None → AllIn repeated n → held' ≡ drew held (first_copies m kind repeated n) → Sound (drew_with held' n one)
+  sound_draw held' n one none number weighs place fit drawn =
+      let s : Sound p = c.sound in
+      let passes : IsPassed p.limits p.count p.weight m kind repeated = is_passed p.limits p.count p.weight m kind repeated none in
+      let near : AllNear m = near_after p.modal m r kind c.kind_is c.modal_is (s.placement, s.text, s.geometry) (near_place m kind place) in
+      let before = all_front (λ (g : Held). AllFit g.1) p.done.items (held ∷ []) (subst (λ (o : Option Held). AllByRecursion (λ (g : Held). AllFit g.1) (p.done.items ++ option_to_list o)) c.held_is s.fit) in
+      let copies = fit_copies m kind repeated passes.points n fit in
+      record {
+        placement = near.0;
+        text = near.1;
+        geometry = near.2;
+        few = omega (arith, passes.few, number);
+        light = subst (λ (k : ℕ). p.weight + k ≤ p.limits.weight) (sym (λ i. number i * weighs i)) passes.light;
+        fit = all_append (λ (g : Held). AllFit g.1) p.done.items (held' ∷ []) before.0 (subst (λ (g : Held). AllFit g.1) (sym drawn) (fit_put_all held.1 (first_copies m kind repeated n) before.1.0 copies), tt);
+        total = omega (
+          arith,
+          s.total,
+          total_append p.done.items (held' ∷ []),
+          total_append p.done.items (held ∷ []),
+          ap (λ (o : Option Held). drawn_total (drawn_cells (p.done.items ++ option_to_list o))) c.held_is,
+          ap (λ (h : Held). length (items h.1)) drawn,
+          length-put_all held.1 (first_copies m kind repeated n),
+          copy_number m kind repeated passes.there n,
+        );
+      }
+
+  -- the numbers that the code works with
+  pub number_fits : (n one : ℕ) → kind_reason p.limits p.count p.weight m kind repeated ≡ None → n ≡ number_if repeated m.repetition → one ≡ weight_if (drawn_by m kind still) → (p.count + n ≤ p.limits.elements) × (p.weight + n * one ≤ p.limits.weight)
+  number_fits n one none number weighs =
+      let passes : IsPassed p.limits p.count p.weight m kind repeated = is_passed p.limits p.count p.weight m kind repeated none in
+      (omega (arith, passes.few, number), subst (λ (k : ℕ). p.weight + k ≤ p.limits.weight) (sym (λ i. number i * weighs i)) passes.light)

@@ -1,0 +1,12 @@
+use Rattle.std.proofs.Common.{◌≡◌, ℕ, ◌<◌, ◌≤◌, None}
+use Rattle.oas_drawing.specs.Drawing.{drawn_by, offset_if}
+use Rattle.oas_drawing.specs.Reasons.{fault_of}
+use Rattle.oas_modal.specs.Standing.{drew}
+use Rattle.oas_modal.specs.Copying.{first_copies}
+use Rattle.oas_modal.proofs.copying.hold_copies.Given as goal
+
+abbrev pub invariant-loop-i : goal.invariant-loop-i
+invariant-loop-i l = record {
+  held : l.held ≡ drew l.fn.held (first_copies l.modal l.kind l.repeated l.i);
+  fit : (j : ℕ) → j < l.i → fault_of (drawn_by l.modal l.kind (offset_if l.repeated l.modal.repetition j)) ≡ None;
+}

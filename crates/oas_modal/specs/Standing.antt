@@ -1,0 +1,98 @@
+-- What a record is judged by, why it is refused, and what it changes. m are the variables after it.
+use Rattle.std.specs.Prelude.{ℕ, ◌+◌, nat_lt, not, Bool, true, false, cond, Option, None, Some, List, [], ◌∷◌, ◌++◌, length, sum_by}
+use Rattle.std.specs.Option.{option_or}
+use Rattle.oas_num.specs.declared.refusals.Why.{Why}
+use Rattle.oas_num.specs.declared.refusals.Why.TheVariants.{OutOfPlace, CoordinateRange, TooHeavy}
+use Rattle.oas_shape.specs.Steps.{still}
+use Rattle.oas_record.specs.declared.references.CellRef.{CellRef}
+use Rattle.oas_record.specs.declared.references.CellRef.TheVariants as cell
+use Rattle.oas_record.specs.declared.records.Record.{Record}
+use Rattle.oas_record.specs.declared.records.Record.TheVariants as record_of
+use Rattle.oas_record.specs.Records.{id_of}
+use Rattle.oas_layout.specs.declared.limits.Limits.{Limits}
+use Rattle.oas_drawing.specs.declared.drawn.Drawn.{Drawn}
+use Rattle.oas_drawing.specs.Modal.{ModalState, stepped}
+use Rattle.oas_drawing.specs.Drawn.{weight_so_far}
+use Rattle.oas_drawing.specs.Drawing.{drawn_at, copies_at, offsets_of}
+use Rattle.oas_drawing.specs.Reasons.{first_of, fits_if, draw_reason}
+use Rattle.oas_modal.specs.Held.{Held, with_drawn}
+
+-- the modal variables, whether a cell is open, how many elements there are, and what all weighs
+pub record Standing : Type 0 where
+  pub modal : ModalState
+  pub in_cell : Bool
+  pub count : ℕ
+  pub weight : ℕ
+
+-- what a CELL weighs: one and the bytes of its name; a number weighs nothing yet
+abbrev pub cell_weight : CellRef → ℕ
+cell_weight (cell.Number number) = 0
+cell_weight (cell.Name name) = 1 + length name
+
+-- what a record draws
+abbrev pub drawn_of : ModalState → Record → List Drawn
+drawn_of m r = copies_at m r (offsets_of m r)
+
+-- what a record that draws these weighs
+abbrev pub weight_with : Record → List Drawn → ℕ
+weight_with (record_of.Cell c) ds = cell_weight c
+weight_with r ds = sum_by weight_so_far ds
+
+-- whether a cell is open after a record (SEMI P39, CELL record): a CELL opens one, and a name record closes it
+abbrev pub open_after : Bool → Record → Bool
+open_after was (record_of.Cell c) = true
+open_after was (record_of.CellName name number) = false
+open_after was (record_of.TextString label number) = false
+open_after was r = was
+
+-- one more record
+abbrev pub took_with : Standing → Record → ModalState → Standing
+took_with s r m =
+    record {
+      modal = m;
+      in_cell = open_after s.in_cell r;
+      count = s.count + length (drawn_of m r);
+      weight = s.weight + weight_with r (drawn_of m r);
+    }
+
+abbrev pub took : Standing → Record → Standing
+took s r = took_with s r (stepped s.modal r)
+
+-- why an element in a cell is refused: as it is drawn, or because the record itself stands outside the grid, whatever its
+-- copies do (own rule; in a file the first copy stands there)
+abbrev pub place_reason : ModalState → Record → Option Why
+place_reason m r = first_of ((not (fits_if (drawn_at m r still)), CoordinateRange) ∷ [])
+
+abbrev pub element_reason : Limits → Standing → ModalState → Record → Option Why
+element_reason limits s m r = cond s.in_cell (option_or (draw_reason limits s.count s.weight m r) (place_reason m r)) (Some (OutOfPlace (id_of r)))
+
+-- why a record is refused; `names` and `strings` say it of records that name cells and text strings. END is for the caller
+-- (own rule).
+abbrev pub reason : Limits → (Record → Option Why) → (Record → Option Why) → Standing → Record → Option Why
+reason limits names strings s record_of.Pad = None
+reason limits names strings s record_of.End = Some (OutOfPlace (id_of record_of.End))
+reason limits names strings s (record_of.CellName name number) = names (record_of.CellName name number)
+reason limits names strings s (record_of.TextString label number) = strings (record_of.TextString label number)
+reason limits names strings s (record_of.Cell c) = first_of ((nat_lt limits.weight (s.weight + cell_weight c), TooHeavy) ∷ [])
+reason limits names strings s record_of.XyAbsolute = None
+reason limits names strings s record_of.XyRelative = None
+reason limits names strings s r = element_reason limits s (stepped s.modal r) r
+
+-- all of these drawn once more
+abbrev pub put_all : List (Drawn × ℕ) → List Drawn → List (Drawn × ℕ)
+put_all held [] = held
+put_all held (d ∷ ds) = put_all (with_drawn held d 1) ds
+
+abbrev pub drew : Held → List Drawn → Held
+drew h ds = (h.0, put_all h.1 ds)
+
+-- drawn in the last cell
+abbrev pub drew_last : List Drawn → List Held → List Held
+drew_last ds [] = []
+drew_last ds (h ∷ []) = drew h ds ∷ []
+drew_last ds (h ∷ g ∷ hs) = h ∷ drew_last ds (g ∷ hs)
+
+-- what is held after one more record
+abbrev pub held_after : List Held → ModalState → Record → List Held
+held_after hs m (record_of.Cell c) = hs ++ (c, []) ∷ []
+held_after hs m r = drew_last (drawn_of m r) hs

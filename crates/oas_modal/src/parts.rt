@@ -1,0 +1,72 @@
+//! What a reader keeps.
+
+ghost use Rattle.std.specs.Prelude.{◌≡◌, ◌⊎◌, ◌++◌, None, Some, OnOk, IfOk, IfErr};
+ghost use Rattle.std.specs.Option.{option_to_list};
+ghost use Rattle.oas_num.specs.declared.refusals.Why.TheVariants.{Memory};
+ghost use Rattle.oas_layout.specs.Meaning.{SameLayout};
+ghost use Rattle.oas_layout.specs.Contents.{meaning_of};
+ghost use Rattle.oas_modal.specs.Meaning.{meaning_by, end_reason};
+ghost use Rattle.oas_modal.specs.Finish.{drawn_cells};
+ghost use Rattle.oas_modal.specs.Parts.{Sound, cells};
+
+use crate::finishing::finish;
+use crate::held::HeldCell;
+use crate::names::NameTable;
+use oas_drawing::ModalVariables;
+use oas_layout::{Layout, Limits, Profile};
+use oas_num::{Fraction, Label, Name, Why};
+use std::alloc::Global;
+
+/// What a reader keeps. The open cell stands apart from those before it.
+#[derive(Drop)]
+pub struct Parts {
+    pub(crate) alloc: Global,
+    pub(crate) unit: Fraction,
+    pub(crate) limits: Limits,
+    pub(crate) profile: Profile,
+    pub(crate) modal: ModalVariables,
+    pub(crate) names: NameTable<Name>,
+    pub(crate) strings: NameTable<Label>,
+    pub(crate) done: Vec<HeldCell>,
+    pub(crate) cell: Option<HeldCell>,
+    pub(crate) count: u64,
+    pub(crate) weight: u64,
+}
+
+/// The layout of what is kept.
+#[tactic(auto, using(crate::proofs::FinishLemmas::within_limits))]
+pub(crate) fn layout_of(parts: Parts) -> Result<Layout, Why>
+    requires { Sound parts }
+    ensures ok { OnOk result (end_reason parts.names.named parts.strings.named parts.limits (drawn_cells (cells parts)) ≡ None) }
+    ensures means { IfOk result (λ l. SameLayout parts.profile (meaning_of l) (meaning_by parts.names.named parts.strings.named parts.unit (drawn_cells (cells parts)))) }
+    ensures err { IfErr result (λ why. (why ≡ Memory) ⊎ (end_reason parts.names.named parts.strings.named parts.limits (drawn_cells (cells parts)) ≡ Some why)) }
+{
+    let Parts {
+        alloc,
+        unit,
+        limits,
+        profile,
+        names,
+        strings,
+        done,
+        cell,
+        ..
+    } = parts;
+    let Ok(cells) = all_cells(done, cell) else {
+        return Err(Why::Memory);
+    };
+    finish(alloc, unit, limits, profile, cells, &names, &strings)
+}
+
+/// The open cell, if there is one, with those before it.
+fn all_cells(done: Vec<HeldCell>, cell: Option<HeldCell>) -> Result<Vec<HeldCell>, Why>
+    ensures { IfOk result (λ cells. cells.items ≡ done.items ++ option_to_list cell) }
+{
+    let mut cells = done;
+    if let Some(held) = cell {
+        if cells.push(held).is_err() {
+            return Err(Why::Memory);
+        }
+    }
+    Ok(cells)
+}

@@ -1,0 +1,108 @@
+//! The reader: it takes record after record, and finishes to a layout.
+
+ghost use Rattle.std.specs.Prelude.{◌≡◌, ◌⊎◌, ◌++◌, ◌∷◌, [], List, None, Some, OnOk, OnErr, IfOk, IfErr};
+ghost use Rattle.oas_num.specs.declared.refusals.Why.TheVariants.{Memory};
+ghost use Rattle.oas_num.specs.declared.refusals.Refusal.{Refusal as OneRefusal};
+ghost use Rattle.oas_record.specs.declared.records.Record.{Record as OneRecord};
+ghost use Rattle.oas_modal.specs.Stands.{StandsFor, refusal, records_mean, end_refusal};
+ghost use Rattle.oas_layout.specs.Meaning.{SameLayout};
+ghost use Rattle.oas_layout.specs.Contents.{meaning_of};
+
+use crate::names::NameTable;
+use crate::parts::{Parts, layout_of};
+use crate::taking::accept;
+use oas_drawing::ModalVariables;
+use oas_layout::{Layout, Limits, Profile};
+use oas_num::{Fraction, Refusal};
+use oas_record::Record;
+use std::alloc::Global;
+use std::marker::Model;
+
+/// Takes the records of a file, one after another. It is seen as its refusal, if there was one, and what it stands for.
+#[derive(Drop)]
+pub struct Reader {
+    failed: Option<Refusal>,
+    parts: Parts,
+}
+
+impl Model for Reader {
+    ghost use Rattle.std.specs.Prelude.{◌≡◌, None};
+    ghost use Rattle.oas_modal.specs.Stands.{ReaderState};
+    ghost use Rattle.oas_modal.specs.Parts.{standing, cells, Sound};
+
+    ghost Value = { ReaderState };
+
+    ghost view = { λ a. record { failed = a.failed; unit = a.parts.unit; limits = a.parts.limits; profile = a.parts.profile; standing = standing a.parts; names = a.parts.names; strings = a.parts.strings; cells = cells a.parts } };
+
+    ghost invariant = { λ a. a.failed ≡ None → Sound a.parts };
+}
+
+impl Reader {
+    /// A reader of no records.
+    pub fn new(alloc: Global, unit: Fraction, limits: Limits, profile: Profile) -> Reader
+        ensures stands { StandsFor result [] }
+        ensures unit { result.unit ≡ unit }
+        ensures limits { result.limits ≡ limits }
+        ensures profile { result.profile ≡ profile }
+    {
+        Reader {
+            failed: None,
+            parts: Parts {
+                alloc,
+                unit,
+                limits,
+                profile,
+                modal: ModalVariables::new(),
+                names: NameTable::new(alloc),
+                strings: NameTable::new(alloc),
+                done: Vec::new(alloc),
+                cell: None,
+                count: 0,
+                weight: 0,
+            },
+        }
+    }
+
+    /// Takes one record more, which starts at byte `at`. It is refused as `refusal` says, the first reason of several, or by
+    /// `Memory`; END by `OutOfPlace`, as it is for the caller (own rule). After a refusal the answer is the same refusal from
+    /// then on.
+    pub fn take(&mut self, at: u64, next: Record) -> Result<(), Refusal>
+        ensures again { (e : OneRefusal) → self.old.failed ≡ Some e → (result ≡ Err e) × (self.new ≡ self.old) }
+        ensures failed { IfErr result (λ e. self.new.failed ≡ Some e) }
+        ensures taken { (rs : List OneRecord) → StandsFor self.old rs → OnOk result ((refusal self.old.limits rs next ≡ None) × StandsFor self.new (rs ++ next ∷ [])) }
+        ensures refused { (rs : List OneRecord) → StandsFor self.old rs → IfErr result (λ e. (e.at ≡ at) × ((e.why ≡ Memory) ⊎ (refusal self.old.limits rs next ≡ Some e.why))) }
+        ensures unit { OnOk result (self.new.unit ≡ self.old.unit) }
+        ensures limits { OnOk result (self.new.limits ≡ self.old.limits) }
+        ensures profile { OnOk result (self.new.profile ≡ self.old.profile) }
+    {
+        if let Some(refusal) = self.failed {
+            return Err(refusal);
+        }
+        match accept(&mut self.parts, next) {
+            Ok(()) => Ok(()),
+            Err(why) => {
+                let refusal = Refusal { at, why };
+                self.failed = Some(refusal);
+                Err(refusal)
+            }
+        }
+    }
+
+    /// The layout of the records that were taken; END starts at byte `at`. It is refused as `end_refusal` says, the first
+    /// reason of several, or by `Memory`; and after a refusal by the same one.
+    pub fn finish(self, at: u64) -> Result<Layout, Refusal>
+        ensures again { (e : OneRefusal) → self.failed ≡ Some e → result ≡ Err e }
+        ensures accepted { (rs : List OneRecord) → StandsFor self rs → OnOk result (end_refusal self.limits rs ≡ None) }
+        ensures means { (rs : List OneRecord) → StandsFor self rs → IfOk result (λ l. SameLayout self.profile (meaning_of l) (records_mean self.unit rs)) }
+        ensures refused { (rs : List OneRecord) → StandsFor self rs → IfErr result (λ e. (e.at ≡ at) × ((e.why ≡ Memory) ⊎ (end_refusal self.limits rs ≡ Some e.why))) }
+    {
+        let Reader { failed, parts } = self;
+        if let Some(refusal) = failed {
+            return Err(refusal);
+        }
+        match layout_of(parts) {
+            Ok(layout) => Ok(layout),
+            Err(why) => Err(Refusal { at, why }),
+        }
+    }
+}

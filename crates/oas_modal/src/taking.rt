@@ -1,0 +1,195 @@
+//! How each record changes what a reader keeps.
+
+ghost use Rattle.std.specs.Prelude.{◌≡◌, ◌≢◌, ◌⊎◌, [], None, Some, OnOk, IfErr};
+ghost use Rattle.oas_num.specs.declared.refusals.Why.TheVariants.{Memory};
+ghost use Rattle.oas_record.specs.declared.records.Record.{Record as OneRecord};
+ghost use Rattle.oas_record.specs.Records.{id_of};
+ghost use Rattle.oas_drawing.specs.Positions.{IsNear};
+ghost use Rattle.oas_drawing.specs.Modal.{stepped};
+ghost use Rattle.oas_drawing.specs.Drawing.{kind_of};
+ghost use Rattle.oas_modal.specs.Standing.{cell_weight};
+ghost use Rattle.oas_modal.specs.Parts.{Took, Sound, cells, reason_of};
+
+use crate::copying::{hold_copies, weight_in_place};
+use crate::held::HeldCell;
+use crate::parts::Parts;
+use oas_drawing::{Kind, ModalVariables, repeats};
+use oas_num::{Label, Name, Why};
+use oas_record::{CellRef, Record, Turn};
+
+/// Changes the modal variables by an element record.
+fn step(modal: &mut ModalVariables, next: Record)
+    requires element { kind_of next ≢ None }
+    requires placement { IsNear modal.old.placement }
+    requires text { IsNear modal.old.text }
+    requires geometry { IsNear modal.old.geometry }
+    ensures { modal.new ≡ stepped modal.old next }
+{
+    match next {
+        Record::Placement(placed) => modal.place(placed),
+        Record::Text(written) => modal.write(written),
+        Record::Rectangle(drawn) => modal.draw_rectangle(drawn),
+        Record::Polygon(drawn) => modal.draw_polygon(drawn),
+        Record::Path(drawn) => modal.draw_path(drawn),
+        Record::Circle(drawn) => modal.draw_circle(drawn),
+        _ => {}
+    }
+}
+
+/// The id of an element record.
+fn id_of_kind(kind: Kind) -> u64
+    ensures { (r : OneRecord) → kind_of r ≡ Some kind → id_of r ≡ result }
+{
+    match kind {
+        Kind::Placement { turn, .. } => match turn {
+            Turn::Quarters(_) => 17,
+            Turn::Degrees { .. } => 18,
+        },
+        Kind::Text => 19,
+        Kind::Rectangle => 20,
+        Kind::Polygon => 21,
+        Kind::Path => 22,
+        Kind::Circle => 27,
+    }
+}
+
+/// Draws an element record in the open cell.
+fn draw(parts: &mut Parts, kind: Kind, next: Record) -> Result<(), Why>
+    requires kind { kind_of next ≡ Some kind }
+    requires sound { Sound parts.old }
+    ensures reason { OnOk result (reason_of parts.old next ≡ None) }
+    ensures new { OnOk result (Took parts.old next parts.new) }
+    ensures sound { OnOk result (Sound parts.new) }
+    ensures err { IfErr result (λ why. (why ≡ Memory) ⊎ (reason_of parts.old next ≡ Some why)) }
+{
+    let Some(mut held) = parts.cell.take() else {
+        return Err(Why::OutOfPlace(id_of_kind(kind)));
+    };
+    let repeated = repeats(&next);
+    step(&mut parts.modal, next);
+    let number = parts
+        .modal
+        .copies(kind, repeated, parts.limits, parts.count, parts.weight)?;
+    let one = weight_in_place(parts.alloc, &parts.modal, kind)?;
+    hold_copies(parts.alloc, &parts.modal, &mut held, kind, repeated, number)?;
+    parts.count += number;
+    parts.weight += number * one;
+    parts.cell = Some(held);
+    Ok(())
+}
+
+/// Ends the open cell, where there is one.
+fn close(parts: &mut Parts) -> Result<(), Why>
+    requires { Sound parts.old }
+    ensures closed { OnOk result (parts.new ≡ record parts.old { done = parts.new.done; cell = None }) }
+    ensures cells { OnOk result (parts.new.done.items ≡ cells parts.old) }
+    ensures err { IfErr result (λ why. why ≡ Memory) }
+{
+    if let Some(held) = parts.cell.take() {
+        if parts.done.push(held).is_err() {
+            return Err(Why::Memory);
+        }
+    }
+    Ok(())
+}
+
+/// What a CELL weighs as long as its number has no name.
+fn cell_weight(cell: &CellRef) -> u64
+    ensures { result ≡ cell_weight cell.now }
+{
+    match cell {
+        CellRef::Number(_) => 0,
+        CellRef::Name(name) => 1 + name.as_bytes().len() as u64,
+    }
+}
+
+/// Begins a cell.
+fn begin(parts: &mut Parts, cell: CellRef) -> Result<(), Why>
+    requires { Sound parts.old }
+    ensures reason { OnOk result (reason_of parts.old (OneRecord.Cell cell) ≡ None) }
+    ensures new { OnOk result (Took parts.old (OneRecord.Cell cell) parts.new) }
+    ensures sound { OnOk result (Sound parts.new) }
+    ensures err { IfErr result (λ why. (why ≡ Memory) ⊎ (reason_of parts.old (OneRecord.Cell cell) ≡ Some why)) }
+{
+    let weight = cell_weight(&cell);
+    if weight > parts.limits.weight() - parts.weight {
+        return Err(Why::TooHeavy);
+    }
+    close(parts)?;
+    parts.modal.begin_cell();
+    parts.cell = Some(HeldCell::new(parts.alloc, cell));
+    parts.weight += weight;
+    Ok(())
+}
+
+/// Takes the name of a cell, which ends the open one.
+fn name_cell(parts: &mut Parts, name: Name, number: Option<u64>) -> Result<(), Why>
+    requires { Sound parts.old }
+    ensures reason { OnOk result (reason_of parts.old (OneRecord.CellName name number) ≡ None) }
+    ensures new { OnOk result (Took parts.old (OneRecord.CellName name number) parts.new) }
+    ensures sound { OnOk result (Sound parts.new) }
+    ensures err { IfErr result (λ why. (why ≡ Memory) ⊎ (reason_of parts.old (OneRecord.CellName name number) ≡ Some why)) }
+{
+    parts.names.name(name, number)?;
+    close(parts)?;
+    Ok(())
+}
+
+/// Takes a text string, which ends the open cell.
+fn name_string(parts: &mut Parts, label: Label, number: Option<u64>) -> Result<(), Why>
+    requires { Sound parts.old }
+    ensures reason { OnOk result (reason_of parts.old (OneRecord.TextString label number) ≡ None) }
+    ensures new { OnOk result (Took parts.old (OneRecord.TextString label number) parts.new) }
+    ensures sound { OnOk result (Sound parts.new) }
+    ensures err { IfErr result (λ why. (why ≡ Memory) ⊎ (reason_of parts.old (OneRecord.TextString label number) ≡ Some why)) }
+{
+    parts.strings.name(label, number)?;
+    close(parts)?;
+    Ok(())
+}
+
+/// Takes a record that is no element.
+fn take_other(parts: &mut Parts, next: Record) -> Result<(), Why>
+    requires other { kind_of next ≡ None }
+    requires sound { Sound parts.old }
+    ensures reason { OnOk result (reason_of parts.old next ≡ None) }
+    ensures new { OnOk result (Took parts.old next parts.new) }
+    ensures sound { OnOk result (Sound parts.new) }
+    ensures err { IfErr result (λ why. (why ≡ Memory) ⊎ (reason_of parts.old next ≡ Some why)) }
+{
+    match next {
+        Record::End => Err(Why::OutOfPlace(2)),
+        Record::CellName { name, number } => name_cell(parts, name, number),
+        Record::TextString { label, number } => name_string(parts, label, number),
+        Record::Cell(cell) => begin(parts, cell),
+        Record::XyAbsolute => {
+            parts.modal.set_relative(false);
+            Ok(())
+        }
+        Record::XyRelative => {
+            parts.modal.set_relative(true);
+            Ok(())
+        }
+        Record::Pad => Ok(()),
+        Record::Placement(_) => Ok(()),
+        Record::Text(_) => Ok(()),
+        Record::Rectangle(_) => Ok(()),
+        Record::Polygon(_) => Ok(()),
+        Record::Path(_) => Ok(()),
+        Record::Circle(_) => Ok(()),
+    }
+}
+
+/// Takes a record, where it isn't refused.
+pub(crate) fn accept(parts: &mut Parts, next: Record) -> Result<(), Why>
+    requires { Sound parts.old }
+    ensures reason { OnOk result (reason_of parts.old next ≡ None) }
+    ensures new { OnOk result (Took parts.old next parts.new) }
+    ensures sound { OnOk result (Sound parts.new) }
+    ensures err { IfErr result (λ why. (why ≡ Memory) ⊎ (reason_of parts.old next ≡ Some why)) }
+{
+    match Kind::of(&next) {
+        Some(kind) => draw(parts, kind, next),
+        None => take_other(parts, next),
+    }
+}
