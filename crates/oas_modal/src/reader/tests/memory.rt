@@ -1,0 +1,1 @@
+//! Each growth refused in turn: the call answers want of memory.
