@@ -3,7 +3,8 @@
 //! The heap is filled up and given back a small piece at a time, so that the table meets every state of want in its turn.
 //! Where the heap cannot be filled, as under a checker of addresses, no call is refused, and the answers are the same.
 
-use crate::{Drawn, HeldCell, NameTable};
+use crate::{HeldCell, NameTable};
+use oas_drawing::Drawn;
 use oas_num::Why;
 use oas_record::CellRef;
 use std::alloc::{AllocError, Global};
