@@ -153,9 +153,9 @@ module _ (m : ModalState) (kind : Kind) (repeated : Bool) where
 
   fit_one : (o : Option Drawn) → fault_of o ≡ None → lacks_if o ≡ false → AllByRecursion IsFit (option_to_list o)
   fit_one None h l = cc
-  fit_one (Some (Named e)) h l = (record { points = l; inside = (no_fault (Some (Named e)) h).1 }, tt)
-  fit_one (Some (PlacementBy number x y turns flip)) h l = (record { points = refl; inside = (no_fault (Some (PlacementBy number x y turns flip)) h).1 }, tt)
-  fit_one (Some (TextBy number textlayer texttype x y)) h l = (record { points = refl; inside = (no_fault (Some (TextBy number textlayer texttype x y)) h).1 }, tt)
+  fit_one (Some (Named e)) h l = (record { points = l; inside = no_fault (Some (Named e)) h }, tt)
+  fit_one (Some (PlacementBy number x y turns flip)) h l = (record { points = refl; inside = no_fault (Some (PlacementBy number x y turns flip)) h }, tt)
+  fit_one (Some (TextBy number textlayer texttype x y)) h l = (record { points = refl; inside = no_fault (Some (TextBy number textlayer texttype x y)) h }, tt)
 
   fit_copies : lacks_if (drawn_by m kind still) ≡ false → (n : ℕ) → ((i : ℕ) → i < n → fault_of (drawn_by m kind (offset_if repeated m.repetition i)) ≡ None) → AllByRecursion IsFit (first_copies m kind repeated n)
   fit_copies points zero h = tt

@@ -1,7 +1,7 @@
 -- what the elements of a record have in common, wherever they stand
 use Rattle.std.proofs.Common.{◌≡◌, ℕ, ◌+◌, length, refl, sym, ap, ◌∙◌, Bool, true, false, length-append}
 use Rattle.std.proofs.lemmas.List.{length-map}
-use Rattle.std.specs.Prelude.{ℤ, nat_lt, not, cond, Option, None, Some, is_none}
+use Rattle.std.specs.Prelude.{ℤ, nat_lt, not, cond, Option, None, Some}
 use Rattle.oas_num.specs.declared.refusals.Why.TheVariants.{CoordinateRange}
 use Rattle.oas_num.specs.declared.deltas.GDelta.{GDelta}
 use Rattle.oas_ring.specs.declared.point.Point.{Point}
@@ -97,11 +97,12 @@ alike m Circle p q = circle_alike m.layer m.datatype m.radius p q
 pub drawn_alike : (m : ModalState) (kind : Kind) (d e : GDelta) → Alike (drawn_by m kind d) (drawn_by m kind e)
 drawn_alike m kind d e = alike m kind (point_from (place_of m kind) d) (point_from (place_of m kind) e)
 
--- ---- places
+-- ---- grid
 
-pub no_fault : (o : Option Drawn) → fault_of o ≡ None → (is_none o ≡ false) × (fits_if o ≡ true)
+-- an element without a fault lies within the grid
+pub no_fault : (o : Option Drawn) → fault_of o ≡ None → fits_if o ≡ true
 no_fault None h = cc
-no_fault (Some d) h = (refl, fits (drawn_fits d) h) where
+no_fault (Some d) h = fits (drawn_fits d) h where
   fits : (b : Bool) → cond (not b) (Some CoordinateRange) None ≡ None → b ≡ true
   fits true h = refl
   fits false h = cc
