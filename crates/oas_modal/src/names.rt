@@ -13,7 +13,7 @@ use std::collections::BTreeMap;
 use std::marker::Model;
 
 #[cfg(test)]
-mod tests;
+pub(crate) mod tests;
 
 /// Whether name records leave their numbers to be counted, or give them (SEMI P39, CELLNAME record, TEXTSTRING record).
 #[derive(Clone, Copy, Debug, PartialEq, Eq)]

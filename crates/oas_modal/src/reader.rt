@@ -106,3 +106,6 @@ impl Reader {
         }
     }
 }
+
+#[cfg(test)]
+mod tests;

@@ -1,7 +1,7 @@
 //! Tables of names whose answers are known from outside.
 
 mod layouts;
-mod memory;
+pub(crate) mod memory;
 
 use crate::{NameTable, cell_meant, string_meant};
 use oas_num::{Label, Name, SliceSource, Spelled, Why};
@@ -18,7 +18,7 @@ fn spelled(alloc: Global, text: &str) -> Result<Vec<u8>, AllocError> {
     Ok(bytes)
 }
 
-fn name(alloc: Global, text: &str) -> Result<Name, Fail> {
+pub(crate) fn name(alloc: Global, text: &str) -> Result<Name, Fail> {
     let bytes = spelled(alloc, text)?;
     Ok(Name::read(alloc, &mut SliceSource::new(&bytes, 1000))?)
 }

@@ -31,7 +31,7 @@ fn fill(alloc: Global, most: usize, held: &mut Vec<Vec<u8>>) {
 }
 
 /// All memory, but for some that can be had back a small piece at a time.
-fn take_all(alloc: Global) -> Result<Vec<Vec<u8>>, Fail> {
+pub(crate) fn take_all(alloc: Global) -> Result<Vec<Vec<u8>>, Fail> {
     let mut held = Vec::with_capacity(alloc, 300000)?;
     let room = Vec::<u8>::with_capacity(alloc, 65536)?;
     fill(alloc, 68719476736, &mut held);
