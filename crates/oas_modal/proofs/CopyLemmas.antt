@@ -1,29 +1,30 @@
 -- the copies of a record that are held, one by one
 use Rattle.std.proofs.Common.{◌≡◌, ℕ, zero, suc, ◌+◌, ◌*◌, ◌<◌, ◌≤◌, List, [], ◌∷◌, ◌++◌, map, length, refl, sym, ap, ◌∙◌, subst, arith, Bool, true, false, append_assoc, length-append}
-use Rattle.std.specs.Prelude.{Option, None, Some, is_none, sum_by, cond, unwrap_or, replicate, nat_lt, ◌^◌}
+use Rattle.std.specs.Prelude.{Option, None, Some, cond, unwrap_or, replicate, nat_lt, ◌^◌}
 use Rattle.std.specs.Map.{lookup}
 use Rattle.std.specs.BTreeMap.{is_at}
 use Rattle.std.proofs.lemmas.List.{length-replicate}
+use Rattle.std.proofs.lemmas.Nat.{mul-le}
 use Rattle.std.proofs.lemmas.Bool.Decides.{nat_tests}
-use Rattle.oas_drawing.specs.Reasons.{fault_of}
-use Rattle.std.specs.Option.{option_to_list, option_map}
-use Rattle.std.specs.List.{range_with_len, AllByRecursion}
+use Rattle.oas_drawing.specs.Reasons.{weight_if, fault_of}
+use Rattle.std.specs.Option.{option_to_list}
+use Rattle.std.specs.List.{range_with_len}
 use Rattle.std.proofs.lemmas.List.FromFn.{map-range_with_len_more}
-use Rattle.std.proofs.lemmas.List.Sums.{sum_by-append}
 use Rattle.oas_num.specs.declared.deltas.GDelta.{GDelta}
 use Rattle.oas_shape.specs.Steps.{still}
 use Rattle.oas_record.specs.declared.references.CellRef.{CellRef}
 use Rattle.oas_record.specs.declared.records.Record.{Record}
 use Rattle.oas_layout.specs.Bag.{items}
-use Rattle.oas_layout.specs.BagLaws.{total, sum_by-items, total-put_more}
+use Rattle.oas_layout.specs.BagLaws.{total, total-put_more}
 use Rattle.oas_drawing.specs.declared.drawn.Drawn.{Drawn}
 use Rattle.oas_drawing.specs.declared.kinds.Kind.{Kind}
 use Rattle.oas_drawing.specs.Modal.{ModalState}
 use Rattle.oas_drawing.specs.Drawn.{drawn_cmp, weight_so_far}
-use Rattle.oas_drawing.specs.Drawing.{kind_of, repeats, drawn_if, drawn_at, copies_at, offset_if, number_if, offsets_of, drawn_by}
+use Rattle.oas_drawing.specs.Drawing.{kind_of, repeats, drawn_if, copies_at, offset_if, number_if, offsets_of, drawn_by}
 use Rattle.oas_modal.specs.Held.{Held, with_drawn, times_drawn}
 use Rattle.oas_modal.specs.Standing.{put_all, drew, drawn_of}
 use Rattle.oas_modal.specs.Copying.{copies_by, first_copies}
+use Rattle.oas_modal.proofs.PlaceLemmas.{drawn_alike}
 
 pub put_all-append : (held : List (Drawn × ℕ)) (xs ys : List Drawn) → put_all held (xs ++ ys) ≡ put_all (put_all held xs) ys
 put_all-append held [] ys = refl
@@ -108,3 +109,17 @@ fit_next m kind repeated n before last i below =
       | true ↦ λ e. before i (grind (arith, nat_tests))
       | false ↦ λ e. let same : n ≡ i = grind (arith, nat_tests) in subst (λ (k : ℕ). fault_of (drawn_by m kind (offset_if repeated m.repetition k)) ≡ None) same last
     ] refl
+
+-- each copy weighs the same
+one_weight : (m : ModalState) (kind : Kind) (repeated : Bool) (n : ℕ) (d : Drawn) → drawn_by m kind (offset_if repeated m.repetition n) ≡ Some d → weight_so_far d ≡ weight_if (drawn_by m kind still)
+one_weight m kind repeated n d e = ap weight_if (sym e) ∙ (drawn_alike m kind (offset_if repeated m.repetition n) still).0
+
+-- what the copies weigh together
+pub weight_next : (m : ModalState) (kind : Kind) (repeated : Bool) (n : ℕ) (d : Drawn) (weight : ℕ) → drawn_by m kind (offset_if repeated m.repetition n) ≡ Some d → weight ≡ n * weight_if (drawn_by m kind still) → weight + weight_so_far d ≡ (n + 1) * weight_if (drawn_by m kind still)
+weight_next m kind repeated n d weight e is = omega (arith, one_weight m kind repeated n d e, is)
+
+-- and that is no more than all do
+pub weight_room : (m : ModalState) (kind : Kind) (repeated : Bool) (n number : ℕ) (d : Drawn) (weight : ℕ) → drawn_by m kind (offset_if repeated m.repetition n) ≡ Some d → weight ≡ n * weight_if (drawn_by m kind still) → n < number → number * weight_if (drawn_by m kind still) ≤ 2 ^ 30 → weight + weight_so_far d < 2 ^ 64
+weight_room m kind repeated n number d weight e is below light =
+    let most : (n + 1) * weight_if (drawn_by m kind still) ≤ number * weight_if (drawn_by m kind still) = mul-le (n + 1) (weight_if (drawn_by m kind still)) number (weight_if (drawn_by m kind still)) (omega arith) (omega arith) in
+    omega (arith, weight_next m kind repeated n d weight e is, most, light)

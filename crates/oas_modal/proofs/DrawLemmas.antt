@@ -2,14 +2,13 @@
 use Rattle.std.proofs.Common.{◌≡◌, ℕ, zero, suc, ◌+◌, ◌*◌, ◌<◌, ◌≤◌, List, [], ◌∷◌, ◌++◌, length, refl, sym, ap, ◌∙◌, subst, arith, Bool, true, false, ◌⊎◌, inl, inr, length-append}
 use Rattle.std.proofs.lemmas.Bool.Decides.{nat_tests}
 use Rattle.std.proofs.lemmas.List.Sums.{sum_by-append}
-use Rattle.std.specs.Prelude.{Option, None, Some, is_some, is_none, nat_lt, not, cond, sum_by}
-use Rattle.std.specs.Option.{option_to_list, option_or}
+use Rattle.std.specs.Prelude.{Option, None, Some, is_some, is_none, nat_lt, cond, sum_by}
+use Rattle.std.specs.Option.{option_to_list}
 use Rattle.std.specs.List.{AllByRecursion}
 use Rattle.std.specs.Ordering.{match_ordering}
 use Rattle.std.specs.declared.cmp.Ordering.TheVariants.{Less, Equal, Greater}
 use Rattle.oas_num.specs.declared.refusals.Why.{Why}
-use Rattle.oas_num.specs.declared.refusals.Why.TheVariants.{OutOfPlace, CoordinateRange, Memory, ModalUndefined, Magnification, Angle, TooManyElements, TooHeavy, PointCount}
-use Rattle.oas_num.specs.declared.deltas.GDelta.{GDelta}
+use Rattle.oas_num.specs.declared.refusals.Why.TheVariants.{OutOfPlace, Memory, ModalUndefined, Magnification, Angle, TooManyElements, TooHeavy, PointCount}
 use Rattle.oas_shape.specs.Steps.{still}
 use Rattle.oas_record.specs.declared.records.Record.{Record}
 use Rattle.oas_record.specs.declared.records.Record.TheVariants as record_of
@@ -24,17 +23,17 @@ use Rattle.oas_drawing.specs.Positions.{IsNear}
 use Rattle.oas_drawing.specs.declared.positions.Position.{Position}
 use Rattle.oas_drawing.specs.Modal.{ModalState, stepped}
 use Rattle.oas_modal.specs.Names.{cell_names, text_strings, with_name, table_reason, same_string}
-use Rattle.oas_drawing.specs.Drawn.{drawn_cmp, weight_so_far, drawn_fits, drawn_lacks_points}
-use Rattle.oas_drawing.specs.Drawing.{kind_of, repeats, drawn_by, drawn_if, drawn_at, place_of, offset_if, number_if, lacks_repetition}
-use Rattle.oas_drawing.specs.Reasons.{first_of, is_magnified, is_askew, weight_if, lacks_if, fits_if, fault_of, kind_reason, all_fit, draw_reason, reason_if}
+use Rattle.oas_drawing.specs.Drawn.{drawn_cmp, weight_so_far}
+use Rattle.oas_drawing.specs.Drawing.{kind_of, repeats, drawn_by, place_of, offset_if, number_if, lacks_repetition}
+use Rattle.oas_drawing.specs.Reasons.{is_magnified, is_askew, weight_if, lacks_if, fault_of, kind_reason, draw_reason}
 use Rattle.oas_modal.specs.Held.{Held, with_drawn}
 use Rattle.oas_modal.specs.Finish.{IsFit, AllFit, drawn_cells, drawn_total}
-use Rattle.oas_modal.specs.Standing.{Standing, drawn_of, weight_with, open_after, took, place_reason, element_reason, reason, put_all, drew, drew_last, held_after}
-use Rattle.oas_modal.specs.Parts.{standing, cells, reason_of, Sound, SameFile, Took}
+use Rattle.oas_modal.specs.Standing.{Standing, drawn_of, weight_with, open_after, element_reason, reason, put_all, drew, drew_last, held_after}
+use Rattle.oas_modal.specs.Parts.{standing, cells, reason_of, Sound, Took}
 use Rattle.oas_modal.specs.Copying.{first_copies}
 use Rattle.oas_drawing.proofs.Copies.{drawn_defined, refused_before, refused_at, allowed_all}
 use Rattle.oas_modal.proofs.CopyLemmas.{next_copy, drawn_of-kind, length-put_all}
-use Rattle.oas_modal.proofs.PlaceLemmas.{drawn_alike, near_place, no_fault}
+use Rattle.oas_modal.proofs.PlaceLemmas.{drawn_alike, no_fault}
 use Rattle.oas_modal.proofs.TakeLemmas.{standing_of, all_append, total_append}
 
 -- ---- what all element records have in common
@@ -154,9 +153,9 @@ module _ (m : ModalState) (kind : Kind) (repeated : Bool) where
 
   fit_one : (o : Option Drawn) → fault_of o ≡ None → lacks_if o ≡ false → AllByRecursion IsFit (option_to_list o)
   fit_one None h l = cc
-  fit_one (Some (Named e)) h l = (record { points = l; inside = (no_fault (Some (Named e)) h).1 }, tt)
-  fit_one (Some (PlacementBy number x y turns flip)) h l = (record { points = refl; inside = (no_fault (Some (PlacementBy number x y turns flip)) h).1 }, tt)
-  fit_one (Some (TextBy number textlayer texttype x y)) h l = (record { points = refl; inside = (no_fault (Some (TextBy number textlayer texttype x y)) h).1 }, tt)
+  fit_one (Some (Named e)) h l = (record { points = l; inside = no_fault (Some (Named e)) h }, tt)
+  fit_one (Some (PlacementBy number x y turns flip)) h l = (record { points = refl; inside = no_fault (Some (PlacementBy number x y turns flip)) h }, tt)
+  fit_one (Some (TextBy number textlayer texttype x y)) h l = (record { points = refl; inside = no_fault (Some (TextBy number textlayer texttype x y)) h }, tt)
 
   fit_copies : lacks_if (drawn_by m kind still) ≡ false → (n : ℕ) → ((i : ℕ) → i < n → fault_of (drawn_by m kind (offset_if repeated m.repetition i)) ≡ None) → AllByRecursion IsFit (first_copies m kind repeated n)
   fit_copies points zero h = tt
@@ -196,17 +195,6 @@ held_room p held s is = omega (arith, s.few, s.total, ap (λ (o : Option Held). 
 
 -- ---- why it is refused
 
-fault_why : (o : Option Drawn) (why : Why) → is_none o ≡ false → fault_of o ≡ Some why → (Some CoordinateRange ≡ Some why) × (fits_if o ≡ false)
-fault_why None why n h = cc
-fault_why (Some d) why n h = unfit (drawn_fits d) h where
-  unfit : (b : Bool) → first_of ((not b, CoordinateRange) ∷ []) ≡ Some why → (Some CoordinateRange ≡ Some why) × (b ≡ false)
-  unfit true h = cc
-  unfit false h = (h, refl)
-
-either : (b : Bool) → option_or (first_of ((not b, CoordinateRange) ∷ [])) (Some CoordinateRange) ≡ Some CoordinateRange
-either true = refl
-either false = refl
-
 -- an element record in the open cell
 pub record InCell (p : Parts) (r : Record) (kind : Kind) (held : Held) (m : ModalState) (repeated : Bool) : Type 0 where
   pub kind_is : kind_of r ≡ Some kind
@@ -217,31 +205,16 @@ pub record InCell (p : Parts) (r : Record) (kind : Kind) (held : Held) (m : Moda
 
 module _ (p : Parts) (r : Record) (kind : Kind) (held : Held) (m : ModalState) (repeated : Bool) (c : InCell p r kind held m repeated) where
   abbrev judged_with : Bool → ModalState → Option Why
-  judged_with b v = cond b (option_or (draw_reason p.limits p.count p.weight v r) (place_reason v r)) (Some (OutOfPlace (id_of r)))
+  judged_with b v = cond b (draw_reason p.limits p.count p.weight v r) (Some (OutOfPlace (id_of r)))
 
-  judged_in : reason_of p r ≡ option_or (draw_reason p.limits p.count p.weight m r) (place_reason m r)
+  judged_in : reason_of p r ≡ draw_reason p.limits p.count p.weight m r
   judged_in = (is_element r kind c.kind_is).judged p.limits (λ x. table_reason same_string p.names (cell_names x)) (λ x. table_reason same_string p.strings (text_strings x)) (standing p) ∙ (λ i. judged_with (is_some (c.held_is i)) (sym c.modal_is i))
 
   by_repeats : (w : Option Why) → kind_reason p.limits p.count p.weight m kind repeated ≡ w → kind_reason p.limits p.count p.weight m kind (repeats r) ≡ w
   by_repeats w h = ap (λ (b : Bool). kind_reason p.limits p.count p.weight m kind b) (sym c.repeats_is) ∙ h
 
   pub refused_number : (why : Why) → kind_reason p.limits p.count p.weight m kind repeated ≡ Some why → reason_of p r ≡ Some why
-  refused_number why h = judged_in ∙ ap (λ (o : Option Why). option_or o (place_reason m r)) (refused_before p.limits p.count p.weight m r kind why c.kind_is (by_repeats (Some why) h))
-
-  place_by : place_reason m r ≡ first_of ((not (fits_if (drawn_by m kind still)), CoordinateRange) ∷ [])
-  place_by = ap (λ (k : Option Kind). first_of ((not (fits_if (drawn_if m k still)), CoordinateRange) ∷ [])) c.kind_is
-
-  after_number : kind_reason p.limits p.count p.weight m kind repeated ≡ None → draw_reason p.limits p.count p.weight m r ≡ first_of ((not (all_fit m kind (repeats r)), CoordinateRange) ∷ [])
-  after_number none =
-      ap (λ (k : Option Kind). reason_if p.limits p.count p.weight m k (repeats r)) c.kind_is
-      ∙ ap (λ (o : Option Why). option_or o (first_of ((not (all_fit m kind (repeats r)), CoordinateRange) ∷ []))) (by_repeats None none)
-
-  pub refused_place : (why : Why) → kind_reason p.limits p.count p.weight m kind repeated ≡ None → (why ≡ Memory) ⊎ (fault_of (drawn_by m kind still) ≡ Some why) → (why ≡ Memory) ⊎ (reason_of p r ≡ Some why)
-  refused_place why none (inl h) = inl h
-  refused_place why none (inr h) =
-      let f : (Some CoordinateRange ≡ Some why) × (fits_if (drawn_by m kind still) ≡ false) = fault_why (drawn_by m kind still) why (is_passed p.limits p.count p.weight m kind repeated none).there h in
-      let there : place_reason m r ≡ Some CoordinateRange = place_by ∙ ap (λ (b : Bool). first_of ((not b, CoordinateRange) ∷ [])) f.1 in
-      inr (judged_in ∙ ((λ i. option_or (after_number none i) (there i)) ∙ (either (all_fit m kind (repeats r)) ∙ f.0)))
+  refused_number why h = judged_in ∙ refused_before p.limits p.count p.weight m r kind why c.kind_is (by_repeats (Some why) h)
 
   abbrev Faulty : Bool → ℕ → Why → Type 0
   Faulty b n why = (i : ℕ) × (i < n) × (fault_of (drawn_by m kind (offset_if b m.repetition i)) ≡ Some why)
@@ -250,35 +223,34 @@ module _ (p : Parts) (r : Record) (kind : Kind) (held : Held) (m : ModalState) (
   refused_copy why n none number (inl h) = inl h
   refused_copy why n none number (inr h) =
       let g : Faulty (repeats r) (number_if (repeats r) m.repetition) why = subst (λ (b : Bool). Faulty b (number_if b m.repetition) why) c.repeats_is (subst (λ (k : ℕ). Faulty repeated k why) number h) in
-      inr (judged_in ∙ ap (λ (o : Option Why). option_or o (place_reason m r)) (refused_at p.limits p.count p.weight m r kind g.0 why c.kind_is (by_repeats None none) g.1 g.2))
+      inr (judged_in ∙ refused_at p.limits p.count p.weight m r kind g.0 why c.kind_is (by_repeats None none) g.1 g.2)
 
   abbrev AllIn : Bool → ℕ → Type 0
   AllIn b n = (i : ℕ) → i < n → fault_of (drawn_by m kind (offset_if b m.repetition i)) ≡ None
 
-  pub allowed_draw : (n : ℕ) → kind_reason p.limits p.count p.weight m kind repeated ≡ None → n ≡ number_if repeated m.repetition → fault_of (drawn_by m kind still) ≡ None → AllIn repeated n → reason_of p r ≡ None
-  allowed_draw n none number place fit =
+  pub allowed_draw : (n : ℕ) → kind_reason p.limits p.count p.weight m kind repeated ≡ None → n ≡ number_if repeated m.repetition → AllIn repeated n → reason_of p r ≡ None
+  allowed_draw n none number fit =
       let g : AllIn (repeats r) (number_if (repeats r) m.repetition) = subst (λ (b : Bool). AllIn b (number_if b m.repetition)) c.repeats_is (subst (λ (k : ℕ). AllIn repeated k) number fit) in
-      let there : place_reason m r ≡ None = place_by ∙ ap (λ (b : Bool). first_of ((not b, CoordinateRange) ∷ [])) (no_fault (drawn_by m kind still) place).1 in
-      judged_in ∙ (λ i. option_or (allowed_all p.limits p.count p.weight m r kind c.kind_is (by_repeats None none) g i) (there i))
+      judged_in ∙ allowed_all p.limits p.count p.weight m r kind c.kind_is (by_repeats None none) g
 
   -- ---- what is kept after it
 
   abbrev drew_with : Held → ℕ → ℕ → Parts
-  drew_with held' n one = record p { modal = m; cell = Some held'; count = p.count + n; weight = p.weight + n * one }
+  drew_with held' n w = record p { modal = m; cell = Some held'; count = p.count + n; weight = p.weight + w }
 
   -- what the record draws
   drawn_is : (n : ℕ) → n ≡ number_if repeated m.repetition → first_copies m kind repeated n ≡ drawn_of m r
   drawn_is n number =
       ap (first_copies m kind repeated) number ∙ ap (λ (b : Bool). first_copies m kind b (number_if b m.repetition)) c.repeats_is ∙ sym (drawn_of-kind m r kind c.kind_is)
 
-  pub took_draw : (held' : Held) (n one : ℕ) → kind_reason p.limits p.count p.weight m kind repeated ≡ None → n ≡ number_if repeated m.repetition → one ≡ weight_if (drawn_by m kind still) → held' ≡ drew held (first_copies m kind repeated n) → Took p r (drew_with held' n one)
-  took_draw held' n one none number weighs drawn =
+  pub took_draw : (held' : Held) (n w : ℕ) → kind_reason p.limits p.count p.weight m kind repeated ≡ None → n ≡ number_if repeated m.repetition → w ≡ n * weight_if (drawn_by m kind still) → held' ≡ drew held (first_copies m kind repeated n) → Took p r (drew_with held' n w)
+  took_draw held' n w none number weighs drawn =
       let all : IsElement r = is_element r kind c.kind_is in
       let there = (is_passed p.limits p.count p.weight m kind repeated none).there in
       let count : n ≡ length (drawn_of (stepped p.modal r) r) =
       sym (copy_number m kind repeated there n) ∙ (ap length (drawn_is n number) ∙ ap (λ (v : ModalState). length (drawn_of v r)) c.modal_is) in
-      let weight : n * one ≡ weight_with r (drawn_of (stepped p.modal r) r) =
-      ap (λ (k : ℕ). n * k) weighs ∙ (sym (copy_weight m kind repeated n) ∙ (ap (sum_by weight_so_far) (drawn_is n number) ∙ (sym (all.weighs (drawn_of m r)) ∙ ap (λ (v : ModalState). weight_with r (drawn_of v r)) c.modal_is))) in
+      let weight : w ≡ weight_with r (drawn_of (stepped p.modal r) r) =
+      weighs ∙ (sym (copy_weight m kind repeated n) ∙ (ap (sum_by weight_so_far) (drawn_is n number) ∙ (sym (all.weighs (drawn_of m r)) ∙ ap (λ (v : ModalState). weight_with r (drawn_of v r)) c.modal_is))) in
       let inside : true ≡ open_after (is_some p.cell) r = sym (all.inside (is_some p.cell) ∙ ap is_some c.held_is) in
       record {
         file = record { unit = refl; limits = refl; profile = refl };
@@ -290,19 +262,26 @@ module _ (p : Parts) (r : Record) (kind : Kind) (held : Held) (m : ModalState) (
             ∙ (ap (λ (o : Option Held). drew_last (drawn_of m r) (p.done.items ++ option_to_list o)) (sym c.held_is) ∙ sym (all.held (cells p) m)));
       }
 
-  pub sound_draw : (held' : Held) (n one : ℕ) → kind_reason p.limits p.count p.weight m kind repeated ≡ None → n ≡ number_if repeated m.repetition → one ≡ weight_if (drawn_by m kind still) → fault_of (drawn_by m kind still) ≡ None → AllIn repeated n → held' ≡ drew held (first_copies m kind repeated n) → Sound (drew_with held' n one)
-  sound_draw held' n one none number weighs place fit drawn =
+  -- the numbers that the code works with
+  pub number_fits : (n : ℕ) → kind_reason p.limits p.count p.weight m kind repeated ≡ None → n ≡ number_if repeated m.repetition → (p.count + n ≤ p.limits.elements) × (p.weight + n * weight_if (drawn_by m kind still) ≤ p.limits.weight)
+  number_fits n none number =
+      let passes : IsPassed p.limits p.count p.weight m kind repeated = is_passed p.limits p.count p.weight m kind repeated none in
+      (omega (arith, passes.few, number), subst (λ (k : ℕ). p.weight + k * weight_if (drawn_by m kind still) ≤ p.limits.weight) (sym number) passes.light)
+
+  pub sound_draw : (held' : Held) (n w : ℕ) → kind_reason p.limits p.count p.weight m kind repeated ≡ None → n ≡ number_if repeated m.repetition → w ≡ n * weight_if (drawn_by m kind still) → IsNear (place_of m kind) → AllIn repeated n → held' ≡ drew held (first_copies m kind repeated n) → Sound (drew_with held' n w)
+  sound_draw held' n w none number weighs place fit drawn =
       let s : Sound p = c.sound in
       let passes : IsPassed p.limits p.count p.weight m kind repeated = is_passed p.limits p.count p.weight m kind repeated none in
-      let near : AllNear m = near_after p.modal m r kind c.kind_is c.modal_is (s.placement, s.text, s.geometry) (near_place m kind place) in
+      let fits = number_fits n none number in
+      let near : AllNear m = near_after p.modal m r kind c.kind_is c.modal_is (s.placement, s.text, s.geometry) place in
       let before = all_front (λ (g : Held). AllFit g.1) p.done.items (held ∷ []) (subst (λ (o : Option Held). AllByRecursion (λ (g : Held). AllFit g.1) (p.done.items ++ option_to_list o)) c.held_is s.fit) in
       let copies = fit_copies m kind repeated passes.points n fit in
       record {
         placement = near.0;
         text = near.1;
         geometry = near.2;
-        few = omega (arith, passes.few, number);
-        light = subst (λ (k : ℕ). p.weight + k ≤ p.limits.weight) (sym (λ i. number i * weighs i)) passes.light;
+        few = fits.0;
+        light = subst (λ (k : ℕ). p.weight + k ≤ p.limits.weight) (sym weighs) fits.1;
         fit = all_append (λ (g : Held). AllFit g.1) p.done.items (held' ∷ []) before.0 (subst (λ (g : Held). AllFit g.1) (sym drawn) (fit_put_all held.1 (first_copies m kind repeated n) before.1.0 copies), tt);
         total = omega (
           arith,
@@ -315,9 +294,3 @@ module _ (p : Parts) (r : Record) (kind : Kind) (held : Held) (m : ModalState) (
           copy_number m kind repeated passes.there n,
         );
       }
-
-  -- the numbers that the code works with
-  pub number_fits : (n one : ℕ) → kind_reason p.limits p.count p.weight m kind repeated ≡ None → n ≡ number_if repeated m.repetition → one ≡ weight_if (drawn_by m kind still) → (p.count + n ≤ p.limits.elements) × (p.weight + n * one ≤ p.limits.weight)
-  number_fits n one none number weighs =
-      let passes : IsPassed p.limits p.count p.weight m kind repeated = is_passed p.limits p.count p.weight m kind repeated none in
-      (omega (arith, passes.few, number), subst (λ (k : ℕ). p.weight + k ≤ p.limits.weight) (sym (λ i. number i * weighs i)) passes.light)

@@ -1,5 +1,5 @@
 -- what the records mean that a reader has taken
-use Rattle.std.proofs.Common.{◌≡◌, ℕ, ◌+◌, ◌≤◌, List, [], ◌∷◌, ◌++◌, reverse, refl, sym, ap, ◌∙◌, subst, arith, ◌⊎◌, inl, inr, Bool, ◌||◌}
+use Rattle.std.proofs.Common.{◌≡◌, ℕ, List, [], ◌∷◌, reverse, refl, sym, ap, ◌∙◌, subst, arith, ◌⊎◌, inl, inr, ◌||◌}
 use Rattle.std.specs.Prelude.{Option, None, Some, is_none, nat_lt}
 use Rattle.std.specs.Option.{option_map}
 use Rattle.std.specs.List.{list_any}
@@ -11,7 +11,6 @@ use Rattle.oas_num.specs.declared.refusals.Why.TheVariants.{Memory, UnknownRefer
 use Rattle.oas_record.specs.declared.references.CellRef.{CellRef}
 use Rattle.oas_record.specs.declared.references.CellRef.TheVariants as cell
 use Rattle.oas_record.specs.declared.records.Record.{Record}
-use Rattle.oas_layout.specs.declared.element.Element.{Element}
 use Rattle.oas_layout.specs.declared.element.Element.TheVariants as element
 use Rattle.oas_layout.specs.declared.limits.Limits.{Limits}
 use Rattle.oas_layout.specs.declared.profile.Profile.{Profile}
@@ -23,9 +22,8 @@ use Rattle.oas_drawing.specs.Drawing.{elements_at}
 use Rattle.oas_drawing.specs.Reasons.{first_of}
 use Rattle.oas_modal.specs.Names.{name_of, named, cell_names, text_strings}
 use Rattle.oas_modal.specs.References.{cell_by}
-use Rattle.oas_modal.specs.Meaning.{DrawnCell, element_by, with_element, elements_meant, with_named, cells_meant, meaning_by, is_unnamed, cell_lacks, lacks_name, has_twice, end_reason, cells_drawn}
+use Rattle.oas_modal.specs.Meaning.{DrawnCell, element_by, with_element, elements_meant, with_named, cells_meant, meaning_by, lacks_name, has_twice, end_reason, cells_drawn}
 use Rattle.oas_modal.specs.Finish.{drawn_cells, IsWithinLimits}
-use Rattle.oas_modal.specs.Alike.{IsAlike}
 use Rattle.oas_modal.specs.Parts.{cells, Sound}
 use Rattle.oas_modal.specs.Stands.{ReaderState, StandsFor, records_mean, end_refusal}
 use Rattle.oas_modal.proofs.Alike.{alike_meanings}

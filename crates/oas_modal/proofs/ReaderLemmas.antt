@@ -2,7 +2,7 @@
 use Rattle.std.proofs.Common.{◌≡◌, ℕ, ◌+◌, List, [], ◌∷◌, ◌++◌, reverse, refl, sym, ap, ◌∙◌, subst, arith, ◌⊎◌, inl, inr}
 use Rattle.std.proofs.lemmas.List.{reverse-append}
 use Rattle.std.proofs.lemmas.List.Sums.{sum_by-append}
-use Rattle.std.specs.Prelude.{Option, None, Some, cond, sum_by}
+use Rattle.std.specs.Prelude.{Option, None, Some, sum_by}
 use Rattle.oas_num.specs.declared.refusals.Refusal.{Refusal as OneRefusal}
 use Rattle.oas_num.specs.declared.refusals.Why.{Why}
 use Rattle.oas_num.specs.declared.refusals.Why.TheVariants.{Memory}
@@ -13,9 +13,9 @@ use Rattle.oas_layout.specs.declared.limits.Limits.{Limits}
 use Rattle.oas_layout.specs.Bag.{items}
 use Rattle.oas_drawing.specs.declared.drawn.Drawn.{Drawn}
 use Rattle.oas_modal.specs.declared.parts.Parts.{Parts}
-use Rattle.oas_drawing.specs.Modal.{ModalState, modal_of}
+use Rattle.oas_drawing.specs.Modal.{modal_of}
 use Rattle.oas_drawing.specs.Drawing.{elements_at}
-use Rattle.oas_modal.specs.Names.{Table, NamesStand, cell_names, text_strings, same_string, table_reason, name_reason, with_name}
+use Rattle.oas_modal.specs.Names.{Table, NamesStand, cell_names, text_strings, same_string, table_reason, name_reason}
 use Rattle.oas_modal.specs.Held.{Held, with_drawn}
 use Rattle.oas_drawing.specs.Drawn.{drawn_cmp}
 use Rattle.oas_drawing.specs.DrawnLaws.{exact_drawn}
@@ -23,7 +23,7 @@ use Rattle.oas_modal.specs.Alike.{SameDrawn, AlikeCells}
 use Rattle.oas_modal.specs.Finish.{drawn_cells}
 use Rattle.oas_layout.specs.BagLaws.{sum_by-items, total-put_more}
 use Rattle.oas_modal.specs.Meaning.{DrawnCell, in_last, cells_drawn}
-use Rattle.oas_modal.specs.Standing.{Standing, took, drawn_of, reason, put_all, drew, drew_last, held_after}
+use Rattle.oas_modal.specs.Standing.{Standing, took, reason, put_all, drew_last, held_after}
 use Rattle.oas_modal.specs.Stands.{seen, refused_after, refusal, ReaderState, StandsFor}
 use Rattle.oas_modal.specs.Parts.{standing, cells, reason_of, Took}
 use Rattle.oas_modal.proofs.NameLemmas.{same_reason, one_more}

@@ -1,10 +1,9 @@
 -- one more record, in the definitions
-use Rattle.std.proofs.Common.{◌≡◌, ℕ, List, [], ◌∷◌, ◌++◌, reverse, refl, sym, ap, ◌∙◌}
+use Rattle.std.proofs.Common.{◌≡◌, List, [], ◌∷◌, ◌++◌, reverse, ap, ◌∙◌}
 use Rattle.std.proofs.lemmas.List.{reverse-append}
 use Rattle.oas_record.specs.declared.records.Record.{Record}
-use Rattle.oas_drawing.specs.Modal.{ModalState}
 use Rattle.oas_drawing.proofs.Steps.{modal_step}
-use Rattle.oas_modal.specs.Standing.{Standing, took_with, took}
+use Rattle.oas_modal.specs.Standing.{took_with, took}
 use Rattle.oas_modal.specs.Stands.{seen}
 
 pub seen_step : (before : List Record) (r : Record) → seen (r ∷ before) ≡ took (seen before) r

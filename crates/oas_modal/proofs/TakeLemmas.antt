@@ -1,21 +1,20 @@
 -- what is kept after one more record
-use Rattle.std.proofs.Common.{◌≡◌, ℕ, ◌+◌, ◌≤◌, List, [], ◌∷◌, ◌++◌, length, refl, sym, ap, ◌∙◌, subst, arith, Bool, true, false}
+use Rattle.std.proofs.Common.{◌≡◌, ℕ, ◌+◌, ◌≤◌, List, [], ◌∷◌, ◌++◌, refl, sym, ap, ◌∙◌, subst, arith, Bool, true, false}
 use Rattle.std.proofs.lemmas.Int.{ints}
-use Rattle.std.specs.Prelude.{Option, None, Some, is_some, sum_by, pos, cond}
+use Rattle.std.specs.Prelude.{Option, None, Some, is_some, pos, cond}
 use Rattle.std.specs.Option.{option_to_list}
 use Rattle.std.specs.List.{AllByRecursion}
 use Rattle.oas_record.specs.declared.references.CellRef.{CellRef}
 use Rattle.oas_record.specs.declared.records.Record.{Record}
 use Rattle.oas_record.specs.declared.records.Record.TheVariants as record_of
-use Rattle.oas_drawing.specs.declared.drawn.Drawn.{Drawn}
 use Rattle.oas_modal.specs.declared.parts.Parts.{Parts}
 use Rattle.oas_drawing.specs.Positions.{IsWithin, IsNear}
 use Rattle.oas_drawing.specs.Modal.{ModalState, stepped, origin}
-use Rattle.oas_modal.specs.Names.{Table, cell_names, text_strings, with_name}
+use Rattle.oas_modal.specs.Names.{Table, with_name}
 use Rattle.oas_modal.specs.Held.{Held}
 use Rattle.oas_modal.specs.Finish.{drawn_cells, drawn_total, AllFit}
-use Rattle.oas_modal.specs.Standing.{Standing, took, drawn_of, weight_with, open_after, cell_weight, drew, drew_last, held_after}
-use Rattle.oas_modal.specs.Parts.{standing, cells, Sound, SameFile, Took}
+use Rattle.oas_modal.specs.Standing.{Standing, cell_weight, drew_last}
+use Rattle.oas_modal.specs.Parts.{standing, cells, Sound, Took}
 
 abbrev pub standing_of : ModalState → Bool → ℕ → ℕ → Standing
 standing_of m b c w = record { modal = m; in_cell = b; count = c; weight = w }

@@ -1,7 +1,7 @@
 -- The numbers that name records give to strings (SEMI P39, CELLNAME record, TEXTSTRING record). Records are listed newest
 -- first. `given` is a class of name records: of a record of the class the string, and the number where it gives one; of any
 -- other record None.
-use Rattle.std.specs.Prelude.{◌≡◌, ◌≢◌, ℕ, ◌+◌, ◌≤◌, nat_eq, ◌==◌, Bool, true, false, not, cond, List, [], ◌∷◌, length, Option, None, Some, unwrap_or}
+use Rattle.std.specs.Prelude.{◌≡◌, ◌≢◌, ℕ, ◌+◌, ◌≤◌, nat_eq, ◌==◌, Bool, true, false, not, List, [], ◌∷◌, length, Option, None, Some, unwrap_or}
 use Rattle.std.specs.Ordering.{nat_cmp}
 use Rattle.std.specs.Cmp.Lexicographic.{pointwise}
 use Rattle.std.specs.Map.{lookup}

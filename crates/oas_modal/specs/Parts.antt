@@ -1,5 +1,5 @@
 -- What a reader keeps, as where it stands.
-use Rattle.std.specs.Prelude.{◌≡◌, ℕ, ◌≤◌, ◌++◌, Option, None, is_some, List}
+use Rattle.std.specs.Prelude.{◌≡◌, ◌≤◌, ◌++◌, Option, is_some, List}
 use Rattle.std.specs.List.{AllByRecursion}
 use Rattle.std.specs.Option.{option_to_list}
 use Rattle.oas_num.specs.declared.refusals.Why.{Why}

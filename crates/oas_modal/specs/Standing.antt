@@ -1,9 +1,7 @@
 -- What a record is judged by, why it is refused, and what it changes. m are the variables after it.
-use Rattle.std.specs.Prelude.{ℕ, ◌+◌, nat_lt, not, Bool, true, false, cond, Option, None, Some, List, [], ◌∷◌, ◌++◌, length, sum_by}
-use Rattle.std.specs.Option.{option_or}
+use Rattle.std.specs.Prelude.{ℕ, ◌+◌, nat_lt, Bool, true, false, cond, Option, None, Some, List, [], ◌∷◌, ◌++◌, length, sum_by}
 use Rattle.oas_num.specs.declared.refusals.Why.{Why}
-use Rattle.oas_num.specs.declared.refusals.Why.TheVariants.{OutOfPlace, CoordinateRange, TooHeavy}
-use Rattle.oas_shape.specs.Steps.{still}
+use Rattle.oas_num.specs.declared.refusals.Why.TheVariants.{OutOfPlace, TooHeavy}
 use Rattle.oas_record.specs.declared.references.CellRef.{CellRef}
 use Rattle.oas_record.specs.declared.references.CellRef.TheVariants as cell
 use Rattle.oas_record.specs.declared.records.Record.{Record}
@@ -13,8 +11,8 @@ use Rattle.oas_layout.specs.declared.limits.Limits.{Limits}
 use Rattle.oas_drawing.specs.declared.drawn.Drawn.{Drawn}
 use Rattle.oas_drawing.specs.Modal.{ModalState, stepped}
 use Rattle.oas_drawing.specs.Drawn.{weight_so_far}
-use Rattle.oas_drawing.specs.Drawing.{drawn_at, copies_at, offsets_of}
-use Rattle.oas_drawing.specs.Reasons.{first_of, fits_if, draw_reason}
+use Rattle.oas_drawing.specs.Drawing.{copies_at, offsets_of}
+use Rattle.oas_drawing.specs.Reasons.{first_of, draw_reason}
 use Rattle.oas_modal.specs.Held.{Held, with_drawn}
 
 -- the modal variables, whether a cell is open, how many elements there are, and what all weighs
@@ -58,13 +56,9 @@ took_with s r m =
 abbrev pub took : Standing → Record → Standing
 took s r = took_with s r (stepped s.modal r)
 
--- why an element in a cell is refused: as it is drawn, or because the record itself stands outside the grid, whatever its
--- copies do (own rule; in a file the first copy stands there)
-abbrev pub place_reason : ModalState → Record → Option Why
-place_reason m r = first_of ((not (fits_if (drawn_at m r still)), CoordinateRange) ∷ [])
-
+-- why an element record is refused
 abbrev pub element_reason : Limits → Standing → ModalState → Record → Option Why
-element_reason limits s m r = cond s.in_cell (option_or (draw_reason limits s.count s.weight m r) (place_reason m r)) (Some (OutOfPlace (id_of r)))
+element_reason limits s m r = cond s.in_cell (draw_reason limits s.count s.weight m r) (Some (OutOfPlace (id_of r)))
 
 -- why a record is refused; `names` and `strings` say it of records that name cells and text strings. END is for the caller
 -- (own rule).

@@ -1,12 +1,12 @@
 //! The copies of an element record, held one by one.
 
-ghost use Rattle.std.specs.Prelude.{◌≡◌, ◌⊎◌, ◌+◌, ◌<◌, ◌≤◌, ◌^◌, ℕ, true, length, None, OnOk, IfOk, IfErr};
+ghost use Rattle.std.specs.Prelude.{◌≡◌, ◌⊎◌, ◌*◌, ◌<◌, ◌≤◌, ◌^◌, ℕ, length, None, OnOk, IfOk, IfErr};
 ghost use Rattle.oas_num.specs.declared.refusals.Why.TheVariants.{Memory};
 ghost use Rattle.oas_shape.specs.Steps.{still};
 ghost use Rattle.oas_layout.specs.Bag.{items};
 ghost use Rattle.oas_drawing.specs.Drawn.{weight_so_far};
 ghost use Rattle.oas_drawing.specs.Drawing.{drawn_by, number_if, offset_if};
-ghost use Rattle.oas_drawing.specs.Reasons.{weight_if, fits_if, fault_of};
+ghost use Rattle.oas_drawing.specs.Reasons.{weight_if, fault_of};
 ghost use Rattle.oas_modal.specs.Standing.{drew};
 ghost use Rattle.oas_modal.specs.Copying.{first_copies};
 
@@ -25,17 +25,7 @@ fn weight_so_far(drawn: &Drawn) -> u64
     }
 }
 
-/// What the element of a record weighs, where it lies within the grid as it stands itself, apart from its repetition.
-pub(crate) fn weight_in_place(alloc: Global, modal: &ModalVariables, kind: Kind) -> Result<u64, Why>
-    ensures weight { IfOk result (λ weight. weight ≡ weight_if (drawn_by modal.now kind still)) }
-    ensures fits { OnOk result (fault_of (drawn_by modal.now kind still) ≡ None) }
-    ensures err { IfErr result (λ why. (why ≡ Memory) ⊎ (fault_of (drawn_by modal.now kind still) ≡ Some why)) }
-{
-    let drawn = modal.copy(alloc, kind, false, 0)?;
-    Ok(weight_so_far(&drawn))
-}
-
-/// Holds each copy of an element record, one at a time.
+/// Holds each copy of an element record, one at a time, and gives what they weigh together.
 pub(crate) fn hold_copies(
     alloc: Global,
     modal: &ModalVariables,
@@ -43,20 +33,24 @@ pub(crate) fn hold_copies(
     kind: Kind,
     repeated: bool,
     number: u64,
-) -> Result<(), Why>
+) -> Result<u64, Why>
     requires all { number ≡ number_if repeated modal.now.repetition }
     requires small { number ≤ 2 ^ 26 }
+    requires light { number * weight_if (drawn_by modal.now kind still) ≤ 2 ^ 30 }
     requires room { length (items held.old.1) ≤ 2 ^ 26 }
+    ensures weight { IfOk result (λ weight. weight ≡ number * weight_if (drawn_by modal.now kind still)) }
     ensures held { OnOk result (held.new ≡ drew held.old (first_copies modal.now kind repeated number)) }
     ensures fit { OnOk result ((i : ℕ) → i < number → fault_of (drawn_by modal.now kind (offset_if repeated modal.now.repetition i)) ≡ None) }
     ensures err { IfErr result (λ why. (why ≡ Memory) ⊎ ((i : ℕ) × (i < number) × (fault_of (drawn_by modal.now kind (offset_if repeated modal.now.repetition i)) ≡ Some why))) }
 {
+    let mut weight = 0;
     for i in 0..number {
         let drawn = modal.copy(alloc, kind, repeated, i)?;
+        weight += weight_so_far(&drawn);
         match held.add(drawn, 1) {
             Ok(()) => {}
             Err(_) => return Err(Why::Memory),
         }
     }
-    Ok(())
+    Ok(weight)
 }

@@ -10,7 +10,7 @@ ghost use Rattle.oas_drawing.specs.Drawing.{kind_of};
 ghost use Rattle.oas_modal.specs.Standing.{cell_weight};
 ghost use Rattle.oas_modal.specs.Parts.{Took, Sound, cells, reason_of};
 
-use crate::copying::{hold_copies, weight_in_place};
+use crate::copying::hold_copies;
 use crate::held::HeldCell;
 use crate::parts::Parts;
 use oas_drawing::{Kind, ModalVariables, repeats};
@@ -70,10 +70,9 @@ fn draw(parts: &mut Parts, kind: Kind, next: Record) -> Result<(), Why>
     let number = parts
         .modal
         .copies(kind, repeated, parts.limits, parts.count, parts.weight)?;
-    let one = weight_in_place(parts.alloc, &parts.modal, kind)?;
-    hold_copies(parts.alloc, &parts.modal, &mut held, kind, repeated, number)?;
+    let weight = hold_copies(parts.alloc, &parts.modal, &mut held, kind, repeated, number)?;
     parts.count += number;
-    parts.weight += number * one;
+    parts.weight += weight;
     parts.cell = Some(held);
     Ok(())
 }

@@ -1,5 +1,5 @@
-use Rattle.std.proofs.Common.{arith}
-use Rattle.oas_modal.proofs.CopyLemmas.{held_next, room_next, fit_next}
+use Rattle.std.proofs.Common.{arith, ap, ◌∙◌, ◌+◌}
+use Rattle.oas_modal.proofs.CopyLemmas.{held_next, room_next, fit_next, weight_next, weight_room}
 use Rattle.oas_modal.proofs.copying.hold_copies.Goals as goal
 
 pub add-requires-clause-room : goal.add-requires-clause-room
@@ -8,6 +8,11 @@ add-requires-clause-room c =
 
 pub loop-i-preserved : goal.loop-i-preserved
 loop-i-preserved c = record {
+  weight = ap (λ n. c.loop-i.weight + n) c.weight_so_far-weight.ensures ∙ weight_next c.args.modal.now c.args.kind c.args.repeated c.loop-i.i c.in_ok-drawn.drawn c.loop-i.weight c.in_ok-drawn.ensures.ok c.loop-i.invariant.weight;
   held = held_next c.args.modal.now c.args.kind c.args.repeated c.loop-i.i c.in_ok-drawn.drawn c.args.held.now c.loop-i.held _ c.in_ok-drawn.ensures.ok c.loop-i.invariant.held c.in-Ok.ensures.ok;
   fit = fit_next c.args.modal.now c.args.kind c.args.repeated c.loop-i.i c.loop-i.invariant.fit c.in_ok-drawn.ensures.fits;
 }
+
+pub overflow_add-weight : goal.overflow_add-weight
+overflow_add-weight c =
+    omega (arith, c.weight_so_far-weight.ensures, weight_room c.args.modal.now c.args.kind c.args.repeated c.loop-i.i c.args.number c.in_ok-drawn.drawn c.loop-i.weight c.in_ok-drawn.ensures.ok c.loop-i.invariant.weight c.loop-i-test.true c.requires.light)

@@ -1,6 +1,6 @@
 use Rattle.std.proofs.Common.{arith, sym, ◌∙◌, inr}
 use Rattle.std.proofs.lemmas.Result.{err_from_is_err_and}
-use Rattle.oas_modal.proofs.DrawLemmas.{InCell, refused_number, refused_place, refused_copy, allowed_draw, took_draw, sound_draw, number_fits, held_room}
+use Rattle.oas_modal.proofs.DrawLemmas.{InCell, refused_number, refused_copy, allowed_draw, took_draw, sound_draw, number_fits, held_room}
 use Rattle.oas_modal.proofs.taking.draw.Goals as goal
 
 pub returns-in_err-number-clause-err : goal.returns-in_err-number-clause-err
@@ -10,26 +10,26 @@ returns-in_err-number-clause-err c =
     record { kind_is = c.requires.kind; held_is = sym c.take.ensures.value ∙ c.in-Some.is; modal_is = c.step.ensures; repeats_is = c.repeats-repeated.ensures; sound = c.requires.sound } in
     rw (p.1, p.2) (inr (refused_number _ _ _ _ _ _ in_cell _ c.in_err-number.ensures.err))
 
-pub returns-in_err-one-clause-err : goal.returns-in_err-one-clause-err
-returns-in_err-one-clause-err c =
-    let p = err_from_is_err_and c.from_residual-in_err-one.result c.from_residual-in_err-one.ensures.1 in
+pub returns-in_err-weight-clause-err : goal.returns-in_err-weight-clause-err
+returns-in_err-weight-clause-err c =
+    let p = err_from_is_err_and c.from_residual-in_err-weight.result c.from_residual-in_err-weight.ensures.1 in
     let in_cell : InCell c.args.parts.now c.args.next c.args.kind c.in-Some.held c.step.new.modal c.repeats-repeated.result =
     record { kind_is = c.requires.kind; held_is = sym c.take.ensures.value ∙ c.in-Some.is; modal_is = c.step.ensures; repeats_is = c.repeats-repeated.ensures; sound = c.requires.sound } in
-    rw (p.1, p.2) (refused_place _ _ _ _ _ _ in_cell _ c.in_ok-number.ensures.ok.0 c.in_err-one.ensures.err)
-
-pub returns-in_err-hold_copies-clause-err : goal.returns-in_err-hold_copies-clause-err
-returns-in_err-hold_copies-clause-err c =
-    let p = err_from_is_err_and c.from_residual-in_err-hold_copies.result c.from_residual-in_err-hold_copies.ensures.1 in
-    let in_cell : InCell c.args.parts.now c.args.next c.args.kind c.in-Some.held c.step.new.modal c.repeats-repeated.result =
-    record { kind_is = c.requires.kind; held_is = sym c.take.ensures.value ∙ c.in-Some.is; modal_is = c.step.ensures; repeats_is = c.repeats-repeated.ensures; sound = c.requires.sound } in
-    rw (p.1, p.2) (refused_copy _ _ _ _ _ _ in_cell _ _ c.in_ok-number.ensures.ok.0 c.in_ok-number.ensures.ok.1 c.in_err-hold_copies.ensures.err)
+    rw (p.1, p.2) (refused_copy _ _ _ _ _ _ in_cell _ _ c.in_ok-number.ensures.ok.0 c.in_ok-number.ensures.ok.1 c.in_err-weight.ensures.err)
 
 pub hold_copies-requires-clause-small : goal.hold_copies-requires-clause-small
 hold_copies-requires-clause-small c =
     let in_cell : InCell c.args.parts.now c.args.next c.args.kind c.in-Some.held c.step.new.modal c.repeats-repeated.result =
     record { kind_is = c.requires.kind; held_is = sym c.take.ensures.value ∙ c.in-Some.is; modal_is = c.step.ensures; repeats_is = c.repeats-repeated.ensures; sound = c.requires.sound } in
-    let fits = number_fits _ _ _ _ _ _ in_cell _ _ c.in_ok-number.ensures.ok.0 c.in_ok-number.ensures.ok.1 c.in_ok-one.ensures.weight in
+    let fits = number_fits _ _ _ _ _ _ in_cell _ c.in_ok-number.ensures.ok.0 c.in_ok-number.ensures.ok.1 in
     omega (arith, fits.0, c.args.parts.now.limits.few)
+
+pub hold_copies-requires-clause-light : goal.hold_copies-requires-clause-light
+hold_copies-requires-clause-light c =
+    let in_cell : InCell c.args.parts.now c.args.next c.args.kind c.in-Some.held c.step.new.modal c.repeats-repeated.result =
+    record { kind_is = c.requires.kind; held_is = sym c.take.ensures.value ∙ c.in-Some.is; modal_is = c.step.ensures; repeats_is = c.repeats-repeated.ensures; sound = c.requires.sound } in
+    let fits = number_fits _ _ _ _ _ _ in_cell _ c.in_ok-number.ensures.ok.0 c.in_ok-number.ensures.ok.1 in
+    omega (arith, fits.1, c.args.parts.now.limits.light)
 
 pub hold_copies-requires-clause-room : goal.hold_copies-requires-clause-room
 hold_copies-requires-clause-room c = omega (arith, held_room c.args.parts.now c.in-Some.held c.requires.sound (sym c.take.ensures.value ∙ c.in-Some.is), c.args.parts.now.limits.few)
@@ -38,37 +38,30 @@ pub overflow_add-parts : goal.overflow_add-parts
 overflow_add-parts c =
     let in_cell : InCell c.args.parts.now c.args.next c.args.kind c.in-Some.held c.step.new.modal c.repeats-repeated.result =
     record { kind_is = c.requires.kind; held_is = sym c.take.ensures.value ∙ c.in-Some.is; modal_is = c.step.ensures; repeats_is = c.repeats-repeated.ensures; sound = c.requires.sound } in
-    let fits = number_fits _ _ _ _ _ _ in_cell _ _ c.in_ok-number.ensures.ok.0 c.in_ok-number.ensures.ok.1 c.in_ok-one.ensures.weight in
+    let fits = number_fits _ _ _ _ _ _ in_cell _ c.in_ok-number.ensures.ok.0 c.in_ok-number.ensures.ok.1 in
     omega (arith, fits.0, c.args.parts.now.limits.few)
-
-pub overflow_mul-parts : goal.overflow_mul-parts
-overflow_mul-parts c =
-    let in_cell : InCell c.args.parts.now c.args.next c.args.kind c.in-Some.held c.step.new.modal c.repeats-repeated.result =
-    record { kind_is = c.requires.kind; held_is = sym c.take.ensures.value ∙ c.in-Some.is; modal_is = c.step.ensures; repeats_is = c.repeats-repeated.ensures; sound = c.requires.sound } in
-    let fits = number_fits _ _ _ _ _ _ in_cell _ _ c.in_ok-number.ensures.ok.0 c.in_ok-number.ensures.ok.1 c.in_ok-one.ensures.weight in
-    omega (arith, fits.1, c.args.parts.now.limits.light)
 
 pub overflow_add-parts-2 : goal.overflow_add-parts-2
 overflow_add-parts-2 c =
     let in_cell : InCell c.args.parts.now c.args.next c.args.kind c.in-Some.held c.step.new.modal c.repeats-repeated.result =
     record { kind_is = c.requires.kind; held_is = sym c.take.ensures.value ∙ c.in-Some.is; modal_is = c.step.ensures; repeats_is = c.repeats-repeated.ensures; sound = c.requires.sound } in
-    let fits = number_fits _ _ _ _ _ _ in_cell _ _ c.in_ok-number.ensures.ok.0 c.in_ok-number.ensures.ok.1 c.in_ok-one.ensures.weight in
-    omega (arith, fits.1, c.args.parts.now.limits.light)
+    let fits = number_fits _ _ _ _ _ _ in_cell _ c.in_ok-number.ensures.ok.0 c.in_ok-number.ensures.ok.1 in
+    omega (arith, fits.1, c.in_ok-weight.ensures.weight, c.args.parts.now.limits.light)
 
 pub returns-clause-reason : goal.returns-clause-reason
 returns-clause-reason c =
     let in_cell : InCell c.args.parts.now c.args.next c.args.kind c.in-Some.held c.step.new.modal c.repeats-repeated.result =
     record { kind_is = c.requires.kind; held_is = sym c.take.ensures.value ∙ c.in-Some.is; modal_is = c.step.ensures; repeats_is = c.repeats-repeated.ensures; sound = c.requires.sound } in
-    allowed_draw _ _ _ _ _ _ in_cell _ c.in_ok-number.ensures.ok.0 c.in_ok-number.ensures.ok.1 c.in_ok-one.ensures.fits c.in_ok-hold_copies.ensures.fit
+    allowed_draw _ _ _ _ _ _ in_cell _ c.in_ok-number.ensures.ok.0 c.in_ok-number.ensures.ok.1 c.in_ok-weight.ensures.fit
 
 pub returns-clause-new : goal.returns-clause-new
 returns-clause-new c =
     let in_cell : InCell c.args.parts.now c.args.next c.args.kind c.in-Some.held c.step.new.modal c.repeats-repeated.result =
     record { kind_is = c.requires.kind; held_is = sym c.take.ensures.value ∙ c.in-Some.is; modal_is = c.step.ensures; repeats_is = c.repeats-repeated.ensures; sound = c.requires.sound } in
-    took_draw _ _ _ _ _ _ in_cell _ _ _ c.in_ok-number.ensures.ok.0 c.in_ok-number.ensures.ok.1 c.in_ok-one.ensures.weight c.in_ok-hold_copies.ensures.held
+    took_draw _ _ _ _ _ _ in_cell _ _ _ c.in_ok-number.ensures.ok.0 c.in_ok-number.ensures.ok.1 c.in_ok-weight.ensures.weight c.in_ok-weight.ensures.held
 
 pub returns-clause-sound : goal.returns-clause-sound
 returns-clause-sound c =
     let in_cell : InCell c.args.parts.now c.args.next c.args.kind c.in-Some.held c.step.new.modal c.repeats-repeated.result =
     record { kind_is = c.requires.kind; held_is = sym c.take.ensures.value ∙ c.in-Some.is; modal_is = c.step.ensures; repeats_is = c.repeats-repeated.ensures; sound = c.requires.sound } in
-    sound_draw _ _ _ _ _ _ in_cell _ _ _ c.in_ok-number.ensures.ok.0 c.in_ok-number.ensures.ok.1 c.in_ok-one.ensures.weight c.in_ok-one.ensures.fits c.in_ok-hold_copies.ensures.fit c.in_ok-hold_copies.ensures.held
+    sound_draw _ _ _ _ _ _ in_cell _ _ _ c.in_ok-number.ensures.ok.0 c.in_ok-number.ensures.ok.1 c.in_ok-weight.ensures.weight c.in_ok-number.ensures.near c.in_ok-weight.ensures.fit c.in_ok-weight.ensures.held
