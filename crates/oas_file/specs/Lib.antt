@@ -1,0 +1,5 @@
+pub mod Files
+pub mod Acceptance
+pub mod Places
+pub mod Deciding
+pub mod Reading

@@ -1,0 +1,3 @@
+pub mod Records
+pub mod Canonical
+pub mod Bytes
