@@ -1,4 +1,5 @@
 pub mod Files
+pub mod FileLaws
 pub mod Acceptance
 pub mod Places
 pub mod Deciding
