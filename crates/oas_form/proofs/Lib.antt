@@ -1,0 +1,2 @@
+pub mod OrderedLayouts
+pub mod Sizes
