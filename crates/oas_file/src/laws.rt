@@ -1,0 +1,13 @@
+//! Laws of the definitions, each the contract of a function that does nothing.
+ghost use Rattle.oas_file.specs.Files.{OneReading};
+ghost use Rattle.oas_file.specs.Acceptance.{OneMeaning};
+
+/// One byte list has at most one START and one list of records.
+pub fn one_reading()
+    ensures { OneReading }
+{}
+
+/// A file means one layout.
+pub fn one_meaning()
+    ensures { OneMeaning }
+{}

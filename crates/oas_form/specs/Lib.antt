@@ -1,0 +1,4 @@
+pub mod Records
+pub mod Canonical
+pub mod Bytes
+pub mod FormLaws

@@ -1,0 +1,4 @@
+//! The canonical form of a layout: what it is, and its laws.
+#![tactic(auto)]
+
+pub mod laws;
