@@ -1,2 +1,3 @@
+pub mod MeantLemmas
 pub mod OrderedLayouts
 pub mod Sizes
