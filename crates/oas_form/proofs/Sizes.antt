@@ -1,6 +1,6 @@
 -- Layouts that are the same have as many elements. Under profile one they weigh as much, and one in order weighs no more
 -- than any that is the same.
-use Rattle.std.proofs.Common.{◌≡◌, ℕ, ◌+◌, ◌*◌, ◌<◌, ◌≤◌, List, [], ◌∷◌, Bool, true, false, cond, Option, None, Some, is_some, unwrap_or, length, refl, sym, ◌∙◌, ap, subst, T, ◌&&◌, ◌||◌, arith}
+use Rattle.std.proofs.Common.{◌≡◌, ℕ, ◌+◌, ◌<◌, ◌≤◌, List, [], ◌∷◌, Bool, true, false, cond, Option, None, Some, is_some, unwrap_or, length, refl, sym, ◌∙◌, ap, T, ◌&&◌, ◌||◌, arith}
 use Rattle.std.specs.Prelude.{sum_by, ◌==◌}
 use Rattle.std.specs.List.{AllByRecursion, list_any}
 use Rattle.std.specs.List.Sorted.{IsStrictlySortedBy}
@@ -18,7 +18,7 @@ use Rattle.oas_layout.specs.declared.element.Element.{Element}
 use Rattle.oas_layout.specs.Element.{element_cmp}
 use Rattle.oas_layout.specs.ElementLaws.{element_total}
 use Rattle.oas_layout.specs.Ascending.{Ascends}
-use Rattle.oas_layout.specs.Bag.{items, put_more, with_more, IsTally, IsBag}
+use Rattle.oas_layout.specs.Bag.{items, put_more, with_more, IsBag}
 use Rattle.oas_layout.specs.BagLaws.{adding}
 use Rattle.oas_layout.specs.Same.{same_element, normal, IsNormal}
 use Rattle.oas_layout.specs.SameLaws.{normal-normal, weight_of-normal, weight_of-normal-le}
