@@ -1,3 +1,4 @@
+pub mod Forms
 pub mod MeantLemmas
 pub mod OrderedLayouts
 pub mod Sizes
