@@ -1,0 +1,3 @@
+pub mod ElementSpelling
+pub mod Lengths
+pub mod Spelling

@@ -2,3 +2,5 @@ pub mod Records
 pub mod Canonical
 pub mod Bytes
 pub mod FormLaws
+pub mod Sound
+pub mod Spelling
