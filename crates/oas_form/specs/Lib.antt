@@ -1,4 +1,5 @@
 pub mod Records
+pub mod RecordMeaning
 pub mod Canonical
 pub mod Bytes
 pub mod FormLaws
