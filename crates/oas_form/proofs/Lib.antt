@@ -1,5 +1,7 @@
 pub mod ElementSpelling
+pub mod FieldsFit
 pub mod Forms
+pub mod InGrid
 pub mod Lengths
 pub mod MeantLemmas
 pub mod OrderedLayouts
