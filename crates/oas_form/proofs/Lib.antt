@@ -1,1 +1,3 @@
 pub mod MeantLemmas
+pub mod KindLemmas
+pub mod ShortestLemmas
