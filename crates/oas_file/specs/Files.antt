@@ -1,0 +1,35 @@
+-- What a file is: its front, its records and END, spelled in a style (SEMI P39, OASIS file).
+use Rattle.std.specs.Prelude.{◌≡◌, ℕ, List, ◌++◌}
+use Rattle.oas_num.specs.Grammar.{IsPair, IsSuch, IsEach}
+use Rattle.oas_num.specs.Style.{Style, Any}
+use Rattle.oas_record.specs.declared.heads.Head.{Head}
+use Rattle.oas_record.specs.declared.records.Record.{Record}
+use Rattle.oas_record.specs.declared.records.Record.TheVariants.{End}
+use Rattle.oas_record.specs.Heads.{head_in}
+use Rattle.oas_record.specs.Records.{record_in, records_in, IsInner}
+
+abbrev pub Parts : Type 0
+Parts = Head × (List Record × Record)
+
+-- the magic and START, then records and END, by START's word on where the table-offsets stand
+abbrev pub file_in : Style → Parts → List ℕ → Type 0
+file_in style = IsPair (head_in style) (λ head. records_in style head.flag_in_end)
+
+-- the bytes are a file with this START and these records, spelled in that style
+pub record FileIn (style : Style) (head : Head) (rs : List Record) (bytes : List ℕ) : Type 0 where
+  pub spelled : file_in style (head, (rs, End)) bytes
+
+abbrev pub FileOf : Head → List Record → List ℕ → Type 0
+FileOf head rs bytes = FileIn Any head rs bytes
+
+-- the bytes are the front of a file: the magic, START and these records
+pub record FrontOf (head : Head) (rs : List Record) (bytes : List ℕ) : Type 0 where
+  pub start : List ℕ
+  pub body : List ℕ
+  pub begun : head_in Any head start
+  pub each : IsEach (IsSuch IsInner (record_in Any head.flag_in_end)) rs body
+  pub joined : bytes ≡ start ++ body
+
+-- one byte list has at most one START and one list of records
+abbrev pub OneReading : Type 0
+OneReading = (style other : Style) (head first : Head) (rs ss : List Record) (b : List ℕ) → FileIn style head rs b → FileIn other first ss b → (head ≡ first) × (rs ≡ ss)

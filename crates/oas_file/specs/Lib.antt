@@ -1,0 +1,6 @@
+pub mod Files
+pub mod FileLaws
+pub mod Acceptance
+pub mod Places
+pub mod Deciding
+pub mod Reading

@@ -1,0 +1,69 @@
+-- What reading a layout from a source does.
+use Rattle.std.specs.Prelude.{◌≡◌, ◌≢◌, ℕ, Bool, true, false, List, [], ◌++◌, Result, Ok, Err, IsTrue}
+use Rattle.oas_num.specs.declared.refusals.Why.{Why}
+use Rattle.oas_num.specs.declared.refusals.Refusal.{Refusal}
+use Rattle.oas_num.specs.declared.refusals.Why.TheVariants.{Truncated, Read, InputTooLong, Write, Memory}
+use Rattle.oas_num.specs.Script.{Script, Takes, IsAtEnd, HasFailed, IsTooLong}
+use Rattle.oas_num.specs.Reading.{is_cut}
+use Rattle.oas_layout.specs.declared.limits.Limits.{Limits}
+use Rattle.oas_layout.specs.declared.profile.Profile.{Profile}
+use Rattle.oas_layout.specs.Meaning.{Meaning, SameLayout}
+use Rattle.oas_layout.specs.Contents.{Contents, meaning_of}
+use Rattle.oas_file.specs.Acceptance.{Accepted, Means}
+use Rattle.oas_file.specs.Places.{RefusedAt}
+use Rattle.oas_file.specs.Deciding.{IsReasoned}
+
+-- The bytes decided, and not the source's end, a device or the memory.
+abbrev pub decides : Why → Bool
+decides Truncated = false
+decides Read = false
+decides InputTooLong = false
+decides Write = false
+decides Memory = false
+decides _ = true
+
+-- the reason lies in the file, and not in a device, a limit of the source, or the memory
+abbrev pub is_of_file : Why → Bool
+is_of_file Read = false
+is_of_file InputTooLong = false
+is_of_file Write = false
+is_of_file Memory = false
+is_of_file _ = true
+
+-- all that the source gave is an accepted file, of which this is the layout
+pub record IsRead (limits : Limits) (profile : Profile) (old : Script) (l : Contents) (new : Script) : Type 0 where
+  pub bytes : List ℕ
+  pub takes : Takes old bytes new
+  pub ended : IsAtEnd new
+  pub accepted : Accepted limits bytes
+  pub meaning : Meaning
+  pub means : Means bytes meaning
+  pub same : SameLayout profile meaning (meaning_of l)
+  pub within : l.limits ≡ limits
+  pub by : l.profile ≡ profile
+
+-- No accepted file begins with what was taken, or the source has ended and what was taken is none, or a device or the memory
+-- failed. Where the input was cut off, what was taken goes on after no accepted file.
+pub record IsRefused (limits : Limits) (old : Script) (why : Why) (new : Script) : Type 0 where
+  pub bytes : List ℕ
+  pub takes : Takes old bytes new
+  pub decided : IsTrue (decides why) → (more : List ℕ) → Accepted limits (bytes ++ more) → ⊥
+  pub cut : IsTrue (is_cut why) → (front rest : List ℕ) → front ++ rest ≡ bytes → Accepted limits front → rest ≡ []
+  pub truncated : why ≡ Truncated → (Accepted limits bytes → ⊥) × IsAtEnd new
+  pub device : why ≡ Read → HasFailed new
+  pub too_long : why ≡ InputTooLong → IsTooLong new
+  pub reading : why ≢ Write
+
+-- Of a source that had given nothing before: the refusal's offset is a place at which each file is refused that goes on so;
+-- where the source has ended, it goes on by nothing.
+pub record IsPlaced (limits : Limits) (old : Script) (refusal : Refusal) (new : Script) : Type 0 where
+  pub bytes : List ℕ
+  pub takes : Takes old bytes new
+  pub placed : old.given ≡ 0 → IsTrue (is_of_file refusal.why) → (more : List ℕ) → (IsAtEnd new → more ≡ []) → RefusedAt limits (bytes ++ more) refusal.at
+
+abbrev pub Refuses : Limits → Script → Refusal → Script → Type 0
+Refuses limits old refusal new = IsRefused limits old refusal.why new × IsPlaced limits old refusal new × IsReasoned limits old refusal new
+
+abbrev pub ReadsLayout : Limits → Profile → Script → Result Contents Refusal → Script → Type 0
+ReadsLayout limits profile old (Ok l) new = IsRead limits profile old l new
+ReadsLayout limits profile old (Err refusal) new = Refuses limits old refusal new

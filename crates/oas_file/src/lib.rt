@@ -1,0 +1,4 @@
+//! A whole file: what it is, what it means, which files are accepted, and reading its layout.
+#![tactic(auto)]
+
+pub mod laws;

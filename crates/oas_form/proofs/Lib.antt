@@ -1,0 +1,6 @@
+pub mod ElementSpelling
+pub mod Lengths
+pub mod Spelling
+pub mod MeantLemmas
+pub mod OrderedLayouts
+pub mod Sizes

@@ -1,0 +1,5 @@
+use Rattle.oas_form.specs.FormLaws as law
+use Rattle.oas_form.proofs.laws.form_is_accepted.Goals as goal
+
+pub returns : goal.returns
+returns c = law.form_is_accepted

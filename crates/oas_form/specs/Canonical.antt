@@ -1,0 +1,85 @@
+-- The one spelling of a layout, judged on bytes (own rule).
+use Rattle.std.specs.Prelude.{◌≡◌, ℕ, ◌≤◌, List, false}
+use Rattle.std.specs.List.{AllByRecursion}
+use Rattle.std.specs.List.Sorted.{IsStrictlySortedBy}
+use Rattle.std.specs.Ordering.{nat_cmp}
+use Rattle.std.specs.Cmp.Lexicographic.{slice_cmp}
+use Rattle.std.specs.Map.{keys_of}
+use Rattle.oas_num.specs.Style.{Shortest}
+use Rattle.oas_record.specs.declared.heads.Head.{Head}
+use Rattle.oas_record.specs.declared.records.Record.{Record}
+use Rattle.oas_layout.specs.declared.limits.Limits.{Limits}
+use Rattle.oas_layout.specs.declared.profile.Profile.{Profile}
+use Rattle.oas_layout.specs.declared.profile.Profile.TheVariants.{One}
+use Rattle.oas_layout.specs.Element.{element_cmp}
+use Rattle.oas_layout.specs.Ascending.{Ascends}
+use Rattle.oas_layout.specs.Same.{IsNormal}
+use Rattle.oas_layout.specs.Meaning.{Meaning, SameLayout, element_count, cells_weight}
+use Rattle.oas_modal.specs.Meaning.{has_twice}
+use Rattle.oas_modal.specs.Stands.{records_mean}
+use Rattle.oas_file.specs.Files.{FileIn}
+use Rattle.oas_file.specs.Acceptance.{Allowed, IsWhole, Accepted, Means}
+use Rattle.oas_form.specs.Records.{Cells}
+
+-- names ascend strictly; in each cell the elements ascend, an equal one next to it, and each is in the form that the profile keeps
+pub record IsOrdered (profile : Profile) (cs : Cells) : Type 0 where
+  pub names : IsStrictlySortedBy (slice_cmp nat_cmp) (keys_of cs)
+  pub ascending : AllByRecursion (λ c. Ascends element_cmp c.1) cs
+  pub normal : AllByRecursion (λ c. AllByRecursion (IsNormal profile) c.1) cs
+
+-- An accepted file in the shortest style, and in order. In that style there are CELL by name and elements with all their
+-- fields, and no other records.
+pub record CanonicalForm (limits : Limits) (profile : Profile) (c : List ℕ) : Type 0 where
+  pub head : Head
+  pub records : List Record
+  pub file : FileIn Shortest head records c
+  pub allowed : Allowed limits records
+  pub whole : IsWhole limits records
+  pub ordered : IsOrdered profile (records_mean head.unit records).cells
+
+-- c is the canonical form of b
+pub record IsCanonicalOf (limits : Limits) (profile : Profile) (b c : List ℕ) : Type 0 where
+  pub form : CanonicalForm limits profile c
+  pub source : Meaning
+  pub target : Meaning
+  pub means : Means b source
+  pub becomes : Means c target
+  pub same : SameLayout profile source target
+
+-- ---- the laws
+
+-- two canonical forms of one layout are equal, whatever their limits
+abbrev pub OneCanonicalForm : Type 0
+OneCanonicalForm = (one other : Limits) (profile : Profile) (c d : List ℕ) (m n : Meaning) → CanonicalForm one profile c → CanonicalForm other profile d → Means c m → Means d n → SameLayout profile m n → c ≡ d
+
+-- two files mean the same layout exactly if their canonical forms are equal
+abbrev pub SameExactly : Type 0
+SameExactly = (limits : Limits) (profile : Profile) (b d c e : List ℕ) (m n : Meaning) → IsCanonicalOf limits profile b c → IsCanonicalOf limits profile d e → Means b m → Means d n → (SameLayout profile m n → c ≡ e) × (c ≡ e → SameLayout profile m n)
+
+-- the canonical form of a canonical form is that form
+abbrev pub CanonicalAgain : Type 0
+CanonicalAgain = (limits : Limits) (profile : Profile) (c d : List ℕ) → CanonicalForm limits profile c → IsCanonicalOf limits profile c d → d ≡ c
+
+-- a canonical form is accepted
+abbrev pub FormIsAccepted : Type 0
+FormIsAccepted = (limits : Limits) (profile : Profile) (c : List ℕ) → CanonicalForm limits profile c → Accepted limits c
+
+-- ---- the order
+
+-- layouts in order that are the same are equal
+abbrev pub EqualInOrder : Type 0
+EqualInOrder = (profile : Profile) (m n : Meaning) → IsOrdered profile m.cells → IsOrdered profile n.cells → SameLayout profile m n → m ≡ n
+
+-- ---- what layouts that are the same have in common
+
+-- as many elements, where no name stands twice
+abbrev pub SameCount : Type 0
+SameCount = (profile : Profile) (m n : Meaning) → has_twice (keys_of m.cells) ≡ false → has_twice (keys_of n.cells) ≡ false → SameLayout profile m n → element_count n.cells ≡ element_count m.cells
+
+-- under profile one they weigh as much
+abbrev pub SameWeight : Type 0
+SameWeight = (m n : Meaning) → has_twice (keys_of m.cells) ≡ false → has_twice (keys_of n.cells) ≡ false → SameLayout One m n → cells_weight n.cells ≡ cells_weight m.cells
+
+-- one in order weighs no more than any that is the same
+abbrev pub LeastWeight : Type 0
+LeastWeight = (profile : Profile) (m n : Meaning) → has_twice (keys_of m.cells) ≡ false → IsOrdered profile n.cells → SameLayout profile m n → cells_weight n.cells ≤ cells_weight m.cells
