@@ -3,3 +3,5 @@ pub mod RecordMeaning
 pub mod Canonical
 pub mod Bytes
 pub mod FormLaws
+pub mod Sound
+pub mod Spelling

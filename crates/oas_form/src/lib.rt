@@ -3,3 +3,4 @@
 
 pub mod laws;
 pub mod meaning_laws;
+pub mod spelling_laws;
