@@ -4,6 +4,8 @@ pub mod Forms
 pub mod InGrid
 pub mod Lengths
 pub mod MeantLemmas
+pub mod KindLemmas
+pub mod ShortestLemmas
 pub mod OrderedLayouts
 pub mod Sizes
 pub mod Spelling
