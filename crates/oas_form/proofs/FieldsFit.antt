@@ -1,5 +1,5 @@
 -- What a file in the shortest style spells are names, strings and numbers of 64 bits.
-use Rattle.std.proofs.Common.{◌≡◌, ℕ, ◌<◌, ◌^◌, Bool, true, false, List, [], ◌∷◌, ◌++◌, map, Option, None, Some, refl, sym, ap, subst, ◌∙◌, arith}
+use Rattle.std.proofs.Common.{◌≡◌, ℕ, ◌<◌, ◌^◌, Bool, true, false, List, [], ◌∷◌, ◌++◌, map, Option, Some, ap, subst, ◌∙◌, arith}
 use Rattle.std.specs.List.{AllByRecursion}
 use Rattle.oas_num.specs.Grammar.{IsSuch, IsThere, IsEach, IsByte}
 use Rattle.oas_num.specs.Style.{Shortest, unsigned_in}
@@ -11,7 +11,6 @@ use Rattle.oas_record.specs.declared.records.Record.{Record}
 use Rattle.oas_record.specs.declared.records.Record.TheVariants as record_of
 use Rattle.oas_record.specs.declared.references.CellRef.{CellRef}
 use Rattle.oas_record.specs.declared.references.CellRef.TheVariants as cell
-use Rattle.oas_record.specs.declared.references.TextRef.{TextRef}
 use Rattle.oas_record.specs.declared.references.TextRef.TheVariants as text
 use Rattle.oas_record.specs.declared.placements.Placement.{Placement as PlacementRecord}
 use Rattle.oas_record.specs.declared.texts.Text.{Text as TextRecord}
@@ -31,7 +30,7 @@ use Rattle.oas_record.specs.Records.{record_in, IsInner}
 use Rattle.oas_layout.specs.declared.element.Element.{Element}
 use Rattle.oas_layout.specs.declared.element.Element.TheVariants.{Placement, Text, Rectangle, Polygon, Path, Circle}
 use Rattle.oas_form.specs.Records.{Cells, element_record, records_of}
-use Rattle.oas_form.specs.Sound.{Fits, FitsText, FitsRectangle, FitsPolygon, FitsPath, FitsCircle, IsUnit}
+use Rattle.oas_layout.specs.Sound.{Fits, FitsText, FitsRectangle, FitsPolygon, FitsPath, FitsCircle, IsUnit}
 
 -- ---- strings, numbers, and the unit
 
@@ -62,8 +61,8 @@ unit_fits u bytes h = record {
 
 -- ---- fields that are there
 
-given : {V : Type 0} (here : Bool) (spells : V → List ℕ → Type 0) (o : Option V) (v : V) (bytes : List ℕ) → o ≡ Some v → IsThere here spells o bytes → spells v bytes
-given here spells o v bytes e h = by here (subst (λ (p : Option V). IsThere here spells p bytes) e h) where
+given : {X : Type 0} (here : Bool) (spells : X → List ℕ → Type 0) (o : Option X) (v : X) (bytes : List ℕ) → o ≡ Some v → IsThere here spells o bytes → spells v bytes
+given {X} here spells o v bytes e h = by here (subst (λ (p : Option X). IsThere here spells p bytes) e h) where
   by : (here : Bool) → IsThere here spells (Some v) bytes → spells v bytes
   by true h = h
   by false h = absurd h
