@@ -56,7 +56,11 @@ fn put_cell<K: Sink>(sink: &mut K, name: &[u8], elements: Elements<'_>) -> Resul
 }
 
 /// Puts all cells of a layout, one after another.
-pub(crate) fn put_cells<K: Sink>(sink: &mut K, layout: &Layout, cells: usize) -> Result<u64, SinkFault>
+pub(crate) fn put_cells<K: Sink>(
+    sink: &mut K,
+    layout: &Layout,
+    cells: usize,
+) -> Result<u64, SinkFault>
     requires count { cells ≡ length layout.now.cells }
     requires layout { IsLayout layout.now }
     ensures counts { Counts K.given K.failures sink.old (cells_bytes (expanded layout.now.cells)) result sink.new }

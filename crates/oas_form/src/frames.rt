@@ -22,7 +22,9 @@ const PADDING: [u8; 253] = [0; 253];
 
 /// The types of a unit's real: a whole number, one over a number, and a fraction of two.
 const WHOLE: u8 = 0;
+
 const RECIPROCAL: u8 = 2;
+
 const RATIO: u8 = 4;
 
 /// Puts the type of a real, and its first part.

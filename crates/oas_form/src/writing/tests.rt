@@ -52,15 +52,31 @@ impl Write for Narrow {
 
 /// The cell `A`, and one rectangle.
 const CELL: &str = "0E0141";
+
 const RECTANGLE: &str = "147B01000A140000";
 
-/// The elements of one cell, in ascending order.
-const EACH_KIND: &str = "11B20142000011B701420100135B02486903000000147B01000A140000147B01000A140000153B01000403012829000129000016FB0100050F0A0A0401290000001B3B0100050000";
+/// Two placements, the second flipped; a text; two equal rectangles; a polygon, a path and a circle.
+const EACH_KIND: &str = "\
+    0E0141\
+    11B201420000\
+    11B701420000\
+    135B02486903000000\
+    147B01000A140000\
+    147B01000A140000\
+    153B010004030128290001290000\
+    16FB0100050F0A0A040129000000\
+    1B3B0100050000";
 
-/// A path of one point and a triangle, at the ends of the grid.
-const FAR: &str = "153B010004028180808080808080800100010281808080808080802000\
-                   16FB0100050F00000400808080808080808020\
-                   00";
+/// A triangle with a step as long as the grid, and a path of one point at its end.
+const FAR: &str = "\
+    0E0141\
+    153B01000402818080808080808080010001028180808080808080\
+    2000\
+    16FB0100050F000004008080808080808080\
+    2000";
+
+/// The last coordinate of the grid.
+const END: i64 = 1 << 60;
 
 /// A file of a unit and of what stands between START and END, both in hex.
 fn file(alloc: Global, unit: &str, body: &str) -> Result<Vec<u8>, Fail> {
@@ -88,7 +104,7 @@ fn points(alloc: Global, list: &[(i64, i64)]) -> Result<Points, AllocError> {
 /// A draft with no cell.
 fn draft(alloc: Global, num: u64, den: u64) -> Result<Draft, Fail> {
     let unit = Fraction::reduced(num, den).ok_or("no unit")?;
-    Ok(Draft::new(alloc, unit, Limits::standard(), Profile::Two)?)
+    Ok(Draft::new(alloc, unit, Limits::standard(), Profile::One)?)
 }
 
 /// A draft with the cell `A`.
@@ -101,8 +117,19 @@ fn draft_of_a(alloc: Global) -> Result<Draft, Fail> {
 /// The layout of the cell `A` and one rectangle, as often as that.
 fn copies(alloc: Global, times: u64) -> Result<Layout, Fail> {
     let mut draft = draft_of_a(alloc)?;
-    if draft.cells() == 1 {
+    if times > 0 && draft.cells() == 1 {
         draft.add_many(0, Element::rectangle(1, 0, 10, 20, 0, 0), times)?;
+    }
+    Ok(draft.seal()?)
+}
+
+/// The layout of the cell `A` and these elements.
+fn of_a(alloc: Global, elements: Vec<Element>) -> Result<Layout, Fail> {
+    let mut draft = draft_of_a(alloc)?;
+    for element in elements {
+        if draft.cells() == 1 {
+            draft.add(0, element)?;
+        }
     }
     Ok(draft.seal()?)
 }
@@ -132,13 +159,88 @@ fn no_cell_is_start_and_end(rt: HostRuntime) -> Result<(), Fail> {
 #[test]
 fn each_kind_has_all_its_fields(rt: HostRuntime) -> Result<(), Fail> {
     let alloc = rt.alloc();
-    let mut draft = draft_of_a(alloc)?;
-    if draft.cells() == 1 {
-        draft.add(0, Element::circle(1, 0, 5, 0, 0))?;
-        let line = points(alloc, &[(0, 0), (10, 0)])?;
-        draft.add(0, Element::path(1, 0, 5, 5, 5, line))?;
-        let ring = points(alloc, &[(10, 20), (10, 0), (0, 0), (0, 20), (5, 20)])?;
-        draft.add(0, Element::polygon(1, 0, ring))?;
+    let ring = points(alloc, &[(10, 20), (10, 0), (0, 0), (0, 20)])?;
+    let line = points(alloc, &[(0, 0), (10, 0)])?;
+    let text = Label::read(alloc, &mut SliceSource::new(b"\x02Hi", 1000))?;
+    let cell = name(alloc, b"\x01B")?;
+    let again = cell.try_clone(alloc)?;
+    let elements = vec![in alloc;
+        Element::circle(1, 0, 5, 0, 0),
+        Element::path(1, 0, 5, 5, 5, line),
+        Element::polygon(1, 0, ring),
+        Element::rectangle(1, 0, 10, 20, 0, 0),
+        Element::text(text, 3, 0, 0, 0),
+        Element::placement(cell, 0, 0, Turns::T3, true),
+        Element::placement(again, 0, 0, Turns::T1, false),
+        Element::rectangle(1, 0, 10, 20, 0, 0),
+    ]?;
+    let layout = of_a(alloc, elements)?;
+    let wanted = file(alloc, "00E807", EACH_KIND)?;
+    assert!(rt; gives(&rt, &layout, wanted.as_slice()));
+    Ok(())
+}
+
+#[test]
+fn steps_are_as_long_as_the_grid(rt: HostRuntime) -> Result<(), Fail> {
+    let alloc = rt.alloc();
+    let ring = points(alloc, &[(-END, 0), (END, 0), (END, 1)])?;
+    let line = points(alloc, &[(END, 0)])?;
+    let elements = vec![in alloc;
+        Element::path(1, 0, 5, 0, 0, line),
+        Element::polygon(1, 0, ring),
+    ]?;
+    let layout = of_a(alloc, elements)?;
+    let wanted = file(alloc, "00E807", FAR)?;
+    assert!(rt; gives(&rt, &layout, wanted.as_slice()));
+    Ok(())
+}
+
+#[test]
+fn equal_elements_are_each_put(rt: HostRuntime) -> Result<(), Fail> {
+    let layout = copies(rt.alloc(), 4)?;
+    let mut body = String::new(rt.alloc());
+    body.push_str(CELL)?;
+    for _ in 0..4u8 {
+        body.push_str(RECTANGLE)?;
     }
+    let wanted = file(rt.alloc(), "00E807", &body)?;
+    assert!(rt; gives(&rt, &layout, wanted.as_slice()));
+    Ok(())
+}
+
+#[test]
+fn a_fault_comes_with_what_was_taken(rt: HostRuntime) -> Result<(), Fail> {
+    let alloc = rt.alloc();
+    let layout = copies(alloc, 1)?;
+    let mut whole = Vec::new(alloc);
+    assert_eq!(rt; write_canonical(&layout, &mut whole), Ok(301));
+    for room in [0, 1, 44, 45, 100, 300] {
+        for most in [1, 7, usize::MAX] {
+            for fails in [false, true] {
+                let mut writer = Narrow::of(alloc, most, room, fails);
+                let refusal = Refusal {
+                    at: room as u64,
+                    why: Why::Write,
+                };
+                assert_eq!(rt; write_canonical(&layout, &mut writer), Err(refusal));
+                assert_eq!(rt; writer.took.len(), room);
+                assert!(rt; whole.starts_with(writer.took.as_slice()));
+            }
+        }
+    }
+    Ok(())
+}
+
+#[test]
+fn a_fault_of_the_flush_comes_after_all(rt: HostRuntime) -> Result<(), Fail> {
+    let layout = copies(rt.alloc(), 1)?;
+    let mut writer = Narrow::of(rt.alloc(), 9, 301, true);
+    writer.flushes = false;
+    let refusal = Refusal {
+        at: 301,
+        why: Why::Write,
+    };
+    assert_eq!(rt; write_canonical(&layout, &mut writer), Err(refusal));
+    assert_eq!(rt; writer.took.len(), 301);
     Ok(())
 }

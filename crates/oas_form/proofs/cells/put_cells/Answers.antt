@@ -6,7 +6,6 @@ use Rattle.oas_form.proofs.PuttingLemmas.{so_far_within}
 use Rattle.oas_form.proofs.ElementPutting.{cells_short, cell_sound, cell_light, cell_fails, cell_put, cell_within}
 use Rattle.oas_form.proofs.cells.put_cells.Goals as goal
 
-
 pub put_cell-requires-clause-sound : goal.put_cell-requires-clause-sound
 put_cell-requires-clause-sound g c = cell_sound c.args.layout.now.cells c.loop-i.i c.as_bytes.result.now c.elements.result (c.cell_name.ensures ∙ ap Some (sym c.as_bytes.ensures.bytes)) c.elements.ensures.pairs c.loop-i.invariant
 
