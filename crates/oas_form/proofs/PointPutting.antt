@@ -1,6 +1,6 @@
 -- Putting the steps between points.
-use Rattle.std.proofs.Common.{◌≡◌, ℕ, suc, ◌+◌, ◌*◌, ◌-◌, ◌<◌, ◌≤◌, ◌^◌, true, List, [], ◌∷◌, ◌++◌, length, drop, get_or, drop-cons, refl, sym, ap, subst, ◌∙◌, arith, add-one, w64, FitsSigned, to_z, of_z, Option, Some}
-use Rattle.std.specs.Prelude.{ℤ, ◌-ℤ◌, nat_abs, ◌&&◌, MatchOption}
+use Rattle.std.proofs.Common.{◌≡◌, ℕ, ◌+◌, ◌*◌, ◌-◌, ◌<◌, ◌≤◌, ◌^◌, true, List, ◌∷◌, ◌++◌, length, drop, get_or, drop-cons, sym, ap, subst, ◌∙◌, arith, add-one, w64, FitsSigned, to_z, of_z, Option, Some}
+use Rattle.std.specs.Prelude.{ℤ, ◌-ℤ◌, nat_abs, MatchOption}
 use Rattle.std.specs.List.{list_all, IsFirstAndRest}
 use Rattle.std.specs.Borrow.{Bor}
 use Rattle.std.proofs.lemmas.Bool.{and_parts}
@@ -11,7 +11,7 @@ use Rattle.oas_layout.specs.Grid.{is_coordinate, is_grid_point}
 use Rattle.oas_form.specs.Bytes.{step_bytes, list_bytes}
 use Rattle.oas_form.specs.Putting.{PutsAll}
 use Rattle.oas_form.proofs.ElementSpelling.{near}
-use Rattle.oas_form.proofs.PuttingLemmas.{PutSoFar, fails_at, part_fits, ◌▸◌}
+use Rattle.oas_form.proofs.PuttingLemmas.{PutSoFar, fails_at, ◌▸◌}
 
 -- ---- one step
 

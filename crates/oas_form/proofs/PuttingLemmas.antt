@@ -1,10 +1,8 @@
 -- Putting one part of the bytes after another.
-use Rattle.std.proofs.Common.{◌≡◌, ℕ, zero, suc, ◌*◌, ◌/◌, inl, inr, ◌+◌, ◌≤◌, List, [], ◌∷◌, ◌++◌, length, refl, sym, ap, subst, ◌∙◌, append_assoc, length-append, arith}
+use Rattle.std.proofs.Common.{◌≡◌, ℕ, ◌+◌, ◌≤◌, List, [], ◌∷◌, ◌++◌, length, refl, sym, ap, subst, ◌∙◌, append_assoc, length-append, arith}
 use Rattle.std.proofs.lemmas.List.{append-nil}
-use Rattle.std.proofs.lemmas.Bool.{cases_lt, lt-ltb, le-ltb, ne_eqb}
-use Rattle.std.specs.Prelude.{ℤ, pos, negsuc, nat_abs}
-use Rattle.oas_num.specs.Style.{code}
-use Rattle.oas_num.specs.Writing.{Puts, PutsFront, groups, shortest, shortest_signed}
+use Rattle.std.proofs.lemmas.Bool.{ne_eqb}
+use Rattle.oas_num.specs.Writing.{Puts, PutsFront, shortest}
 use Rattle.oas_form.specs.Bytes.{unit_bytes}
 use Rattle.oas_form.specs.Putting.{PutsAll}
 

@@ -1,7 +1,5 @@
-use Rattle.std.proofs.Common.{◌≡◌, Some, ap, sym, ◌∙◌, arith}
-use Rattle.std.specs.Prelude.{slice_get}
+use Rattle.std.proofs.Common.{Some, ap, sym, ◌∙◌, arith}
 use Rattle.std.proofs.lemmas.Result.{err_from_is_err_and}
-use Rattle.oas_layout.specs.Contents.{names}
 use Rattle.oas_form.proofs.PuttingLemmas.{so_far_within}
 use Rattle.oas_form.proofs.ElementPutting.{cells_short, cell_sound, cell_light, cell_fails, cell_put, cell_within}
 use Rattle.oas_form.proofs.cells.put_cells.Goals as goal

@@ -1,6 +1,6 @@
 use Rattle.std.proofs.Common.{◌≤◌, ◌^◌, subst, sym}
 use Rattle.std.specs.Prelude.{ℤ, nat_abs}
-use Rattle.oas_form.proofs.PointPutting.{across_is, up_is, across_short, up_short}
+use Rattle.oas_form.proofs.PointPutting.{across_is, up_is, up_short}
 use Rattle.oas_form.proofs.point_lists.step.Goals as goal
 
 pub returns-clause-step : goal.returns-clause-step

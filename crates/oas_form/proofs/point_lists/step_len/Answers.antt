@@ -2,7 +2,7 @@ use Rattle.std.proofs.Common.{◌≡◌, ◌+◌, ◌*◌, ℕ, length, ap, ◌�
 use Rattle.std.specs.Prelude.{nat_abs}
 use Rattle.std.proofs.lemmas.Int.{to_z-of_z}
 use Rattle.oas_num.specs.Writing.{shortest, shortest_gdelta}
-use Rattle.oas_form.proofs.Lengths.{length-shortest, length-gdelta, length-by_step}
+use Rattle.oas_form.proofs.Lengths.{length-shortest, length-by_step}
 use Rattle.oas_form.proofs.point_lists.step_len.Goals as goal
 
 pub overflow_add-result : goal.overflow_add-result
