@@ -1,0 +1,12 @@
+pub mod ElementSpelling
+pub mod FieldsFit
+pub mod Forms
+pub mod Held
+pub mod InGrid
+pub mod KindLemmas
+pub mod Lengths
+pub mod MeantLemmas
+pub mod OrderedLayouts
+pub mod ShortestLemmas
+pub mod Sizes
+pub mod Spelling

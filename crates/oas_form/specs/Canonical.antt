@@ -50,6 +50,10 @@ pub record IsCanonicalOf (limits : Limits) (profile : Profile) (b c : List ℕ) 
 abbrev pub OneCanonicalForm : Type 0
 OneCanonicalForm = (one other : Limits) (profile : Profile) (c d : List ℕ) (m n : Meaning) → CanonicalForm one profile c → CanonicalForm other profile d → Means c m → Means d n → SameLayout profile m n → c ≡ d
 
+-- a file that has canonical forms under two limits has one and the same under both
+abbrev pub LimitsApart : Type 0
+LimitsApart = (one other : Limits) (profile : Profile) (b c d : List ℕ) → IsCanonicalOf one profile b c → IsCanonicalOf other profile b d → c ≡ d
+
 -- two files mean the same layout exactly if their canonical forms are equal
 abbrev pub SameExactly : Type 0
 SameExactly = (limits : Limits) (profile : Profile) (b d c e : List ℕ) (m n : Meaning) → IsCanonicalOf limits profile b c → IsCanonicalOf limits profile d e → Means b m → Means d n → (SameLayout profile m n → c ≡ e) × (c ≡ e → SameLayout profile m n)
