@@ -1,5 +1,5 @@
 -- No line is much longer than what its element weighs.
-use Rattle.std.proofs.Common.{◌≡◌, ℕ, zero, suc, ◌+◌, ◌*◌, ◌/◌, ◌%◌, ◌==◌, ◌≤◌, Bool, true, false, if◌then◌else◌, List, [], ◌∷◌, ◌++◌, length, map, flat_map, sum_by, decimal, length-append, refl, sym, ap, ◌∙◌, arith}
+use Rattle.std.proofs.Common.{◌≡◌, ℕ, zero, suc, ◌+◌, ◌*◌, ◌^◌, ◌/◌, ◌%◌, ◌==◌, ◌≤◌, Bool, true, false, if◌then◌else◌, List, [], ◌∷◌, ◌++◌, length, map, flat_map, sum_by, decimal, length-append, refl, sym, ap, ◌∙◌, arith}
 use Rattle.std.specs.Prelude.{ℤ, pos, negsuc, codes}
 use Rattle.std.specs.Fmt.{digits, digits_onto, digit_glyph, signed_decimal}
 use Rattle.std.proofs.lemmas.List.Sums.{sum_by-cons}
@@ -9,6 +9,7 @@ use Rattle.oas_layout.specs.declared.element.Element.TheVariants.{Placement, Tex
 use Rattle.oas_layout.specs.Element.{turn_count}
 use Rattle.oas_layout.specs.Weight.{weight_of}
 use Rattle.oas_layout.specs.Meaning.{Meaning, cells_weight}
+use Rattle.oas_layout.specs.Contents.{Contents, meaning_of, IsLayout}
 use Rattle.oas_listing.specs.Lines.{behind_spaces, spaced, line}
 use Rattle.oas_listing.specs.Listing.{pair, fraction, flip_count, element_line, cell_lines, listing}
 
@@ -76,6 +77,10 @@ length-cells (c ∷ cs) =
     omega (arith, length-append (cell_lines c) (flat_map cell_lines cs), length-append (line (codes "cell" ∷ c.0 ∷ [])) (flat_map element_line c.1), length-line (codes "cell") (c.0 ∷ []), length-elements c.1, length-cells cs)
 
 -- the listing of a layout is not much longer than what the layout weighs
-pub length-listing : (m : Meaning) → length (listing m) ≤ 136 + 512 * cells_weight m.cells
+length-listing : (m : Meaning) → length (listing m) ≤ 136 + 512 * cells_weight m.cells
 length-listing m =
     omega (arith, length-append (line (codes "unit" ∷ fraction m.unit ∷ [])) (flat_map cell_lines m.cells), length-line (codes "unit") (fraction m.unit ∷ []), length-append (decimal m.unit.num) (47 ∷ decimal m.unit.den), length-decimal m.unit.num, length-decimal m.unit.den, length-cells m.cells)
+
+-- and no layout weighs more than 2^30
+pub short_enough : (l : Contents) → IsLayout l → length (listing (meaning_of l)) ≤ 136 + 512 * 2 ^ 30
+short_enough l is = omega (arith, length-listing (meaning_of l), is.light, is.limits.light)

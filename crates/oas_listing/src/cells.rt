@@ -1,6 +1,6 @@
 //! The lines of cells, and the listing.
 
-ghost use Rattle.std.specs.Prelude.{[], ◌∷◌, flat_map, codes};
+ghost use Rattle.std.specs.Prelude.{◌+◌, ◌*◌, ◌^◌, ◌≤◌, [], ◌∷◌, length, flat_map, codes};
 ghost use Rattle.oas_num.specs.Writing.{Writes};
 ghost use Rattle.oas_layout.specs.Bag.{items};
 ghost use Rattle.oas_layout.specs.Contents.{meaning_of};
@@ -53,10 +53,12 @@ fn put_cell<K: Sink>(sink: &mut K, name: &[u8], elements: Elements<'_>) -> Resul
 
 /// Puts the listing of a layout.
 pub(crate) fn put_listing<K: Sink>(layout: &Layout, sink: &mut K) -> Result<(), SinkFault>
-    ensures { Writes K.given K.failures sink.old (listing (meaning_of layout.now)) result sink.new }
+    ensures writes { Writes K.given K.failures sink.old (listing (meaning_of layout.now)) result sink.new }
+    ensures short { length (listing (meaning_of layout.now)) ≤ 136 + 512 * 2 ^ 30 }
 {
+    let count = layout.cells();
     put_unit(sink, layout.unit())?;
-    for i in 0..layout.cells() {
+    for i in 0..count {
         put_cell(sink, layout.cell_name(i).as_bytes(), layout.elements(i))?;
     }
     Ok(())

@@ -18,8 +18,6 @@ fn put_and_close<W: Write>(layout: &Layout, outlet: &mut Outlet<'_, W>) -> Resul
     ensures all { OnOk result (IsSent outlet.new) }
     ensures short { length (listing (meaning_of layout.now)) ≤ 136 + 512 * 2 ^ 30 }
 {
-    // The weight bounds the length.
-    let _weight = layout.weight();
     put_listing(layout, outlet)?;
     outlet.close()
 }
