@@ -1,9 +1,5 @@
-use Rattle.std.proofs.Common.{rules, ◌≡◌, ◌∷◌, flat_map, subst, ℕ, List}
+use Rattle.std.proofs.Common.{rules, ◌≡◌, ◌∷◌}
 use Rattle.std.proofs.lemmas.Result.{err_from_is_err_and}
-use Rattle.oas_layout.specs.declared.element.Element.{Element}
-use Rattle.oas_layout.specs.Bag.{items}
-use Rattle.oas_listing.specs.Listing.{element_line}
-use Rattle.oas_listing.proofs.PuttingLemmas.{PutSoFar}
 use Rattle.oas_listing.proofs.CellLemmas.{copies_put, copies_fail}
 use Rattle.oas_listing.proofs.cells.put_elements.Goals as goal
 

@@ -1,5 +1,4 @@
 use Rattle.std.proofs.Common.{◌∷◌}
-use Rattle.std.specs.Prelude.{pos}
 use Rattle.std.proofs.lemmas.Result.{err_from_is_err_and}
 use Rattle.oas_listing.specs.Listing.{pair}
 use Rattle.oas_listing.proofs.PuttingLemmas.{item_put, item_fails}

@@ -1,4 +1,4 @@
-use Rattle.std.proofs.Common.{◌+◌, ◌*◌, ◌^◌, ◌<◌, length, arith, rules}
+use Rattle.std.proofs.Common.{◌^◌, ◌<◌, length, arith, rules}
 use Rattle.oas_layout.specs.Contents.{meaning_of}
 use Rattle.oas_listing.specs.Listing.{listing}
 use Rattle.oas_listing.proofs.OutletLemmas.{written, cut_off}
