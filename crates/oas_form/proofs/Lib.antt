@@ -4,5 +4,6 @@ pub mod Spelling
 pub mod MeantLemmas
 pub mod KindLemmas
 pub mod ShortestLemmas
+pub mod AllowedLemmas
 pub mod OrderedLayouts
 pub mod Sizes
