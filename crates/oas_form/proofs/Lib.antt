@@ -1,9 +1,14 @@
 pub mod ElementSpelling
-pub mod Lengths
-pub mod Spelling
-pub mod MeantLemmas
+pub mod FieldsFit
+pub mod Forms
+pub mod Held
+pub mod InGrid
 pub mod KindLemmas
 pub mod ShortestLemmas
 pub mod AllowedLemmas
+pub mod Lengths
+pub mod MeantLemmas
 pub mod OrderedLayouts
+pub mod ShortestLemmas
 pub mod Sizes
+pub mod Spelling

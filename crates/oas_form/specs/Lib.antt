@@ -3,5 +3,5 @@ pub mod RecordMeaning
 pub mod Canonical
 pub mod Bytes
 pub mod FormLaws
-pub mod Sound
+pub mod Layouts
 pub mod Spelling
