@@ -1,11 +1,10 @@
+pub mod AllowedLemmas
 pub mod ElementSpelling
 pub mod FieldsFit
 pub mod Forms
 pub mod Held
 pub mod InGrid
 pub mod KindLemmas
-pub mod ShortestLemmas
-pub mod AllowedLemmas
 pub mod Lengths
 pub mod MeantLemmas
 pub mod OrderedLayouts
