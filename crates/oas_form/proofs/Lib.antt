@@ -11,3 +11,4 @@ pub mod OrderedLayouts
 pub mod ShortestLemmas
 pub mod Sizes
 pub mod Spelling
+pub mod Written
