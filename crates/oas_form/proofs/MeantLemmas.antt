@@ -146,10 +146,6 @@ absolute_element (Polygon layer datatype points) before = refl
 absolute_element (Path layer datatype half_width start end points) before = refl
 absolute_element (Circle layer datatype radius x y) before = refl
 
-pub absolute_elements : (es : List Element) (before : List Record) → is_relative (onto (map element_record es) before) ≡ is_relative before
-absolute_elements [] before = refl
-absolute_elements (e ∷ es) before = absolute_elements es (element_record e ∷ before) ∙ absolute_element e before
-
 -- ---- the cells of the records
 
 -- a cell with what is drawn in it
