@@ -1,3 +1,4 @@
+pub mod AllowedLemmas
 pub mod ElementSpelling
 pub mod FieldsFit
 pub mod Forms
@@ -10,3 +11,4 @@ pub mod OrderedLayouts
 pub mod ShortestLemmas
 pub mod Sizes
 pub mod Spelling
+pub mod Written
