@@ -1,3 +1,4 @@
+pub mod AllowedLemmas
 pub mod ElementPutting
 pub mod ElementSpelling
 pub mod FieldsFit
@@ -14,3 +15,4 @@ pub mod PuttingLemmas
 pub mod ShortestLemmas
 pub mod Sizes
 pub mod Spelling
+pub mod Written
