@@ -6,9 +6,11 @@ use Rattle.oas_num.specs.declared.refusals.Why.TheVariants.{Write}
 use Rattle.oas_num.specs.Refusals.{number_of}
 use Rattle.oas_num.specs.Script.{Script}
 use Rattle.oas_num.specs.Writing.{Puts, PutsFront}
-use Rattle.oas_canon.specs.Meaning.{standard}
-use Rattle.oas_canon.specs.Deciding.{IsReasoned}
-use Rattle.oas_canon.specs.Run.{IsDone, IsRefused, IsPlaced, IsCut, Exactly}
+use Rattle.oas_layout.specs.declared.limits.Limits.{Limits}
+use Rattle.oas_file.specs.Deciding.{IsReasoned}
+use Rattle.oas_file.specs.Reading.{IsRefused, IsPlaced}
+use Rattle.oas_canon.specs.declared.profile.TheConstants.{PROFILE}
+use Rattle.oas_canon.specs.Run.{IsDone, IsCut, Exactly}
 use Rattle.oascanon.specs.Lines.{refusal_line}
 
 -- 0 after an answer, 1 after a refusal
@@ -38,11 +40,11 @@ pub record AppendsFront (old new : Option (List ℕ)) (bytes : List ℕ) : Type 
   pub appends : Appends old new front
 
 -- What `canonicalize` says of its answer, clause by clause: all was read, and the canonical file of it was written; or it is refused, at an offset and for a reason that the bytes taken decide, and nothing was written; or the writer failed, and took a front of the canonical file. And it is refused exactly where it isn't accepted.
-pub record Canonicalizes {W : Type 0} (contents : W → Option (List ℕ)) (old : Script) (before : W) (answer : Result ℕ Refusal) (new : Script) (after : W) : Type 0 where
-  pub done : IfOk answer (λ n. IsDone standard old new (contents before) (contents after) n)
-  pub refused : IfErr answer (λ refusal. (refusal.why ≡ Write) ⊎ IsRefused standard old refusal.why new)
-  pub placed : IfErr answer (λ refusal. (refusal.why ≡ Write) ⊎ IsPlaced standard old refusal new)
-  pub decided : IfErr answer (λ refusal. (refusal.why ≡ Write) ⊎ IsReasoned standard old refusal new)
+pub record Canonicalizes {W : Type 0} (contents : W → Option (List ℕ)) (limits : Limits) (old : Script) (before : W) (answer : Result ℕ Refusal) (new : Script) (after : W) : Type 0 where
+  pub done : IfOk answer (λ n. IsDone limits PROFILE old new (contents before) (contents after) n)
+  pub refused : IfErr answer (λ refusal. (refusal.why ≡ Write) ⊎ IsRefused limits old refusal.why new)
+  pub placed : IfErr answer (λ refusal. (refusal.why ≡ Write) ⊎ IsPlaced limits old refusal new)
+  pub decided : IfErr answer (λ refusal. (refusal.why ≡ Write) ⊎ IsReasoned limits old refusal new)
   pub nothing : IfErr answer (λ refusal. (refusal.why ≡ Write) ⊎ (after ≡ before))
-  pub cut : IfErr answer (λ refusal. refusal.why ≡ Write → IsCut standard old new (contents before) (contents after) refusal.at)
-  pub exactly : Exactly standard old answer new
+  pub cut : IfErr answer (λ refusal. refusal.why ≡ Write → IsCut limits PROFILE old new (contents before) (contents after) refusal.at)
+  pub exactly : Exactly limits old answer new

@@ -22,7 +22,8 @@ mod run;
 mod tests;
 
 use commands::{Request, read_request};
-use oas_num::{INPUT_MAX, ReaderSource, Refusal, Why};
+use oas_canon::Limits;
+use oas_num::{ReaderSource, Refusal, Why};
 use std::process::ExitCode;
 
 /// The name of standard input in messages.
@@ -40,8 +41,16 @@ fn main(rt: HostRuntime) -> ExitCode {
 fn canon(rt: &HostRuntime) -> u8 {
     let mut out = rt.stdout();
     let mut err = rt.stderr();
-    match ReaderSource::new(rt.alloc(), rt.stdin(), INPUT_MAX) {
-        Ok(mut from) => run::run_canon(rt.alloc(), STANDARD_INPUT, &mut from, &mut out, &mut err),
+    let limits = Limits::standard();
+    match ReaderSource::new(rt.alloc(), rt.stdin(), limits.input()) {
+        Ok(mut from) => run::run_canon(
+            rt.alloc(),
+            STANDARD_INPUT,
+            &mut from,
+            &mut out,
+            &mut err,
+            limits,
+        ),
         Err(_) => {
             let refusal = Refusal {
                 at: 0,

@@ -5,7 +5,7 @@ ghost use Rattle.oascanon.specs.Lines.{refusal_line};
 ghost use Rattle.oascanon.specs.Runs.{status_of, said, Tells, Ends, AppendsFront, Canonicalizes};
 
 use crate::output::put_refusal;
-use oas_canon::canonicalize;
+use oas_canon::{Limits, canonicalize};
 use oas_num::{Outlet, Refusal, Sink, Source};
 use std::alloc::Global;
 use std::io::Write;
@@ -16,21 +16,22 @@ const DONE: u8 = 0;
 /// The status of a run that refused its input.
 const REFUSED: u8 = 1;
 
-/// Writes the canonical bytes of all that `from` gives to `out`, and answers the status of the command: 0, or 1 after a
-/// refusal, which is named on `err` in a line that begins with `name`. A fault of `err` changes nothing.
+/// Writes the canonical bytes of all that `from` gives within these limits to `out`, and answers the status of the command:
+/// 0, or 1 after a refusal, which is named on `err` in a line that begins with `name`. A fault of `err` changes nothing.
 pub fn run_canon<S: Source, W: Write, E: Write>(
     alloc: Global,
     name: &str,
     from: &mut S,
     out: &mut W,
     err: &mut E,
+    limits: Limits,
 ) -> u8
     ensures { (answer : Result ℕ Refused) × (result ≡ status_of answer)
-        × Canonicalizes W.contents (S.script from.old) out.old answer (S.script from.new) out.new
+        × Canonicalizes W.contents limits (S.script from.old) out.old answer (S.script from.new) out.new
         × AppendsFront (E.contents err.old) (E.contents err.new) (said name.now answer) }
 {
     let mut told = Outlet::new(err);
-    let status = canon_telling(alloc, name, from, out, &mut told);
+    let status = canon_telling(alloc, name, from, out, &mut told, limits);
     let _ = told.close();
     status
 }
@@ -42,12 +43,13 @@ pub fn canon_telling<S: Source, W: Write, K: Sink>(
     from: &mut S,
     out: &mut W,
     told: &mut K,
+    limits: Limits,
 ) -> u8
     ensures { (answer : Result ℕ Refused) × (result ≡ status_of answer)
-        × Canonicalizes W.contents (S.script from.old) out.old answer (S.script from.new) out.new
+        × Canonicalizes W.contents limits (S.script from.old) out.old answer (S.script from.new) out.new
         × Ends K.given K.failures name.now told.old answer told.new }
 {
-    match canonicalize(alloc, from, out) {
+    match canonicalize(alloc, from, out, limits) {
         Ok(_) => DONE,
         Err(refusal) => refuse(name, refusal, told),
     }

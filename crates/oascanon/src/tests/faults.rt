@@ -3,6 +3,7 @@
 use super::devices::{After, Full, Reader, Writer};
 use super::rows::{RECTANGLE, bytes_of, record_at};
 use crate::run::{run_canon, run_refused};
+use oas_canon::Limits;
 use oas_num::{INPUT_MAX, ReaderSource, Refusal, SliceSource, Why};
 use std::alloc::Global;
 use std::process::Abort;
@@ -30,7 +31,14 @@ fn expect_refusal(
     let mut from = ReaderSource::new(alloc, from, limit)?;
     let mut out: Vec<u8> = Vec::new(alloc);
     let mut err: Vec<u8> = Vec::new(alloc);
-    let status = run_canon(alloc, "standard input", &mut from, &mut out, &mut err);
+    let status = run_canon(
+        alloc,
+        "standard input",
+        &mut from,
+        &mut out,
+        &mut err,
+        Limits::standard(),
+    );
     assert_eq!(rt; status, 1, "at {refusal}");
     assert!(rt; out.is_empty(), "at {refusal}");
     let line = format!(in alloc; "standard input: refused {refusal}\n")?;
@@ -49,7 +57,14 @@ fn readers_that_cut(rt: HostRuntime) -> Result<(), Fail> {
         let mut from = ReaderSource::new(alloc, reader, INPUT_MAX)?;
         let mut out = taker(alloc, most);
         let mut err = taker(alloc, most);
-        let status = run_canon(alloc, "standard input", &mut from, &mut out, &mut err);
+        let status = run_canon(
+            alloc,
+            "standard input",
+            &mut from,
+            &mut out,
+            &mut err,
+            Limits::standard(),
+        );
         assert_eq!(rt; status, 0, "at {most}");
         assert_eq!(rt; out.taken.as_slice(), canonical.as_slice(), "at {most}");
         assert!(rt; err.taken.is_empty(), "at {most}");
@@ -104,7 +119,14 @@ fn expect_fault(
     out.room = room;
     let mut from = SliceSource::new(file, INPUT_MAX);
     let mut err: Vec<u8> = Vec::new(alloc);
-    let status = run_canon(alloc, "standard input", &mut from, &mut out, &mut err);
+    let status = run_canon(
+        alloc,
+        "standard input",
+        &mut from,
+        &mut out,
+        &mut err,
+        Limits::standard(),
+    );
     assert_eq!(rt; status, 1, "at {room}");
     assert_eq!(rt;
         out.taken.as_slice(),
@@ -142,7 +164,14 @@ fn error_outputs_that_fail(rt: HostRuntime) -> Result<(), Fail> {
         let mut out = taker(alloc, 1);
         let mut err = taker(alloc, 1);
         err.room = room;
-        let status = run_canon(alloc, "standard input", &mut from, &mut out, &mut err);
+        let status = run_canon(
+            alloc,
+            "standard input",
+            &mut from,
+            &mut out,
+            &mut err,
+            Limits::standard(),
+        );
         assert_eq!(rt; status, 1, "at {room}");
         assert!(rt; out.taken.is_empty(), "at {room}");
     }

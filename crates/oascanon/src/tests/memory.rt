@@ -5,7 +5,7 @@
 
 use super::devices::{Full, Writer};
 use super::rows::bytes_of;
-use oas_canon::canonicalize;
+use oas_canon::{Limits, canonicalize};
 use oas_num::{INPUT_MAX, SliceSource, Why};
 use std::alloc::{AllocError, Global};
 use std::process::Abort;
@@ -47,7 +47,7 @@ fn is_refused(
 ) -> bool {
     out.taken.clear();
     let mut from = SliceSource::new(file, INPUT_MAX);
-    match canonicalize(alloc, &mut from, out) {
+    match canonicalize(alloc, &mut from, out, Limits::standard()) {
         Ok(count) => {
             assert_eq!(rt; count, canonical.len() as u64);
             assert_eq!(rt; out.taken.as_slice(), canonical);

@@ -2,6 +2,7 @@
 
 use super::table::ROWS;
 use crate::run::run_canon;
+use oas_canon::Limits;
 use oas_num::{INPUT_MAX, SliceSource};
 use std::alloc::Global;
 use std::process::Abort;
@@ -65,7 +66,14 @@ pub fn expect(
     let mut from = SliceSource::new(input, limit);
     let mut out: Vec<u8> = Vec::new(alloc);
     let mut err: Vec<u8> = Vec::new(alloc);
-    let status = run_canon(alloc, "standard input", &mut from, &mut out, &mut err);
+    let status = run_canon(
+        alloc,
+        "standard input",
+        &mut from,
+        &mut out,
+        &mut err,
+        Limits::standard(),
+    );
     match wanted {
         Ok(bytes) => {
             assert_eq!(rt; status, 0, "at {name}");
@@ -111,7 +119,7 @@ fn each_row(rt: HostRuntime) -> Result<(), Fail> {
             count = count.saturating_add(1);
         }
     }
-    assert_eq!(rt; count, 166);
+    assert_eq!(rt; count, 188);
     Ok(())
 }
 
