@@ -12,10 +12,9 @@ use Rattle.oas_record.specs.Heads.{head_in}
 use Rattle.oas_record.specs.HeadLaws.{OneFront-head, OneSpelling-head, IsWithin-head}
 use Rattle.oas_record.specs.Records.{records_in}
 use Rattle.oas_record.specs.RecordLaws.{OneFront-records, OneSpelling-records, IsWithin-records}
-use Rattle.oas_layout.specs.Meaning.{Meaning}
 use Rattle.oas_modal.specs.Stands.{records_mean}
 use Rattle.oas_file.specs.Files.{Parts, file_in, FileIn, FileOf, OneReading}
-use Rattle.oas_file.specs.Acceptance.{Means, OneMeaning}
+use Rattle.oas_file.specs.Acceptance.{OneMeaning}
 
 -- none begins another, in any style
 pub OneFront-file : (style : Style) → OneFront (file_in style)

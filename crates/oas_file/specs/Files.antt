@@ -1,5 +1,5 @@
 -- What a file is: its front, its records and END, spelled in a style (SEMI P39, OASIS file).
-use Rattle.std.specs.Prelude.{◌≡◌, ℕ, List, [], ◌∷◌, ◌++◌}
+use Rattle.std.specs.Prelude.{◌≡◌, ℕ, List, ◌++◌}
 use Rattle.oas_num.specs.Grammar.{IsPair, IsSuch, IsEach}
 use Rattle.oas_num.specs.Style.{Style, Any}
 use Rattle.oas_record.specs.declared.heads.Head.{Head}

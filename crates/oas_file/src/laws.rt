@@ -1,6 +1,7 @@
 //! Laws of the definitions, each the contract of a function that does nothing.
 ghost use Rattle.oas_file.specs.Files.{OneReading};
 ghost use Rattle.oas_file.specs.Acceptance.{OneMeaning};
+ghost use Rattle.oas_file.specs.Places.{OnePlace, NoPlace};
 
 /// One byte list has at most one START and one list of records.
 pub fn one_reading()
@@ -10,4 +11,10 @@ pub fn one_reading()
 /// A file means one layout.
 pub fn one_meaning()
     ensures { OneMeaning }
+{}
+
+/// A file is refused at one place at most, and at none where it is accepted.
+pub fn one_place()
+    ensures one { OnePlace }
+    ensures none { NoPlace }
 {}

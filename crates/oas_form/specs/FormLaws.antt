@@ -1,11 +1,7 @@
 -- The laws of canonical forms.
-use Rattle.std.specs.Prelude.{ℕ, List}
 use Rattle.oas_num.specs.Style.{Shortest}
-use Rattle.oas_layout.specs.declared.limits.Limits.{Limits}
-use Rattle.oas_layout.specs.declared.profile.Profile.{Profile}
 use Rattle.oas_file.specs.FileLaws.{file_of}
-use Rattle.oas_file.specs.Acceptance.{Accepted}
-use Rattle.oas_form.specs.Canonical.{CanonicalForm, FormIsAccepted}
+use Rattle.oas_form.specs.Canonical.{FormIsAccepted}
 
 pub form_is_accepted : FormIsAccepted
 form_is_accepted limits profile c f = record { head = f.head; records = f.records; file = file_of Shortest f.head f.records c f.file; allowed = f.allowed; whole = f.whole }

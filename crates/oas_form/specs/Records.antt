@@ -1,5 +1,5 @@
 -- The records of a canonical file: each CELL by its name, and after it its elements, with all their fields (own rule).
-use Rattle.std.specs.Prelude.{ℕ, ℤ, pos, ◌-ℤ◌, false, List, [], ◌∷◌, ◌++◌, map, Option, None, Some}
+use Rattle.std.specs.Prelude.{ℕ, ℤ, ◌-ℤ◌, false, List, [], ◌∷◌, ◌++◌, map, None, Some}
 use Rattle.oas_num.specs.declared.deltas.GDelta.{GDelta}
 use Rattle.oas_num.specs.Deltas.{step}
 use Rattle.oas_ring.specs.declared.point.Point.{Point}

@@ -2,3 +2,5 @@
 #![tactic(auto)]
 
 pub mod laws;
+pub mod meaning_laws;
+pub mod spelling_laws;

@@ -8,6 +8,7 @@ use Rattle.std.proofs.lemmas.List.{length-replicate}
 use Rattle.std.proofs.lemmas.Bool.Decides.{nat_tests}
 use Rattle.indexmap.specs.Layout.{set_value_at}
 use Rattle.oas_num.specs.Ratio.{Ratio}
+use Rattle.oas_num.specs.Texts.{IsName}
 use Rattle.oas_layout.specs.declared.element.Element.{Element}
 use Rattle.oas_layout.specs.declared.limits.Limits.{Limits}
 use Rattle.oas_layout.specs.declared.profile.Profile.{Profile}
@@ -17,10 +18,11 @@ use Rattle.oas_layout.specs.Bag.{items, with_more, count_at, IsTally, IsBag}
 use Rattle.oas_layout.specs.Grid.{fits_grid}
 use Rattle.oas_layout.specs.Same.{IsNormal}
 use Rattle.oas_layout.specs.Weight.{weight_of, lacks_points}
+use Rattle.oas_layout.specs.Sound.{IsSound}
 use Rattle.oas_layout.specs.Meaning.{element_count}
-use Rattle.oas_layout.specs.Contents.{Cell, Contents, expanded, cells_with_more, holding, with_cell, has_cell, cell_refusal, refusal, IsCounted}
+use Rattle.oas_layout.specs.Contents.{Cell, Contents, expanded, cells_with_more, holding, with_cell, has_cell, cell_refusal, refusal, AllSound, IsCell, IsCounted}
 use Rattle.oas_layout.specs.ContentsLaws.{cells_sum-push, element_count-with_more, cells_weight-with_more}
-use Rattle.oas_layout.proofs.Order.{IsBag-empty, IsBag-put_more}
+use Rattle.oas_layout.proofs.Order.{IsBag-empty, IsBag-put_more, sound-put_more}
 
 module _ (e : Element) (n : ℕ) where
   -- a write of the cell's bag
@@ -53,38 +55,40 @@ length-items-le (c ∷ cs) zero bag h = let same = ap (λ o. length (items (unwr
 length-items-le (c ∷ cs) (suc i) bag h = omega (arith, length-items-le cs i bag h)
 
 module _ (profile : Profile) where
-  -- the bag of a cell
-  bag_of : (cs : List Cell) (i : ℕ) (bag : List (Element × ℕ)) → slice_get (values_of cs) i ≡ Some bag → AllByRecursion (λ c. IsBag profile c.1) cs → IsBag profile bag
-  bag_of [] i bag h all = let no : ⊥ = cc in absurd no
-  bag_of (c ∷ cs) zero bag h all = subst (IsBag profile) (ap (λ o. unwrap_or o c.1) h) all.0
-  bag_of (c ∷ cs) (suc i) bag h all = bag_of cs i bag h all.1
+  -- the bag of a cell, which is sound
+  cell_of : (cs : List Cell) (i : ℕ) (bag : List (Element × ℕ)) → slice_get (values_of cs) i ≡ Some bag → AllByRecursion (IsCell profile) cs → IsBag profile bag × AllSound bag
+  cell_of [] i bag h all = let no : ⊥ = cc in absurd no
+  cell_of (c ∷ cs) zero bag h all = subst (λ es. IsBag profile es × AllSound es) (ap (λ o. unwrap_or o c.1) h) (all.0.bag, all.0.sound)
+  cell_of (c ∷ cs) (suc i) bag h all = cell_of cs i bag h all.1
 
-  -- writing a bag leaves bags
-  bags-set_value_at : (cs : List Cell) (i : ℕ) (new : List (Element × ℕ)) → AllByRecursion (λ c. IsBag profile c.1) cs → IsBag profile new → AllByRecursion (λ c. IsBag profile c.1) (set_value_at cs i new)
-  bags-set_value_at [] i new h good = tt
-  bags-set_value_at (c ∷ cs) zero new h good = (good, h.1)
-  bags-set_value_at (c ∷ cs) (suc i) new h good = (h.0, bags-set_value_at cs i new h.1 good)
+  -- writing a sound bag leaves cells
+  cells-set_value_at : (cs : List Cell) (i : ℕ) (new : List (Element × ℕ)) → AllByRecursion (IsCell profile) cs → IsBag profile new → AllSound new → AllByRecursion (IsCell profile) (set_value_at cs i new)
+  cells-set_value_at [] i new h good sound = tt
+  cells-set_value_at (c ∷ cs) zero new h good sound = (record { name = h.0.name; bag = good; sound = sound }, h.1)
+  cells-set_value_at (c ∷ cs) (suc i) new h good sound = (h.0, cells-set_value_at cs i new h.1 good sound)
 
   -- so does a cell of no elements
-  bags-push : (cs : List Cell) (name : List ℕ) → AllByRecursion (λ c. IsBag profile c.1) cs → AllByRecursion (λ c. IsBag profile c.1) (cs ++ (name, []) ∷ [])
-  bags-push [] name h = (IsBag-empty profile [] refl, tt)
-  bags-push (c ∷ cs) name h = (h.0, bags-push cs name h.1)
+  cells-push : (cs : List Cell) (name : List ℕ) → IsName name → AllByRecursion (IsCell profile) cs → AllByRecursion (IsCell profile) (cs ++ (name, []) ∷ [])
+  cells-push [] name good h = (record { name = good; bag = IsBag-empty profile [] refl; sound = tt }, tt)
+  cells-push (c ∷ cs) name good h = (h.0, cells-push cs name good h.1)
 
 -- the bag of a cell that is read
 pub cell_bag : (v : Contents) (unit : Ratio) (limits : Limits) (profile : Profile) (cs : List Cell) (spelled count weight i : ℕ) (c : Cell) → record { unit = unit; limits = limits; profile = profile; cells = cs; spelled = spelled } ≡ v → IsCounted limits profile cs count weight spelled → slice_get v.cells i ≡ Some c → IsBag v.profile c.1
 cell_bag v unit limits profile cs spelled count weight i c view k at =
     let here : IsCounted v.limits v.profile v.cells count weight v.spelled = subst (λ (w : Contents). IsCounted w.limits w.profile w.cells count weight w.spelled) view k in
-    read v.profile v.cells i c at here.bags where
-      read : (profile : Profile) (cs : List Cell) (i : ℕ) (c : Cell) → slice_get cs i ≡ Some c → AllByRecursion (λ c. IsBag profile c.1) cs → IsBag profile c.1
+    read v.profile v.cells i c at here.are_cells where
+      read : (profile : Profile) (cs : List Cell) (i : ℕ) (c : Cell) → slice_get cs i ≡ Some c → AllByRecursion (IsCell profile) cs → IsBag profile c.1
       read profile [] i c h all = let none : ⊥ = cc in absurd none
-      read profile (d ∷ cs) zero c h all = subst (λ (e : Cell). IsBag profile e.1) (ap (λ o. unwrap_or o d) h) all.0
+      read profile (d ∷ cs) zero c h all = subst (λ (e : Cell). IsBag profile e.1) (ap (λ o. unwrap_or o d) h) all.0.bag
       read profile (d ∷ cs) (suc i) c h all = read profile cs i c h all.1
 
 -- the draft after more of an element
-pub IsCounted-with_more : (limits : Limits) (profile : Profile) (cs : List Cell) (count weight spelled i : ℕ) (bag new : List (Element × ℕ)) (e : Element) (n w s : ℕ) → IsCounted limits profile cs count weight spelled → slice_get (values_of cs) i ≡ Some bag → new ≡ with_more bag e n → IsTally new → IsNormal profile e → i < length cs → count + n ≤ limits.elements → spelled + s ≤ limits.weight → w ≡ weight_of e * n → w ≤ s → (profile ≡ One → w ≡ s) → IsCounted limits profile (set_value_at cs i new) (count + n) (weight + w) (spelled + s)
-IsCounted-with_more limits profile cs count weight spelled i bag new e n w s k at is tally kept h few light product lighter exact =
+pub IsCounted-with_more : (limits : Limits) (profile : Profile) (cs : List Cell) (count weight spelled i : ℕ) (bag new : List (Element × ℕ)) (e : Element) (n w s : ℕ) → IsCounted limits profile cs count weight spelled → slice_get (values_of cs) i ≡ Some bag → new ≡ with_more bag e n → IsTally new → IsNormal profile e → IsSound e → i < length cs → count + n ≤ limits.elements → spelled + s ≤ limits.weight → w ≡ weight_of e * n → w ≤ s → (profile ≡ One → w ≡ s) → IsCounted limits profile (set_value_at cs i new) (count + n) (weight + w) (spelled + s)
+IsCounted-with_more limits profile cs count weight spelled i bag new e n w s k at is tally kept sound h few light product lighter exact =
     let same : set_value_at cs i new ≡ cells_with_more cs i e n = ap (λ es. set_value_at cs i es) is ∙ set_value_at-with_more e n cs i bag at in
-    let good : IsBag profile new = IsBag-put_more profile bag new e n kept (bag_of profile cs i bag at k.bags) tally is in
+    let old = cell_of profile cs i bag at k.are_cells in
+    let good : IsBag profile new = IsBag-put_more profile bag new e n kept old.0 tally is in
+    let whole : AllSound new = subst AllSound (sym is) (sound-put_more bag e n sound old.1) in
     let turned : w ≡ n * weight_of e = product ∙ mul_comm (weight_of e) n in
     subst (λ (ds : List Cell). IsCounted limits profile ds (count + n) (weight + w) (spelled + s)) (sym same) (record {
       count_is = omega (arith, k.count_is, element_count-with_more e n cs i h);
@@ -93,7 +97,7 @@ IsCounted-with_more limits profile cs count weight spelled i bag new e n w s k a
       light = light;
       lighter = omega (arith, k.lighter);
       as_spelled = λ one. let old = k.as_spelled one in let more = exact one in omega (arith, old, more);
-      bags = subst (λ (ds : List Cell). AllByRecursion (λ c. IsBag profile c.1) ds) same (bags-set_value_at profile cs i new k.bags good);
+      are_cells = subst (λ (ds : List Cell). AllByRecursion (IsCell profile) ds) same (cells-set_value_at profile cs i new k.are_cells good whole);
     })
 
 -- and what the draft then holds
@@ -112,8 +116,8 @@ IsCounted-same limits profile cs count weight spelled i bag new k at is =
     subst (λ (ds : List Cell). IsCounted limits profile ds count weight spelled) (sym (ap (λ es. set_value_at cs i es) is ∙ set_value_at-same cs i bag at)) k
 
 -- a new cell
-pub IsCounted-push : (limits : Limits) (profile : Profile) (cs ds : List Cell) (count weight spelled w : ℕ) (name : List ℕ) → IsCounted limits profile cs count weight spelled → ds ≡ cs ++ (name, []) ∷ [] → w ≡ length name → w < limits.weight - spelled → IsCounted limits profile ds count (weight + (1 + w)) (spelled + (1 + w))
-IsCounted-push limits profile cs ds count weight spelled w name k is same light =
+pub IsCounted-push : (limits : Limits) (profile : Profile) (cs ds : List Cell) (count weight spelled w : ℕ) (name : List ℕ) → IsCounted limits profile cs count weight spelled → ds ≡ cs ++ (name, []) ∷ [] → w ≡ length name → IsName name → w < limits.weight - spelled → IsCounted limits profile ds count (weight + (1 + w)) (spelled + (1 + w))
+IsCounted-push limits profile cs ds count weight spelled w name k is same good light =
     subst (λ (es : List Cell). IsCounted limits profile es count (weight + (1 + w)) (spelled + (1 + w))) (sym is) (record {
       count_is = omega (arith, k.count_is, cells_sum-push (λ c. length c.1) cs name);
       weight_is = omega (arith, k.weight_is, cells_sum-push (λ c. (1 + length c.0) + sum_by weight_of c.1) cs name);
@@ -121,7 +125,7 @@ IsCounted-push limits profile cs ds count weight spelled w name k is same light 
       light = omega (arith, k.light);
       lighter = omega (arith, k.lighter);
       as_spelled = λ one. let old = k.as_spelled one in omega (arith, old);
-      bags = bags-push profile cs name k.bags;
+      are_cells = cells-push profile cs name good k.are_cells;
     })
 
 -- and what the draft then holds

@@ -1,5 +1,5 @@
 -- The form in which a polygon is kept, by the reading that was found.
-use Rattle.std.proofs.Common.{◌≡◌, ◌≤◌, ◌*◌, ℕ, false, List, Option, None, sym, ◌∙◌, ap, subst, arith}
+use Rattle.std.proofs.Common.{◌≡◌, ◌≤◌, ◌*◌, ℕ, true, false, List, Option, None, sym, ◌∙◌, ap, subst, arith}
 use Rattle.oas_ring.specs.declared.point.Point.{Point}
 use Rattle.oas_ring.specs.declared.rectangles.Corners.{Corners}
 use Rattle.oas_ring.specs.declared.readings.Reading.{Reading}
@@ -12,7 +12,9 @@ use Rattle.oas_ring.specs.Readings.{least_of}
 use Rattle.oas_ring.specs.ReadingsLaws.{least_of-is}
 use Rattle.oas_layout.specs.Same.{drawn_box, normal_polygon, normal, IsNormal}
 use Rattle.oas_layout.specs.SameLaws.{normal-normal, weight_of-normal, weight_of-normal-le}
-use Rattle.oas_layout.specs.Weight.{weight_of}
+use Rattle.oas_layout.specs.Weight.{weight_of, lacks_points}
+use Rattle.oas_layout.specs.Grid.{fits_grid}
+use Rattle.oas_layout.proofs.SoundLemmas.{lacks_points-normal, fits_grid-normal}
 use Rattle.std.proofs.lemmas.List.{append-nil}
 use Rattle.std.proofs.lemmas.Nat.{mul-le}
 
@@ -40,6 +42,14 @@ module _ (profile own : Profile) (e kept : Element) (same : profile ≡ own) (is
   -- what is kept is in its kept form
   pub kept_normal : IsNormal own kept
   kept_normal = subst (λ p. IsNormal p kept) same (ap (normal profile) is ∙ normal-normal profile e ∙ sym is)
+
+  -- it has its points
+  pub kept_points : lacks_points e ≡ false → lacks_points kept ≡ false
+  kept_points h = ap lacks_points is ∙ lacks_points-normal profile e h
+
+  -- it lies within the grid
+  pub kept_inside : fits_grid e ≡ true → fits_grid kept ≡ true
+  kept_inside h = ap fits_grid is ∙ fits_grid-normal profile e h
 
   -- it weighs no more
   pub kept_lighter : (w n s : ℕ) → w ≡ weight_of e → s ≡ w * n → weight_of kept * n ≤ s

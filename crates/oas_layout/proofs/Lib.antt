@@ -5,3 +5,4 @@ pub mod LawProofs
 pub mod Order
 pub mod SameLemmas
 pub mod Sealed
+pub mod SoundLemmas

@@ -14,6 +14,7 @@ use Rattle.oas_layout.specs.BagLaws.{insert_entry-count}
 use Rattle.oas_layout.specs.declared.profile.Profile.{Profile}
 use Rattle.oas_layout.specs.Bag.{count_at, put_more, IsTally, IsBag}
 use Rattle.oas_layout.specs.Same.{IsNormal}
+use Rattle.oas_layout.specs.Sound.{IsSound}
 
 module _ (es : List (Element × ℕ)) where
   -- the count that a look-up finds
@@ -62,6 +63,16 @@ normal-put_more profile (x ∷ xs) e n h p =
       | Less ↦ (h, p)
       | Equal ↦ p
       | Greater ↦ (p.0, normal-put_more profile xs e n h p.1)
+    ]
+
+-- and sound ones sound
+pub sound-put_more : (es : List (Element × ℕ)) (e : Element) (n : ℕ) → IsSound e → AllByRecursion (λ p. IsSound p.0) es → AllByRecursion (λ p. IsSound p.0) (put_more element_cmp es e n)
+sound-put_more [] e n h p = (h, tt)
+sound-put_more (x ∷ xs) e n h p =
+    elim (element_cmp e x.0) as (λ r. AllByRecursion (λ p. IsSound p.0) (match_ordering r ((e, n) ∷ x ∷ xs) ((x.0, x.1 + n) ∷ xs) (x ∷ put_more element_cmp xs e n))) [
+      | Less ↦ (h, p)
+      | Equal ↦ p
+      | Greater ↦ (p.0, sound-put_more xs e n h p.1)
     ]
 
 -- what is left once more was added is a bag

@@ -17,7 +17,7 @@ use Rattle.oas_layout.specs.Bag.{items, IsBag}
 use Rattle.oas_layout.specs.Same.{same_element, IsNormal}
 use Rattle.oas_layout.specs.SameLaws.{same_normal}
 use Rattle.oas_layout.specs.Meaning.{elements_of, count_of, SameLayout}
-use Rattle.oas_layout.specs.Contents.{Cell, Contents, expanded, meaning_of, IsLayout}
+use Rattle.oas_layout.specs.Contents.{Cell, Contents, expanded, meaning_of, IsCell, IsLayout}
 use Rattle.oas_layout.specs.BagLaws.{sum_by-items}
 use Rattle.oas_layout.proofs.Counting.{same_bags}
 use Rattle.oas_layout.proofs.Sealed.{name_cmp}
@@ -28,9 +28,9 @@ same_held profile es fs b c h =
     same_bags element_total exact_elements (same_element profile) (IsNormal profile) (same_normal profile) es fs b.normal c.normal b.tally.positive c.tally.positive b.tally.ascending c.tally.ascending (λ q _. sym (sum_by-items _ es) ∙ h q ∙ sum_by-items _ fs)
 
 -- what a look-up finds is a bag
-bag_at : (profile : Profile) (test : List ℕ → Bool) (cs : List Cell) → AllByRecursion (λ c. IsBag profile c.1) cs → IfSome (lookup test cs) (IsBag profile)
+bag_at : (profile : Profile) (test : List ℕ → Bool) (cs : List Cell) → AllByRecursion (IsCell profile) cs → IfSome (lookup test cs) (IsBag profile)
 bag_at profile test [] h = tt
-bag_at profile test (c ∷ cs) h = elim (test c.0) as (λ b. IfSome (cond b (Some c.1) (lookup test cs)) (IsBag profile)) [ true ↦ h.0 | false ↦ bag_at profile test cs h.1 ]
+bag_at profile test (c ∷ cs) h = elim (test c.0) as (λ b. IfSome (cond b (Some c.1) (lookup test cs)) (IsBag profile)) [ true ↦ h.0.bag | false ↦ bag_at profile test cs h.1 ]
 
 -- the elements of a cell, by the counts that are held
 elements_of-expanded : (name : List ℕ) (cs : List Cell) → elements_of name (expanded cs) ≡ option_map items (lookup (pointwise ◌==◌ name) cs)
@@ -69,15 +69,16 @@ find_is q [] = refl
 find_is q (c ∷ cs) = ap (λ o. cond (is_at (name_cmp q) c.0) (Some c.1) o) (find_is q cs)
 
 -- layouts that are the same have equal cells
-pub cells_from_same : (profile : Profile) (a b : Contents) (m n v w x y : ℕ) → IsLayout a.limits profile a.cells m v x → IsLayout b.limits profile b.cells n w y → SameLayout profile (meaning_of a) (meaning_of b) → a.cells ≡ b.cells
-cells_from_same profile a b m n v w x y k l s =
+cells_from_same : (a b : Contents) → a.profile ≡ b.profile → IsLayout a → IsLayout b → SameLayout a.profile (meaning_of a) (meaning_of b) → a.cells ≡ b.cells
+cells_from_same a b alike k l s =
+    let others : AllByRecursion (IsCell a.profile) b.cells = subst (λ p. AllByRecursion (IsCell p) b.cells) (sym alike) l.cells in
     same_entries name_cmp nat_list_cmp_total exact_bytes a.cells b.cells (sorted_list a.cells k.ascending) (sorted_list b.cells l.ascending)
     (λ q.
     let left = elements_of-expanded q a.cells in
     let right = elements_of-expanded q b.cells in
     find_is q a.cells ∙ sym (by_cmp q a.cells)
-    ∙ joined profile (lookup (pointwise ◌==◌ q) a.cells) (lookup (pointwise ◌==◌ q) b.cells) (bag_at profile _ a.cells k.counted.bags) (bag_at profile _ b.cells l.counted.bags) (ap is_some (sym left) ∙ s.cells q ∙ ap is_some right)
-    (λ e. ap (λ o. count_of profile e (unwrap_or o [])) (sym left) ∙ s.counts q e ∙ ap (λ o. count_of profile e (unwrap_or o [])) right)
+    ∙ joined a.profile (lookup (pointwise ◌==◌ q) a.cells) (lookup (pointwise ◌==◌ q) b.cells) (bag_at a.profile _ a.cells k.cells) (bag_at a.profile _ b.cells others) (ap is_some (sym left) ∙ s.cells q ∙ ap is_some right)
+    (λ e. ap (λ o. count_of a.profile e (unwrap_or o [])) (sym left) ∙ s.counts q e ∙ ap (λ o. count_of a.profile e (unwrap_or o [])) right)
     ∙ by_cmp q b.cells ∙ sym (find_is q b.cells))
 
 -- equal units and cells are the same layout
@@ -98,13 +99,9 @@ same_reads (c ∷ cs) (d ∷ ds) e h =
     λ i. head i ∷ same_reads cs ds (omega (arith, e)) (λ k below. h (suc k) (omega (arith, below))) i
 
 -- layouts of which the units or the cells differ are not the same
-pub differ : (profile : Profile) (u v : Contents) (a b : Contents) (m n w x y z : ℕ) → u ≡ a → v ≡ b → profile ≡ a.profile → a.profile ≡ b.profile → IsLayout u.limits u.profile u.cells m w y → IsLayout v.limits v.profile v.cells n x z → (a.unit ≡ b.unit → a.cells ≡ b.cells → ⊥) → (IsTrue false → SameLayout profile (meaning_of a) (meaning_of b)) × (SameLayout profile (meaning_of a) (meaning_of b) → IsTrue false)
-differ profile u v a b m n w x y z e f own both k l apart =
-    let ka : IsLayout a.limits a.profile a.cells m w y = subst (λ (w' : Contents). IsLayout w'.limits w'.profile w'.cells m w y) e k in
-    let lb : IsLayout b.limits b.profile b.cells n x z = subst (λ (w' : Contents). IsLayout w'.limits w'.profile w'.cells n x z) f l in
-    let kp : IsLayout a.limits profile a.cells m w y = subst (λ p. IsLayout a.limits p a.cells m w y) (sym own) ka in
-    let lp : IsLayout b.limits profile b.cells n x z = subst (λ p. IsLayout b.limits p b.cells n x z) (sym (own ∙ both)) lb in
-    (λ h. absurd (true≢false (sym h)), λ s. absurd (apart s.unit (cells_from_same profile a b m n w x y z kp lp s)))
+pub differ : (u v a b : Contents) → u ≡ a → v ≡ b → a.profile ≡ b.profile → IsLayout u → IsLayout v → (a.unit ≡ b.unit → a.cells ≡ b.cells → ⊥) → (IsTrue false → SameLayout a.profile (meaning_of a) (meaning_of b)) × (SameLayout a.profile (meaning_of a) (meaning_of b) → IsTrue false)
+differ u v a b e f alike k l apart =
+    (λ h. absurd (true≢false (sym h)), λ s. absurd (apart s.unit (cells_from_same a b alike (subst IsLayout e k) (subst IsLayout f l) s)))
 
 -- one entry of two equal lists
 one_entry : (o p : Option Cell) (c d : Cell) → o ≡ p → o ≡ Some c → p ≡ Some d → c ≡ d

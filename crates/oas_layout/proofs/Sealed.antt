@@ -15,9 +15,10 @@ use Rattle.oas_num.specs.Ratio.{Ratio}
 use Rattle.oas_layout.specs.declared.limits.Limits.{Limits}
 use Rattle.oas_layout.specs.declared.profile.Profile.{Profile}
 use Rattle.oas_layout.specs.declared.element.Element.{Element}
-use Rattle.oas_layout.specs.Bag.{items, IsBag}
+use Rattle.oas_layout.specs.Bag.{items}
+use Rattle.oas_layout.specs.Sound.{IsUnit}
 use Rattle.oas_layout.specs.Meaning.{cells_sum}
-use Rattle.oas_layout.specs.Contents.{Cell, Contents, names, expanded, IsCounted, IsSealed}
+use Rattle.oas_layout.specs.Contents.{Cell, Contents, names, expanded, IsCell, IsCounted, IsFinished, IsSealed}
 
 -- the order of names, by bytes
 abbrev pub name_cmp : List ℕ → List ℕ → Ordering
@@ -49,7 +50,7 @@ cells_sum-permutation : (f : List ℕ × List Element → ℕ) (cs ds : List Cel
 cells_sum-permutation f cs ds p = cells_sum-is f ds ∙ sum_by-IsPermutation (λ (c : Cell). f (c.0, items c.1)) cs ds p ∙ sym (cells_sum-is f cs)
 
 -- nor do the counters
-pub IsCounted-permutation : (limits : Limits) (profile : Profile) (cs ds : List Cell) (count weight spelled : ℕ) → IsCounted limits profile cs count weight spelled → IsPermutation cs ds → IsCounted limits profile ds count weight spelled
+IsCounted-permutation : (limits : Limits) (profile : Profile) (cs ds : List Cell) (count weight spelled : ℕ) → IsCounted limits profile cs count weight spelled → IsPermutation cs ds → IsCounted limits profile ds count weight spelled
 IsCounted-permutation limits profile cs ds count weight spelled k p = record {
   count_is = k.count_is ∙ sym (cells_sum-permutation _ cs ds p);
   weight_is = k.weight_is ∙ sym (cells_sum-permutation _ cs ds p);
@@ -57,8 +58,24 @@ IsCounted-permutation limits profile cs ds count weight spelled k p = record {
   light = k.light;
   lighter = k.lighter;
   as_spelled = k.as_spelled;
-  bags = recursion_from_All (λ c. IsBag profile c.1) ds (All-permutation (λ c. IsBag profile c.1) cs ds p (All-from_recursion (λ c. IsBag profile c.1) cs k.bags));
+  are_cells = recursion_from_All (IsCell profile) ds (All-permutation (IsCell profile) cs ds p (All-from_recursion (IsCell profile) cs k.are_cells));
 }
+
+-- a draft whose cells are sorted is a layout
+pub finished : (unit : Ratio) (limits : Limits) (profile : Profile) (cs ds : List Cell) (count weight spelled : ℕ) → IsUnit unit → IsCounted limits profile cs count weight spelled → IsPermutation cs ds → IsStrictlySortedBy name_cmp (names ds) → IsFinished (record { unit = unit; limits = limits; profile = profile; cells = ds; spelled = spelled }) count weight
+finished unit limits profile cs ds count weight spelled u k p s =
+    let l = IsCounted-permutation limits profile cs ds count weight spelled k p in
+    record {
+      counted = l;
+      layout = record {
+        unit = u;
+        limits = record { few = limits.few; light = limits.light; room = limits.room; short = limits.short };
+        cells = l.are_cells;
+        ascending = s;
+        few = omega (arith, l.few, l.count_is);
+        light = omega (arith, l.light, l.lighter, l.weight_is);
+      };
+    }
 
 -- the sorted cells are those of the draft
 pub sealed_is : (v : Contents) (unit : Ratio) (limits : Limits) (profile : Profile) (cs ds : List Cell) (spelled : ℕ) → record { unit = unit; limits = limits; profile = profile; cells = cs; spelled = spelled } ≡ v → IsPermutation cs ds → IsStrictlySortedBy name_cmp (names ds) → IsSealed v (record { unit = unit; limits = limits; profile = profile; cells = ds; spelled = spelled })

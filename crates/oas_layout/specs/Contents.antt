@@ -6,6 +6,7 @@ use Rattle.std.specs.Ordering.{nat_cmp}
 use Rattle.std.specs.Cmp.Lexicographic.{slice_cmp, pointwise}
 use Rattle.std.specs.Map.{keys_of, values_of, lookup}
 use Rattle.oas_num.specs.Ratio.{Ratio}
+use Rattle.oas_num.specs.Texts.{IsName}
 use Rattle.oas_num.specs.declared.refusals.Why.{Why}
 use Rattle.oas_num.specs.declared.refusals.Why.TheVariants.{PointCount, TooManyElements, TooHeavy, CoordinateRange, DuplicateCell}
 use Rattle.oas_layout.specs.declared.limits.Limits.{Limits}
@@ -14,8 +15,10 @@ use Rattle.oas_layout.specs.declared.profile.Profile.TheVariants.{One}
 use Rattle.oas_layout.specs.declared.element.Element.{Element}
 use Rattle.oas_layout.specs.Weight.{weight_of, lacks_points}
 use Rattle.oas_layout.specs.Grid.{fits_grid}
+use Rattle.oas_layout.specs.Limits.{IsLimits}
 use Rattle.oas_layout.specs.Bag.{items, with_more, IsBag}
 use Rattle.oas_layout.specs.Same.{normal}
+use Rattle.oas_layout.specs.Sound.{IsSound, IsUnit}
 use Rattle.oas_layout.specs.Meaning.{Meaning, element_count, cells_weight}
 
 -- a name, and the elements in their kept forms with their counts
@@ -90,6 +93,16 @@ holding d cell e n weight = record d { cells = cells_with_more d.cells cell e n;
 abbrev pub added : Contents → ℕ → Element → ℕ → Contents
 added d cell e n = holding d cell (normal d.profile e) n (n * weight_of e)
 
+-- each of the elements is sound
+abbrev pub AllSound : List (Element × ℕ) → Type 0
+AllSound es = AllByRecursion (λ p. IsSound p.0) es
+
+-- a cell has a name, and elements in ascending order, each of which is sound and in its kept form
+pub record IsCell (profile : Profile) (c : Cell) : Type 0 where
+  pub name : IsName c.0
+  pub bag : IsBag profile c.1
+  pub sound : AllSound c.1
+
 -- The counters are those of the cells and within the limits. What is held weighs at most what was spelled, and under
 -- profile one as much.
 pub record IsCounted (limits : Limits) (profile : Profile) (cells : List Cell) (count weight spelled : ℕ) : Type 0 where
@@ -99,12 +112,22 @@ pub record IsCounted (limits : Limits) (profile : Profile) (cells : List Cell) (
   pub light : spelled ≤ limits.weight
   pub lighter : weight ≤ spelled
   pub as_spelled : profile ≡ One → weight ≡ spelled
-  pub bags : AllByRecursion (λ c. IsBag profile c.1) cells
+  pub are_cells : AllByRecursion (IsCell profile) cells
 
--- the names ascend too
-pub record IsLayout (limits : Limits) (profile : Profile) (cells : List Cell) (count weight spelled : ℕ) : Type 0 where
-  pub counted : IsCounted limits profile cells count weight spelled
-  pub ascending : IsStrictlySortedBy (slice_cmp nat_cmp) (names cells)
+-- What every layout is, whatever was asked of its draft. Each cell is one, the names strictly ascend, and elements and
+-- weight are within limits that a layout may have.
+pub record IsLayout (l : Contents) : Type 0 where
+  pub unit : IsUnit l.unit
+  pub limits : IsLimits l.limits.elements l.limits.weight l.limits.input
+  pub cells : AllByRecursion (IsCell l.profile) l.cells
+  pub ascending : IsStrictlySortedBy (slice_cmp nat_cmp) (names l.cells)
+  pub few : element_count (expanded l.cells) ≤ l.limits.elements
+  pub light : cells_weight (expanded l.cells) ≤ l.limits.weight
+
+-- a layout with its counters
+pub record IsFinished (l : Contents) (count weight : ℕ) : Type 0 where
+  pub counted : IsCounted l.limits l.profile l.cells count weight l.spelled
+  pub layout : IsLayout l
 
 -- b holds what a does, its cells by ascending names
 pub record IsSealed (a b : Contents) : Type 0 where

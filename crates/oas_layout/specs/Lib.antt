@@ -11,4 +11,5 @@ pub mod Limits
 pub mod Meaning
 pub mod Same
 pub mod SameLaws
+pub mod Sound
 pub mod Weight

@@ -85,7 +85,7 @@ rectangle_back : (layer datatype width height : ℕ) (x y : ℤ) → rectangle_o
 rectangle_back layer datatype width height x y = λ i. Rectangle layer datatype (side_back x width i) (side_back y height i) x y
 
 -- the corners of the rectangle with these corners
-corners_back : (c : Corners) → c.low.x <ℤ c.high.x → c.low.y <ℤ c.high.y → rectangle_corners (unsigned_abs (c.high.x -ℤ c.low.x)) (unsigned_abs (c.high.y -ℤ c.low.y)) c.low.x c.low.y ≡ c
+pub corners_back : (c : Corners) → c.low.x <ℤ c.high.x → c.low.y <ℤ c.high.y → rectangle_corners (unsigned_abs (c.high.x -ℤ c.low.x)) (unsigned_abs (c.high.y -ℤ c.low.y)) c.low.x c.low.y ≡ c
 corners_back c wide tall = λ i. record { low = c.low; high = record { x = side_there c.low.x c.high.x wide i; y = side_there c.low.y c.high.y tall i } }
 
 -- the rectangle that is drawn, from that in which it is kept

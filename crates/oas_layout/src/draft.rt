@@ -1,10 +1,11 @@
 //! A layout in the making.
 
-ghost use Rattle.std.specs.Prelude.{◌≡◌, ◌≤◌, ◌+◌, ◌*◌, ◌<◌, ◌⊎◌, length, None, Some, OnOk, OnErr, IfErr, IfOk};
+ghost use Rattle.std.specs.Prelude.{◌≡◌, ◌≤◌, ◌+◌, ◌*◌, ◌<◌, ◌⊎◌, true, false, length, None, Some, OnOk, OnErr, IfErr, IfOk};
 ghost use Rattle.std.specs.Option.{SomeIff};
 ghost use Rattle.oas_num.specs.declared.refusals.Why.TheVariants.{Memory};
 ghost use Rattle.oas_layout.specs.declared.profile.Profile.TheVariants.{One};
-ghost use Rattle.oas_layout.specs.Weight.{weight_of};
+ghost use Rattle.oas_layout.specs.Weight.{weight_of, lacks_points};
+ghost use Rattle.oas_layout.specs.Grid.{fits_grid};
 ghost use Rattle.oas_layout.specs.Same.{IsNormal};
 ghost use Rattle.oas_layout.specs.Meaning.{element_count};
 ghost use Rattle.oas_layout.specs.Contents.{expanded, nothing, with_cell, holding, added, cell_refusal, refusal, IsSealed};
@@ -14,6 +15,7 @@ use crate::element::Element;
 use crate::layout::Layout;
 use crate::limits::Limits;
 use crate::profile::Profile;
+use crate::sound::unit_fits;
 use indexmap::IndexMap;
 use oas_num::{Fraction, Name, Why};
 use std::alloc::{AllocError, Global};
@@ -170,6 +172,8 @@ impl Draft {
         requires cell { cell < length self.old.cells }
         requires some { 0 < times }
         requires kept { IsNormal self.old.profile element }
+        requires points { lacks_points element ≡ false }
+        requires inside { fits_grid element ≡ true }
         requires few { element_count (expanded self.old.cells) + times ≤ self.old.limits.elements }
         requires light { self.old.spelled + spelled ≤ self.old.limits.weight }
         requires lighter { weight_of element * times ≤ spelled }
@@ -178,6 +182,7 @@ impl Draft {
         ensures back { IfErr result (λ e. e ≡ element) }
         ensures err { OnErr result (self.new ≡ self.old) }
     {
+        element.fits();
         let weight = element.weight() * times;
         if let Err(element) = self.cells[cell].add(element, times) {
             return Err(element);
@@ -203,6 +208,7 @@ impl Draft {
             alloc: _,
         } = self;
         cells.sort_keys()?;
+        unit_fits(unit);
         Ok(Layout {
             unit,
             limits,

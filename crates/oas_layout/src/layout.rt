@@ -1,12 +1,9 @@
 //! A finished layout.
 
 ghost use Rattle.std.specs.Prelude.{◌≡◌, ◌<◌, ◌≤◌, ◌↔◌, IsTrue, length, Some, slice_get};
-ghost use Rattle.std.specs.List.Sorted.{IsStrictlySortedBy};
-ghost use Rattle.std.specs.Ordering.{nat_cmp};
-ghost use Rattle.std.specs.Cmp.Lexicographic.{slice_cmp};
 ghost use Rattle.oas_layout.specs.declared.profile.Profile.TheVariants.{One};
 ghost use Rattle.oas_layout.specs.Meaning.{element_count, cells_weight, SameLayout};
-ghost use Rattle.oas_layout.specs.Contents.{expanded, names, bags, meaning_of};
+ghost use Rattle.oas_layout.specs.Contents.{expanded, names, bags, meaning_of, IsLayout};
 ghost use Rattle.oas_layout.specs.Bag.{IsBag};
 
 use crate::bag::Bag;
@@ -30,13 +27,13 @@ pub struct Layout {
 }
 
 impl Model for Layout {
-    ghost use Rattle.oas_layout.specs.Contents.{Contents, IsLayout};
+    ghost use Rattle.oas_layout.specs.Contents.{Contents, IsFinished};
 
     ghost Value = { Contents };
 
     ghost view = { λ a. record { unit = a.unit; limits = a.limits; profile = a.profile; cells = a.cells.entries; spelled = a.spelled } };
 
-    ghost invariant = { λ a. IsLayout a.limits a.profile a.cells.entries a.count a.weight a.spelled };
+    ghost invariant = { λ a. IsFinished (record { unit = a.unit; limits = a.limits; profile = a.profile; cells = a.cells.entries; spelled = a.spelled }) a.count a.weight };
 }
 
 impl Layout {
@@ -54,10 +51,17 @@ impl Layout {
         self.profile
     }
 
-    /// How many cells there are. Their names ascend.
+    /// The limits that its draft was given.
+    pub fn limits(&self) -> Limits
+        ensures { result ≡ self.now.limits }
+    {
+        self.limits
+    }
+
+    /// How many cells there are. Their names ascend, and a file can spell all that is in them (`IsLayout`).
     pub fn cells(&self) -> usize
         ensures count { result ≡ length self.now.cells }
-        ensures ascending { IsStrictlySortedBy (slice_cmp nat_cmp) (names self.now.cells) }
+        ensures layout { IsLayout self.now }
     {
         self.cells.len()
     }

@@ -15,6 +15,8 @@
 //! - A [`Layout`] gives its cells by ascending names, and of each its distinct elements strictly ascending, no two the
 //!   same, each in its kept form and with how often it is there (`IsBag`, specs/Bag.antt). Equal elements are held once,
 //!   so memory grows with distinct elements only. No call on a layout takes memory.
+//! - Of every layout, however its draft was filled, `IsLayout` (specs/Contents.antt) holds, as [`Layout::cells`] says: its
+//!   elements have their points, lie within the grid, and have fields that a file can spell.
 //! - Two layouts are the same (`SameLayout`, specs/Meaning.antt) if they have one unit, the same cell names, and in each
 //!   cell the same count of each element; the definition knows no kept form and no order. [`Layout::same`] compares what
 //!   is held, and answers exactly that.
@@ -32,6 +34,7 @@ pub mod laws;
 mod layout;
 mod limits;
 mod profile;
+mod sound;
 
 pub use draft::Draft;
 pub use element::{Element, Turns};

@@ -39,6 +39,8 @@ pub(crate) fn layout_of(parts: Parts) -> Result<Layout, Why>
     requires { Sound parts }
     ensures ok { OnOk result (end_reason parts.names.named parts.strings.named parts.limits (drawn_cells (cells parts)) ≡ None) }
     ensures means { IfOk result (λ l. SameLayout parts.profile (meaning_of l) (meaning_by parts.names.named parts.strings.named parts.unit (drawn_cells (cells parts)))) }
+    ensures limits { IfOk result (λ l. l.limits ≡ parts.limits) }
+    ensures profile { IfOk result (λ l. l.profile ≡ parts.profile) }
     ensures err { IfErr result (λ why. (why ≡ Memory) ⊎ (end_reason parts.names.named parts.strings.named parts.limits (drawn_cells (cells parts)) ≡ Some why)) }
 {
     let Parts {

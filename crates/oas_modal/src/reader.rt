@@ -94,6 +94,8 @@ impl Reader {
         ensures again { (e : OneRefusal) → self.failed ≡ Some e → result ≡ Err e }
         ensures accepted { (rs : List OneRecord) → StandsFor self rs → OnOk result (end_refusal self.limits rs ≡ None) }
         ensures means { (rs : List OneRecord) → StandsFor self rs → IfOk result (λ l. SameLayout self.profile (meaning_of l) (records_mean self.unit rs)) }
+        ensures limits { IfOk result (λ l. l.limits ≡ self.limits) }
+        ensures profile { IfOk result (λ l. l.profile ≡ self.profile) }
         ensures refused { (rs : List OneRecord) → StandsFor self rs → IfErr result (λ e. (e.at ≡ at) × ((e.why ≡ Memory) ⊎ (end_refusal self.limits rs ≡ Some e.why))) }
     {
         let Reader { failed, parts } = self;

@@ -1,7 +1,7 @@
-use Rattle.std.proofs.Common.{◌≡◌, sym, ◌∙◌, ap, unwrap_or}
+use Rattle.std.proofs.Common.{rules, ◌≡◌, sym, ◌∙◌, ap, unwrap_or}
 use Rattle.oas_layout.specs.Same.{normal}
 use Rattle.oas_layout.specs.Contents.{Contents}
-use Rattle.oas_layout.proofs.KeptForms.{kept_normal, kept_lighter, kept_as_spelled}
+use Rattle.oas_layout.proofs.KeptForms.{kept_normal, kept_points, kept_inside, kept_lighter, kept_as_spelled}
 use Rattle.oas_layout.proofs.draft.Draft.add_many.Goals as goal
 
 kept_is : (c : goal.After-hold-arg-2-1) → c.in-Some-kept.kept ≡ normal c.self.inside.profile c.args.element
@@ -10,6 +10,12 @@ kept_is c = ap (λ o. unwrap_or o c.args.element) (sym c.in-Some-kept.is) ∙ c.
 pub hold-requires-2-clause-kept : goal.hold-requires-2-clause-kept
 hold-requires-2-clause-kept c =
     kept_normal c.self.inside.profile c.args.self.now.profile c.args.element c.in-Some-kept.kept (ap (λ (v : Contents). v.profile) c.self.view_is) (kept_is c)
+
+pub hold-requires-2-clause-points : goal.hold-requires-2-clause-points
+hold-requires-2-clause-points c = kept_points c.self.inside.profile c.args.self.now.profile c.args.element c.in-Some-kept.kept (ap (λ (v : Contents). v.profile) c.self.view_is) (kept_is c) (search rules)
+
+pub hold-requires-2-clause-inside : goal.hold-requires-2-clause-inside
+hold-requires-2-clause-inside c = kept_inside c.self.inside.profile c.args.self.now.profile c.args.element c.in-Some-kept.kept (ap (λ (v : Contents). v.profile) c.self.view_is) (kept_is c) (search rules)
 
 pub hold-requires-2-clause-lighter : goal.hold-requires-2-clause-lighter
 hold-requires-2-clause-lighter c =

@@ -32,7 +32,7 @@ invariant_of-self-2 c =
     let profile = ap (λ (v : Contents). v.profile) c.self.view_is in
     let product : c.weight.result * c.args.times ≡ weight_of c.args.element * c.args.times = ap (λ (k : ℕ). k * c.args.times) c.weight.ensures in
     IsCounted-with_more c.self.inside.limits c.self.inside.profile c.self.inside.cells.entries c.self.inside.count c.self.inside.weight c.self.inside.spelled c.args.cell c.index_mut.result.now _ c.args.element c.args.times (c.weight.result * c.args.times) c.args.spelled
-    c.self.invariant c.index_mut.ensures.value c.in_default.ensures.ok c.in_default.ensures.tally (subst (λ p. IsNormal p c.args.element) (sym profile) c.requires.kept) (omega (arith, many, c.requires.cell))
+    c.self.invariant c.index_mut.ensures.value c.in_default.ensures.ok c.in_default.ensures.tally (subst (λ p. IsNormal p c.args.element) (sym profile) c.requires.kept) (record { points = c.requires.points; inside = c.requires.inside; fits = c.fits.ensures }) (omega (arith, many, c.requires.cell))
     (omega (arith, cells, most, c.requires.few, c.self.invariant.count_is)) (omega (arith, heaviest, so_far, c.requires.light)) product (omega (arith, product, c.requires.lighter)) (λ one. product ∙ c.requires.as_spelled (sym profile ∙ one))
 
 pub returns-clause-ok : goal.returns-clause-ok

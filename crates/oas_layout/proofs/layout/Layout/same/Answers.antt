@@ -5,17 +5,17 @@ use Rattle.oas_layout.proofs.layout.Layout.same.Goals as goal
 
 pub returns-then-count-cells : goal.returns-then-count-cells
 returns-then-count-cells c =
-    differ c.args.self.now.profile _ _ c.args.self.now c.args.other.now _ _ _ _ _ _ c.self.view_is c.other.view_is refl c.requires c.self.invariant c.other.invariant
+    differ _ _ c.args.self.now c.args.other.now c.self.view_is c.other.view_is c.requires c.self.invariant.layout c.other.invariant.layout
     (λ _ e. c.if-count-cells.true (c.cells-count.ensures.count ∙ ap length e ∙ sym c.cells.ensures.count))
 
 pub returns-then-ne-2 : goal.returns-then-ne-2
 returns-then-ne-2 c =
-    differ c.args.self.now.profile _ _ c.args.self.now c.args.other.now _ _ _ _ _ _ c.self.view_is c.other.view_is refl c.requires c.self.invariant c.other.invariant
+    differ _ _ c.args.self.now c.args.other.now c.self.view_is c.other.view_is c.requires c.self.invariant.layout c.other.invariant.layout
     (λ _ e. unlike_itself _ _ (same_at c.args.self.now.cells c.args.other.now.cells c.loop-i.i _ _ c.cell.ensures.cell c.cell-in-loop-i.ensures.cell e) c.if-ne-2.ensures)
 
 pub returns-then-not-same : goal.returns-then-not-same
 returns-then-not-same c =
-    differ c.args.self.now.profile _ _ c.args.self.now c.args.other.now _ _ _ _ _ _ c.self.view_is c.other.view_is refl c.requires c.self.invariant c.other.invariant
+    differ _ _ c.args.self.now c.args.other.now c.self.view_is c.other.view_is c.requires c.self.invariant.layout c.other.invariant.layout
     (λ _ e. true≢false (sym (c.if-not-same.ensures.1 (ap (λ (p : Cell). p.1) (same_at c.args.self.now.cells c.args.other.now.cells c.loop-i.i _ _ c.cell.ensures.cell c.cell-in-loop-i.ensures.cell e)))))
 
 pub returns : goal.returns

@@ -1,0 +1,103 @@
+-- How two fronts of one file compare, and how a file goes on after its front.
+use Rattle.std.proofs.Common.{◌≡◌, ℕ, Bool, List, [], ◌∷◌, ◌++◌, reverse, refl, sym, ap, subst, ◌∙◌, append_assoc}
+use Rattle.std.proofs.lemmas.List.{reverse-append}
+use Rattle.oas_num.specs.Grammar.{IsSuch, IsEach}
+use Rattle.oas_num.specs.GrammarLaws.{after_same}
+use Rattle.oas_num.specs.Style.{Any}
+use Rattle.oas_record.specs.declared.heads.Head.{Head}
+use Rattle.oas_record.specs.declared.records.Record.{Record}
+use Rattle.oas_record.specs.declared.records.Record.TheVariants.{End}
+use Rattle.oas_record.specs.HeadLaws.{OneFront-head}
+use Rattle.oas_record.specs.Records.{record_in, IsInner}
+use Rattle.oas_record.specs.RecordLaws.{OneFront-record, OneFront-inner}
+use Rattle.oas_layout.specs.declared.limits.Limits.{Limits}
+use Rattle.oas_modal.specs.Stands as stands
+use Rattle.oas_file.specs.Files.{FileOf, FrontOf}
+use Rattle.oas_file.specs.Acceptance.{Allowed}
+
+-- a record before END
+abbrev pub inner_in : Bool → Record → List ℕ → Type 0
+inner_in in_end = IsSuch IsInner (record_in Any in_end)
+
+-- ---- what is allowed
+
+allowed_before : (limits : Limits) (rs ss : List Record) → stands.Allowed limits (rs ++ ss) → stands.Allowed limits ss
+allowed_before limits [] ss a = a
+allowed_before limits (r ∷ rs) ss a = allowed_before limits rs ss a.0
+
+-- what is allowed of all records is allowed of the first of them
+pub allowed_front : (limits : Limits) (rs ss : List Record) → Allowed limits (rs ++ ss) → Allowed limits rs
+allowed_front limits rs ss a = allowed_before limits (reverse ss) (reverse rs) (subst (λ (back : List Record). stands.Allowed limits back) (reverse-append rs ss) a)
+
+-- ---- two fronts of one file
+
+-- the records are the same, or one list goes on by a record that stands where the other has ended
+pub data Compared (in_end : Bool) (rs ss : List Record) (left right : List ℕ) : Type 0 where
+  Same : rs ≡ ss → left ≡ right → Compared in_end rs ss left right
+  More : (r : Record) (tail : List Record) (front rest : List ℕ) → ss ≡ (rs ++ r ∷ []) ++ tail → inner_in in_end r front → left ≡ front ++ rest → Compared in_end rs ss left right
+  Less : (r : Record) (tail : List Record) (front rest : List ℕ) → rs ≡ (ss ++ r ∷ []) ++ tail → inner_in in_end r front → right ≡ front ++ rest → Compared in_end rs ss left right
+
+compared_more : (in_end : Bool) (r s : Record) (rs ss : List Record) (left right : List ℕ) → r ≡ s → Compared in_end rs ss left right → Compared in_end (r ∷ rs) (s ∷ ss) left right
+compared_more in_end r s rs ss left right e (Same same lefts) = Same (λ i. e i ∷ same i) lefts
+compared_more in_end r s rs ss left right e (More q tail front rest is one stands) = More q tail front rest (λ i. sym e i ∷ is i) one stands
+compared_more in_end r s rs ss left right e (Less q tail front rest is one stands) = Less q tail front rest (λ i. e i ∷ is i) one stands
+
+compare : (in_end : Bool) (rs ss : List Record) (a b left right : List ℕ) → IsEach (inner_in in_end) rs a → IsEach (inner_in in_end) ss b → a ++ left ≡ b ++ right → Compared in_end rs ss left right
+compare in_end [] [] a b left right p q e = Same refl (after_same a b left right (p ∙ sym q) e)
+compare in_end [] (s ∷ ss) a b left right p q e =
+    More s ss q.0 (q.1 ++ right) refl q.2 (ap (λ (c : List ℕ). c ++ left) (sym p) ∙ e ∙ ap (λ (c : List ℕ). c ++ right) q.4 ∙ append_assoc q.0 q.1 right)
+compare in_end (r ∷ rs) [] a b left right p q e =
+    Less r rs p.0 (p.1 ++ left) refl p.2 (ap (λ (c : List ℕ). c ++ right) (sym q) ∙ sym e ∙ ap (λ (c : List ℕ). c ++ left) p.4 ∙ append_assoc p.0 p.1 left)
+compare in_end (r ∷ rs) (s ∷ ss) a b left right p q e =
+    let e1 : p.0 ++ (p.1 ++ left) ≡ q.0 ++ (q.1 ++ right) =
+    sym (append_assoc p.0 p.1 left) ∙ ap (λ (c : List ℕ). c ++ left) (sym p.4) ∙ e ∙ ap (λ (c : List ℕ). c ++ right) q.4 ∙ append_assoc q.0 q.1 right in
+    let one = (OneFront-inner Any in_end).one r s p.0 q.0 (p.1 ++ left) (q.1 ++ right) p.2 q.2 e1 in
+    compared_more in_end r s rs ss left right one.1 (compare in_end rs ss p.1 q.1 left right p.3 q.3 (after_same p.0 q.0 (p.1 ++ left) (q.1 ++ right) one.0 e1))
+
+-- what a front is, with what is left after it
+front_is : {head : Head} {rs : List Record} {before : List ℕ} (left : List ℕ) (f : FrontOf head rs before) → before ++ left ≡ f.start ++ (f.body ++ left)
+front_is left f = ap (λ (c : List ℕ). c ++ left) f.joined ∙ append_assoc f.start f.body left
+
+pub record Fronts (head first : Head) (rs ss : List Record) (left right : List ℕ) : Type 0 where
+  pub heads : head ≡ first
+  pub records : Compared head.flag_in_end rs ss left right
+
+-- two fronts of the same bytes have one START, and records that compare
+pub fronts : {head first : Head} {rs ss : List Record} {one other : List ℕ} (left right : List ℕ) → FrontOf head rs one → FrontOf first ss other → one ++ left ≡ other ++ right → Fronts head first rs ss left right
+fronts {head = head} {first = first} {rs = rs} {ss = ss} left right f g e =
+    let e1 = sym (front_is left f) ∙ e ∙ front_is right g in
+    let one = (OneFront-head Any).one head first f.start g.start (f.body ++ left) (g.body ++ right) f.begun g.begun e1 in
+    record {
+      heads = one.1;
+      records = compare head.flag_in_end rs ss f.body g.body left right f.each
+          (subst (λ (h : Head). IsEach (inner_in h.flag_in_end) ss g.body) (sym one.1) g.each) (after_same f.start g.start (f.body ++ left) (g.body ++ right) one.0 e1);
+    }
+
+-- END is no record before it
+pub not_both : (in_end : Bool) (r : Record) (front last rest more : List ℕ) → inner_in in_end r front → record_in Any in_end End last → front ++ rest ≡ last ++ more → ⊥
+not_both in_end r front last rest more p end e = p.holds ((OneFront-record Any in_end).one r End front last rest more p.spelled end e).1
+
+-- END, by the same START
+pub end_by : {head first : Head} {last : List ℕ} → head ≡ first → record_in Any first.flag_in_end End last → record_in Any head.flag_in_end End last
+end_by {last = last} heads end = subst (λ (h : Head). record_in Any h.flag_in_end End last) (sym heads) end
+
+-- ---- a file
+
+-- a file is its front, and END
+pub record Ended (head : Head) (rs : List Record) (b : List ℕ) : Type 0 where
+  pub before : List ℕ
+  pub last : List ℕ
+  pub front : FrontOf head rs before
+  pub end : record_in Any head.flag_in_end End last
+  pub joined : b ≡ before ++ last
+
+pub ended : {head : Head} {rs : List Record} {b : List ℕ} → FileOf head rs b → Ended head rs b
+ended file =
+    let s = file.spelled in
+    record {
+      before = s.front ++ s.second.front;
+      last = s.second.back;
+      front = record { start = s.front; body = s.second.front; begun = s.first; each = s.second.first; joined = refl };
+      end = s.second.second.spelled;
+      joined = s.joined ∙ ap (λ (c : List ℕ). s.front ++ c) s.second.joined ∙ sym (append_assoc s.front s.second.front s.second.back);
+    }

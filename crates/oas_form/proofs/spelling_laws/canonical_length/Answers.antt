@@ -1,0 +1,5 @@
+use Rattle.oas_form.proofs.Lengths as law
+use Rattle.oas_form.proofs.spelling_laws.canonical_length.Goals as goal
+
+pub returns : goal.returns
+returns c = law.canonical_length

@@ -1,0 +1,44 @@
+-- What the records of canonical files mean, and that they are accepted. Records are listed oldest first.
+use Rattle.std.specs.Prelude.{◌≡◌, ℕ, List, ◌++◌, false, true}
+use Rattle.std.specs.List.{AllByRecursion}
+use Rattle.oas_num.specs.Ratio.{Ratio, IsLowest}
+use Rattle.oas_num.specs.Style.{Shortest}
+use Rattle.oas_record.specs.declared.heads.Head.{Head}
+use Rattle.oas_record.specs.declared.records.Record.{Record}
+use Rattle.oas_layout.specs.declared.limits.Limits.{Limits}
+use Rattle.oas_layout.specs.Grid.{fits_grid}
+use Rattle.oas_layout.specs.Weight.{lacks_points}
+use Rattle.oas_modal.specs.Stands.{records_mean}
+use Rattle.oas_file.specs.Files.{FileIn}
+use Rattle.oas_file.specs.Acceptance.{Allowed}
+use Rattle.oas_form.specs.Records.{Cells, records_of}
+
+-- each element has the points that it needs
+abbrev pub HavePoints : Cells → Type 0
+HavePoints cs = AllByRecursion (λ c. AllByRecursion (λ e. lacks_points e ≡ false) c.1) cs
+
+-- each element lies within the grid
+abbrev pub FitGrid : Cells → Type 0
+FitGrid cs = AllByRecursion (λ c. AllByRecursion (λ e. fits_grid e ≡ true) c.1) cs
+
+-- ---- the laws
+
+-- the records of cells and of further cells
+abbrev pub RecordsSplit : Type 0
+RecordsSplit = (cs ds : Cells) → records_of (cs ++ ds) ≡ records_of cs ++ records_of ds
+
+-- the records of cells mean these cells
+abbrev pub CanonicalMeans : Type 0
+CanonicalMeans = (unit : Ratio) (cs : Cells) → HavePoints cs → records_mean unit (records_of cs) ≡ record { unit = unit; cells = cs }
+
+-- A file in the shortest style has the records of the cells that it means. Its elements have their points, since its point
+-- lists do.
+abbrev pub ShortestIsCanonical : Type 0
+ShortestIsCanonical = (limits : Limits) (head : Head) (rs : List Record) (c : List ℕ) → FileIn Shortest head rs c → Allowed limits rs → rs ≡ records_of (records_mean head.unit rs).cells
+
+abbrev pub ShortestHasPoints : Type 0
+ShortestHasPoints = (limits : Limits) (head : Head) (rs : List Record) (c : List ℕ) → FileIn Shortest head rs c → Allowed limits rs → HavePoints (records_mean head.unit rs).cells
+
+-- its unit is in lowest terms, and its table-offsets stand in START
+abbrev pub ShortestHead : Type 0
+ShortestHead = (head : Head) (rs : List Record) (c : List ℕ) → FileIn Shortest head rs c → IsLowest head.unit × (head.flag_in_end ≡ false)

@@ -1,0 +1,20 @@
+//! Laws of the records of canonical files, each the contract of a function that does nothing.
+ghost use Rattle.oas_form.specs.RecordMeaning.{RecordsSplit, CanonicalMeans, ShortestIsCanonical, ShortestHasPoints, ShortestHead};
+
+/// The records of cells and of further cells are the records of the ones, and then of the others.
+pub fn records_split()
+    ensures { RecordsSplit }
+{}
+
+/// The records of cells mean these cells.
+pub fn canonical_means()
+    ensures { CanonicalMeans }
+{}
+
+/// A file in the shortest style has the records of the cells that it means, and their elements have the points that they
+/// need. Its unit is in lowest terms, and its table-offsets stand in START.
+pub fn shortest_is_canonical()
+    ensures records { ShortestIsCanonical }
+    ensures points { ShortestHasPoints }
+    ensures head { ShortestHead }
+{}
