@@ -2,6 +2,8 @@
 use Rattle.std.specs.Prelude.{◌≡◌, ◌≢◌, ◌≤◌, ℕ, Bool, List, Option, None, Some}
 use Rattle.std.proofs.Props.{props}
 use base.Fml.{GName}
+use Rattle.oas_num.specs.declared.refusals.Why.{Why}
+use Rattle.oas_num.specs.declared.refusals.Why.TheVariants.{Read, Memory}
 use Rattle.oas_num.specs.Script.{Script, Rest, Gave, Takes, NoneLeft, IsAtEnd, HasFailed, IsTooLong}
 use Rattle.oas_canon.specs.declared.keeping.Ending.{Ending}
 use Rattle.oas_canon.specs.declared.keeping.Ending.TheVariants as endings
@@ -20,6 +22,11 @@ pub record IsKeeping (start : Script) (name same : GName) (now : Script) (kept :
   pub takes : Takes start kept now
   pub within : ending ≢ endings.Open → now.given ≤ now.limit
   pub ends : EndsSo ending now
+
+-- a read that was refused for want of a byte, for which there was no room
+abbrev pub reason_by : Ending → Why → Why
+reason_by endings.NoRoom Read = Memory
+reason_by ending why = why
 
 -- ---- each of these has one proof at most
 

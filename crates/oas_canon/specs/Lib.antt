@@ -1,4 +1,6 @@
+pub mod Run
 pub mod Keeping
 pub mod KeptScripts
 pub mod Comparing
 pub mod Hashing
+pub mod Putting

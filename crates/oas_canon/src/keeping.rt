@@ -1,10 +1,9 @@
 //! A source whose bytes are kept as they are taken.
-ghost use Rattle.std.specs.Prelude.{◌≡◌, ◌<◌, IfOk, vec_len, vec_capacity};
+ghost use Rattle.std.specs.Prelude.{◌≡◌, ◌<◌, [], vec_len, vec_capacity};
 ghost use Rattle.oas_canon.specs.declared.keeping.Ending.TheVariants.{Open};
-ghost use Rattle.oas_canon.specs.Keeping.{IsKeeping, IsKeeping-prop};
+ghost use Rattle.oas_canon.specs.Keeping.{IsKeeping, IsKeeping-prop, reason_by};
 
-use oas_num::{Source, SourceFault};
-use std::alloc::{AllocError, Global};
+use oas_num::{Source, SourceFault, Why};
 use std::marker::{Brand, PhantomData};
 
 /// Which source it is whose bytes are kept, and where it stood before the first of them. Each use picks it.
@@ -55,22 +54,22 @@ pub(crate) struct KeepingSource<'a, S: Source, K: Start> {
 }
 
 impl<'a, S: Source, K: Start> KeepingSource<'a, S, K> {
-    /// The source, of which nothing is kept yet.
-    pub(crate) fn new(alloc: Global, source: &'a mut S) -> Result<KeepingSource<'a, S, K>, AllocError>
+    /// The source, of which nothing is kept yet, and room for its first byte.
+    pub(crate) fn new(source: &'a mut S, kept: Vec<u8>) -> KeepingSource<'a, S, K>
         requires named { source.ghost_name ≡ K.name }
         requires starts { S.script source.old ≡ K.script }
-        ensures same { IfOk result (λ keeping. keeping.source.ghost_name ≡ source.entry.ghost_name) }
-        ensures begins { IfOk result (λ keeping. keeping.source.now ≡ source.old) }
-        ensures open { IfOk result (λ keeping. keeping.ending ≡ Open) }
+        requires none { kept.items ≡ [] }
+        requires room { vec_len kept < vec_capacity kept }
+        ensures same { result.source.ghost_name ≡ source.entry.ghost_name }
+        ensures begins { result.source.now ≡ source.old }
+        ensures open { result.ending ≡ Open }
     {
-        let mut kept = Vec::new(alloc);
-        kept.reserve(1)?;
-        Ok(KeepingSource {
+        KeepingSource {
             source,
             kept,
             ending: Ending::Open,
             start: PhantomData,
-        })
+        }
     }
 
     /// The bytes that were taken.
@@ -80,11 +79,16 @@ impl<'a, S: Source, K: Start> KeepingSource<'a, S, K> {
         &self.kept
     }
 
-    /// How the bytes ended.
-    pub(crate) fn ending(&self) -> Ending
-        ensures { result ≡ self.now.ending }
+    /// Why a read was refused, in place of what the reader of this source says: where a byte couldn't be kept it was the
+    /// memory, and not the device.
+    pub(crate) fn reason(&self, why: Why) -> Why
+        ensures { result ≡ reason_by self.now.ending why }
     {
-        self.ending
+        if self.ending == Ending::NoRoom && why == Why::Read {
+            Why::Memory
+        } else {
+            why
+        }
     }
 }
 
