@@ -1,1 +1,2 @@
 mod SinkLemmas
+mod KeptLemmas

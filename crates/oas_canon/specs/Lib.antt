@@ -3,4 +3,5 @@ pub mod Keeping
 pub mod KeptScripts
 pub mod Comparing
 pub mod Hashing
+pub mod Kept
 pub mod Putting

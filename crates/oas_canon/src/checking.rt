@@ -8,16 +8,12 @@ ghost use Rattle.oas_form.specs.Bytes.{canonical_bytes};
 ghost use Rattle.oas_canon.specs.Run.{IsJudged, Exactly};
 
 use crate::comparing::Comparer;
-use crate::keeping::{KeepingSource, Start};
+use crate::keeping::read_kept;
 use crate::profile::PROFILE;
 use crate::stub::Below;
 use oas_layout::{Layout, Limits};
-use oas_num::{Refusal, Source, Why};
+use oas_num::{Refusal, Source};
 use std::alloc::Global;
-use std::marker::Brand;
-
-/// How many bytes there is room for before the first is read.
-const ROOM: usize = 1024;
 
 /// Whether what a source gives is the canonical file of the layout that it means.
 ///
@@ -35,37 +31,8 @@ pub fn is_canonical<B: Below, S: Source>(
     ensures decided { IfErr result (λ refusal. (refusal.why ≡ NoMemory) ⊎ IsReasoned limits (S.script from.old) refusal (S.script from.new)) }
     ensures exactly { Exactly limits (S.script from.old) result (S.script from.new) }
 {
-    check::<B, S, Brand>(alloc, from, limits)
-}
-
-/// The same, of the source that is named.
-fn check<B: Below, S: Source, K: Start>(
-    alloc: Global,
-    from: &mut S,
-    limits: Limits,
-) -> Result<bool, Refusal>
-    requires named { from.ghost_name ≡ K.name }
-    requires starts { S.script from.old ≡ K.script }
-    ensures judged { IfOk result (λ yes. IsJudged limits PROFILE (S.script from.old) (S.script from.new) yes) }
-    ensures refused { IfErr result (λ refusal. IsRefused limits (S.script from.old) refusal.why (S.script from.new)) }
-    ensures placed { IfErr result (λ refusal. IsPlaced limits (S.script from.old) refusal (S.script from.new)) }
-    ensures decided { IfErr result (λ refusal. (refusal.why ≡ NoMemory) ⊎ IsReasoned limits (S.script from.old) refusal (S.script from.new)) }
-    ensures exactly { Exactly limits (S.script from.old) result (S.script from.new) }
-{
-    let Ok(room) = Vec::with_capacity(alloc, ROOM) else {
-        return Err(Refusal {
-            at: from.at(),
-            why: Why::Memory,
-        });
-    };
-    let mut keeping: KeepingSource<'_, S, K> = KeepingSource::new(from, room);
-    match B::read_layout(alloc, &mut keeping, limits, PROFILE) {
-        Ok(layout) => Ok(is_spelled::<B>(&layout, keeping.kept())),
-        Err(refusal) => Err(Refusal {
-            at: refusal.at,
-            why: keeping.reason(refusal.why),
-        }),
-    }
+    let (layout, kept) = read_kept::<B, S>(alloc, from, limits)?;
+    Ok(is_spelled::<B>(&layout, &kept))
 }
 
 /// Whether these are the canonical bytes of a layout.
