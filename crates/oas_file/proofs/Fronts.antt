@@ -1,23 +1,23 @@
 -- How two fronts of one file compare, and how a file goes on after its front.
-use Rattle.std.proofs.Common.{◌≡◌, ℕ, Bool, List, [], ◌∷◌, ◌++◌, reverse, refl, sym, ap, subst, ◌∙◌, append_assoc}
-use Rattle.std.proofs.lemmas.List.{reverse-append}
-use Rattle.oas_num.specs.Grammar.{IsSuch, IsEach}
+use Rattle.std.proofs.Common.{◌≡◌, ℕ, Bool, List, [], ◌∷◌, ◌++◌, None, reverse, refl, sym, ap, subst, ◌∙◌, append_assoc}
+use Rattle.std.proofs.lemmas.List.{append-nil, append_cancel_left, reverse-append}
+use Rattle.oas_num.specs.Grammar.{IsEach}
 use Rattle.oas_num.specs.GrammarLaws.{after_same}
 use Rattle.oas_num.specs.Style.{Any}
+use Rattle.oas_num.proofs.ReadLemmas.{Wants}
 use Rattle.oas_record.specs.declared.heads.Head.{Head}
 use Rattle.oas_record.specs.declared.records.Record.{Record}
 use Rattle.oas_record.specs.declared.records.Record.TheVariants.{End}
+use Rattle.oas_record.specs.Heads.{magic, IsMagic, start_in, head_in}
 use Rattle.oas_record.specs.HeadLaws.{OneFront-head}
-use Rattle.oas_record.specs.Records.{record_in, IsInner}
+use Rattle.oas_record.specs.Records.{record_in}
 use Rattle.oas_record.specs.RecordLaws.{OneFront-record, OneFront-inner}
 use Rattle.oas_layout.specs.declared.limits.Limits.{Limits}
 use Rattle.oas_modal.specs.Stands as stands
-use Rattle.oas_file.specs.Files.{FileOf, FrontOf}
-use Rattle.oas_file.specs.Acceptance.{Allowed}
-
--- a record before END
-abbrev pub inner_in : Bool → Record → List ℕ → Type 0
-inner_in in_end = IsSuch IsInner (record_in Any in_end)
+use Rattle.oas_modal.specs.Stands.{refusal}
+use Rattle.oas_file.specs.Files.{Parts, file_in, FileOf, FrontOf}
+use Rattle.oas_file.specs.Acceptance.{Allowed, Accepted}
+use Rattle.oas_file.specs.Gathering.{inner_in}
 
 -- ---- what is allowed
 
@@ -28,6 +28,13 @@ allowed_before limits (r ∷ rs) ss a = allowed_before limits rs ss a.0
 -- what is allowed of all records is allowed of the first of them
 pub allowed_front : (limits : Limits) (rs ss : List Record) → Allowed limits (rs ++ ss) → Allowed limits rs
 allowed_front limits rs ss a = allowed_before limits (reverse ss) (reverse rs) (subst (λ (back : List Record). stands.Allowed limits back) (reverse-append rs ss) a)
+
+-- of one record more: it is allowed after the others
+pub allowed_last : (limits : Limits) (rs : List Record) (r : Record) → Allowed limits (rs ++ r ∷ []) → refusal limits rs r ≡ None
+allowed_last limits rs r a = let both : stands.Allowed limits (r ∷ reverse rs) = subst (λ (back : List Record). stands.Allowed limits back) (reverse-append rs (r ∷ [])) a in both.1
+
+pub allowed_more : (limits : Limits) (rs : List Record) (r : Record) → Allowed limits rs → refusal limits rs r ≡ None → Allowed limits (rs ++ r ∷ [])
+allowed_more limits rs r a none = subst (λ (back : List Record). stands.Allowed limits back) (sym (reverse-append rs (r ∷ []))) (a, none)
 
 -- ---- two fronts of one file
 
@@ -91,13 +98,91 @@ pub record Ended (head : Head) (rs : List Record) (b : List ℕ) : Type 0 where
   pub end : record_in Any head.flag_in_end End last
   pub joined : b ≡ before ++ last
 
+ended_in : (v : Parts) (b : List ℕ) → file_in Any v b → Ended v.0 v.1.0 b
+ended_in v b s = record {
+  before = s.front ++ s.second.front;
+  last = s.second.back;
+  front = record { start = s.front; body = s.second.front; begun = s.first; each = s.second.first; joined = refl };
+  end = subst (λ (r : Record). record_in Any v.0.flag_in_end r s.second.back) s.second.second.holds s.second.second.spelled;
+  joined = s.joined ∙ ap (λ (c : List ℕ). s.front ++ c) s.second.joined ∙ sym (append_assoc s.front s.second.front s.second.back);
+}
+
 pub ended : {head : Head} {rs : List Record} {b : List ℕ} → FileOf head rs b → Ended head rs b
-ended file =
-    let s = file.spelled in
+ended {head = head} {rs = rs} {b = b} file = ended_in (head, (rs, End)) b file.spelled
+
+-- after the front of a file stands another of its records, or END
+pub file_wants : {head : Head} {rs : List Record} {bytes : List ℕ} → FrontOf head rs bytes → Wants (file_in Any) bytes (record_in Any head.flag_in_end)
+file_wants {head = head} {rs = rs} {bytes = bytes} f = record { wants = next } where
+  next : (v : Parts) (p r rest : List ℕ) → file_in Any v p → p ++ r ≡ bytes ++ rest → (w : Record) × (q : List ℕ) × (more : List ℕ) × record_in Any head.flag_in_end w q × (q ++ more ≡ rest)
+  next v p r rest s e = by (fronts rest (g.last ++ r) f g.front (sym e ∙ ap (λ (c : List ℕ). c ++ r) g.joined ∙ append_assoc g.before g.last r)) where
+    g : Ended v.0 v.1.0 p
+    g = ended_in v p s
+
+    by : Fronts head v.0 rs v.1.0 rest (g.last ++ r) → (w : Record) × (q : List ℕ) × (more : List ℕ) × record_in Any head.flag_in_end w q × (q ++ more ≡ rest)
+    by both = by_records both.records where
+      end : record_in Any head.flag_in_end End g.last
+      end = end_by both.heads g.end
+
+      by_records : Compared head.flag_in_end rs v.1.0 rest (g.last ++ r) → (w : Record) × (q : List ℕ) × (more : List ℕ) × record_in Any head.flag_in_end w q × (q ++ more ≡ rest)
+      by_records (Same same lefts) = (End, g.last, r, end, sym lefts)
+      by_records (More w tail front more is one stands) = (w, front, more, one.spelled, sym stands)
+      by_records (Less w tail front more is one stands) = absurd (not_both head.flag_in_end w front g.last more r one end (sym stands))
+
+-- the records of an accepted file's front are allowed
+pub front_allowed : {limits : Limits} {head : Head} {rs : List Record} {bytes : List ℕ} (more : List ℕ) → FrontOf head rs bytes → Accepted limits (bytes ++ more) → Allowed limits rs
+front_allowed {limits = limits} {head = head} {rs = rs} {bytes = bytes} more f a = by both.records where
+  e : Ended a.head a.records (bytes ++ more)
+  e = ended a.file
+
+  both : Fronts head a.head rs a.records more e.last
+  both = fronts more e.last f e.front e.joined
+
+  by : Compared head.flag_in_end rs a.records more e.last → Allowed limits rs
+  by (Same same lefts) = subst (λ (all : List Record). Allowed limits all) (sym same) a.allowed
+  by (More r tail front rest is one stands) = allowed_front limits rs (r ∷ tail) (subst (λ (all : List Record). Allowed limits all) (is ∙ append_assoc rs (r ∷ []) tail) a.allowed)
+  by (Less r tail front rest is one stands) = absurd (not_both head.flag_in_end r front e.last rest [] one (end_by both.heads e.end) (sym stands ∙ sym (append-nil e.last)))
+
+-- ---- one record more
+
+push : (in_end : Bool) (rs : List Record) (r : Record) (a b : List ℕ) → IsEach (inner_in in_end) rs a → inner_in in_end r b → IsEach (inner_in in_end) (rs ++ r ∷ []) (a ++ b)
+push in_end [] r a b each one = (b, [], one, refl, ap (λ (c : List ℕ). c ++ b) each ∙ sym (append-nil b))
+push in_end (s ∷ rs) r a b each one = (each.0, each.1 ++ b, each.2, push in_end rs r each.1 b each.3 one, ap (λ (c : List ℕ). c ++ b) each.4 ∙ append_assoc each.0 each.1 b)
+
+pub front_more : {head : Head} {rs : List Record} {r : Record} {a b : List ℕ} → FrontOf head rs a → inner_in head.flag_in_end r b → FrontOf head (rs ++ r ∷ []) (a ++ b)
+front_more {head = head} {rs = rs} {r = r} {a = a} {b = b} f one = record {
+  start = f.start;
+  body = f.body ++ b;
+  begun = f.begun;
+  each = push head.flag_in_end rs r f.body b f.each one;
+  joined = ap (λ (c : List ℕ). c ++ b) f.joined ∙ append_assoc f.start f.body b;
+}
+
+-- ---- what stands first in a file
+
+-- the magic and START
+pub record BeginsFile (b : List ℕ) : Type 0 where
+  pub head : Head
+  pub start : List ℕ
+  pub rest : List ℕ
+  pub begun : start_in Any head start
+  pub joined : b ≡ magic ++ (start ++ rest)
+
+pub head_begins : (head : Head) (start left : List ℕ) → head_in Any head start → BeginsFile (start ++ left)
+head_begins head start left h =
+    let s = h.spelled in
     record {
-      before = s.front ++ s.second.front;
-      last = s.second.back;
-      front = record { start = s.front; body = s.second.front; begun = s.first; each = s.second.first; joined = refl };
-      end = s.second.second.spelled;
-      joined = s.joined ∙ ap (λ (c : List ℕ). s.front ++ c) s.second.joined ∙ sym (append_assoc s.front s.second.front s.second.back);
+      head = h.from.1;
+      start = s.back;
+      rest = left;
+      begun = s.second;
+      joined = ap (λ (c : List ℕ). c ++ left) s.joined ∙ append_assoc s.front s.back left ∙ ap (λ (c : List ℕ). c ++ (s.back ++ left)) s.first;
     }
+
+file_begins : (v : Parts) (p r : List ℕ) → file_in Any v p → BeginsFile (p ++ r)
+file_begins v p r s = subst BeginsFile (sym (ap (λ (c : List ℕ). c ++ r) s.joined ∙ append_assoc s.front s.back r)) (head_begins v.0 s.front (s.back ++ r) s.first)
+
+pub magic_wanted : Wants (file_in Any) [] IsMagic
+magic_wanted = record { wants = λ v p r rest s e. let b = file_begins v p r s in (tt, magic, b.start ++ b.rest, refl, sym b.joined ∙ e) }
+
+pub start_wanted : Wants (file_in Any) magic (start_in Any)
+start_wanted = record { wants = λ v p r rest s e. let b = file_begins v p r s in (b.head, b.start, b.rest, b.begun, append_cancel_left magic (b.start ++ b.rest) rest (sym b.joined ∙ e)) }

@@ -1,2 +1,6 @@
 pub mod Fronts
 pub mod PlaceLaws
+pub mod Judged
+pub mod Refusing
+pub mod Taking
+pub mod Ending

@@ -6,14 +6,14 @@ use Rattle.oas_num.specs.Style.{Any}
 use Rattle.oas_record.specs.declared.heads.Head.{Head}
 use Rattle.oas_record.specs.declared.records.Record.{Record}
 use Rattle.oas_record.specs.declared.records.Record.TheVariants.{End}
-use Rattle.oas_record.specs.Heads.{magic, start_in, head_in}
+use Rattle.oas_record.specs.Heads.{magic}
 use Rattle.oas_record.specs.Records.{record_in}
 use Rattle.oas_record.specs.RecordLaws.{OneFront-record}
 use Rattle.oas_layout.specs.declared.limits.Limits.{Limits}
 use Rattle.oas_file.specs.Files.{FrontOf}
 use Rattle.oas_file.specs.Acceptance.{Allowed, IsWhole, Accepted}
 use Rattle.oas_file.specs.Places.{AtMagic, AtStart, AtRecord, AfterEnd, AtEnd, ByMagic, ByStart, ByRecord, AfterLast, ByEnd, OnePlace, NoPlace}
-use Rattle.oas_file.proofs.Fronts.{Compared, Same, More, Less, Fronts, fronts, allowed_front, not_both, end_by, ended}
+use Rattle.oas_file.proofs.Fronts.{Compared, Same, More, Less, Fronts, fronts, allowed_front, not_both, end_by, ended, BeginsFile, head_begins}
 
 same_length : (one other left right : List ℕ) → left ≡ right → one ++ left ≡ other ++ right → length one ≡ length other
 same_length one other left right same e = omega (arith, ap length same, ap length e, length-append one left, length-append other right)
@@ -123,25 +123,6 @@ records_same {limits = limits} {p = p} {q = q} a c = by both.records where
       absurd (c.no_record.none r front rest (record { spelled = spelled; allowed = further limits c.records a.records r tail is a.before.allowed }) stands)
 
 -- ---- before the records
-
--- what stands first in a front
-record BeginsFile (b : List ℕ) : Type 0 where
-  head : Head
-  start : List ℕ
-  rest : List ℕ
-  begun : start_in Any head start
-  joined : b ≡ magic ++ (start ++ rest)
-
-head_begins : (head : Head) (start left : List ℕ) → head_in Any head start → BeginsFile (start ++ left)
-head_begins head start left h =
-    let s = h.spelled in
-    record {
-      head = h.from.1;
-      start = s.back;
-      rest = left;
-      begun = s.second;
-      joined = ap (λ (c : List ℕ). c ++ left) s.joined ∙ append_assoc s.front s.back left ∙ ap (λ (c : List ℕ). c ++ (s.back ++ left)) s.first;
-    }
 
 front_begins : {head : Head} {rs : List Record} {b before : List ℕ} (left : List ℕ) → FrontOf head rs before → b ≡ before ++ left → BeginsFile b
 front_begins {head = head} left f e =

@@ -4,3 +4,4 @@ pub mod Acceptance
 pub mod Places
 pub mod Deciding
 pub mod Reading
+pub mod Gathering

@@ -2,3 +2,6 @@
 #![tactic(auto)]
 
 pub mod laws;
+mod reading;
+
+pub use reading::read_layout;

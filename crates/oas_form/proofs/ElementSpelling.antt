@@ -34,7 +34,7 @@ use Rattle.oas_layout.specs.declared.element.Turns.{Turns}
 use Rattle.oas_layout.specs.declared.element.Turns.TheVariants.{T0, T1, T2, T3}
 use Rattle.oas_layout.specs.Element.{turn_count}
 use Rattle.oas_layout.specs.Grid.{is_coordinate, reaches, is_grid_point}
-use Rattle.oas_form.specs.Sound.{FitsText, FitsRectangle, FitsPolygon, FitsPath, FitsCircle}
+use Rattle.oas_layout.specs.Sound.{FitsText, FitsRectangle, FitsPolygon, FitsPath, FitsCircle}
 use Rattle.oas_form.specs.Records.{spot_at, steps_from, line_of, spot_of}
 use Rattle.oas_form.specs.Bytes.{string_bytes, place_bytes, step_bytes, list_bytes, points_bytes, placement_info}
 

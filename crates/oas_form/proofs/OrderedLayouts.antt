@@ -16,14 +16,15 @@ use Rattle.oas_layout.specs.declared.element.Element.{Element}
 use Rattle.oas_layout.specs.Element.{element_cmp}
 use Rattle.oas_layout.specs.ElementLaws.{element_total}
 use Rattle.oas_layout.specs.Ascending.{Ascends}
-use Rattle.oas_layout.specs.Bag.{items, IsBag}
+use Rattle.oas_layout.specs.Bag.{items}
 use Rattle.oas_layout.specs.Same.{IsNormal}
 use Rattle.oas_layout.specs.Meaning.{Meaning, SameLayout, count_of, elements_of}
-use Rattle.oas_layout.specs.Contents.{Cell, names, expanded}
+use Rattle.oas_layout.specs.Contents.{Cell, names, expanded, IsCell}
 use Rattle.oas_layout.proofs.LawProofs.{equal}
 use Rattle.oas_layout.proofs.Sealed.{name_cmp}
 use Rattle.oas_form.specs.Records.{Cells}
-use Rattle.oas_form.specs.Canonical.{IsOrdered, EqualInOrder}
+use Rattle.oas_form.specs.Canonical.{IsOrdered}
+use Rattle.oas_form.specs.Layouts.{EqualInOrder, LayoutInOrder}
 
 -- ---- names that ascend, as a test
 
@@ -82,7 +83,7 @@ repeated (suc n) x ys h a = (at_most n, repeated n x ys h a) where
   at_most (suc n) = (ap is_gt (tied_itself element_total x), at_most n)
 
 -- what holds of the elements holds of each place that they have
-all-items : (P : Element → Type 0) (es : List (Element × ℕ)) → AllByRecursion P (keys_of es) → AllByRecursion P (items es)
+pub all-items : (P : Element → Type 0) (es : List (Element × ℕ)) → AllByRecursion P (keys_of es) → AllByRecursion P (items es)
 all-items P [] h = tt
 all-items P (p ∷ ps) h = so_often p.1 (all-items P ps h.1) where
   so_often : (n : ℕ) → AllByRecursion P (items ps) → AllByRecursion P (replicate n p.0 ++ items ps)
@@ -109,14 +110,18 @@ pub keys-expanded : (cs : List Cell) → keys_of (expanded cs) ≡ names cs
 keys-expanded [] = refl
 keys-expanded (c ∷ cs) = ap (λ (ks : List (List ℕ)). c.0 ∷ ks) (keys-expanded cs)
 
-cells_ascend : (profile : Profile) (cs : List Cell) → AllByRecursion (λ c. IsBag profile c.1) cs → AllByRecursion (λ c. Ascends element_cmp c.1) (expanded cs)
+cells_ascend : (profile : Profile) (cs : List Cell) → AllByRecursion (IsCell profile) cs → AllByRecursion (λ c. Ascends element_cmp c.1) (expanded cs)
 cells_ascend profile [] h = tt
-cells_ascend profile (c ∷ cs) h = (items_ascend c.1 h.0.tally.ascending, cells_ascend profile cs h.1)
+cells_ascend profile (c ∷ cs) h = (items_ascend c.1 h.0.bag.tally.ascending, cells_ascend profile cs h.1)
 
-cells_normal : (profile : Profile) (cs : List Cell) → AllByRecursion (λ c. IsBag profile c.1) cs → AllByRecursion (λ c. AllByRecursion (IsNormal profile) c.1) (expanded cs)
+cells_normal : (profile : Profile) (cs : List Cell) → AllByRecursion (IsCell profile) cs → AllByRecursion (λ c. AllByRecursion (IsNormal profile) c.1) (expanded cs)
 cells_normal profile [] h = tt
-cells_normal profile (c ∷ cs) h = (items_normal profile c.1 h.0.normal, cells_normal profile cs h.1)
+cells_normal profile (c ∷ cs) h = (items_normal profile c.1 h.0.bag.normal, cells_normal profile cs h.1)
 
--- bags by ascending names are in order
-pub bags_in_order : (profile : Profile) (cs : List Cell) → IsStrictlySortedBy name_cmp (names cs) → AllByRecursion (λ c. IsBag profile c.1) cs → IsOrdered profile (expanded cs)
-bags_in_order profile cs s h = record { names = subst (IsStrictlySortedBy name_cmp) (sym (keys-expanded cs)) s; ascending = cells_ascend profile cs h; normal = cells_normal profile cs h }
+-- what a layout holds is in order
+pub layout_in_order : LayoutInOrder
+layout_in_order l h = record {
+  names = subst (IsStrictlySortedBy name_cmp) (sym (keys-expanded l.cells)) h.ascending;
+  ascending = cells_ascend l.profile l.cells h.cells;
+  normal = cells_normal l.profile l.cells h.cells;
+}

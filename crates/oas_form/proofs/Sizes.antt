@@ -31,7 +31,8 @@ use Rattle.oas_layout.proofs.Sealed.{name_cmp}
 use Rattle.oas_modal.specs.Names.{same_string}
 use Rattle.oas_modal.specs.Meaning.{has_twice}
 use Rattle.oas_form.specs.Records.{Cells}
-use Rattle.oas_form.specs.Canonical.{IsOrdered, SameCount, SameWeight, LeastWeight}
+use Rattle.oas_form.specs.Canonical.{IsOrdered}
+use Rattle.oas_form.specs.Layouts.{SameCount, SameWeight, LeastWeight}
 use Rattle.oas_form.proofs.OrderedLayouts.{find_is, same_cells, items_ascend, items_normal}
 
 -- ---- more of an element leaves a bag

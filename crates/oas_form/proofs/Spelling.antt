@@ -23,7 +23,7 @@ use Rattle.oas_layout.specs.declared.element.Element.{Element}
 use Rattle.oas_layout.specs.declared.element.Element.TheVariants.{Placement, Text, Rectangle, Polygon, Path, Circle}
 use Rattle.oas_layout.specs.Weight.{weight_of}
 use Rattle.oas_layout.specs.Meaning.{cells_weight}
-use Rattle.oas_form.specs.Sound.{IsSound, IsUnit}
+use Rattle.oas_layout.specs.Sound.{IsSound, IsUnit}
 use Rattle.oas_form.specs.Records.{Cells, element_record, records_of}
 use Rattle.oas_form.specs.Bytes.{string_bytes, element_bytes, elements_bytes, cells_bytes, unit_bytes, head_bytes, end_bytes, canonical_bytes}
 use Rattle.oas_form.specs.Spelling.{CanonicalBytesSpell}

@@ -1,5 +1,5 @@
 -- The one spelling of a layout, judged on bytes (own rule).
-use Rattle.std.specs.Prelude.{◌≡◌, ℕ, ◌≤◌, List, false}
+use Rattle.std.specs.Prelude.{◌≡◌, ℕ, List}
 use Rattle.std.specs.List.{AllByRecursion}
 use Rattle.std.specs.List.Sorted.{IsStrictlySortedBy}
 use Rattle.std.specs.Ordering.{nat_cmp}
@@ -10,12 +10,10 @@ use Rattle.oas_record.specs.declared.heads.Head.{Head}
 use Rattle.oas_record.specs.declared.records.Record.{Record}
 use Rattle.oas_layout.specs.declared.limits.Limits.{Limits}
 use Rattle.oas_layout.specs.declared.profile.Profile.{Profile}
-use Rattle.oas_layout.specs.declared.profile.Profile.TheVariants.{One}
 use Rattle.oas_layout.specs.Element.{element_cmp}
 use Rattle.oas_layout.specs.Ascending.{Ascends}
 use Rattle.oas_layout.specs.Same.{IsNormal}
-use Rattle.oas_layout.specs.Meaning.{Meaning, SameLayout, element_count, cells_weight}
-use Rattle.oas_modal.specs.Meaning.{has_twice}
+use Rattle.oas_layout.specs.Meaning.{Meaning, SameLayout}
 use Rattle.oas_modal.specs.Stands.{records_mean}
 use Rattle.oas_file.specs.Files.{FileIn}
 use Rattle.oas_file.specs.Acceptance.{Allowed, IsWhole, Accepted, Means}
@@ -52,6 +50,10 @@ pub record IsCanonicalOf (limits : Limits) (profile : Profile) (b c : List ℕ) 
 abbrev pub OneCanonicalForm : Type 0
 OneCanonicalForm = (one other : Limits) (profile : Profile) (c d : List ℕ) (m n : Meaning) → CanonicalForm one profile c → CanonicalForm other profile d → Means c m → Means d n → SameLayout profile m n → c ≡ d
 
+-- a file that has canonical forms under two limits has one and the same under both
+abbrev pub LimitsApart : Type 0
+LimitsApart = (one other : Limits) (profile : Profile) (b c d : List ℕ) → IsCanonicalOf one profile b c → IsCanonicalOf other profile b d → c ≡ d
+
 -- two files mean the same layout exactly if their canonical forms are equal
 abbrev pub SameExactly : Type 0
 SameExactly = (limits : Limits) (profile : Profile) (b d c e : List ℕ) (m n : Meaning) → IsCanonicalOf limits profile b c → IsCanonicalOf limits profile d e → Means b m → Means d n → (SameLayout profile m n → c ≡ e) × (c ≡ e → SameLayout profile m n)
@@ -63,23 +65,3 @@ CanonicalAgain = (limits : Limits) (profile : Profile) (c d : List ℕ) → Cano
 -- a canonical form is accepted
 abbrev pub FormIsAccepted : Type 0
 FormIsAccepted = (limits : Limits) (profile : Profile) (c : List ℕ) → CanonicalForm limits profile c → Accepted limits c
-
--- ---- the order
-
--- layouts in order that are the same are equal
-abbrev pub EqualInOrder : Type 0
-EqualInOrder = (profile : Profile) (m n : Meaning) → IsOrdered profile m.cells → IsOrdered profile n.cells → SameLayout profile m n → m ≡ n
-
--- ---- what layouts that are the same have in common
-
--- as many elements, where no name stands twice
-abbrev pub SameCount : Type 0
-SameCount = (profile : Profile) (m n : Meaning) → has_twice (keys_of m.cells) ≡ false → has_twice (keys_of n.cells) ≡ false → SameLayout profile m n → element_count n.cells ≡ element_count m.cells
-
--- under profile one they weigh as much
-abbrev pub SameWeight : Type 0
-SameWeight = (m n : Meaning) → has_twice (keys_of m.cells) ≡ false → has_twice (keys_of n.cells) ≡ false → SameLayout One m n → cells_weight n.cells ≡ cells_weight m.cells
-
--- one in order weighs no more than any that is the same
-abbrev pub LeastWeight : Type 0
-LeastWeight = (profile : Profile) (m n : Meaning) → has_twice (keys_of m.cells) ≡ false → IsOrdered profile n.cells → SameLayout profile m n → cells_weight n.cells ≤ cells_weight m.cells

@@ -7,7 +7,7 @@ use Rattle.oas_layout.specs.declared.element.Element.{Element}
 use Rattle.oas_layout.specs.declared.element.Element.TheVariants.{Path}
 use Rattle.oas_layout.specs.Meaning.{Meaning, cells_weight}
 use Rattle.oas_file.specs.Files.{FileIn}
-use Rattle.oas_form.specs.Sound.{IsSound, IsUnit}
+use Rattle.oas_layout.specs.Sound.{IsSound, IsUnit}
 use Rattle.oas_form.specs.Records.{records_of}
 use Rattle.oas_form.specs.Bytes.{canonical_bytes}
 

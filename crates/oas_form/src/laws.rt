@@ -1,14 +1,64 @@
-//! Laws of the definitions, each the contract of a function that does nothing.
-ghost use Rattle.oas_form.specs.Canonical.{EqualInOrder, FormIsAccepted, LeastWeight, SameCount, SameWeight};
+//! Laws of canonical forms, each the contract of a function that does nothing.
+ghost use Rattle.oas_form.specs.Canonical.{CanonicalAgain, FormIsAccepted, LimitsApart, OneCanonicalForm, SameExactly};
+ghost use Rattle.oas_form.specs.Layouts.{CanonicalBytes, CanonicalWeight, EqualInOrder, FormIsBytes, FormIsItsBytes, FormLength, FormWithin, LayoutInOrder, LeastWeight, SameCount, SameWeight};
+
+/// Two canonical forms that mean the same layout are equal bytes, whatever the limits under which each is one. So a file
+/// that is accepted under two limits has the same canonical form under both.
+pub fn one_canonical_form()
+    ensures one { OneCanonicalForm }
+    ensures apart { LimitsApart }
+{}
+
+/// Two files mean the same layout exactly if their canonical forms are equal bytes.
+pub fn same_exactly()
+    ensures { SameExactly }
+{}
+
+/// The canonical form of a canonical form is that form.
+pub fn canonical_again()
+    ensures { CanonicalAgain }
+{}
+
+/// The canonical bytes of a layout are a canonical form, and mean that layout.
+pub fn canonical_bytes()
+    ensures { CanonicalBytes }
+{}
 
 /// A canonical form is accepted.
 pub fn form_is_accepted()
     ensures { FormIsAccepted }
 {}
 
-/// Layouts in order that are the same are equal.
+/// A canonical form is the canonical bytes of each layout that is the same as what it means.
+pub fn form_is_bytes()
+    ensures { FormIsBytes }
+{}
+
+/// A canonical form is the canonical bytes of what it means.
+pub fn form_is_its_bytes()
+    ensures { FormIsItsBytes }
+{}
+
+/// A canonical form is one under all limits that what it means keeps.
+pub fn form_within()
+    ensures { FormWithin }
+{}
+
+/// The canonical form of an accepted file has as many elements as the file, and weighs no more. Under profile one it weighs
+/// as much.
+pub fn canonical_weight()
+    ensures { CanonicalWeight }
+{}
+
+/// The canonical form of an accepted file has at most 320 bytes and 64 for each unit of the file's weight.
+pub fn form_length()
+    ensures { FormLength }
+{}
+
+/// Every layout is in order, and layouts in order that are the same are equal.
 pub fn equal_in_order()
-    ensures { EqualInOrder }
+    ensures ordered { LayoutInOrder }
+    ensures equal { EqualInOrder }
 {}
 
 /// Layouts that are the same, in which no name stands twice, have as many elements. Under profile one they weigh as much,

@@ -1,0 +1,130 @@
+-- Reasons that records are refused for lie in the file: none is that of the input's end, a device or the memory.
+use Rattle.std.proofs.Common.{◌≡◌, ◌≢◌, ◌⊎◌, inl, inr, ℕ, Bool, true, false, List, [], ◌∷◌, Option, None, Some, IsTrue, cond, reverse, refl, sym, ap, subst, ◌∙◌}
+use Rattle.std.specs.Prelude.{◌+◌, ◌*◌, nat_lt, not, is_none, unwrap_or}
+use Rattle.std.specs.Map.{keys_of}
+use Rattle.std.specs.Option.{option_or}
+use Rattle.oas_num.specs.declared.refusals.Why.{Why}
+use Rattle.oas_num.specs.declared.refusals.Why.TheVariants.{Truncated, Read, InputTooLong, Write, Memory, CoordinateRange}
+use Rattle.oas_num.specs.Reading.{is_format, is_cut}
+use Rattle.oas_shape.specs.Steps.{still}
+use Rattle.oas_record.specs.declared.records.Record.{Record}
+use Rattle.oas_record.specs.declared.records.Record.TheVariants as record_of
+use Rattle.oas_layout.specs.declared.limits.Limits.{Limits}
+use Rattle.oas_layout.specs.Meaning.{cells_weight}
+use Rattle.oas_drawing.specs.declared.kinds.Kind.{Kind}
+use Rattle.oas_drawing.specs.Drawing.{kind_of, repeats, elements_at, drawn_by, place_of, number_if, lacks_repetition}
+use Rattle.oas_drawing.specs.Modal.{ModalState, stepped}
+use Rattle.oas_drawing.specs.Reasons.{first_of, kind_reason, reason_if, is_magnified, is_askew, weight_if, lacks_if, is_on_grid, all_fit}
+use Rattle.oas_modal.specs.declared.names.Form.{Form}
+use Rattle.oas_modal.specs.Names.{is_mixed, form_given, is_other, name_of, cell_names, text_strings, same_string, reason_given, form_of, next_number, named}
+use Rattle.oas_modal.specs.Meaning.{DrawnCell, cells_meant, lacks_name, has_twice, end_reason, cells_drawn}
+use Rattle.oas_modal.specs.Standing.{Standing, cell_weight, element_reason}
+use Rattle.oas_modal.specs.Stands.{seen, refused_after, refusal, end_refusal}
+use Rattle.oas_file.specs.Reading.{decides, is_of_file}
+
+-- ---- what a reason that lies in the bytes isn't
+
+false_not_true : ◌≡◌ {A = Bool} false true → ⊥
+false_not_true e = cc
+
+pub decided_not : (why other : Why) → IsTrue (decides why) → decides other ≡ false → why ≢ other
+decided_not why other is not e = false_not_true (sym not ∙ ap decides (sym e) ∙ is)
+
+pub decided_uncut : (why : Why) → IsTrue (decides why) → IsTrue (is_cut why) → ⊥
+decided_uncut Truncated is cut = absurd cc
+decided_uncut Read is cut = absurd cc
+decided_uncut InputTooLong is cut = absurd cc
+decided_uncut _ is cut = absurd cc
+
+pub decides_format : (why : Why) → IsTrue (decides why) → IsTrue (is_format why)
+decides_format Truncated is = is
+decides_format Read is = is
+decides_format InputTooLong is = is
+decides_format Memory is = is
+decides_format Write is = refl
+decides_format _ is = is
+
+pub format_or_end : (why : Why) → IsTrue (is_of_file why) → IsTrue (is_format why) ⊎ (why ≡ Truncated)
+format_or_end Truncated is = inr refl
+format_or_end Read is = absurd cc
+format_or_end InputTooLong is = absurd cc
+format_or_end Write is = absurd cc
+format_or_end Memory is = absurd cc
+format_or_end _ is = inl refl
+
+-- ---- the reasons of records
+
+-- a reason, if there is one, lies in the bytes
+record InBytes (o : Option Why) : Type 0 where
+  decides : (why : Why) → o ≡ Some why → IsTrue (decides why)
+
+none_in : InBytes None
+none_in = record { decides = λ why e. absurd cc }
+
+some_in : (why : Why) → IsTrue (decides why) → InBytes (Some why)
+some_in why is = record { decides = λ other e. subst (λ (w : Why). IsTrue (decides w)) (same why other e) is } where
+  same : (why other : Why) → ◌≡◌ {A = Option Why} (Some why) (Some other) → why ≡ other
+  same why other e = cc
+
+if_in : (test : Bool) (why : Why) (others : Option Why) → IsTrue (decides why) → InBytes others → InBytes (cond test (Some why) others)
+if_in true why others is all = some_in why is
+if_in false why others is all = all
+
+or_in : (one other : Option Why) → InBytes one → InBytes other → InBytes (option_or one other)
+or_in None other p q = q
+or_in (Some why) other p q = p
+
+kind_in : (limits : Limits) (count weight : ℕ) (m : ModalState) (kind : Kind) (repeated : Bool) → InBytes (kind_reason limits count weight m kind repeated)
+kind_in limits count weight m kind repeated =
+    if_in (is_none (drawn_by m kind still)) _ _ refl (
+    if_in (lacks_repetition repeated m.repetition) _ _ refl (
+    if_in (is_magnified kind) _ _ refl (
+    if_in (is_askew kind) _ _ refl (
+    if_in (nat_lt limits.elements (count + number_if repeated m.repetition)) _ _ refl (
+    if_in (nat_lt limits.weight (weight + number_if repeated m.repetition * weight_if (drawn_by m kind still))) _ _ refl (
+    if_in (lacks_if (drawn_by m kind still)) _ _ refl (
+    if_in (not (is_on_grid (place_of m kind))) _ _ refl none_in)))))))
+
+draw_in : (limits : Limits) (count weight : ℕ) (m : ModalState) (kind : Option Kind) (repeated : Bool) → InBytes (reason_if limits count weight m kind repeated)
+draw_in limits count weight m None repeated = none_in
+draw_in limits count weight m (Some kind) repeated =
+    or_in (kind_reason limits count weight m kind repeated) (first_of ((not (all_fit m kind repeated), CoordinateRange) ∷ [])) (kind_in limits count weight m kind repeated) (if_in (not (all_fit m kind repeated)) _ _ refl none_in)
+
+element_in : (limits : Limits) (s : Standing) (m : ModalState) (r : Record) → InBytes (element_reason limits s m r)
+element_in limits s m r = by s.in_cell where
+  by : (in_cell : Bool) → InBytes (element_reason limits (record s { in_cell = in_cell }) m r)
+  by true = draw_in limits s.count s.weight m (kind_of r) (repeats r)
+  by false = some_in _ refl
+
+name_in : {S : Type 0} (same : S → S → Bool) (form : Option Form) (next : ℕ) (names : List (ℕ × S)) (given : Option (S × Option ℕ)) → InBytes (reason_given same form next names given)
+name_in same form next names None = none_in
+name_in same form next names (Some g) = if_in (is_mixed form (form_given g.1)) _ _ refl (if_in (is_other same (name_of names (unwrap_or g.1 next)) g.0) _ _ refl none_in)
+
+record_in : (limits : Limits) (before : List Record) (r : Record) → InBytes (refused_after limits before r)
+record_in limits before record_of.Pad = none_in
+record_in limits before record_of.End = some_in _ refl
+record_in limits before (record_of.CellName name number) = name_in same_string (form_of cell_names before) (next_number cell_names before) (named cell_names before) (Some (name, number))
+record_in limits before (record_of.TextString label number) = name_in same_string (form_of text_strings before) (next_number text_strings before) (named text_strings before) (Some (label, number))
+record_in limits before (record_of.Cell c) = if_in (nat_lt limits.weight ((seen before).weight + cell_weight c)) _ _ refl none_in
+record_in limits before record_of.XyAbsolute = none_in
+record_in limits before record_of.XyRelative = none_in
+record_in limits before (record_of.Placement p) = element_in limits (seen before) (stepped (seen before).modal (record_of.Placement p)) (record_of.Placement p)
+record_in limits before (record_of.Text p) = element_in limits (seen before) (stepped (seen before).modal (record_of.Text p)) (record_of.Text p)
+record_in limits before (record_of.Rectangle p) = element_in limits (seen before) (stepped (seen before).modal (record_of.Rectangle p)) (record_of.Rectangle p)
+record_in limits before (record_of.Polygon p) = element_in limits (seen before) (stepped (seen before).modal (record_of.Polygon p)) (record_of.Polygon p)
+record_in limits before (record_of.Path p) = element_in limits (seen before) (stepped (seen before).modal (record_of.Path p)) (record_of.Path p)
+record_in limits before (record_of.Circle p) = element_in limits (seen before) (stepped (seen before).modal (record_of.Circle p)) (record_of.Circle p)
+
+end_in : (names strings : List (ℕ × List ℕ)) (limits : Limits) (cs : List DrawnCell) → InBytes (end_reason names strings limits cs)
+end_in names strings limits cs =
+    if_in (lacks_name names strings cs) _ _ refl (
+    if_in (has_twice (keys_of (cells_meant names strings cs))) _ _ refl (
+    if_in (nat_lt limits.weight (cells_weight (cells_meant names strings cs))) _ _ refl none_in))
+
+-- why a record is refused lies in the bytes
+pub refusal_decides : (limits : Limits) (rs : List Record) (r : Record) (why : Why) → refusal limits rs r ≡ Some why → IsTrue (decides why)
+refusal_decides limits rs r why e = (record_in limits (reverse rs) r).decides why e
+
+-- and so does why END refuses them
+pub end_decides : (limits : Limits) (rs : List Record) (why : Why) → end_refusal limits rs ≡ Some why → IsTrue (decides why)
+end_decides limits rs why e = (end_in (named cell_names (reverse rs)) (named text_strings (reverse rs)) limits (cells_drawn elements_at (reverse rs))).decides why e

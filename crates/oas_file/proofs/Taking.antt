@@ -1,0 +1,126 @@
+-- One record more, or a refusal there.
+use Rattle.std.proofs.Common.{◌≡◌, ℕ, [], ◌∷◌, ◌++◌, None, Some, ◌⊎◌, inl, inr, refl, sym, ap, subst, ◌∙◌, append_assoc, arith}
+use Rattle.oas_num.specs.declared.refusals.Why.{Why}
+use Rattle.oas_num.specs.declared.refusals.Why.TheVariants.{Memory}
+use Rattle.oas_num.specs.declared.refusals.Refusal.{Refusal}
+use Rattle.oas_num.specs.Reading.{ReadsValue, Fails}
+use Rattle.oas_num.specs.Script.{Script, Takes}
+use Rattle.oas_num.specs.Style.{Any}
+use Rattle.oas_num.proofs.ReadLemmas.{Takes-then}
+use Rattle.oas_record.specs.declared.heads.Head.{Head}
+use Rattle.oas_record.specs.declared.records.Record.{Record}
+use Rattle.oas_record.specs.declared.records.Record.TheVariants.{End}
+use Rattle.oas_record.specs.Records.{record_in}
+use Rattle.oas_record.specs.RecordLaws.{OneFront-record}
+use Rattle.oas_record.specs.May.{RecordMay}
+use Rattle.oas_layout.specs.declared.limits.Limits.{Limits}
+use Rattle.oas_modal.specs.Stands.{ReaderState, StandsFor, refusal as refusal_of}
+use Rattle.oas_file.specs.Files.{FrontOf}
+use Rattle.oas_file.specs.Acceptance.{Allowed}
+use Rattle.oas_file.specs.Deciding.{TheNext, IsReasoned}
+use Rattle.oas_file.specs.Gathering.{inner_in, HasBegun, HasGathered, HasAll}
+use Rattle.oas_file.specs.Places.{ByRecord}
+use Rattle.oas_file.specs.Reading.{IsPlaced, Refuses}
+use Rattle.oas_file.proofs.Fronts.{allowed_last, allowed_more, front_allowed, front_more}
+use Rattle.oas_file.proofs.Judged.{refusal_decides}
+use Rattle.oas_file.proofs.Refusing.{record_refuses, Judges, ForMemory, Decided, judged_refused, memory_placed}
+
+pub gathered_none : {head : Head} {now : Script} {first : ReaderState} (b : HasBegun head now first) → HasGathered b.origin head first now first
+gathered_none b = record {
+  records = [];
+  bytes = b.bytes;
+  takes = b.takes;
+  front = b.front;
+  taken = record { stands = b.stands; allowed = tt; same = record { unit = refl; limits = refl; profile = refl } };
+}
+
+module _ {origin mid new : Script} {head : Head} {first s : ReaderState} (m : HasGathered origin head first mid s) where
+  -- a record can't be read
+  pub gather_fails : (refusal : Refusal) → refusal.at ≡ mid.given → Fails (record_in Any head.flag_in_end) (RecordMay head.flag_in_end) mid refusal.why new → Refuses first.limits origin refusal new
+  gather_fails refusal at f = record_refuses refusal m.front m.taken.allowed m.takes at f
+
+  module _ {r : Record} (read : ReadsValue (inner_in head.flag_in_end) mid r new) where
+    both : Takes origin (m.bytes ++ read.bytes) new
+    both = Takes-then origin mid new m.bytes read.bytes m.takes read.takes
+
+    front : FrontOf head (m.records ++ r ∷ []) (m.bytes ++ read.bytes)
+    front = front_more m.front read.spelled
+
+    -- a record is read and taken
+    pub gather_more : (t : ReaderState) → (refusal_of s.limits m.records r ≡ None) × StandsFor t (m.records ++ r ∷ []) → t.unit ≡ s.unit → t.limits ≡ s.limits → t.profile ≡ s.profile
+        → HasGathered origin head first new t
+    gather_more t h unit limits profile =
+        let same = m.taken.same in
+        record {
+          records = m.records ++ r ∷ [];
+          bytes = m.bytes ++ read.bytes;
+          takes = both;
+          front = front;
+          taken = record {
+            stands = h.1;
+            allowed = allowed_more first.limits m.records r m.taken.allowed (ap (λ (l : Limits). refusal_of l m.records r) (sym same.limits) ∙ h.0);
+            same = record { unit = unit ∙ same.unit; limits = limits ∙ same.limits; profile = profile ∙ same.profile };
+          };
+        }
+
+    -- it isn't allowed
+    not_allowed : (why : Why) → refusal_of first.limits m.records r ≡ Some why → Allowed first.limits (m.records ++ r ∷ []) → ⊥
+    not_allowed why some a = let none = allowed_last first.limits m.records r a in let e = sym none ∙ some in cc
+
+    next_placed : (at : ℕ) (why : Why) → at ≡ mid.given → (why ≡ Memory) ⊎ (refusal_of first.limits m.records r ≡ Some why) → IsPlaced first.limits origin (record { at = at; why = why }) new
+    next_placed at why is (inl e) = memory_placed at why (m.bytes ++ read.bytes) both e
+    next_placed at why is (inr some) = record {
+      bytes = m.bytes ++ read.bytes;
+      takes = both;
+      placed = λ fresh of_file more ended. ByRecord (record {
+        left = read.bytes ++ more;
+        head = head;
+        records = m.records;
+        before = record { before = m.bytes; front = m.front; allowed = m.taken.allowed; place = omega (arith, is, m.takes.given, fresh); joined = append_assoc m.bytes read.bytes more };
+        no_end = λ front rest end e. read.spelled.holds ((OneFront-record Any head.flag_in_end).one r End read.bytes front more rest read.spelled.spelled end e).1;
+        no_record = record {
+          none = λ q front rest next e.
+              let same = ((OneFront-record Any head.flag_in_end).one r q read.bytes front more rest read.spelled.spelled next.spelled e).1 in
+              not_allowed why some (subst (λ (k : Record). Allowed first.limits (m.records ++ k ∷ [])) (sym same) next.allowed);
+        };
+      });
+    }
+
+    next_reasoned : (at : ℕ) (why : Why) → at ≡ mid.given → (why ≡ Memory) ⊎ (refusal_of first.limits m.records r ≡ Some why) → IsReasoned first.limits origin (record { at = at; why = why }) new
+    next_reasoned at why is reason = record {
+      bytes = m.bytes ++ read.bytes;
+      takes = both;
+      decided = λ fresh. TheNext (record {
+        left = read.bytes;
+        head = head;
+        records = m.records;
+        next = r;
+        before = record { before = m.bytes; front = m.front; allowed = m.taken.allowed; place = omega (arith, is, m.takes.given, fresh); joined = refl };
+        spelled = read.spelled.spelled;
+        reason = reason;
+      });
+    }
+
+    next_refuses : (refusal : Refusal) → refusal.at ≡ mid.given → (refusal.why ≡ Memory) ⊎ (refusal_of first.limits m.records r ≡ Some refusal.why) → Refuses first.limits origin refusal new
+    next_refuses refusal at reason = (judged_refused (m.bytes ++ read.bytes) both (judged reason), next_placed refusal.at refusal.why at reason, next_reasoned refusal.at refusal.why at reason) where
+      judged : (refusal.why ≡ Memory) ⊎ (refusal_of first.limits m.records r ≡ Some refusal.why) → Judges first.limits (m.bytes ++ read.bytes) refusal.why
+      judged (inl e) = ForMemory e
+      judged (inr some) = Decided (refusal_decides first.limits m.records r refusal.why some) (λ more a. not_allowed refusal.why some (front_allowed more front a))
+
+    -- or it is refused
+    pub gather_refuses : (at : ℕ) (refusal : Refusal) → at ≡ mid.given → (refusal.at ≡ at) × ((refusal.why ≡ Memory) ⊎ (refusal_of s.limits m.records r ≡ Some refusal.why)) → Refuses first.limits origin refusal new
+    gather_refuses at refusal is e =
+        next_refuses refusal (e.0 ∙ is) (subst (λ (l : Limits). (refusal.why ≡ Memory) ⊎ (refusal_of l m.records r ≡ Some refusal.why)) m.taken.same.limits e.1)
+
+  -- END is read
+  pub gather_ends : (at : ℕ) → at ≡ mid.given → ReadsValue (record_in Any head.flag_in_end) mid End new → HasAll origin head first at new s
+  gather_ends at is read = record {
+    records = m.records;
+    bytes = m.bytes;
+    last = read.bytes;
+    takes = Takes-then origin mid new m.bytes read.bytes m.takes read.takes;
+    front = m.front;
+    end = read.spelled;
+    place = is ∙ m.takes.given;
+    taken = m.taken;
+  }

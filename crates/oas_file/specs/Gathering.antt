@@ -1,0 +1,88 @@
+-- What the parts of a read do: of one record, of all records, of the end of the input.
+use Rattle.std.specs.Prelude.{◌≡◌, ℕ, ◌+◌, Bool, List, [], ◌∷◌, ◌++◌, length, Option, None, Some, Result, Ok, Err}
+use Rattle.oas_num.specs.declared.refusals.Why.{Why}
+use Rattle.oas_num.specs.declared.refusals.Why.TheVariants.{TrailingBytes, Read, InputTooLong}
+use Rattle.oas_num.specs.declared.refusals.Refusal.{Refusal}
+use Rattle.oas_num.specs.Grammar.{IsSuch}
+use Rattle.oas_num.specs.Reading.{ReadsValue, Fails}
+use Rattle.oas_num.specs.Script.{Script, Takes, IsAtEnd, HasFailed, IsTooLong}
+use Rattle.oas_num.specs.Style.{Any}
+use Rattle.oas_record.specs.declared.heads.Head.{Head}
+use Rattle.oas_record.specs.declared.records.Record.{Record}
+use Rattle.oas_record.specs.declared.records.Record.TheVariants.{End}
+use Rattle.oas_record.specs.Records.{record_in, IsInner}
+use Rattle.oas_record.specs.May.{RecordMay}
+use Rattle.oas_modal.specs.Stands.{ReaderState, StandsFor}
+use Rattle.oas_file.specs.Acceptance.{Allowed}
+use Rattle.oas_file.specs.Files.{FrontOf}
+use Rattle.oas_file.specs.Reading.{Refuses}
+
+-- ---- one record
+
+-- a record before END
+abbrev pub inner_in : Bool → Record → List ℕ → Type 0
+inner_in in_end = IsSuch IsInner (record_in Any in_end)
+
+-- it was taken, or END was, or neither can be
+abbrev pub TakesNext : Bool → Script → Result (Option Record) Refusal → Script → Type 0
+TakesNext in_end old (Ok (Some r)) new = ReadsValue (inner_in in_end) old r new
+TakesNext in_end old (Ok None) new = ReadsValue (record_in Any in_end) old End new
+TakesNext in_end old (Err refusal) new = (refusal.at ≡ old.given) × Fails (record_in Any in_end) (RecordMay in_end) old refusal.why new
+
+-- ---- all records
+
+-- a read that began at an origin has taken the head, and the reader has no records yet
+pub record HasBegun (head : Head) (now : Script) (s : ReaderState) : Type 0 where
+  pub origin : Script
+  pub bytes : List ℕ
+  pub takes : Takes origin bytes now
+  pub front : FrontOf head [] bytes
+  pub stands : StandsFor s []
+
+-- what is for the whole file stays
+pub record SameFile (s t : ReaderState) : Type 0 where
+  pub unit : t.unit ≡ s.unit
+  pub limits : t.limits ≡ s.limits
+  pub profile : t.profile ≡ s.profile
+
+-- the reader stands for records that are allowed
+pub record HasTaken (first : ReaderState) (s : ReaderState) (records : List Record) : Type 0 where
+  pub stands : StandsFor s records
+  pub allowed : Allowed first.limits records
+  pub same : SameFile first s
+
+-- the head and some records were taken
+pub record HasGathered (origin : Script) (head : Head) (first : ReaderState) (now : Script) (s : ReaderState) : Type 0 where
+  pub records : List Record
+  pub bytes : List ℕ
+  pub takes : Takes origin bytes now
+  pub front : FrontOf head records bytes
+  pub taken : HasTaken first s records
+
+-- the head, all records and END were taken, which begins at that offset
+pub record HasAll (origin : Script) (head : Head) (first : ReaderState) (at : ℕ) (now : Script) (s : ReaderState) : Type 0 where
+  pub records : List Record
+  pub bytes : List ℕ
+  pub last : List ℕ
+  pub takes : Takes origin (bytes ++ last) now
+  pub front : FrontOf head records bytes
+  pub end : record_in Any head.flag_in_end End last
+  pub place : at ≡ origin.given + length bytes
+  pub taken : HasTaken first s records
+
+abbrev pub Gathers : Head → Script → ReaderState → Result ℕ Refusal → Script → ReaderState → Type 0
+Gathers head old first (Ok at) new s = (b : HasBegun head old first) → HasAll b.origin head first at new s
+Gathers head old first (Err refusal) new s = (b : HasBegun head old first) → Refuses first.limits b.origin refusal new
+
+-- ---- the end of the input
+
+-- it isn't there, for a byte, the device, or a byte after the limit
+abbrev pub MissesEnd : Script → Why → Script → Type 0
+MissesEnd old TrailingBytes new = (byte : ℕ) × Takes old (byte ∷ []) new
+MissesEnd old Read new = Takes old [] new × HasFailed new
+MissesEnd old InputTooLong new = Takes old [] new × IsTooLong new
+MissesEnd old _ new = ⊥
+
+abbrev pub FindsEnd : Script → Result Unit Refusal → Script → Type 0
+FindsEnd old (Ok done) new = Takes old [] new × IsAtEnd new
+FindsEnd old (Err refusal) new = (refusal.at ≡ old.given) × MissesEnd old refusal.why new

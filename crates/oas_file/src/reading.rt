@@ -1,0 +1,74 @@
+//! From a source to a layout.
+ghost use Rattle.oas_file.specs.Gathering.{TakesNext, Gathers, FindsEnd};
+ghost use Rattle.oas_file.specs.Reading.{ReadsLayout};
+
+use oas_layout::{Layout, Limits, Profile};
+use oas_modal::Reader;
+use oas_num::{Refusal, Source, SourceFault, Why};
+use oas_record::{Head, Record, read_head};
+use std::alloc::Global;
+
+/// Takes the next record, and answers None where it is END.
+fn take_record<S: Source>(
+    alloc: Global,
+    source: &mut S,
+    flag_in_end: bool,
+) -> Result<Option<Record>, Refusal>
+    ensures { TakesNext flag_in_end (S.script source.old) result (S.script source.new) }
+{
+    match Record::read(alloc, source, flag_in_end)? {
+        Record::End => Ok(None),
+        record => Ok(Some(record)),
+    }
+}
+
+/// Has the reader take the records up to END, and answers END's offset.
+fn take_records<S: Source>(
+    alloc: Global,
+    source: &mut S,
+    head: Head,
+    reader: &mut Reader,
+) -> Result<u64, Refusal>
+    ensures { Gathers head (S.script source.old) reader.old result (S.script source.new) reader.new }
+{
+    let mut at = source.at();
+    while let Some(record) = take_record(alloc, source, head.flag_in_end)? {
+        reader.take(at, record)?;
+        at = source.at();
+    }
+    Ok(at)
+}
+
+/// Finds the end of the input.
+fn find_end_of_input<S: Source>(source: &mut S) -> Result<(), Refusal>
+    ensures { FindsEnd (S.script source.old) result (S.script source.new) }
+{
+    let at = source.at();
+    let why = match source.next() {
+        Ok(None) => return Ok(()),
+        Ok(Some(_)) => Why::TrailingBytes,
+        Err(SourceFault::Device) => Why::Read,
+        Err(SourceFault::TooLong) => Why::InputTooLong,
+    };
+    Err(Refusal { at, why })
+}
+
+/// Reads all that a source gives, and answers the layout that it means.
+///
+/// A refusal names the reason, and an offset: 0 for the magic, 13 for START, the record's for a record that can't be read
+/// or isn't allowed, the first byte's after END for what follows it, and END's for what can be decided only once the
+/// whole file is known (numbers without names, cells of one name, and the weight with all names).
+pub fn read_layout<S: Source>(
+    alloc: Global,
+    source: &mut S,
+    limits: Limits,
+    profile: Profile,
+) -> Result<Layout, Refusal>
+    ensures { ReadsLayout limits profile (S.script source.old) result (S.script source.new) }
+{
+    let head = read_head(alloc, source)?;
+    let mut reader = Reader::new(alloc, head.unit, limits, profile);
+    let end = take_records(alloc, source, head, &mut reader)?;
+    find_end_of_input(source)?;
+    reader.finish(end)
+}

@@ -1,0 +1,5 @@
+use Rattle.oas_form.proofs.Held as law
+use Rattle.oas_form.proofs.laws.form_is_its_bytes.Goals as goal
+
+pub returns : goal.returns
+returns c = law.form_is_its_bytes
