@@ -75,43 +75,41 @@ module _ {start now : Script} {name same : GName} {kept : List ℕ} {ending : En
   module _ {limits : Limits} (at : ℕ) (why : Why) (r : Refuses limits (kept_script start endings.Open) (record { at = at; why = why }) (kept_script now ending)) where
     -- for want of room
     wants_room : RefusesKept limits start (record { at = at; why = Memory }) now
-    wants_room =
-        (
-          record {
-            bytes = r.0.bytes;
-            takes = takes_back r.0.bytes r.0.takes;
-            decided = λ is. absurd cc;
-            cut = λ is. absurd cc;
-            truncated = λ is. absurd cc;
-            device = λ is. absurd cc;
-            too_long = λ is. absurd cc;
-            reading = λ is. cc;
-          },
-          record { bytes = r.0.bytes; takes = takes_back r.0.bytes r.0.takes; placed = λ fresh is. absurd cc },
-          inl refl,
-        )
+    wants_room = (
+      record {
+        bytes = r.0.bytes;
+        takes = takes_back r.0.bytes r.0.takes;
+        decided = λ is. absurd cc;
+        cut = λ is. absurd cc;
+        truncated = λ is. absurd cc;
+        device = λ is. absurd cc;
+        too_long = λ is. absurd cc;
+        reading = λ is. cc;
+      },
+      record { bytes = r.0.bytes; takes = takes_back r.0.bytes r.0.takes; placed = λ fresh is. absurd cc },
+      inl refl,
+    )
 
     -- for the reader's reason
     stands : (why ≡ Read → ending ≢ endings.NoRoom) → RefusesKept limits start (record { at = at; why = why }) now
-    stands room =
-        (
-          record {
-            bytes = r.0.bytes;
-            takes = takes_back r.0.bytes r.0.takes;
-            decided = r.0.decided;
-            cut = r.0.cut;
-            truncated = λ is. let t = r.0.truncated is in (t.0, ended_back t.1);
-            device = λ is. failed_by ending now k.ends (room is) (r.0.device is).settled;
-            too_long = λ is. too_long_by ending now k.ends (r.0.too_long is).settled;
-            reading = r.0.reading;
-          },
-          record {
-            bytes = r.1.bytes;
-            takes = takes_back r.1.bytes r.1.takes;
-            placed = λ fresh is more ended. r.1.placed fresh is more (λ e. ended (ended_back e));
-          },
-          inr (record { bytes = r.2.bytes; takes = takes_back r.2.bytes r.2.takes; decided = r.2.decided }),
-        )
+    stands room = (
+      record {
+        bytes = r.0.bytes;
+        takes = takes_back r.0.bytes r.0.takes;
+        decided = r.0.decided;
+        cut = r.0.cut;
+        truncated = λ is. let t = r.0.truncated is in (t.0, ended_back t.1);
+        device = λ is. failed_by ending now k.ends (room is) (r.0.device is).settled;
+        too_long = λ is. too_long_by ending now k.ends (r.0.too_long is).settled;
+        reading = r.0.reading;
+      },
+      record {
+        bytes = r.1.bytes;
+        takes = takes_back r.1.bytes r.1.takes;
+        placed = λ fresh is more ended. r.1.placed fresh is more (λ e. ended (ended_back e));
+      },
+      inr (record { bytes = r.2.bytes; takes = takes_back r.2.bytes r.2.takes; decided = r.2.decided }),
+    )
 
     pub kept_refused : RefusesKept limits start (record { at = at; why = reason_by ending why }) now
     kept_refused = by_cases (reason_cases ending why) where

@@ -1,2 +1,3 @@
-mod SinkLemmas
 mod KeptLemmas
+mod SinkLemmas
+mod Whole

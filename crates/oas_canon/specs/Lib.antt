@@ -4,4 +4,3 @@ pub mod KeptScripts
 pub mod Comparing
 pub mod Hashing
 pub mod Kept
-pub mod Putting

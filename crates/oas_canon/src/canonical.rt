@@ -6,7 +6,8 @@ ghost use Rattle.oas_file.specs.Reading.{IsRefused, IsPlaced};
 ghost use Rattle.oas_canon.specs.Run.{IsDone, IsCut, Exactly};
 
 use crate::profile::PROFILE;
-use crate::stub::Below;
+use oas_file::read_layout;
+use oas_form::write_canonical;
 use oas_layout::Limits;
 use oas_num::{Refusal, Source};
 use std::alloc::Global;
@@ -18,7 +19,7 @@ use std::io::Write;
 ///
 /// Nothing is written before the whole file was accepted. After `Why::Write` the writer took the first bytes of the
 /// canonical file, as many as the refusal's place says.
-pub fn canonicalize<B: Below, S: Source, W: Write>(
+pub fn canonicalize<S: Source, W: Write>(
     alloc: Global,
     from: &mut S,
     to: &mut W,
@@ -32,6 +33,6 @@ pub fn canonicalize<B: Below, S: Source, W: Write>(
     ensures cut { IfErr result (λ refusal. refusal.why ≡ NotWritten → IsCut limits PROFILE (S.script from.old) (S.script from.new) (W.contents to.old) (W.contents to.new) refusal.at) }
     ensures exactly { Exactly limits (S.script from.old) result (S.script from.new) }
 {
-    let layout = B::read_layout(alloc, from, limits, PROFILE)?;
-    B::write_canonical(&layout, to)
+    let layout = read_layout(alloc, from, limits, PROFILE)?;
+    write_canonical(&layout, to)
 }

@@ -5,7 +5,7 @@ ghost use Rattle.oas_canon.specs.Keeping.{IsKeeping, IsKeeping-prop, reason_by};
 ghost use Rattle.oas_canon.specs.Kept.{IsKept, RefusesKept};
 
 use crate::profile::PROFILE;
-use crate::stub::Below;
+use oas_file::read_layout;
 use oas_layout::{Layout, Limits};
 use oas_num::{Refusal, Source, SourceFault, Why};
 use std::alloc::Global;
@@ -55,8 +55,7 @@ struct KeepingSource<'a, S: Source, K: Start> {
     kept: Vec<u8>,
     ending: Ending,
     start: PhantomData<K>,
-    ghost keeps: { IsKeeping K.script K.name source.ghost_name (S.script source.now) kept.items ending }
-        by { IsKeeping-prop K.script K.name source.ghost_name (S.script source.now) kept.items ending },
+    ghost keeps: { IsKeeping K.script K.name source.ghost_name (S.script source.now) kept.items ending } by { IsKeeping-prop K.script K.name source.ghost_name (S.script source.now) kept.items ending },
     // As long as there may be a next byte there is room for it.
     ghost room: { ending ≡ Open → vec_len kept < vec_capacity kept },
 }
@@ -106,7 +105,7 @@ fn reason(ending: Ending, why: Why) -> Why
 }
 
 /// Reads all that a source gives, and answers the layout that it means and the bytes.
-pub(crate) fn read_kept<B: Below, S: Source>(
+pub(crate) fn read_kept<S: Source>(
     alloc: Global,
     source: &mut S,
     limits: Limits,
@@ -116,7 +115,7 @@ pub(crate) fn read_kept<B: Below, S: Source>(
 {
     match Vec::with_capacity(alloc, ROOM) {
         Ok(room) => {
-            let (read, _source) = read_named::<B, S, Brand>(alloc, source, room, limits);
+            let (read, _source) = read_named::<S, Brand>(alloc, source, room, limits);
             read
         }
         Err(_) => Err(Refusal {
@@ -127,7 +126,7 @@ pub(crate) fn read_kept<B: Below, S: Source>(
 }
 
 /// The same, of the source that is named. It hands the borrow back, so that its lender knows it for its own.
-fn read_named<'a, B: Below, S: Source, K: Start>(
+fn read_named<'a, S: Source, K: Start>(
     alloc: Global,
     source: &'a mut S,
     room: Vec<u8>,
@@ -147,7 +146,7 @@ fn read_named<'a, B: Below, S: Source, K: Start>(
         ending: Ending::Open,
         start: PhantomData,
     };
-    let outcome = B::read_layout(alloc, &mut keeping, limits, PROFILE);
+    let outcome = read_layout(alloc, &mut keeping, limits, PROFILE);
     let KeepingSource {
         source,
         kept,

@@ -5,7 +5,7 @@ ghost use Rattle.oas_canon.specs.declared.sameness.Which.TheVariants.{First as O
 ghost use Rattle.oas_canon.specs.Run.{IsTaken, IsCompared, ExactlyBoth};
 
 use crate::profile::PROFILE;
-use crate::stub::Below;
+use oas_file::read_layout;
 use oas_layout::Limits;
 use oas_num::{Refusal, Source};
 use std::alloc::Global;
@@ -21,7 +21,7 @@ pub enum Which {
 
 /// Whether two files mean the same layout. The first is read whole before the second is begun, and where it is refused
 /// nothing is read of the second. A refusal is that of the file that it names.
-pub fn same_files<B: Below, S: Source, T: Source>(
+pub fn same_files<S: Source, T: Source>(
     alloc: Global,
     a: &mut S,
     b: &mut T,
@@ -32,11 +32,11 @@ pub fn same_files<B: Below, S: Source, T: Source>(
     ensures second { IfErr result (λ e. e.0 ≡ OfSecond → ((bytes : List ℕ) × IsTaken limits (S.script a.old) bytes (S.script a.new)) × Refuses limits (T.script b.old) e.1 (T.script b.new)) }
     ensures exactly { ExactlyBoth limits (S.script a.old) (S.script a.new) (T.script b.old) (T.script b.new) result }
 {
-    let one = match B::read_layout(alloc, a, limits, PROFILE) {
+    let one = match read_layout(alloc, a, limits, PROFILE) {
         Ok(layout) => layout,
         Err(refusal) => return Err((Which::First, refusal)),
     };
-    let other = match B::read_layout(alloc, b, limits, PROFILE) {
+    let other = match read_layout(alloc, b, limits, PROFILE) {
         Ok(layout) => layout,
         Err(refusal) => return Err((Which::Second, refusal)),
     };

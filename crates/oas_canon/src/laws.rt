@@ -1,0 +1,10 @@
+//! The laws of files and of canonical forms, each the contract of a function that does nothing. They stand over the
+//! definitions alone, and with the contracts of this crate they make the sentence at
+//! [`canonicalize`](crate::canonicalize).
+
+pub use oas_file::laws::{one_meaning, one_place, one_reading};
+pub use oas_form::laws::{
+    canonical_again, canonical_bytes, canonical_weight, equal_in_order, form_is_accepted,
+    form_is_bytes, form_is_its_bytes, form_length, form_within, one_canonical_form, same_exactly,
+    same_sizes,
+};
