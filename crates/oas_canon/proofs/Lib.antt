@@ -1,26 +1,3 @@
-pub mod Fronts
-pub mod Placing
-pub mod Reasoning
-pub mod Growing
-pub mod Pins
-pub mod Somes
-pub mod Heads
-pub mod StepLemmas
-pub mod CollectingLemmas
-pub mod Magic
-pub mod Readings
-pub mod Gathers
-pub mod Drafting
-pub mod CellLemmas
-pub mod Counting
-pub mod Forms
-pub mod Lengths
-pub mod OrderedLayouts
-pub mod OutletLemmas
-pub mod PuttingLemmas
-pub mod Sorting
-pub mod Spelling
-pub mod Whole
-pub mod Weights
-pub mod Held
-pub mod PlaceLaws
+mod KeptLemmas
+mod SinkLemmas
+mod Whole

@@ -1,140 +1,111 @@
--- The whole run, from its parts.
-use Rattle.std.proofs.Common.{◌≡◌, ℕ, ◌≤◌, ◌^◌, ◌⊎◌, inl, inr, Bool, true, false, List, [], ◌++◌, Option, Some, None, Result, Ok, Err, IfOk, IfErr, IsTrue, refl, sym, ◌∙◌, ap, subst, arith}
-use Rattle.std.proofs.lemmas.List.{append-nil}
-use Rattle.std.specs.Map.{keys_of}
+-- A whole run, from its parts.
+use Rattle.std.proofs.Common.{◌≡◌, ℕ, ◌⊎◌, inl, inr, Bool, true, false, List, [], ◌++◌, Option, Some, None, Result, Ok, Err, IfOk, IfErr, IsTrue, ◌↔◌, IsSome, refl, sym, ◌∙◌, ap, subst, arith}
+use Rattle.std.proofs.lemmas.List.{append-nil, append_cancel_right}
+use Rattle.sha2.specs.Sha256.{sha256}
 use Rattle.oas_num.specs.declared.refusals.Why.{Why}
-use Rattle.oas_num.specs.declared.refusals.Why.TheVariants.{Truncated, Read, InputTooLong, Write, Memory, DuplicateCell}
+use Rattle.oas_num.specs.declared.refusals.Why.TheVariants.{Truncated, Read, InputTooLong, Write, Memory}
 use Rattle.oas_num.specs.declared.refusals.Refusal.{Refusal}
-use Rattle.oas_num.specs.declared.reals.Real.{Real}
-use Rattle.oas_num.specs.Script.{Script, Rest, Gave, NoneLeft}
-use Rattle.oas_num.proofs.GrammarLemmas.{uncut}
-use Rattle.oas_canon.specs.declared.limits.Limits.{Limits}
-use Rattle.oas_canon.specs.declared.records.Record.{Record}
-use Rattle.oas_canon.specs.Canonical.{canonical_bytes}
-use Rattle.oas_canon.specs.File.{Parts, parts, FileOf}
-use Rattle.oas_canon.specs.FileLaws.{OneFront-file}
-use Rattle.oas_canon.specs.Layouts.{IsLight}
-use Rattle.oas_canon.specs.Meaning.{Layout, Cells, cells, Accepted, IsDistinct}
-use Rattle.oas_canon.specs.Putting.{IsWritten, IsCutOff}
-use Rattle.oas_canon.specs.Places.{RefusedAt, ByEnd}
-use Rattle.oas_canon.specs.Run.{decides, is_of_file, IsPlaced, IsDrafted, IsRefused, IsSealed, Seals, IsRead, ReadsLayout, IsDone, IsCut, IsDecided, IsWithinSource, Exactly, placed_at}
-use Rattle.oas_canon.proofs.Forms.{canonical_form}
-use Rattle.oas_canon.proofs.Reasoning.{seal_reasoned}
+use Rattle.oas_num.specs.Script.{Script, Rest, Gave, NoneLeft, Takes}
+use Rattle.oas_layout.specs.declared.limits.Limits.{Limits}
+use Rattle.oas_layout.specs.declared.profile.Profile.{Profile}
+use Rattle.oas_layout.specs.Meaning.{SameLayout}
+use Rattle.oas_layout.specs.Contents.{Contents, IsLayout, meaning_of}
+use Rattle.oas_layout.proofs.LawProofs.{symmetric, transitive}
+use Rattle.oas_file.specs.Acceptance.{Accepted}
+use Rattle.oas_file.specs.Reading.{decides, IsRead, IsRefused}
+use Rattle.oas_form.specs.Bytes.{canonical_bytes}
+use Rattle.oas_form.specs.Canonical.{CanonicalForm, IsCanonicalOf}
+use Rattle.oas_form.specs.Putting.{IsWritten, IsCutOff}
+use Rattle.oas_form.proofs.Held.{form_is_bytes}
+use Rattle.oas_form.proofs.Written.{canonical_form}
+use Rattle.oas_canon.specs.Run.{IsTaken, IsDone, IsCut, IsKeyed, IsJudged, IsCompared, IsDecided, IsWithinSource, Exactly}
 
--- ---- a draft is sealed
+module _ {limits : Limits} {profile : Profile} {old new : Script} {l : Contents} (read : IsRead limits profile old l new) where
+  pub taken : IsTaken limits old read.bytes new
+  taken = record { takes = read.takes; ended = read.ended; accepted = read.accepted }
 
-module _ {limits : Limits} {old new : Script} {draft : Layout} {end : ℕ} (d : IsDrafted limits old draft end new) where
-  pub draft_light : limits.weight ≤ 2 ^ 30 → IsLight draft
-  draft_light le = record { fits = d.within.fits; light = omega (arith, d.within.light, le) }
+  -- what is written of it, under the limits and the profile that were handed in
+  form : IsLayout l → CanonicalForm limits profile (canonical_bytes (meaning_of l))
+  form held = subst (λ (p : Limits × Profile). CanonicalForm p.0 p.1 (canonical_bytes (meaning_of l))) (λ i. (read.within i, read.by i)) (canonical_form l held).0
 
-  pub sealed_read : {l : Layout} → IsSealed draft l → IsRead limits old l new
-  sealed_read s = record {
-    bytes = d.bytes;
-    takes = d.takes;
-    ended = d.ended;
-    accepted = record {
-      unit = d.unit;
-      records = d.records;
-      file = d.file;
-      allowed = d.allowed;
-      whole = record { distinct = subst (λ (cs : Cells). IsDistinct (keys_of cs)) (sym d.is) s.distinct; light = d.allowed.light };
-    };
-    meaning = draft;
-    means = record { unit = d.unit; records = d.records; file = d.file; reduced = d.reduced; is = d.is };
-    same = s.same;
-    held = record { within = s.within limits d.within; ordered = s.ordered };
-  }
+  is_form : IsLayout l → IsCanonicalOf limits profile read.bytes (canonical_bytes (meaning_of l))
+  is_form held = record { form = form held; source = read.meaning; target = meaning_of l; means = read.means; becomes = (canonical_form l held).1; same = read.same }
 
-  -- no file that begins so has other records
-  same_records : (more : List ℕ) (v : Real) (ss : List Record) → FileOf v ss (d.bytes ++ more) → d.records ≡ ss
-  same_records more v ss file =
-      let both = OneFront-file.one (parts d.unit d.records) (parts v ss) d.bytes (d.bytes ++ more) more [] d.file.spelled file.spelled (sym (append-nil (d.bytes ++ more))) in
-      ap (λ (p : Parts). p.1.1.0) both.1
-
-  pub seal_refused : (why : Why) → (why ≡ Memory) ⊎ ((why ≡ DuplicateCell) × (IsDistinct (keys_of draft.cells) → ⊥)) → IsRefused limits old why new
-  seal_refused why (inl e) = record {
-    bytes = d.bytes;
-    takes = d.takes;
-    decided = λ is. absurd (undecided why e is);
-    cut = λ f. absurd (uncut why (λ e2. cc) (λ e2. cc) (λ e2. cc) f);
-    truncated = λ f. absurd cc;
-    device = λ f. absurd cc;
-    too_long = λ f. absurd cc;
-    reading = λ f. cc;
-  } where
-    undecided : (why : Why) → why ≡ Memory → IsTrue (decides why) → ⊥
-    undecided why e is = let k : IsTrue (decides Memory) = subst (λ (w : Why). IsTrue (decides w)) e is in cc
-  seal_refused why (inr t) = record {
-    bytes = d.bytes;
-    takes = d.takes;
-    decided = λ is more a.
-        let same = same_records more a.unit a.records a.file in
-        t.1 (subst (λ (cs : Cells). IsDistinct (keys_of cs)) (sym (ap cells same) ∙ d.is) a.whole.distinct);
-    cut = λ f. let e = t.0 in absurd (uncut why (λ e2. cc) (λ e2. cc) (λ e2. cc) f);
-    truncated = λ f. let e = t.0 in absurd cc;
-    device = λ f. let e = t.0 in absurd cc;
-    too_long = λ f. let e = t.0 in absurd cc;
-    reading = λ f. let e = t.0 in cc;
-  }
-
-  -- a cell that is defined twice is refused at END
-  seal_placed : (why : Why) → (why ≡ Memory) ⊎ ((why ≡ DuplicateCell) × (IsDistinct (keys_of draft.cells) → ⊥)) → IsPlaced limits old (record { at = end; why = why }) new
-  seal_placed why (inl e) = record { bytes = d.bytes; takes = d.takes; placed = λ fresh is. absurd (not_memory why e is) } where
-    not_memory : (why : Why) → why ≡ Memory → IsTrue (is_of_file why) → ⊥
-    not_memory why e is = let k : IsTrue (is_of_file Memory) = subst (λ (w : Why). IsTrue (is_of_file w)) e is in cc
-  seal_placed why (inr t) = record {
-    bytes = d.bytes;
-    takes = d.takes;
-    placed = λ fresh is more ended.
-        let same : d.bytes ≡ d.bytes ++ more = sym (append-nil d.bytes) ∙ ap (λ (c : List ℕ). d.bytes ++ c) (sym (ended d.ended)) in
-        subst (λ (b : List ℕ). RefusedAt limits b end) same (ByEnd (record {
-          left = d.last;
-          records = d.records;
-          before = record { unit = d.unit; before = d.before; front = d.front; allowed = d.allowed; place = omega (arith, d.place, fresh); joined = d.joined };
-          end = d.ending;
-          torn = λ w. t.1 (subst (λ (cs : Cells). IsDistinct (keys_of cs)) d.is w.distinct);
-        }));
-  }
-
-  pub layout_read : {L : Type 0} (layout : L → Layout) (sealed : Result L Why) → Seals layout draft sealed → ReadsLayout layout limits old (placed_at end sealed) new
-  layout_read layout (Ok l) s = sealed_read s
-  layout_read layout (Err why) s = (seal_refused why s, seal_placed why s, seal_reasoned d why s)
-
--- ---- a layout is written
-
-module _ {limits : Limits} {old new : Script} {l : Layout} (read : IsRead limits old l new) where
-  pub done : {W : Type 0} (contents : W → Option (List ℕ)) (before after : W) (r : Result ℕ Refusal) → IfOk r (IsWritten contents before (canonical_bytes l) after) → IfOk r (λ n. IsDone limits old new (contents before) (contents after) n)
-  done contents before after (Ok n) written =
-      let form = canonical_form limits l read.held in
+  pub done : {W : Type 0} (contents : W → Option (List ℕ)) (before after : W) (r : Result ℕ Refusal) → IsLayout l → IfOk r (IsWritten contents before (canonical_bytes (meaning_of l)) after) → IfOk r (λ n. IsDone limits profile old new (contents before) (contents after) n)
+  done contents before after (Ok n) held written =
       record {
         bytes = read.bytes;
-        takes = read.takes;
-        ended = read.ended;
-        accepted = read.accepted;
-        canonical = canonical_bytes l;
-        is = record { form = form.0; source = read.meaning; target = l; means = read.means; becomes = form.1; same = read.same };
+        taken = taken;
+        canonical = canonical_bytes (meaning_of l);
+        is = is_form held;
         count = written.count_is;
         written = written.took;
       }
-  done contents before after (Err refusal) written = tt
+  done contents before after (Err refusal) held written = tt
 
-  pub cut : {W : Type 0} (contents : W → Option (List ℕ)) (before after : W) (r : Result ℕ Refusal) → IfErr r (IsCutOff contents before (canonical_bytes l) after) → IfErr r (λ refusal. refusal.why ≡ Write → IsCut limits old new (contents before) (contents after) refusal.at)
-  cut contents before after (Ok n) h = tt
-  cut contents before after (Err refusal) h = λ _.
-      let form = canonical_form limits l read.held in
-      record {
-        bytes = read.bytes;
-        takes = read.takes;
-        ended = read.ended;
-        accepted = read.accepted;
-        canonical = canonical_bytes l;
-        is = record { form = form.0; source = read.meaning; target = l; means = read.means; becomes = form.1; same = read.same };
-        front = h.front;
-        back = h.back;
-        joined = h.joined;
-        took = h.took;
-        place = h.place;
-      }
+  pub cut : {W : Type 0} (contents : W → Option (List ℕ)) (before after : W) (r : Result ℕ Refusal) → IsLayout l → IfErr r (IsCutOff contents before (canonical_bytes (meaning_of l)) after) → IfErr r (λ refusal. refusal.why ≡ Write → IsCut limits profile old new (contents before) (contents after) refusal.at)
+  cut contents before after (Ok n) held h = tt
+  cut contents before after (Err refusal) held h = λ _. record {
+    bytes = read.bytes;
+    taken = taken;
+    canonical = canonical_bytes (meaning_of l);
+    is = is_form held;
+    front = h.front;
+    back = h.back;
+    joined = h.joined;
+    took = h.took;
+    place = h.place;
+  }
+
+  pub keyed : (digest : List ℕ) → IsLayout l → digest ≡ sha256 (canonical_bytes (meaning_of l)) → IsKeyed limits profile old new digest
+  keyed digest held is = record { bytes = read.bytes; taken = taken; canonical = canonical_bytes (meaning_of l); is = is_form held; hashed = is }
+
+  -- ---- one file against its canonical form
+
+  -- what is kept of known bytes is what was taken
+  tie : (kept : List ℕ) (from to : Option Rest) → Gave from read.bytes to → Gave from kept to → IsSome from → kept ≡ read.bytes
+  tie kept None to g k known = absurd cc
+  tie kept (Some r) None g k known = absurd g
+  tie kept (Some r) (Some s) g k known = append_cancel_right kept read.bytes s.bytes (sym k.0 ∙ g.0)
+
+  is_spelled : (says : Bool) → IsLayout l → (IsTrue says ↔ (canonical_bytes (meaning_of l) ≡ read.bytes)) → IsTrue says ↔ CanonicalForm limits profile read.bytes
+  is_spelled says held h = (
+    λ t. subst (CanonicalForm limits profile) (h.0 t) (form held),
+    λ f. h.1 (sym (form_is_bytes limits read.bytes read.meaning l (subst (λ (p : Profile). CanonicalForm limits p read.bytes) (sym read.by) f) read.means held (subst (λ (p : Profile). SameLayout p read.meaning (meaning_of l)) (sym read.by) read.same))),
+  )
+
+  pub judged : (kept : List ℕ) (says : Bool) → Takes old kept new → IsLayout l → (IsTrue says ↔ (canonical_bytes (meaning_of l) ≡ kept)) → IsJudged limits profile old new says
+  judged kept says keeps held h = record {
+    bytes = read.bytes;
+    taken = taken;
+    answer = λ known. is_spelled says held (subst (λ (b : List ℕ). IsTrue says ↔ (canonical_bytes (meaning_of l) ≡ b)) (tie kept old.rest new.rest read.takes.rest keeps.rest known) h);
+  }
+
+-- ---- two files
+
+-- the answer of the layouts is that of the meanings
+pub compared : {limits : Limits} {profile : Profile} {old new mid last : Script} {l k : Contents} {same : Bool} → IsRead limits profile old l new → IsRead limits profile mid k last → (IsTrue same ↔ SameLayout l.profile (meaning_of l) (meaning_of k)) → IsCompared limits profile old new mid last same
+compared {profile = profile} {l = l} {k = k} first second h =
+    let one = first.meaning in
+    let other = second.meaning in
+    record {
+      first = first.bytes;
+      second = second.bytes;
+      taken_first = taken first;
+      taken_second = taken second;
+      one = one;
+      other = other;
+      means_one = first.means;
+      means_other = second.means;
+      answer = (
+        λ t.
+            let s : SameLayout profile (meaning_of l) (meaning_of k) = subst (λ (p : Profile). SameLayout p (meaning_of l) (meaning_of k)) first.by (h.0 t) in
+            transitive profile one (meaning_of l) other first.same (transitive profile (meaning_of l) (meaning_of k) other s (symmetric profile other (meaning_of k) second.same)),
+        λ s.
+            let t : SameLayout profile (meaning_of l) (meaning_of k) = transitive profile (meaning_of l) one (meaning_of k) (symmetric profile one (meaning_of l) first.same) (transitive profile one other (meaning_of k) s second.same) in
+            h.1 (subst (λ (p : Profile). SameLayout p (meaning_of l) (meaning_of k)) (sym first.by) t),
+      );
+    }
 
 -- ---- of known bytes
 
@@ -168,10 +139,10 @@ front_not : {limits : Limits} (bytes : List ℕ) (rest : Rest) (new : Option Res
 front_not bytes rest None g n a = absurd g
 front_not {limits = limits} bytes rest (Some r) g n a = n r.bytes (subst (Accepted limits) g.0 a)
 
-module _ {limits : Limits} {old new : Script} where
-  pub exactly_refused : (refusal : Refusal) → IsRefused limits old refusal.why new → Exactly limits old (Err refusal) new
+module _ (T : Type 0) {limits : Limits} {old new : Script} where
+  pub exactly_refused : (refusal : Refusal) → IsRefused limits old refusal.why new → Exactly {T = T} limits old (Err refusal) new
   exactly_refused refusal f = by_rest old.rest f.takes.rest where
-    by_rest : (rest : Option Rest) → Gave rest f.bytes new.rest → IsWithinSource rest → new.failures ≡ 0 → IsDecided limits rest (Err refusal)
+    by_rest : (rest : Option Rest) → Gave rest f.bytes new.rest → IsWithinSource rest → new.failures ≡ 0 → IsDecided {T = T} limits rest (Err refusal)
     by_rest None g w z = tt
     by_rest (Some rest) g w z = by_cause (cause_of refusal.why) where
       by_cause : Cause refusal.why → (refusal.why ≡ Write) ⊎ ((refusal.why ≡ Memory) ⊎ (Accepted limits rest.bytes → ⊥))
@@ -182,12 +153,18 @@ module _ {limits : Limits} {old new : Script} where
       by_cause (Writer e) = inl e
       by_cause (Room e) = inr (inl e)
 
-  pub exactly_written : {l : Layout} {W : Type 0} (contents : W → Option (List ℕ)) (before after : W) (r : Result ℕ Refusal) → IsRead limits old l new → IfErr r (IsCutOff contents before (canonical_bytes l) after) → Exactly limits old r new
-  exactly_written contents before after (Ok n) read h = by_rest old.rest read.takes.rest where
-    by_rest : (rest : Option Rest) → Gave rest read.bytes new.rest → IsWithinSource rest → new.failures ≡ 0 → IsDecided limits rest (Ok n)
-    by_rest None g w z = tt
-    by_rest (Some rest) g w z = subst (Accepted limits) (all_given read.bytes rest new.rest g read.ended.none) read.accepted
-  exactly_written contents before after (Err refusal) read h = by_rest old.rest where
-    by_rest : (rest : Option Rest) → IsWithinSource rest → new.failures ≡ 0 → IsDecided limits rest (Err refusal)
-    by_rest None w z = tt
-    by_rest (Some rest) w z = inl h.reason
+pub exactly_taken : {T : Type 0} {limits : Limits} {old new : Script} {bytes : List ℕ} (value : T) → IsTaken limits old bytes new → Exactly limits old (Ok value) new
+exactly_taken {limits = limits} {old = old} {new = new} {bytes = bytes} value t = by_rest old.rest t.takes.rest where
+  by_rest : (rest : Option Rest) → Gave rest bytes new.rest → IsWithinSource rest → new.failures ≡ 0 → IsDecided limits rest (Ok value)
+  by_rest None g w z = tt
+  by_rest (Some rest) g w z = subst (Accepted limits) (all_given bytes rest new.rest g t.ended.none) t.accepted
+
+exactly_unwritten : (limits : Limits) (old new : Script) (refusal : Refusal) → refusal.why ≡ Write → Exactly {T = ℕ} limits old (Err refusal) new
+exactly_unwritten limits old new refusal e = by_rest old.rest where
+  by_rest : (rest : Option Rest) → IsWithinSource rest → new.failures ≡ 0 → IsDecided {T = ℕ} limits rest (Err refusal)
+  by_rest None w z = tt
+  by_rest (Some rest) w z = inl e
+
+pub exactly_written : {limits : Limits} {profile : Profile} {old new : Script} {l : Contents} {W : Type 0} (contents : W → Option (List ℕ)) (before after : W) (r : Result ℕ Refusal) → IsRead limits profile old l new → IfErr r (IsCutOff contents before (canonical_bytes (meaning_of l)) after) → Exactly limits old r new
+exactly_written contents before after (Ok n) read h = exactly_taken n (taken read)
+exactly_written {limits = limits} {old = old} {new = new} contents before after (Err refusal) read h = exactly_unwritten limits old new refusal h.reason

@@ -2,7 +2,7 @@
 
 ghost use Rattle.std.specs.Prelude.{◌+◌, ◌*◌, ◌≤◌, ◌^◌, length, IfErr, IfOk, OnOk};
 ghost use Rattle.oas_num.specs.Outlets.{IsGiven, IsSent, failures_of};
-ghost use Rattle.oas_layout.specs.Contents.{meaning_of};
+ghost use Rattle.oas_layout.specs.Contents.{meaning_of, IsLayout};
 ghost use Rattle.oas_form.specs.Bytes.{canonical_bytes};
 ghost use Rattle.oas_form.specs.Putting.{Counts, IsCutOff, IsWritten};
 
@@ -17,10 +17,12 @@ mod tests;
 
 /// Puts the canonical bytes of a layout, and answers how many they are. At a fault a front of them was put.
 ///
-/// They number at most 320 and 64 for each unit of the layout's weight. Neither memory nor a copy is needed.
+/// They number at most 320 and 64 for each unit of the layout's weight. Neither memory nor a copy is needed. They are
+/// the canonical form by [`laws::canonical_bytes`](crate::laws::canonical_bytes), which asks what every layout is (`layout`).
 pub fn put_canonical<K: Sink>(layout: &Layout, sink: &mut K) -> Result<u64, SinkFault>
     ensures counts { Counts K.given K.failures sink.old (canonical_bytes (meaning_of layout.now)) result sink.new }
     ensures short { length (canonical_bytes (meaning_of layout.now)) ≤ 320 + 64 * 2 ^ 30 }
+    ensures layout { IsLayout layout.now }
 {
     let cells = layout.cells();
     let unit = layout.unit();
@@ -35,6 +37,7 @@ fn put_and_close<W: Write>(layout: &Layout, outlet: &mut Outlet<'_, W>) -> Resul
     ensures counts { Counts (IsGiven W.contents) failures_of outlet.old (canonical_bytes (meaning_of layout.now)) result outlet.new }
     ensures all { OnOk result (IsSent outlet.new) }
     ensures short { length (canonical_bytes (meaning_of layout.now)) ≤ 320 + 64 * 2 ^ 30 }
+    ensures layout { IsLayout layout.now }
 {
     let count = put_canonical(layout, outlet)?;
     outlet.close()?;
@@ -48,6 +51,7 @@ fn put_and_close<W: Write>(layout: &Layout, outlet: &mut Outlet<'_, W>) -> Resul
 pub fn write_canonical<W: Write>(layout: &Layout, writer: &mut W) -> Result<u64, Refusal>
     ensures written { IfOk result (IsWritten W.contents writer.old (canonical_bytes (meaning_of layout.now)) writer.new) }
     ensures refused { IfErr result (IsCutOff W.contents writer.old (canonical_bytes (meaning_of layout.now)) writer.new) }
+    ensures layout { IsLayout layout.now }
 {
     let mut outlet = Outlet::new(writer);
     match put_and_close(layout, &mut outlet) {

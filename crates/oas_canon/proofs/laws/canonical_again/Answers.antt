@@ -1,5 +1,0 @@
-use Rattle.oas_canon.proofs.Forms as law
-use Rattle.oas_canon.proofs.laws.canonical_again.Goals as goal
-
-pub returns : goal.returns
-returns c = law.canonical_again

@@ -1,5 +1,0 @@
-use Rattle.oas_canon.proofs.Held as law
-use Rattle.oas_canon.proofs.laws.form_is_its_bytes.Goals as goal
-
-pub returns : goal.returns
-returns c = law.form_is_its_bytes

@@ -1,5 +1,0 @@
-use Rattle.oas_canon.proofs.Held as law
-use Rattle.oas_canon.proofs.laws.form_length.Goals as goal
-
-pub returns : goal.returns
-returns c = law.form_length

@@ -1,5 +1,0 @@
-use Rattle.oas_canon.proofs.PlaceLaws as law
-use Rattle.oas_canon.proofs.laws.one_place.Goals as goal
-
-pub returns : goal.returns
-returns c = record { one = law.one_place; none = law.no_place }

@@ -1,6 +1,0 @@
-use Rattle.std.proofs.Common.{arith}
-use Rattle.oas_canon.proofs.PuttingLemmas.{length-shortest}
-use Rattle.oas_canon.proofs.writing.put_number.Goals as goal
-
-pub returns-clause-short : goal.returns-clause-short
-returns-clause-short g c = omega (arith, c.unsigned_len.ensures, length-shortest c.args.value)

@@ -1,0 +1,42 @@
+//! Whether a file is canonical as it stands.
+ghost use Rattle.std.specs.Prelude.{◌≡◌, ◌⊎◌, IsTrue, ◌↔◌, IfOk, IfErr};
+ghost use Rattle.oas_num.specs.declared.refusals.Why.TheVariants.{Memory as NoMemory};
+ghost use Rattle.oas_layout.specs.Contents.{meaning_of, IsLayout};
+ghost use Rattle.oas_file.specs.Deciding.{IsReasoned};
+ghost use Rattle.oas_file.specs.Reading.{IsRefused, IsPlaced};
+ghost use Rattle.oas_form.specs.Bytes.{canonical_bytes};
+ghost use Rattle.oas_canon.specs.Run.{IsJudged, Exactly};
+
+use crate::comparing::Comparer;
+use crate::keeping::read_kept;
+use crate::profile::PROFILE;
+use oas_form::put_canonical;
+use oas_layout::{Layout, Limits};
+use oas_num::{Refusal, Source};
+use std::alloc::Global;
+
+/// Whether what a source gives is the canonical file of the layout that it means.
+///
+/// The bytes are kept as they are taken, and compared with the canonical ones up to the first that differs. A file is
+/// refused as by [`canonicalize`](crate::canonicalize), but that there is no writer, and that a byte for which there is no
+/// memory is `Why::Memory`.
+pub fn is_canonical<S: Source>(alloc: Global, from: &mut S, limits: Limits) -> Result<bool, Refusal>
+    ensures judged { IfOk result (λ yes. IsJudged limits PROFILE (S.script from.old) (S.script from.new) yes) }
+    ensures refused { IfErr result (λ refusal. IsRefused limits (S.script from.old) refusal.why (S.script from.new)) }
+    ensures placed { IfErr result (λ refusal. IsPlaced limits (S.script from.old) refusal (S.script from.new)) }
+    ensures decided { IfErr result (λ refusal. (refusal.why ≡ NoMemory) ⊎ IsReasoned limits (S.script from.old) refusal (S.script from.new)) }
+    ensures exactly { Exactly limits (S.script from.old) result (S.script from.new) }
+{
+    let (layout, kept) = read_kept(alloc, from, limits)?;
+    Ok(is_spelled(&layout, &kept))
+}
+
+/// Whether these are the canonical bytes of a layout.
+fn is_spelled(layout: &Layout, bytes: &[u8]) -> bool
+    ensures spelled { IsTrue result ↔ (canonical_bytes (meaning_of layout.now) ≡ bytes.now) }
+    ensures layout { IsLayout layout.now }
+{
+    let mut comparer = Comparer::new(bytes);
+    let _ = put_canonical(layout, &mut comparer);
+    comparer.is_done()
+}

@@ -1,0 +1,80 @@
+//! A sink that hashes.
+ghost use Rattle.std.specs.Prelude.{◌≡◌, ℕ, List, [], ◌∷◌, ◌≤◌, ◌<◌};
+ghost use Rattle.sha2.specs.Sha256.{sha256};
+ghost use Rattle.sha2.specs.Hashers.{Holds256};
+
+use oas_num::{Sink, SinkFault};
+use sha2::{Digest, Sha256};
+
+/// How many bytes are gathered before they are hashed.
+const SIZE: usize = 4096;
+
+/// Hashes the bytes that it is given, by SHA-256. It gathers them in a window, so that a byte at a time costs no call of
+/// the hash function each.
+#[derive(Drop)]
+pub(crate) struct Hasher {
+    hasher: Sha256,
+    window: [u8; SIZE],
+    held: usize,
+    ghost within: { held ≤ 4096 },
+}
+
+impl Hasher {
+    ghost use Rattle.oas_canon.specs.Hashing.{HasTaken, Hashes};
+
+    /// One that was given nothing.
+    pub(crate) fn new() -> Hasher
+        ensures { HasTaken result [] }
+    {
+        Hasher {
+            hasher: Sha256::new(),
+            window: [0; SIZE],
+            held: 0,
+        }
+    }
+
+    /// Hashes what the window holds.
+    fn hash_window(&mut self)
+        ensures empty { self.new.held ≡ 0 }
+        ensures hashed { (m : List ℕ) → HasTaken self.old m → Holds256 self.new.hasher m }
+    {
+        let piece = &self.window[..self.held];
+        self.hasher.update(piece);
+        self.held = 0;
+    }
+
+    /// Puts a byte into the window.
+    #[inline]
+    fn hold(&mut self, byte: u8)
+        requires { self.old.held < 4096 }
+        ensures { Hashes self.old (byte ∷ []) self.new }
+    {
+        self.window[self.held] = byte;
+        self.held += 1;
+    }
+
+    /// The digest of all that it was given.
+    pub(crate) fn finish(mut self) -> [u8; 32]
+        ensures { (m : List ℕ) → HasTaken self m → result ≡ sha256 m }
+    {
+        self.hash_window();
+        self.hasher.finalize()
+    }
+}
+
+impl Sink for Hasher {
+    ghost use Rattle.oas_canon.specs.Hashing.{Hashes};
+
+    ghost given = { Hashes };
+
+    ghost failures = { λ _. 0 };
+
+    #[inline]
+    fn put(&mut self, byte: u8) -> Result<(), SinkFault> {
+        if self.held == SIZE {
+            self.hash_window();
+        }
+        self.hold(byte);
+        Ok(())
+    }
+}
