@@ -5,3 +5,6 @@ pub mod laws;
 mod reading;
 
 pub use reading::read_layout;
+
+#[cfg(test)]
+mod tests;
