@@ -1,3 +1,5 @@
+pub mod AllowedLemmas
+pub mod ElementPutting
 pub mod ElementSpelling
 pub mod FieldsFit
 pub mod Forms
@@ -7,6 +9,10 @@ pub mod KindLemmas
 pub mod Lengths
 pub mod MeantLemmas
 pub mod OrderedLayouts
+pub mod OutletLemmas
+pub mod PointPutting
+pub mod PuttingLemmas
 pub mod ShortestLemmas
 pub mod Sizes
 pub mod Spelling
+pub mod Written

@@ -2,8 +2,8 @@
 use Rattle.std.proofs.Common.{◌≡◌, ℕ, Bool, true, false, List, [], ◌∷◌, ◌++◌, map, reverse, Option, Some, refl, sym, ap, ◌∙◌, append_assoc, arith}
 use Rattle.std.proofs.lemmas.Int.{ints}
 use Rattle.std.proofs.lemmas.List.{reverse-append, append-nil}
-use Rattle.std.specs.Prelude.{ℤ, pos, ◌+ℤ◌, ◌-ℤ◌, cond, is_some, unwrap_or}
-use Rattle.std.specs.Option.{option_or}
+use Rattle.std.specs.Prelude.{ℤ, pos, ◌+ℤ◌, ◌-ℤ◌}
+use Rattle.std.specs.Option.{option_to_list}
 use Rattle.std.specs.List.{AllByRecursion}
 use Rattle.oas_num.specs.declared.deltas.GDelta.{GDelta}
 use Rattle.oas_num.specs.Deltas.{step}
@@ -20,16 +20,17 @@ use Rattle.oas_layout.specs.declared.element.Element.{Element}
 use Rattle.oas_layout.specs.declared.element.Element.TheVariants.{Placement, Text, Rectangle, Polygon, Path, Circle}
 use Rattle.oas_layout.specs.Element.{turn_count}
 use Rattle.oas_layout.specs.Weight.{lacks_points}
+use Rattle.oas_drawing.specs.declared.positions.Position.{Position}
 use Rattle.oas_drawing.specs.declared.drawn.Drawn.{Drawn}
 use Rattle.oas_drawing.specs.declared.drawn.Drawn.TheVariants.{Named}
-use Rattle.oas_drawing.specs.Looking.{plus_given}
 use Rattle.oas_drawing.specs.Values.{is_relative}
-use Rattle.oas_drawing.specs.Positions.{if_absolute, if_relative}
 use Rattle.oas_drawing.specs.Turns.{turned}
-use Rattle.oas_drawing.specs.Drawing.{elements_at}
+use Rattle.oas_drawing.specs.Modal.{ModalState, modal_of, moved_by, stepped}
+use Rattle.oas_drawing.specs.Drawing.{point_from, drawn_at, offsets_of, copies_at, elements_at}
+use Rattle.oas_drawing.proofs.Steps.{modal_step}
 use Rattle.oas_modal.specs.Names.{named, cell_names, text_strings}
 use Rattle.oas_modal.specs.Meaning.{DrawnCell, elements_meant, cells_meant, in_last, cells_drawn}
-use Rattle.oas_form.specs.Records.{Cells, element_record, line_of, records_of, steps_from}
+use Rattle.oas_form.specs.Records.{Cells, spot_at, element_record, line_of, records_of, steps_from}
 use Rattle.oas_form.specs.RecordMeaning.{HavePoints, RecordsSplit, CanonicalMeans}
 
 -- ---- lists of records
@@ -84,48 +85,57 @@ vertices_again p ps =
 
 -- ---- what a record draws
 
--- coordinates are absolute
-abbrev pub IsAbsolute : List Record → Type 0
-IsAbsolute before = is_relative before ≡ false
-
--- a coordinate that is given, in absolute mode, and no offset
-placed : (relative : Bool) (x : ℤ) (base : Option ℤ) (sum : ℤ) → relative ≡ false
-    → (unwrap_or (option_or (if_absolute relative (Some x)) base) (pos 0) +ℤ cond (is_some (if_absolute relative (Some x))) (pos 0) (plus_given sum (if_relative relative (Some x)))) +ℤ pos 0 ≡ x
-placed true x base sum e = absurd cc
-placed false x base sum e = omega (arith, ints)
-
 turned_again : (turns : Turns) → turned (Quarters (turn_count turns)) ≡ turns
 turned_again T0 = refl
 turned_again T1 = refl
 turned_again T2 = refl
 turned_again T3 = refl
 
--- the position of a record that gives both coordinates
-placed_at : (relative : Bool) (p : Point) (base : Option ℤ) (sum : ℤ) (base' : Option ℤ) (sum' : ℤ) → relative ≡ false
-    → ◌≡◌ {A = Point}
-    (record {
-      x = (unwrap_or (option_or (if_absolute relative (Some p.x)) base) (pos 0) +ℤ cond (is_some (if_absolute relative (Some p.x))) (pos 0) (plus_given sum (if_relative relative (Some p.x)))) +ℤ pos 0;
-      y = (unwrap_or (option_or (if_absolute relative (Some p.y)) base') (pos 0) +ℤ cond (is_some (if_absolute relative (Some p.y))) (pos 0) (plus_given sum' (if_relative relative (Some p.y)))) +ℤ pos 0;
-    })
-    p
-placed_at relative p base sum base' sum' e = λ i. record { x = placed relative p.x base sum e i; y = placed relative p.y base' sum' e i }
+-- a position after absolute coordinates is where they say
+pub landed : (relative : Bool) (before : Position) (p : Point) → relative ≡ false → ◌≡◌ {A = Position} (moved_by relative before (spot_at p.x p.y)) (record { x = p.x; y = p.y })
+landed true before p e = absurd cc
+landed false before p e = refl
 
--- a canonical record draws its element, once
+-- and so is what stands there
+stands_at : (relative : Bool) (before : Position) (p : Point) → relative ≡ false → point_from (moved_by relative before (spot_at p.x p.y)) still ≡ p
+stands_at relative before p e = ap (λ (at : Position). point_from at still) (landed relative before p e) ∙ stays p
+
+-- where all is absolute, a canonical record draws its element, whatever the variables were before it
+pub drawn_of_record : (e : Element) (m : ModalState) → m.relative ≡ false → lacks_points e ≡ false → drawn_at (stepped m (element_record e)) (element_record e) still ≡ Some (Named e)
+drawn_of_record (Placement name x y turns flip) m absolute h =
+    ap (λ (at : Point). Some (Named (Placement name at.x at.y (turned (Quarters (turn_count turns))) flip))) (stands_at m.relative m.placement (record { x = x; y = y }) absolute)
+    ∙ ap (λ (t : Turns). Some (Named (Placement name x y t flip))) (turned_again turns)
+drawn_of_record (Text string textlayer texttype x y) m absolute h = ap (λ (at : Point). Some (Named (Text string textlayer texttype at.x at.y))) (stands_at m.relative m.text (record { x = x; y = y }) absolute)
+drawn_of_record (Rectangle layer datatype width height x y) m absolute h = ap (λ (at : Point). Some (Named (Rectangle layer datatype width height at.x at.y))) (stands_at m.relative m.geometry (record { x = x; y = y }) absolute)
+drawn_of_record (Polygon layer datatype []) m absolute h = absurd cc
+drawn_of_record (Polygon layer datatype (p ∷ ps)) m absolute h =
+    ap (λ (at : Point). Some (Named (Polygon layer datatype (vertices_of (line_of (p ∷ ps)) at)))) (stands_at m.relative m.geometry p absolute)
+    ∙ ap (λ (points : List Point). Some (Named (Polygon layer datatype points))) (vertices_again p ps)
+drawn_of_record (Path layer datatype half_width start end []) m absolute h = absurd cc
+drawn_of_record (Path layer datatype half_width start end (p ∷ ps)) m absolute h =
+    ap (λ (at : Point). Some (Named (Path layer datatype half_width start end (vertices_of (line_of (p ∷ ps)) at)))) (stands_at m.relative m.geometry p absolute)
+    ∙ ap (λ (points : List Point). Some (Named (Path layer datatype half_width start end points))) (vertices_again p ps)
+drawn_of_record (Circle layer datatype radius x y) m absolute h = ap (λ (at : Point). Some (Named (Circle layer datatype radius at.x at.y))) (stands_at m.relative m.geometry (record { x = x; y = y }) absolute)
+
+-- it stands once
+pub stands_once : (e : Element) (m : ModalState) → offsets_of m (element_record e) ≡ still ∷ []
+stands_once (Placement name x y turns flip) m = refl
+stands_once (Text string textlayer texttype x y) m = refl
+stands_once (Rectangle layer datatype width height x y) m = refl
+stands_once (Polygon layer datatype points) m = refl
+stands_once (Path layer datatype half_width start end points) m = refl
+stands_once (Circle layer datatype radius x y) m = refl
+
+-- coordinates are absolute
+abbrev pub IsAbsolute : List Record → Type 0
+IsAbsolute before = is_relative before ≡ false
+
 pub draws : (e : Element) (before : List Record) → IsAbsolute before → lacks_points e ≡ false → elements_at (element_record e) before ≡ Named e ∷ []
-draws (Placement name x y turns flip) before absolute h =
-    ap (λ (at : Point). Named (Placement name at.x at.y (turned (Quarters (turn_count turns))) flip) ∷ []) (placed_at (is_relative before) (record { x = x; y = y }) _ _ _ _ absolute)
-    ∙ ap (λ (t : Turns). Named (Placement name x y t flip) ∷ []) (turned_again turns)
-draws (Text string textlayer texttype x y) before absolute h = ap (λ (at : Point). Named (Text string textlayer texttype at.x at.y) ∷ []) (placed_at (is_relative before) (record { x = x; y = y }) _ _ _ _ absolute)
-draws (Rectangle layer datatype width height x y) before absolute h = ap (λ (at : Point). Named (Rectangle layer datatype width height at.x at.y) ∷ []) (placed_at (is_relative before) (record { x = x; y = y }) _ _ _ _ absolute)
-draws (Polygon layer datatype []) before absolute h = absurd cc
-draws (Polygon layer datatype (p ∷ ps)) before absolute h =
-    ap (λ (at : Point). Named (Polygon layer datatype (vertices_of (line_of (p ∷ ps)) at)) ∷ []) (placed_at (is_relative before) p _ _ _ _ absolute)
-    ∙ ap (λ (points : List Point). Named (Polygon layer datatype points) ∷ []) (vertices_again p ps)
-draws (Path layer datatype half_width start end []) before absolute h = absurd cc
-draws (Path layer datatype half_width start end (p ∷ ps)) before absolute h =
-    ap (λ (at : Point). Named (Path layer datatype half_width start end (vertices_of (line_of (p ∷ ps)) at)) ∷ []) (placed_at (is_relative before) p _ _ _ _ absolute)
-    ∙ ap (λ (points : List Point). Named (Path layer datatype half_width start end points) ∷ []) (vertices_again p ps)
-draws (Circle layer datatype radius x y) before absolute h = ap (λ (at : Point). Named (Circle layer datatype radius at.x at.y) ∷ []) (placed_at (is_relative before) (record { x = x; y = y }) _ _ _ _ absolute)
+draws e before absolute h =
+    let m : ModalState = stepped (modal_of before) (element_record e) in
+    ap (λ (n : ModalState). copies_at n (element_record e) (offsets_of n (element_record e))) (modal_step before (element_record e))
+    ∙ ap (copies_at m (element_record e)) (stands_once e m)
+    ∙ ap (λ (d : Option Drawn). option_to_list d ++ []) (drawn_of_record e (modal_of before) absolute h)
 
 -- the mode stays
 pub absolute_element : (e : Element) (before : List Record) → is_relative (element_record e ∷ before) ≡ is_relative before
@@ -135,10 +145,6 @@ absolute_element (Rectangle layer datatype width height x y) before = refl
 absolute_element (Polygon layer datatype points) before = refl
 absolute_element (Path layer datatype half_width start end points) before = refl
 absolute_element (Circle layer datatype radius x y) before = refl
-
-pub absolute_elements : (es : List Element) (before : List Record) → is_relative (onto (map element_record es) before) ≡ is_relative before
-absolute_elements [] before = refl
-absolute_elements (e ∷ es) before = absolute_elements es (element_record e ∷ before) ∙ absolute_element e before
 
 -- ---- the cells of the records
 

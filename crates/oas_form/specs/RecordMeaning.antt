@@ -1,6 +1,10 @@
 -- What the records of canonical files mean, and that they are accepted. Records are listed oldest first.
-use Rattle.std.specs.Prelude.{◌≡◌, ℕ, List, ◌++◌, false, true}
+use Rattle.std.specs.Prelude.{◌≡◌, ℕ, ◌≤◌, List, ◌++◌, false, true}
 use Rattle.std.specs.List.{AllByRecursion}
+use Rattle.std.specs.List.Sorted.{IsStrictlySortedBy}
+use Rattle.std.specs.Ordering.{nat_cmp}
+use Rattle.std.specs.Cmp.Lexicographic.{slice_cmp}
+use Rattle.std.specs.Map.{keys_of}
 use Rattle.oas_num.specs.Ratio.{Ratio, IsLowest}
 use Rattle.oas_num.specs.Style.{Shortest}
 use Rattle.oas_record.specs.declared.heads.Head.{Head}
@@ -8,9 +12,11 @@ use Rattle.oas_record.specs.declared.records.Record.{Record}
 use Rattle.oas_layout.specs.declared.limits.Limits.{Limits}
 use Rattle.oas_layout.specs.Grid.{fits_grid}
 use Rattle.oas_layout.specs.Weight.{lacks_points}
+use Rattle.oas_layout.specs.Meaning.{element_count, cells_weight}
+use Rattle.oas_modal.specs.Meaning.{has_twice}
 use Rattle.oas_modal.specs.Stands.{records_mean}
 use Rattle.oas_file.specs.Files.{FileIn}
-use Rattle.oas_file.specs.Acceptance.{Allowed}
+use Rattle.oas_file.specs.Acceptance.{Allowed, IsWhole}
 use Rattle.oas_form.specs.Records.{Cells, records_of}
 
 -- each element has the points that it needs
@@ -42,3 +48,15 @@ ShortestHasPoints = (limits : Limits) (head : Head) (rs : List Record) (c : List
 -- its unit is in lowest terms, and its table-offsets stand in START
 abbrev pub ShortestHead : Type 0
 ShortestHead = (head : Head) (rs : List Record) (c : List ℕ) → FileIn Shortest head rs c → IsLowest head.unit × (head.flag_in_end ≡ false)
+
+-- No record of cells within the limits is refused, where each element has its points and lies within the grid.
+abbrev pub CanonicalAllowed : Type 0
+CanonicalAllowed = (limits : Limits) (cs : Cells) → HavePoints cs → FitGrid cs → element_count cs ≤ limits.elements → cells_weight cs ≤ limits.weight → Allowed limits (records_of cs)
+
+-- END doesn't refuse them where no name stands twice
+abbrev pub CanonicalWhole : Type 0
+CanonicalWhole = (limits : Limits) (cs : Cells) → HavePoints cs → has_twice (keys_of cs) ≡ false → cells_weight cs ≤ limits.weight → IsWhole limits (records_of cs)
+
+-- as where the names ascend
+abbrev pub AscendingWhole : Type 0
+AscendingWhole = (limits : Limits) (cs : Cells) → HavePoints cs → IsStrictlySortedBy (slice_cmp nat_cmp) (keys_of cs) → cells_weight cs ≤ limits.weight → IsWhole limits (records_of cs)

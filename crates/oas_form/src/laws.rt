@@ -1,6 +1,6 @@
 //! Laws of canonical forms, each the contract of a function that does nothing.
 ghost use Rattle.oas_form.specs.Canonical.{CanonicalAgain, FormIsAccepted, LimitsApart, OneCanonicalForm, SameExactly};
-ghost use Rattle.oas_form.specs.Layouts.{CanonicalWeight, EqualInOrder, FormIsBytes, FormIsItsBytes, FormLength, LayoutInOrder, LeastWeight, SameCount, SameWeight};
+ghost use Rattle.oas_form.specs.Layouts.{CanonicalBytes, CanonicalWeight, EqualInOrder, FormIsBytes, FormIsItsBytes, FormLength, FormWithin, LayoutInOrder, LeastWeight, SameCount, SameWeight};
 
 /// Two canonical forms that mean the same layout are equal bytes, whatever the limits under which each is one. So a file
 /// that is accepted under two limits has the same canonical form under both.
@@ -19,6 +19,11 @@ pub fn canonical_again()
     ensures { CanonicalAgain }
 {}
 
+/// The canonical bytes of a layout are a canonical form, and mean that layout.
+pub fn canonical_bytes()
+    ensures { CanonicalBytes }
+{}
+
 /// A canonical form is accepted.
 pub fn form_is_accepted()
     ensures { FormIsAccepted }
@@ -32,6 +37,11 @@ pub fn form_is_bytes()
 /// A canonical form is the canonical bytes of what it means.
 pub fn form_is_its_bytes()
     ensures { FormIsItsBytes }
+{}
+
+/// A canonical form is one under all limits that what it means keeps.
+pub fn form_within()
+    ensures { FormWithin }
 {}
 
 /// The canonical form of an accepted file has as many elements as the file, and weighs no more. Under profile one it weighs

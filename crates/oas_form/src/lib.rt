@@ -1,6 +1,30 @@
-//! The canonical form of a layout: what it is, and its laws.
+//! The canonical form of a layout: what it is, its laws, and its writer.
+//!
+//! What this crate promises to the crates above it:
+//!
+//! - A canonical form is judged on finished bytes (`CanonicalForm`, specs/Canonical.antt): an accepted file in the shortest
+//!   style, whose cells ascend by name, and in each of them the elements, each in the form that the profile keeps. It is the
+//!   canonical form of a file (`IsCanonicalOf`) if it means the same layout. Beside it stands a function of the layout
+//!   (`canonical_bytes`, specs/Bytes.antt).
+//! - [`put_canonical`] puts the canonical bytes of a layout into a sink, and answers how many they are; at a fault a front of
+//!   them was put (`Counts`, specs/Putting.antt). [`write_canonical`] has a writer take exactly these bytes; its only refusal
+//!   is `Why::Write`, after a front of them that is as long as its place says (`IsWritten`, `IsCutOff`). Neither takes memory.
+//! - [`laws`] joins the three, over the definitions alone. One layout has one canonical form, whatever the limits; it is what
+//!   is written of each layout that is the same; it is accepted, and its own canonical form; two files mean the same layout
+//!   exactly if their canonical forms are equal. It has as many elements as its file, weighs no more, and its length is
+//!   bounded by that weight.
+//! - [`meaning_laws`] and [`spelling_laws`] say of the records of a canonical file (`records_of`, specs/Records.antt) what
+//!   they mean, that they are accepted, and how they are spelled.
 #![tactic(auto)]
 
+mod cells;
+mod elements;
+mod frames;
 pub mod laws;
 pub mod meaning_laws;
+mod parts;
+mod point_lists;
 pub mod spelling_laws;
+mod writing;
+
+pub use writing::{put_canonical, write_canonical};

@@ -1,5 +1,5 @@
 //! Laws of the records of canonical files, each the contract of a function that does nothing.
-ghost use Rattle.oas_form.specs.RecordMeaning.{RecordsSplit, CanonicalMeans, ShortestIsCanonical, ShortestHasPoints, ShortestHead};
+ghost use Rattle.oas_form.specs.RecordMeaning.{RecordsSplit, CanonicalMeans, ShortestIsCanonical, ShortestHasPoints, ShortestHead, CanonicalAllowed, CanonicalWhole, AscendingWhole};
 
 /// The records of cells and of further cells are the records of the ones, and then of the others.
 pub fn records_split()
@@ -17,4 +17,12 @@ pub fn shortest_is_canonical()
     ensures records { ShortestIsCanonical }
     ensures points { ShortestHasPoints }
     ensures head { ShortestHead }
+{}
+
+/// The records of cells are accepted, where the cells are within the limits, their elements have their points and lie
+/// within the grid, and no name stands twice.
+pub fn canonical_is_accepted()
+    ensures allowed { CanonicalAllowed }
+    ensures whole { CanonicalWhole }
+    ensures ascending { AscendingWhole }
 {}

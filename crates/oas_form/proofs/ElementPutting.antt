@@ -1,0 +1,181 @@
+-- Putting elements, and cells.
+use Rattle.std.proofs.Common.{◌≡◌, ℕ, zero, suc, ◌+◌, ◌*◌, ◌-◌, ◌<◌, ◌≤◌, ◌^◌, false, List, [], ◌∷◌, ◌++◌, length, drop, replicate, Some, refl, sym, ap, subst, ◌∙◌, append_assoc, arith, add-one}
+use Rattle.std.specs.Prelude.{nat_lt, sum_by, slice_get}
+use Rattle.std.specs.List.{AllByRecursion}
+use Rattle.std.proofs.lemmas.List.Sums.{sum_by-cons, sum_by-append}
+use Rattle.oas_num.specs.Writing.{PutsFront}
+use Rattle.oas_layout.specs.declared.profile.Profile.{Profile}
+use Rattle.oas_layout.specs.declared.element.Element.{Element}
+use Rattle.oas_layout.specs.declared.element.Element.TheVariants.{Placement, Text, Rectangle, Polygon, Path, Circle}
+use Rattle.oas_layout.specs.Weight.{weight_of}
+use Rattle.oas_layout.specs.Sound.{IsSound}
+use Rattle.oas_layout.specs.Bag.{items}
+use Rattle.oas_layout.specs.Meaning.{cells_weight}
+use Rattle.oas_layout.specs.Contents.{Cell, Contents, names, bags, expanded, meaning_of, AllSound, IsCell, IsLayout}
+use Rattle.oas_form.specs.Bytes.{element_bytes, elements_bytes, cell_bytes, cells_bytes, canonical_bytes}
+use Rattle.oas_form.specs.Spelling.{HasPoint}
+use Rattle.oas_form.specs.Putting.{PutsAll}
+use Rattle.oas_form.proofs.Lengths.{length-elements, length-cells, canonical_length}
+use Rattle.oas_form.proofs.PuttingLemmas.{PutSoFar, fails_at, part_fits, ◌▸◌}
+
+elements_bytes-append : (es fs : List Element) → elements_bytes (es ++ fs) ≡ elements_bytes es ++ elements_bytes fs
+elements_bytes-append [] fs = refl
+elements_bytes-append (e ∷ es) fs = ap (λ (b : List ℕ). element_bytes e ++ b) (elements_bytes-append es fs) ∙ sym (append_assoc (element_bytes e) (elements_bytes es) (elements_bytes fs))
+
+-- ---- sound elements have points
+
+sound_point : (e : Element) → IsSound e → HasPoint e
+sound_point (Placement cell x y turns flip) h = tt
+sound_point (Text string textlayer texttype x y) h = tt
+sound_point (Rectangle layer datatype width height x y) h = tt
+sound_point (Polygon layer datatype points) h = tt
+sound_point (Path layer datatype half_width start end points) h = some (length points) h.points where
+  some : (n : ℕ) → nat_lt n 1 ≡ false → 0 < n
+  some zero h = cc
+  some (suc n) h = omega arith
+sound_point (Circle layer datatype radius x y) h = tt
+
+copies_points : (n : ℕ) (e : Element) → HasPoint e → AllByRecursion HasPoint (replicate n e)
+copies_points zero e h = tt
+copies_points (suc n) e h = (h, copies_points n e h)
+
+append_points : (es fs : List Element) → AllByRecursion HasPoint es → AllByRecursion HasPoint fs → AllByRecursion HasPoint (es ++ fs)
+append_points [] fs h k = k
+append_points (e ∷ es) fs h k = (h.0, append_points es fs h.1 k)
+
+items_points : (es : List (Element × ℕ)) → AllSound es → AllByRecursion HasPoint (items es)
+items_points [] h = tt
+items_points (e ∷ es) h = append_points (replicate e.1 e.0) (items es) (copies_points e.1 e.0 (sound_point e.0 h.0)) (items_points es h.1)
+
+cells_points : (profile : Profile) (cs : List Cell) → AllByRecursion (IsCell profile) cs → AllByRecursion (λ c. AllByRecursion HasPoint c.1) (expanded cs)
+cells_points profile [] h = tt
+cells_points profile (c ∷ cs) h = (items_points c.1 h.0.sound, cells_points profile cs h.1)
+
+-- ---- copies of one element
+
+-- so many copies were put, and the others are left
+pub record CopiesLeft {K : Type 0} (given : K → List ℕ → K → Type 0) (failures : K → ℕ) (e : Element) (times i : ℕ) (old now : K) (count : ℕ) : Type 0 where
+  pub so_far : PutSoFar given failures (elements_bytes (replicate times e)) (elements_bytes (replicate (times - i) e)) old now count
+  pub light : sum_by weight_of (replicate (times - i) e) ≤ 2 ^ 30
+
+copies_next : (times i : ℕ) (e : Element) → i < times → replicate (times - i) e ≡ e ∷ replicate (times - (i + 1)) e
+copies_next times i e lt =
+    let one : times - i ≡ suc (times - (i + 1)) = omega (arith, lt) in
+    ap (λ (n : ℕ). replicate n e) one
+
+-- all of them together
+pub copies_short : (e : Element) (times : ℕ) → IsSound e → sum_by weight_of (replicate times e) ≤ 2 ^ 30 → length (elements_bytes (replicate times e)) ≤ 64 * 2 ^ 30
+copies_short e times sound light = omega (arith, light, length-elements (replicate times e) (copies_points times e (sound_point e sound)))
+
+module _ {K : Type 0} {given : K → List ℕ → K → Type 0} {failures : K → ℕ} {old mid : K} {n : ℕ} (e : Element) (times i : ℕ) (lt : i < times) (left : CopiesLeft given failures e times i old mid n) where
+  copy_left : PutSoFar given failures (elements_bytes (replicate times e)) (element_bytes e ++ elements_bytes (replicate (times - (i + 1)) e)) old mid n
+  copy_left = subst (λ (es : List Element). PutSoFar given failures (elements_bytes (replicate times e)) (elements_bytes es) old mid n) (copies_next times i e lt) left.so_far
+
+  copies_light : weight_of e + sum_by weight_of (replicate (times - (i + 1)) e) ≤ 2 ^ 30
+  copies_light =
+      let whole = subst (λ (es : List Element). sum_by weight_of es ≤ 2 ^ 30) (copies_next times i e lt) left.light in
+      omega (arith, whole, sum_by-cons weight_of e (replicate (times - (i + 1)) e))
+
+  pub copy_light : weight_of e ≤ 2 ^ 30
+  copy_light = omega (arith, copies_light)
+
+  pub copy_fails : {new : K} → PutsFront given failures mid (element_bytes e) new → PutsFront given failures old (elements_bytes (replicate times e)) new
+  copy_fails q = fails_at _ copy_left q
+
+  pub copy_put : {new : K} {m : ℕ} → PutsAll given failures mid (element_bytes e) m new → CopiesLeft given failures e times (i + 1) old new (n + m)
+  copy_put q = record { so_far = copy_left ▸ q; light = omega (arith, copies_light) }
+
+  pub copy_within : {m : ℕ} → m ≡ length (element_bytes e) → n + m ≤ length (elements_bytes (replicate times e))
+  copy_within same = part_fits (element_bytes e) (elements_bytes (replicate (times - (i + 1)) e)) copy_left same
+
+-- ---- elements with their counts
+
+-- some were put, and these are left
+pub record ElementsLeft {K : Type 0} (given : K → List ℕ → K → Type 0) (failures : K → ℕ) (all left : List (Element × ℕ)) (old now : K) (count : ℕ) : Type 0 where
+  pub so_far : PutSoFar given failures (elements_bytes (items all)) (elements_bytes (items left)) old now count
+  pub sound : AllSound left
+  pub light : sum_by weight_of (items left) ≤ 2 ^ 30
+
+-- all of them together
+pub elements_short : (all : List (Element × ℕ)) → AllSound all → length (elements_bytes (items all)) ≤ 64 * sum_by weight_of (items all)
+elements_short all sound = length-elements (items all) (items_points all sound)
+
+module _ {K : Type 0} {given : K → List ℕ → K → Type 0} {failures : K → ℕ} {old mid : K} {n : ℕ} (all before after : List (Element × ℕ)) (e : Element) (times : ℕ) (is : before ≡ (e, times) ∷ after) (left : ElementsLeft given failures all before old mid n) where
+  here : ElementsLeft given failures all ((e, times) ∷ after) old mid n
+  here = subst (λ (es : List (Element × ℕ)). ElementsLeft given failures all es old mid n) is left
+
+  pair_left : PutSoFar given failures (elements_bytes (items all)) (elements_bytes (replicate times e) ++ elements_bytes (items after)) old mid n
+  pair_left = subst (λ (b : List ℕ). PutSoFar given failures (elements_bytes (items all)) b old mid n) (elements_bytes-append (replicate times e) (items after)) here.so_far
+
+  pair_weight : sum_by weight_of (replicate times e) + sum_by weight_of (items after) ≤ 2 ^ 30
+  pair_weight = omega (arith, here.light, sum_by-append weight_of (replicate times e) (items after))
+
+  pub pair_sound : IsSound e
+  pair_sound = here.sound.0
+
+  pub pair_light : sum_by weight_of (replicate times e) ≤ 2 ^ 30
+  pair_light = omega (arith, pair_weight)
+
+  pub pair_fails : {new : K} → PutsFront given failures mid (elements_bytes (replicate times e)) new → PutsFront given failures old (elements_bytes (items all)) new
+  pair_fails q = fails_at _ pair_left q
+
+  pub pair_put : {new : K} {m : ℕ} → PutsAll given failures mid (elements_bytes (replicate times e)) m new → ElementsLeft given failures all after old new (n + m)
+  pair_put q = record { so_far = pair_left ▸ q; sound = here.sound.1; light = omega (arith, pair_weight) }
+
+  pub pair_within : {m : ℕ} → m ≡ length (elements_bytes (replicate times e)) → n + m ≤ length (elements_bytes (items all))
+  pair_within same = part_fits (elements_bytes (replicate times e)) (elements_bytes (items after)) pair_left same
+
+-- ---- cells
+
+-- so many cells were put, and the others are left
+pub record CellsLeft {K : Type 0} (given : K → List ℕ → K → Type 0) (failures : K → ℕ) (profile : Profile) (cs : List Cell) (i : ℕ) (old now : K) (count : ℕ) : Type 0 where
+  pub so_far : PutSoFar given failures (cells_bytes (expanded cs)) (cells_bytes (expanded (drop i cs))) old now count
+  pub are_cells : AllByRecursion (IsCell profile) (drop i cs)
+  pub light : cells_weight (expanded (drop i cs)) ≤ 2 ^ 30
+
+-- all of them together
+pub cells_short : (l : Contents) → IsLayout l → length (cells_bytes (expanded l.cells)) ≤ 64 * 2 ^ 30
+cells_short l h = omega (arith, h.light, h.limits.light, length-cells (expanded l.cells) (cells_points l.profile l.cells h.cells))
+
+-- and the whole file
+pub layout_short : (l : Contents) → IsLayout l → length (canonical_bytes (meaning_of l)) ≤ 320 + 64 * 2 ^ 30
+layout_short l h = omega (arith, h.light, h.limits.light, canonical_length (meaning_of l) (cells_points l.profile l.cells h.cells))
+
+pub cells_begin : {K : Type 0} {given : K → List ℕ → K → Type 0} {failures : K → ℕ} {s : K} (l : Contents) → IsLayout l → PutSoFar given failures (cells_bytes (expanded l.cells)) (cells_bytes (expanded l.cells)) s s 0 → CellsLeft given failures l.profile l.cells 0 s s 0
+cells_begin l h p = record { so_far = p; are_cells = h.cells; light = omega (arith, h.light, h.limits.light) }
+
+drop_cell : (cs : List Cell) (i : ℕ) (name : List ℕ) (bag : List (Element × ℕ)) → slice_get (names cs) i ≡ Some name → slice_get (bags cs) i ≡ Some bag → drop i cs ≡ (name, bag) ∷ drop (suc i) cs
+drop_cell [] i name bag p q = let no : ⊥ = cc in absurd no
+drop_cell (c ∷ cs) zero name bag p q =
+    let n : c.0 ≡ name = cc in
+    let b : c.1 ≡ bag = cc in
+    λ j. (n j, b j) ∷ cs
+drop_cell (c ∷ cs) (suc i) name bag p q = drop_cell cs i name bag p q
+
+module _ {K : Type 0} {given : K → List ℕ → K → Type 0} {failures : K → ℕ} {profile : Profile} {old mid : K} {n : ℕ} (cs : List Cell) (i : ℕ) (name : List ℕ) (bag : List (Element × ℕ)) (called : slice_get (names cs) i ≡ Some name) (filled : slice_get (bags cs) i ≡ Some bag) (left : CellsLeft given failures profile cs i old mid n) where
+  dropped : drop i cs ≡ (name, bag) ∷ drop (i + 1) cs
+  dropped = drop_cell cs i name bag called filled ∙ ap (λ (k : ℕ). (name, bag) ∷ drop k cs) (sym (add-one i))
+
+  cell_left : PutSoFar given failures (cells_bytes (expanded cs)) (cell_bytes (name, items bag) ++ cells_bytes (expanded (drop (i + 1) cs))) old mid n
+  cell_left = subst (λ (ds : List Cell). PutSoFar given failures (cells_bytes (expanded cs)) (cells_bytes (expanded ds)) old mid n) dropped left.so_far
+
+  cells_are : AllByRecursion (IsCell profile) ((name, bag) ∷ drop (i + 1) cs)
+  cells_are = subst (λ (ds : List Cell). AllByRecursion (IsCell profile) ds) dropped left.are_cells
+
+  cells_light : ((1 + length name) + sum_by weight_of (items bag)) + cells_weight (expanded (drop (i + 1) cs)) ≤ 2 ^ 30
+  cells_light = subst (λ (ds : List Cell). cells_weight (expanded ds) ≤ 2 ^ 30) dropped left.light
+
+  pub cell_sound : AllSound bag
+  cell_sound = cells_are.0.sound
+
+  pub cell_light : (1 + length name) + sum_by weight_of (items bag) ≤ 2 ^ 30
+  cell_light = omega (arith, cells_light)
+
+  pub cell_fails : {new : K} → PutsFront given failures mid (cell_bytes (name, items bag)) new → PutsFront given failures old (cells_bytes (expanded cs)) new
+  cell_fails q = fails_at _ cell_left q
+
+  pub cell_put : {new : K} {m : ℕ} → PutsAll given failures mid (cell_bytes (name, items bag)) m new → CellsLeft given failures profile cs (i + 1) old new (n + m)
+  cell_put q = record { so_far = cell_left ▸ q; are_cells = cells_are.1; light = omega (arith, cells_light) }
+
+  pub cell_within : {m : ℕ} → m ≡ length (cell_bytes (name, items bag)) → n + m ≤ length (cells_bytes (expanded cs))
+  cell_within same = part_fits (cell_bytes (name, items bag)) (cells_bytes (expanded (drop (i + 1) cs))) cell_left same

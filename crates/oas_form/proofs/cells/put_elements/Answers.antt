@@ -1,0 +1,31 @@
+use Rattle.std.proofs.Common.{arith}
+use Rattle.std.proofs.lemmas.Result.{err_from_is_err_and}
+use Rattle.std.proofs.lemmas.Map.Iter.{rest_more}
+use Rattle.oas_layout.specs.Bag.{counted}
+use Rattle.oas_form.proofs.PuttingLemmas.{so_far_within}
+use Rattle.oas_form.proofs.ElementPutting.{elements_short, pair_fails, pair_put, pair_within}
+use Rattle.oas_form.proofs.cells.put_elements.Goals as goal
+
+pub returns-in_err-count-clause-counts : goal.returns-in_err-count-clause-counts
+returns-in_err-count-clause-counts g c =
+    let p = err_from_is_err_and c.from_residual.result c.from_residual.ensures.1 in
+    let next = rest_more counted c.loop-element.element-iterator c.next.new.self c.next.result (c.in-Some.element, c.in-Some.times) c.in-Some.is c.next.ensures.steps in
+    rw p.1 (pair_fails c.args.elements c.loop-element.element-iterator c.next.new.self c.in-Some.element.now c.in-Some.times next c.loop-element.invariant c.in_err-count.ensures)
+
+pub overflow_add-count : goal.overflow_add-count
+overflow_add-count g c =
+    let next = rest_more counted c.loop-element.element-iterator c.next.new.self c.next.result (c.in-Some.element, c.in-Some.times) c.in-Some.is c.next.ensures.steps in
+    omega (
+      arith,
+      c.requires.light,
+      elements_short c.args.elements c.requires.sound,
+      pair_within c.args.elements c.loop-element.element-iterator c.next.new.self c.in-Some.element.now c.in-Some.times next c.loop-element.invariant c.in_ok-count.ensures.count_is,
+    )
+
+pub loop-element-preserved : goal.loop-element-preserved
+loop-element-preserved g c =
+    let next = rest_more counted c.loop-element.element-iterator c.next.new.self c.next.result (c.in-Some.element, c.in-Some.times) c.in-Some.is c.next.ensures.steps in
+    pair_put c.args.elements c.loop-element.element-iterator c.next.new.self c.in-Some.element.now c.in-Some.times next c.loop-element.invariant c.in_ok-count.ensures
+
+pub returns-clause-short : goal.returns-clause-short
+returns-clause-short g c = omega (arith, elements_short c.args.elements c.requires.sound, so_far_within c.loop-element.invariant.so_far)

@@ -1,0 +1,8 @@
+use Rattle.oas_form.proofs.OutletLemmas.{written, cut_off}
+use Rattle.oas_form.proofs.writing.write_canonical.Goals as goal
+
+pub returns-in-Ok-clause-written : goal.returns-in-Ok-clause-written
+returns-in-Ok-clause-written g c = written g.W.Write.contents c.new-outlet.ensures c.in-Ok.ensures.counts c.in-Ok.ensures.all c.in-Ok.writer-1-own.given.1
+
+pub returns-in-Err-clause-refused : goal.returns-in-Err-clause-refused
+returns-in-Err-clause-refused g c = cut_off g.W.Write.contents c.new-outlet.ensures c.in-Err.ensures.counts c.writer-in-Err-1.given.1 c.taken.ensures c.in-Err.ensures.short

@@ -1,0 +1,68 @@
+//! The parts of records, put and counted.
+
+ghost use Rattle.std.specs.Prelude.{◌≡◌, ◌+◌, ◌≤◌, ◌^◌, length, true, IfOk};
+ghost use Rattle.oas_num.specs.Writing.{shortest, shortest_signed};
+ghost use Rattle.oas_layout.specs.Grid.{is_coordinate};
+ghost use Rattle.oas_form.specs.Bytes.{string_bytes, place_bytes};
+ghost use Rattle.oas_form.specs.Putting.{Counts};
+
+use oas_num::{Sink, SinkFault, put_signed, put_unsigned, unsigned_len};
+
+/// How many bytes the shortest spelling of a coordinate has.
+fn signed_len(value: i64) -> u64
+    requires { is_coordinate value ≡ true }
+    ensures { result ≡ length (shortest_signed value) }
+{
+    // The sign is the lowest bit, and takes no byte of its own.
+    unsigned_len(2 * value.unsigned_abs())
+}
+
+/// Puts bytes as they are, and answers how many.
+pub(crate) fn put_bytes<K: Sink>(sink: &mut K, bytes: &[u8]) -> Result<u64, SinkFault>
+    ensures { Counts K.given K.failures sink.old bytes.now result sink.new }
+{
+    sink.put_all(bytes)?;
+    Ok(bytes.len() as u64)
+}
+
+/// Puts a number, and answers its length.
+pub(crate) fn put_number<K: Sink>(sink: &mut K, value: u64) -> Result<u64, SinkFault>
+    ensures counts { Counts K.given K.failures sink.old (shortest value) result sink.new }
+    ensures short { IfOk result (λ n. n ≤ 10) }
+{
+    put_unsigned(sink, value)?;
+    Ok(unsigned_len(value))
+}
+
+/// Puts a coordinate or an extension, and answers its length.
+pub(crate) fn put_coordinate<K: Sink>(sink: &mut K, value: i64) -> Result<u64, SinkFault>
+    requires { is_coordinate value ≡ true }
+    ensures counts { Counts K.given K.failures sink.old (shortest_signed value) result sink.new }
+    ensures short { IfOk result (λ n. n ≤ 10) }
+{
+    put_signed(sink, value)?;
+    Ok(signed_len(value))
+}
+
+/// Puts x and y, and answers their length.
+pub(crate) fn put_place<K: Sink>(sink: &mut K, x: i64, y: i64) -> Result<u64, SinkFault>
+    requires x { is_coordinate x ≡ true }
+    requires y { is_coordinate y ≡ true }
+    ensures counts { Counts K.given K.failures sink.old (place_bytes x y) result sink.new }
+    ensures short { IfOk result (λ n. n ≤ 20) }
+{
+    let across = put_coordinate(sink, x)?;
+    let up = put_coordinate(sink, y)?;
+    Ok(across + up)
+}
+
+/// Puts a string: its length, and its bytes.
+pub(crate) fn put_string<K: Sink>(sink: &mut K, text: &[u8]) -> Result<u64, SinkFault>
+    requires { length text.now ≤ 2 ^ 30 }
+    ensures counts { Counts K.given K.failures sink.old (string_bytes text.now) result sink.new }
+    ensures short { IfOk result (λ n. n ≤ 10 + length text.now) }
+{
+    let size = put_number(sink, text.len() as u64)?;
+    let bytes = put_bytes(sink, text)?;
+    Ok(size + bytes)
+}

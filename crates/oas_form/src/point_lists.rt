@@ -1,0 +1,98 @@
+//! Lists of points, each as a point list of type 4 and the place of its first point.
+
+ghost use Rattle.std.specs.Prelude.{◌≡◌, ◌∷◌, ◌+◌, ◌*◌, ◌<◌, ◌≤◌, ◌^◌, ◌-ℤ◌, length, nat_abs, true, IfOk};
+ghost use Rattle.std.specs.List.{list_all};
+ghost use Rattle.oas_num.specs.Writing.{shortest_gdelta};
+ghost use Rattle.oas_num.specs.Deltas.{step};
+ghost use Rattle.oas_layout.specs.Grid.{is_grid_point};
+ghost use Rattle.oas_form.specs.Bytes.{step_bytes, list_bytes, points_bytes};
+ghost use Rattle.oas_form.specs.Putting.{Counts};
+
+use crate::parts::{put_bytes, put_number, put_place};
+use oas_num::{GDelta, Sink, SinkFault, put_gdelta, unsigned_len};
+use oas_ring::Point;
+
+/// The type of a list of g-deltas.
+const STEPS: [u8; 1] = [4];
+
+/// The step from a point to another. It is twice as long as the grid at most.
+fn step(from: Point, to: Point) -> GDelta
+    requires from { is_grid_point from ≡ true }
+    requires to { is_grid_point to ≡ true }
+    ensures step { result ≡ step (to.x -ℤ from.x) (to.y -ℤ from.y) }
+    ensures dx { nat_abs result.dx ≤ 2 ^ 61 }
+    ensures dy { nat_abs result.dy ≤ 2 ^ 61 }
+{
+    GDelta {
+        dx: to.x - from.x,
+        dy: to.y - from.y,
+    }
+}
+
+/// How many bytes the shortest spelling of a step has, as a g-delta of form 2.
+fn step_len(step: GDelta) -> u64
+    requires dx { nat_abs step.dx ≤ 2 ^ 61 }
+    requires dy { nat_abs step.dy ≤ 2 ^ 61 }
+    ensures len { result ≡ length (shortest_gdelta step.dx step.dy) }
+    ensures short { result ≤ 20 }
+{
+    // The form and the signs are lowest bits, and take no bytes of their own.
+    unsigned_len(4 * step.dx.unsigned_abs()) + unsigned_len(2 * step.dy.unsigned_abs())
+}
+
+/// Puts the step from a point to another, and answers its length.
+fn put_step<K: Sink>(sink: &mut K, from: Point, to: Point) -> Result<u64, SinkFault>
+    requires from { is_grid_point from ≡ true }
+    requires to { is_grid_point to ≡ true }
+    ensures counts { Counts K.given K.failures sink.old (shortest_gdelta (to.x -ℤ from.x) (to.y -ℤ from.y)) result sink.new }
+    ensures short { IfOk result (λ n. n ≤ 20) }
+{
+    let step = step(from, to);
+    put_gdelta(sink, step.dx, step.dy)?;
+    Ok(step_len(step))
+}
+
+/// Puts the steps from a point to those after it, each from the one before.
+fn put_steps<K: Sink>(sink: &mut K, first: Point, rest: &[Point]) -> Result<u64, SinkFault>
+    requires few { length rest.now ≤ 2 ^ 30 }
+    requires first { is_grid_point first ≡ true }
+    requires rest { list_all is_grid_point rest.now ≡ true }
+    ensures counts { Counts K.given K.failures sink.old (step_bytes first rest.now) result sink.new }
+    ensures short { IfOk result (λ n. n ≤ 20 * length rest.now) }
+{
+    let mut count = 0;
+    let mut before = first;
+    for point in rest {
+        count += put_step(sink, before, *point)?;
+        before = *point;
+    }
+    Ok(count)
+}
+
+/// Puts a point list: its type, how many steps there are, and these.
+fn put_list<K: Sink>(sink: &mut K, first: Point, rest: &[Point]) -> Result<u64, SinkFault>
+    requires few { length rest.now ≤ 2 ^ 30 }
+    requires first { is_grid_point first ≡ true }
+    requires rest { list_all is_grid_point rest.now ≡ true }
+    ensures counts { Counts K.given K.failures sink.old (list_bytes (first ∷ rest.now)) result sink.new }
+    ensures short { IfOk result (λ n. n ≤ 11 + 20 * length rest.now) }
+{
+    let kind = put_bytes(sink, &STEPS)?;
+    let size = put_number(sink, rest.len() as u64)?;
+    let steps = put_steps(sink, first, rest)?;
+    Ok(kind + size + steps)
+}
+
+/// Puts points: their list, and where the first of them stands.
+pub(crate) fn put_points<K: Sink>(sink: &mut K, points: &[Point]) -> Result<u64, SinkFault>
+    requires some { 0 < length points.now }
+    requires few { length points.now ≤ 2 ^ 30 }
+    requires inside { list_all is_grid_point points.now ≡ true }
+    ensures counts { Counts K.given K.failures sink.old (points_bytes points.now) result sink.new }
+    ensures short { IfOk result (λ n. n ≤ 31 + 20 * length points.now) }
+{
+    let (first, rest) = points.split_first().unwrap();
+    let list = put_list(sink, *first, rest)?;
+    let place = put_place(sink, first.x, first.y)?;
+    Ok(list + place)
+}

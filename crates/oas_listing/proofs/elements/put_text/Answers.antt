@@ -1,0 +1,20 @@
+use Rattle.std.proofs.Common.{◌≡◌, [], ◌∷◌, decimal, rules, w64}
+use Rattle.std.specs.Prelude.{codes}
+use Rattle.std.specs.Fmt.{signed_decimal}
+use Rattle.std.proofs.lemmas.Int.{to_z-of_z}
+use Rattle.std.proofs.lemmas.Result.{err_from_is_err_and}
+use Rattle.oas_listing.proofs.PuttingLemmas.{first, begins, fails_at, ends}
+use Rattle.oas_listing.proofs.FieldLemmas.{last_field}
+use Rattle.oas_listing.proofs.elements.put_text.Goals as goal
+
+pub returns-in_err-put_start : goal.returns-in_err-put_start
+returns-in_err-put_start g c =
+    let p = err_from_is_err_and c.from_residual.result c.from_residual.ensures.1 in
+    rw (p.1, last_field (codes "text") (decimal c.args.textlayer ∷ decimal c.args.texttype ∷ signed_decimal c.args.x ∷ signed_decimal c.args.y ∷ []) c.args.string.now)
+    (fails_at _ (begins _ _) (simp (to_z-of_z w64 c.args.x (search rules), to_z-of_z w64 c.args.y (search rules)) at c.in_err-put_start.ensures))
+
+pub returns : goal.returns
+returns g c =
+    let string : c.as_bytes.result.now ≡ c.args.string.now = c.as_bytes.ensures.bytes in
+    rw (last_field (codes "text") (decimal c.args.textlayer ∷ decimal c.args.texttype ∷ signed_decimal c.args.x ∷ signed_decimal c.args.y ∷ []) c.args.string.now, ← string)
+    (ends _ _ (first _ (simp (to_z-of_z w64 c.args.x (search rules), to_z-of_z w64 c.args.y (search rules)) at c.in_ok-put_start.ensures)) c.put_field.ensures)

@@ -1,0 +1,175 @@
+//! The lines of elements.
+
+ghost use Rattle.std.specs.Prelude.{◌≡◌, flat_map, replicate};
+ghost use Rattle.oas_num.specs.Writing.{Writes};
+ghost use Rattle.oas_layout.specs.Element.{turn_count};
+ghost use Rattle.oas_layout.specs.declared.element.Element.TheVariants.{Placement, Text, Polygon, Path};
+ghost use Rattle.oas_listing.specs.Lines.{spaced};
+ghost use Rattle.oas_listing.specs.Listing.{flip_count, element_fields, element_line};
+
+use crate::fields::{put_field, put_numbers, put_points, put_signed_numbers, put_start};
+use oas_layout::{Element, Turns};
+use oas_num::{Label, Name, Sink, SinkFault};
+use oas_ring::Points;
+
+/// How many quarter turns.
+fn turn_number(turns: Turns) -> u64
+    ensures { result ≡ turn_count turns }
+{
+    match turns {
+        Turns::T0 => 0,
+        Turns::T1 => 1,
+        Turns::T2 => 2,
+        Turns::T3 => 3,
+    }
+}
+
+/// 1 for a flip, and else 0.
+fn flip_number(flip: bool) -> u64
+    ensures { result ≡ flip_count flip }
+{
+    u64::from(flip)
+}
+
+/// Puts the fields of a placement.
+fn put_placement<K: Sink>(
+    sink: &mut K,
+    cell: &Name,
+    x: i64,
+    y: i64,
+    turns: Turns,
+    flip: bool,
+) -> Result<(), SinkFault>
+    ensures { Writes K.given K.failures sink.old
+        (spaced (element_fields (Placement cell.now x y turns flip))) result sink.new }
+{
+    sink.put_all(b"placement")?;
+    put_field(sink, cell.as_bytes())?;
+    put_signed_numbers(sink, &[x, y])?;
+    put_numbers(sink, &[turn_number(turns), flip_number(flip)])
+}
+
+/// Puts the fields of a text.
+fn put_text<K: Sink>(
+    sink: &mut K,
+    string: &Label,
+    textlayer: u64,
+    texttype: u64,
+    x: i64,
+    y: i64,
+) -> Result<(), SinkFault>
+    ensures { Writes K.given K.failures sink.old
+        (spaced (element_fields (Text string.now textlayer texttype x y))) result sink.new }
+{
+    put_start(sink, b"text", &[textlayer, texttype], &[x, y])?;
+    put_field(sink, string.as_bytes())
+}
+
+/// Puts the fields of a polygon.
+fn put_polygon<K: Sink>(
+    sink: &mut K,
+    layer: u64,
+    datatype: u64,
+    points: &Points,
+) -> Result<(), SinkFault>
+    ensures { Writes K.given K.failures sink.old
+        (spaced (element_fields (Polygon layer datatype points.now))) result sink.new }
+{
+    put_start(sink, b"polygon", &[layer, datatype], &[])?;
+    put_points(sink, points.as_slice())
+}
+
+/// Puts the fields of a path.
+fn put_path<K: Sink>(
+    sink: &mut K,
+    layer: u64,
+    datatype: u64,
+    half_width: u64,
+    start: i64,
+    end: i64,
+    points: &Points,
+) -> Result<(), SinkFault>
+    ensures { Writes K.given K.failures sink.old
+        (spaced (element_fields (Path layer datatype half_width start end points.now))) result sink.new }
+{
+    put_start(sink, b"path", &[layer, datatype, half_width], &[start, end])?;
+    put_points(sink, points.as_slice())
+}
+
+/// Puts the kind of an element, and its fields.
+fn put_fields<K: Sink>(sink: &mut K, element: &Element) -> Result<(), SinkFault>
+    ensures { Writes K.given K.failures sink.old (spaced (element_fields element.now)) result sink.new }
+{
+    match element {
+        Element::Placement {
+            cell,
+            x,
+            y,
+            turns,
+            flip,
+        } => put_placement(sink, cell, *x, *y, *turns, *flip),
+        Element::Text {
+            string,
+            textlayer,
+            texttype,
+            x,
+            y,
+        } => put_text(sink, string, *textlayer, *texttype, *x, *y),
+        Element::Rectangle {
+            layer,
+            datatype,
+            width,
+            height,
+            x,
+            y,
+        } => put_start(
+            sink,
+            b"rectangle",
+            &[*layer, *datatype, *width, *height],
+            &[*x, *y],
+        ),
+        Element::Polygon {
+            layer,
+            datatype,
+            points,
+        } => put_polygon(sink, *layer, *datatype, points),
+        Element::Path {
+            layer,
+            datatype,
+            half_width,
+            start,
+            end,
+            points,
+        } => put_path(sink, *layer, *datatype, *half_width, *start, *end, points),
+        Element::Circle {
+            layer,
+            datatype,
+            radius,
+            x,
+            y,
+        } => put_start(sink, b"circle", &[*layer, *datatype, *radius], &[*x, *y]),
+    }
+}
+
+/// Puts the line of an element.
+fn put_element<K: Sink>(sink: &mut K, element: &Element) -> Result<(), SinkFault>
+    ensures { Writes K.given K.failures sink.old (element_line element.now) result sink.new }
+{
+    put_fields(sink, element)?;
+    sink.put(b'\n')
+}
+
+/// Puts the line of an element so many times.
+pub(crate) fn put_copies<K: Sink>(
+    sink: &mut K,
+    element: &Element,
+    count: u64,
+) -> Result<(), SinkFault>
+    ensures { Writes K.given K.failures sink.old
+        (flat_map element_line (replicate count element.now)) result sink.new }
+{
+    for _ in 0..count {
+        put_element(sink, element)?;
+    }
+    Ok(())
+}

@@ -1,0 +1,41 @@
+//! Writing a listing.
+
+ghost use Rattle.std.specs.Prelude.{◌+◌, ◌*◌, ◌^◌, ◌≤◌, length, IfErr, IfOk, OnOk};
+ghost use Rattle.oas_num.specs.Outlets.{IsGiven, IsSent, failures_of};
+ghost use Rattle.oas_num.specs.Writing.{Writes};
+ghost use Rattle.oas_layout.specs.Contents.{meaning_of};
+ghost use Rattle.oas_listing.specs.Listing.{listing};
+ghost use Rattle.oas_listing.specs.Written.{IsWritten, IsCutOff};
+
+use crate::cells::put_listing;
+use oas_layout::Layout;
+use oas_num::{Outlet, Refusal, SinkFault, Why};
+use std::io::Write;
+
+/// Puts the listing of a layout into an outlet, and has its writer take all of it.
+fn put_and_close<W: Write>(layout: &Layout, outlet: &mut Outlet<'_, W>) -> Result<(), SinkFault>
+    ensures writes { Writes (IsGiven W.contents) failures_of outlet.old (listing (meaning_of layout.now)) result outlet.new }
+    ensures all { OnOk result (IsSent outlet.new) }
+    ensures short { length (listing (meaning_of layout.now)) ≤ 136 + 512 * 2 ^ 30 }
+{
+    put_listing(layout, outlet)?;
+    outlet.close()
+}
+
+/// Writes the listing of a layout, and answers how many bytes it has. It takes no memory.
+///
+/// A fault of the writer is `Why::Write`, and its place is the number of bytes that the writer took: those are the first
+/// of the listing. Where it is the number of all of them, the flush failed.
+pub fn write_listing<W: Write>(layout: &Layout, writer: &mut W) -> Result<u64, Refusal>
+    ensures written { IfOk result (IsWritten W.contents writer.old (listing (meaning_of layout.now)) writer.new) }
+    ensures refused { IfErr result (IsCutOff W.contents writer.old (listing (meaning_of layout.now)) writer.new) }
+{
+    let mut outlet = Outlet::new(writer);
+    match put_and_close(layout, &mut outlet) {
+        Ok(()) => Ok(outlet.taken()),
+        Err(_) => Err(Refusal {
+            at: outlet.taken(),
+            why: Why::Write,
+        }),
+    }
+}
