@@ -4,6 +4,7 @@ ghost use Rattle.std.specs.Prelude.{◌≡◌, IfOk};
 ghost use Rattle.oas_layout.specs.declared.profile.Profile.TheVariants.{One};
 
 mod faults;
+mod memory;
 mod table;
 
 use self::table::ROWS;
