@@ -1,7 +1,29 @@
-//! A whole file: what it is, what it means, which files are accepted, and reading its layout.
+//! A whole file: what it is and means, which files are accepted, and reading its layout.
+//!
+//! What this crate promises to the crates above it:
+//!
+//! - [`read_layout`] gives the layout of what a source gives exactly where that is an accepted file, under the limits and
+//!   for the profile that it is handed, and refuses it else: `ReadsLayout` (specs/Reading.antt). The layout is the same as
+//!   what the file means. On both sides: a refusal whose reason lies in the bytes says that no accepted file begins with
+//!   what was taken, `Why::Truncated` that what was taken to the end is none, and the reasons of the device and of the
+//!   source's limit that the source said so.
+//! - Of a source that had given nothing before: the offset of a refusal whose reason lies in the file is a place at which
+//!   every file that goes on so is refused (`IsPlaced`), and each refusal says which of the bytes that were taken decided,
+//!   and that its reason holds of them (`IsReasoned`, specs/Deciding.antt).
+//! - The laws stand over the definitions alone: [`laws`]. A file has one reading, one meaning, and at most one place at
+//!   which it is refused, and none where it is accepted.
+//!
+//! The definitions: what a file is, in a style (specs/Files.antt); which files are accepted, and what they mean
+//! (specs/Acceptance.antt); where a file is refused (specs/Places.antt), and which bytes decide that it is
+//! (specs/Deciding.antt). What a record is, is oas_record's, and what records mean and why they are refused, oas_modal's.
+//!
+//! Whether memory is there is outside every contract: what allocates may answer `Why::Memory`.
 #![tactic(auto)]
 
 pub mod laws;
 mod reading;
 
 pub use reading::read_layout;
+
+#[cfg(test)]
+mod tests;
