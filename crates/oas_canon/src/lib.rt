@@ -1,4 +1,27 @@
-//! From a file to its one canonical spelling.
+//! From a file to its one canonical spelling, and what depends on it alone: whether a file is canonical as it stands,
+//! whether two mean the same layout, and a file's key.
+//!
+//! What this crate promises to the one above it, in the words of its contracts (specs/Run.antt):
+//!
+//! - [`canonicalize`] writes the canonical file of what a source gives (`IsDone`), exactly where that file is accepted, and
+//!   writes nothing else: a refusal but `Why::Write` leaves the writer as it was, and after `Why::Write` the writer took the
+//!   first bytes of the canonical file, as many as the refusal's place says (`IsCut`).
+//! - [`is_canonical`] answers whether the bytes of an accepted file are its canonical form (`IsJudged`), which is said of a
+//!   source whose bytes are known; [`same_files`] whether two accepted files mean the same layout (`IsCompared`); [`key`]
+//!   the SHA-256 of an accepted file's canonical form (`IsKeyed`).
+//! - Each of them refuses as [`read_layout`] of `oas_file` does, whose words stand in the contracts: no accepted file goes
+//!   on from what was taken (`IsRefused`), the place (`IsPlaced`), and which bytes decide it, for which reason
+//!   (`IsReasoned`). A refusal of [`same_files`] names its file, and of the second nothing is read where the first is
+//!   refused. [`is_canonical`] keeps the bytes, and so may want memory at any byte.
+//! - Each of them says besides, of known bytes under the source's limit and over a device that has not failed, that it
+//!   answers exactly where the files are accepted, if not for the writer or the memory (`Exactly`, `ExactlyBoth`).
+//! - Limits are handed in; the profile, which says what is taken for the same element, is [`PROFILE`].
+//! - The laws of files and of canonical forms, over the definitions alone, are [`laws`].
+//!
+//! What a file is, means and is refused for stands in `oas_file`, what a canonical form is and how it is put in `oas_form`.
+//! This crate has no definition of its own but of what a run does.
+//!
+//! Whether memory is there is outside every contract: what allocates may answer `Why::Memory`.
 #![tactic(auto)]
 
 mod canonical;
@@ -19,3 +42,6 @@ pub use oas_form::{put_canonical, write_canonical};
 pub use oas_layout::{Layout, Limits, Profile};
 pub use profile::PROFILE;
 pub use sameness::{Which, same_files};
+
+#[cfg(test)]
+mod tests;
