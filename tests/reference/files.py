@@ -11,10 +11,10 @@ EDGES = (0, 1, 127, 128, 2**31, 2**60 - 1, 2**60, 2**60 + 1, 2**62, 2**63 - 1, 2
 
 
 class Maker:
-    """One file, from a seed. `today` keeps mostly to what the program takes today."""
+    """One file, from a seed."""
 
-    def __init__(self, seed, today):
-        self.random, self.today = random.Random(seed), today
+    def __init__(self, seed):
+        self.random = random.Random(seed)
 
     def one_in(self, n):
         return self.random.randrange(n) == 0
@@ -70,8 +70,6 @@ class Maker:
         return out + grid + b"".join(one() for _ in range(spaces))
 
     def info(self, kind):
-        if kind == 20 and self.today:
-            return 0x7B if not self.one_in(30) else self.random.randrange(256)
         must = {19: 0x7F, 21: 0x3F, 27: 0x3F}.get(kind, 0xFF)
         # at the beginning of a cell most fields have to be there
         out = (self.random.randrange(256) | self.random.choice((0, 0x7B, 0xFB))) & must
@@ -103,7 +101,7 @@ class Maker:
         return self.spelled(scheme) + b"".join(self.signed() for code in divmod(scheme, 4) if code == 3)
 
     def record(self):
-        kinds = (0, 14, 20, 20, 20, 20) if self.today else (0, 3, 5, 13, 14, 14, 15, 16, 17, 17, 18, 19, 20, 20, 20, 21, 21, 22, 22, 27)
+        kinds = (0, 3, 5, 13, 14, 14, 15, 16, 17, 17, 18, 19, 20, 20, 20, 21, 21, 22, 22, 27)
         kind = self.random.choice(kinds) if not self.one_in(80) else self.random.randrange(36)
         if kind in (17, 18, 19, 20, 21, 22, 27):
             rest = self.element(kind)
@@ -128,7 +126,7 @@ class Maker:
         return b"\x02" + offsets + bytes([room % 128 + 128, room // 128]) + filling * room + scheme
 
     def file(self):
-        flag = 0 if self.today and not self.one_in(60) else self.random.randrange(2 if not self.one_in(60) else 4)
+        flag = self.random.randrange(2 if not self.one_in(60) else 4)
         body = [self.record() for _ in range(self.random.randrange(12))]
         if not self.one_in(6):
             body.insert(0, b"\x0e" + string(b"CELL"))

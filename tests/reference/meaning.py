@@ -235,18 +235,18 @@ def finish(records, drawn):
     return 25 if total > MOST_WEIGHT else resolved
 
 
-def read(data, today=False):
+def read(data):
     """The unit in lowest terms, and by name the elements with how often each is there; or Refused."""
     source = Bytes(data)
     try:
-        (num, den), offsets_in_end = head(source, today)
+        (num, den), offsets_in_end = head(source)
     except Stop as stop:
         raise Refused(0 if source.at < len(MAGIC) or stop.args[0] == 1 else START_AT, stop.args[0]) from None
     records, drawn = [], Drawn()
     while True:
         start = source.at
         try:
-            record = one_record(source, offsets_in_end, today)
+            record = one_record(source, offsets_in_end)
         except Stop as stop:
             raise Refused(start, stop.args[0]) from None
         if record["kind"] == END:

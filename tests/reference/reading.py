@@ -13,9 +13,6 @@ PAD, START, END = 0, 1, 2
 XY_ABSOLUTE, XY_RELATIVE = 15, 16
 ELEMENTS = (17, 18, 19, 20, 21, 22, 27)
 TAKEN = (0, 2, 3, 4, 5, 6, 13, 14, 15, 16, *ELEMENTS)
-# What the program takes today; the rest is refused as if it were unknown or wrong.
-TAKEN_TODAY = (0, 2, 14, 20)
-INFO_TODAY = 0x7B
 
 
 class Stop(Exception):
@@ -170,7 +167,7 @@ def extensions(source):
     return [{0: lambda: None, 1: lambda: 0, 2: lambda: "half", 3: source.signed}[code]() for code in divmod(scheme, 4)]
 
 
-def element(source, kind, today):
+def element(source, kind):
     info = source.byte()
     number = info & (0x40 if kind < 19 else 0x20)
     if kind == 17:
@@ -181,8 +178,6 @@ def element(source, kind, today):
                               (2, "angle", source.real), *spot(source, 0x20, 0x10, 8)])
         return record | {"flip": info % 2}
     if (kind == 19 and info > 0x7F) or (kind in (21, 27) and info > 0x3F) or (kind == 20 and info & 0xA0 == 0xA0):
-        raise Stop(14)
-    if today and info != INFO_TODAY:
         raise Stop(14)
     if kind == 19:
         return given(info, [(0x40, "string", source.unsigned if number else source.label), (1, "textlayer", source.unsigned),
@@ -201,7 +196,7 @@ def element(source, kind, today):
     return record | {"square": True} if kind == 20 and info & 0x80 else record
 
 
-def head(source, today):
+def head(source):
     """The unit, and whether the table offsets stand in END."""
     for wanted in MAGIC:
         if source.byte() != wanted:
@@ -214,14 +209,14 @@ def head(source, today):
     if sign < 0 or num == 0 or den == 0:
         raise Stop(8)
     flag = source.unsigned()
-    if flag > (0 if today else 1):
+    if flag > 1:
         raise Stop(10)
     if flag == 0:
         source.offsets()
     return (num, den), flag == 1
 
 
-def one_record(source, offsets_in_end, today):
+def one_record(source, offsets_in_end):
     start = source.at
     kind = source.unsigned()
     if kind == START:
@@ -230,8 +225,6 @@ def one_record(source, offsets_in_end, today):
         raise Stop(12)
     if kind not in TAKEN:
         raise Stop(11)
-    if today and kind not in TAKEN_TODAY:
-        raise Stop(12)
     if kind == END:
         if offsets_in_end:
             source.offsets()
@@ -243,7 +236,7 @@ def one_record(source, offsets_in_end, today):
             raise Stop(28)
         return {"kind": END}
     if kind in ELEMENTS:
-        return {"kind": kind} | element(source, kind, today)
+        return {"kind": kind} | element(source, kind)
     if kind in (3, 4):
         return {"kind": kind, "string": source.name()} | ({"number": source.unsigned()} if kind == 4 else {})
     if kind in (5, 6):
