@@ -15,7 +15,7 @@ use Rattle.oas_file.specs.Acceptance.{Accepted}
 use Rattle.oas_file.specs.Reading.{decides, IsRead, IsRefused}
 use Rattle.oas_form.specs.Bytes.{canonical_bytes}
 use Rattle.oas_form.specs.Canonical.{CanonicalForm, IsCanonicalOf}
-use Rattle.oas_form.specs.Putting.{IsWritten, IsCutOff}
+use Rattle.oas_num.specs.Written.{IsWritten, IsCutOff}
 use Rattle.oas_form.proofs.Held.{form_is_bytes}
 use Rattle.oas_form.proofs.Written.{canonical_form}
 use Rattle.oas_canon.specs.Run.{IsTaken, IsDone, IsCut, IsKeyed, IsJudged, IsCompared, IsDecided, IsWithinSource, Exactly}

@@ -9,7 +9,6 @@ pub mod KindLemmas
 pub mod Lengths
 pub mod MeantLemmas
 pub mod OrderedLayouts
-pub mod OutletLemmas
 pub mod PointPutting
 pub mod PuttingLemmas
 pub mod ShortestLemmas

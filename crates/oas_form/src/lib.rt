@@ -8,7 +8,8 @@
 //!   (`canonical_bytes`, specs/Bytes.antt).
 //! - [`put_canonical`] puts the canonical bytes of a layout into a sink, and answers how many they are; at a fault a front of
 //!   them was put (`Counts`, specs/Putting.antt). [`write_canonical`] has a writer take exactly these bytes; its only refusal
-//!   is `Why::Write`, after a front of them that is as long as its place says (`IsWritten`, `IsCutOff`). Neither takes memory.
+//!   is `Why::Write`, after a front of them that is as long as its place says (`IsWritten`, `IsCutOff`, oas_num's
+//!   specs/Written.antt). Neither takes memory.
 //! - [`laws`] joins the three, over the definitions alone. One layout has one canonical form, whatever the limits; it is what
 //!   is written of each layout that is the same; it is accepted, and its own canonical form; two files mean the same layout
 //!   exactly if their canonical forms are equal. It has as many elements as its file, weighs no more, and its length is

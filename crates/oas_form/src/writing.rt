@@ -2,9 +2,10 @@
 
 ghost use Rattle.std.specs.Prelude.{◌+◌, ◌*◌, ◌≤◌, ◌^◌, length, IfErr, IfOk, OnOk};
 ghost use Rattle.oas_num.specs.Outlets.{IsGiven, IsSent, failures_of};
+ghost use Rattle.oas_num.specs.Written.{IsCutOff, IsWritten};
 ghost use Rattle.oas_layout.specs.Contents.{meaning_of, IsLayout};
 ghost use Rattle.oas_form.specs.Bytes.{canonical_bytes};
-ghost use Rattle.oas_form.specs.Putting.{Counts, IsCutOff, IsWritten};
+ghost use Rattle.oas_form.specs.Putting.{Counts};
 
 use crate::cells::put_cells;
 use crate::frames::{put_end, put_head};

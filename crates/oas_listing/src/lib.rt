@@ -17,7 +17,7 @@
 //! so that an empty STRING leaves the space before it, and each line ends with the byte `0A`.
 //!
 //! What this crate promises to the crates above it: a writer takes exactly the bytes of `listing` (specs/Listing.antt) of
-//! what the layout means, and [`write_listing`] answers how many they are (`IsWritten`, specs/Written.antt); or it fails,
+//! what the layout means, and [`write_listing`] answers how many they are (`IsWritten`, oas_num's specs/Written.antt); or it fails,
 //! by [`oas_num::Why::Write`], and then it took as many of the first of them as the refusal's place says (`IsCutOff`). No
 //! memory is taken.
 #![tactic(auto)]

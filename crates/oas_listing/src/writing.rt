@@ -3,9 +3,9 @@
 ghost use Rattle.std.specs.Prelude.{◌+◌, ◌*◌, ◌^◌, ◌≤◌, length, IfErr, IfOk, OnOk};
 ghost use Rattle.oas_num.specs.Outlets.{IsGiven, IsSent, failures_of};
 ghost use Rattle.oas_num.specs.Writing.{Writes};
+ghost use Rattle.oas_num.specs.Written.{IsWritten, IsCutOff};
 ghost use Rattle.oas_layout.specs.Contents.{meaning_of};
 ghost use Rattle.oas_listing.specs.Listing.{listing};
-ghost use Rattle.oas_listing.specs.Written.{IsWritten, IsCutOff};
 
 use crate::cells::put_listing;
 use oas_layout::Layout;

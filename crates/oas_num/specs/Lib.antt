@@ -25,6 +25,8 @@ pub mod Reals
 pub mod RealLaws
 pub mod Writing
 pub mod WritingLaws
+pub mod Written
+pub mod WrittenLaws
 pub mod Ratio
 pub mod RatioLaws
 pub mod Deltas

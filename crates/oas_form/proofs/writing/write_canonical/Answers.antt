@@ -1,8 +1,15 @@
-use Rattle.oas_form.proofs.OutletLemmas.{written, cut_off}
+use Rattle.std.proofs.Common.{◌^◌, ◌<◌, length, arith}
+use Rattle.oas_num.specs.WrittenLaws.{took_all, cut_off}
+use Rattle.oas_layout.specs.Contents.{meaning_of}
+use Rattle.oas_form.specs.Bytes.{canonical_bytes}
 use Rattle.oas_form.proofs.writing.write_canonical.Goals as goal
 
 pub returns-in-Ok-clause-written : goal.returns-in-Ok-clause-written
-returns-in-Ok-clause-written g c = written g.W.Write.contents c.new-outlet.ensures c.in-Ok.ensures.counts c.in-Ok.ensures.all c.in-Ok.writer-1-own.given.1
+returns-in-Ok-clause-written g c =
+    let puts = c.in-Ok.ensures.counts in
+    record { count_is = puts.count_is; took = took_all g.W.Write.contents c.new-outlet.ensures puts.puts c.in-Ok.ensures.all c.in-Ok.writer-1-own.given.1 }
 
 pub returns-in-Err-clause-refused : goal.returns-in-Err-clause-refused
-returns-in-Err-clause-refused g c = cut_off g.W.Write.contents c.new-outlet.ensures c.in-Err.ensures.counts c.writer-in-Err-1.given.1 c.taken.ensures c.in-Err.ensures.short
+returns-in-Err-clause-refused g c =
+    let short : length (canonical_bytes (meaning_of c.args.layout.now)) < 2 ^ 64 = omega (arith, c.in-Err.ensures.short) in
+    cut_off g.W.Write.contents c.new-outlet.ensures c.in-Err.ensures.counts c.writer-in-Err-1.given.1 c.taken.ensures short
