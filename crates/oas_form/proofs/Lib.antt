@@ -11,6 +11,7 @@ pub mod MeantLemmas
 pub mod OrderedLayouts
 pub mod PointPutting
 pub mod PuttingLemmas
+pub mod Rekeying
 pub mod ShortestLemmas
 pub mod Sizes
 pub mod Spelling

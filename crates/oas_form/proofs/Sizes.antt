@@ -78,17 +78,17 @@ positive_put_more (p ∷ ps) k n h all =
 
 module _ (profile : Profile) where
   -- the elements in their kept forms, counted
-  abbrev tally : List Element → List (Element × ℕ)
+  abbrev pub tally : List Element → List (Element × ℕ)
   tally [] = []
   tally (x ∷ xs) = with_more (tally xs) (normal profile x) 1
 
-  tally_is_bag : (xs : List Element) → IsBag profile (tally xs)
+  pub tally_is_bag : (xs : List Element) → IsBag profile (tally xs)
   tally_is_bag [] = IsBag-empty profile [] refl
   tally_is_bag (x ∷ xs) =
       let b = tally_is_bag xs in
       IsBag-put_more profile (tally xs) (tally (x ∷ xs)) (normal profile x) 1 (normal-normal profile x) b (record { ascending = sorted_put_more (tally xs) (normal profile x) 1 b.tally.ascending; positive = positive_put_more (tally xs) (normal profile x) 1 (omega arith) b.tally.positive }) refl
 
-  tally_count : (q : Element) (xs : List Element) → count_of profile q (items (tally xs)) ≡ count_of profile q xs
+  pub tally_count : (q : Element) (xs : List Element) → count_of profile q (items (tally xs)) ≡ count_of profile q xs
   tally_count q [] = refl
   tally_count q (x ∷ xs) =
       let more = adding profile (tally xs) x q 1 in

@@ -6,3 +6,4 @@ pub mod FormLaws
 pub mod Putting
 pub mod Layouts
 pub mod Spelling
+pub mod Rekeying

@@ -1,6 +1,7 @@
 //! Laws of canonical forms, each the contract of a function that does nothing.
 ghost use Rattle.oas_form.specs.Canonical.{CanonicalAgain, FormIsAccepted, LimitsApart, OneCanonicalForm, SameExactly};
 ghost use Rattle.oas_form.specs.Layouts.{CanonicalBytes, CanonicalWeight, EqualInOrder, FormIsBytes, FormIsItsBytes, FormLength, FormWithin, LayoutInOrder, LeastWeight, SameCount, SameWeight};
+ghost use Rattle.oas_form.specs.Rekeying.{FormIsItsOwn, OneThenTwo, SameByTwo, TwoIsOne};
 
 /// Two canonical forms that mean the same layout are equal bytes, whatever the limits under which each is one. So a file
 /// that is accepted under two limits has the same canonical form under both.
@@ -67,4 +68,14 @@ pub fn same_sizes()
     ensures count { SameCount }
     ensures weight { SameWeight }
     ensures least { LeastWeight }
+{}
+
+/// A file and its canonical form by profile one have the same canonical form by profile two, whatever the limits, since
+/// layouts that are the same by profile one are the same by profile two. A canonical form by profile two is one by profile
+/// one, and each is the canonical form of itself; so what was re-keyed stays as it is.
+pub fn rekeying()
+    ensures coarser { SameByTwo }
+    ensures keeps { OneThenTwo }
+    ensures within { TwoIsOne }
+    ensures own { FormIsItsOwn }
 {}

@@ -13,7 +13,7 @@
 //! - [`laws`] joins the three, over the definitions alone. One layout has one canonical form, whatever the limits; it is what
 //!   is written of each layout that is the same; it is accepted, and its own canonical form; two files mean the same layout
 //!   exactly if their canonical forms are equal. It has as many elements as its file, weighs no more, and its length is
-//!   bounded by that weight.
+//!   bounded by that weight. A file's canonical form by profile two is that of its canonical form by profile one.
 //! - [`meaning_laws`] and [`spelling_laws`] say of the records of a canonical file (`records_of`, specs/Records.antt) what
 //!   they mean, that they are accepted, and how they are spelled.
 #![tactic(auto)]
