@@ -38,7 +38,7 @@ fn list_refused(alloc: Global, bytes: &[u8], list_use: ListUse) -> Option<Why> {
 }
 
 #[test]
-fn polygons(rt: HostRuntime) -> Result<(), Fail> {
+fn polygons_of_manhattan_lists(rt: HostRuntime) -> Result<(), Fail> {
     let alloc = rt.alloc();
     let of = ListUse::Polygon;
     vertices(
@@ -57,6 +57,30 @@ fn polygons(rt: HostRuntime) -> Result<(), Fail> {
         (0, 0),
         &[(0, 0), (0, 20), (10, 20), (10, 0)],
     )?;
+    // type 0 with four deltas: the last vertex is under the first
+    vertices(
+        &rt,
+        alloc,
+        &[0, 4, 4, 6, 4, 8],
+        of,
+        (1, 2),
+        &[(1, 2), (3, 2), (3, 5), (5, 5), (5, 9), (1, 9)],
+    )?;
+    Ok(())
+}
+
+#[test]
+fn polygons_of_other_lists(rt: HostRuntime) -> Result<(), Fail> {
+    let alloc = rt.alloc();
+    let of = ListUse::Polygon;
+    vertices(
+        &rt,
+        alloc,
+        &[2, 3, 6, 6, 4],
+        of,
+        (2, 0),
+        &[(2, 0), (1, 0), (0, 0), (1, 0)],
+    )?;
     vertices(
         &rt,
         alloc,
@@ -73,14 +97,13 @@ fn polygons(rt: HostRuntime) -> Result<(), Fail> {
         (0, 0),
         &[(0, 0), (2, 1), (1, 2), (0, 0), (1, 3), (3, 1)],
     )?;
-    vertices(
-        &rt,
-        alloc,
-        &[2, 3, 6, 6, 4],
-        of,
-        (2, 0),
-        &[(2, 0), (1, 0), (0, 0), (1, 0)],
-    )?;
+    Ok(())
+}
+
+#[test]
+fn running_displacements_and_deltas_agree(rt: HostRuntime) -> Result<(), Fail> {
+    let alloc = rt.alloc();
+    let of = ListUse::Polygon;
     vertices(
         &rt,
         alloc,
@@ -96,15 +119,6 @@ fn polygons(rt: HostRuntime) -> Result<(), Fail> {
         of,
         (0, 0),
         &[(0, 0), (10, 0), (20, 0), (20, 10)],
-    )?;
-    // type 0 with four deltas: the last vertex is under the first
-    vertices(
-        &rt,
-        alloc,
-        &[0, 4, 4, 6, 4, 8],
-        of,
-        (1, 2),
-        &[(1, 2), (3, 2), (3, 5), (5, 5), (5, 9), (1, 9)],
     )?;
     Ok(())
 }
@@ -138,6 +152,24 @@ fn paths(rt: HostRuntime) -> Result<(), Fail> {
         (0, 0),
         &[(0, 0), (0, 20), (10, 20)],
     )?;
+    Ok(())
+}
+
+#[test]
+fn paths_round_all_directions(rt: HostRuntime) -> Result<(), Fail> {
+    let alloc = rt.alloc();
+    let of = ListUse::Path;
+    let round = [
+        (0, 0),
+        (1, 0),
+        (1, 1),
+        (0, 1),
+        (0, 0),
+        (1, 1),
+        (0, 2),
+        (-1, 1),
+        (0, 0),
+    ];
     // each 3-delta of a round of eight
     vertices(
         &rt,
@@ -145,17 +177,7 @@ fn paths(rt: HostRuntime) -> Result<(), Fail> {
         &[3, 8, 8, 9, 10, 11, 12, 13, 14, 15],
         of,
         (0, 0),
-        &[
-            (0, 0),
-            (1, 0),
-            (1, 1),
-            (0, 1),
-            (0, 0),
-            (1, 1),
-            (0, 2),
-            (-1, 1),
-            (0, 0),
-        ],
+        &round,
     )?;
     // each g-delta of form 1
     vertices(
@@ -164,17 +186,7 @@ fn paths(rt: HostRuntime) -> Result<(), Fail> {
         &[4, 8, 16, 18, 20, 22, 24, 26, 28, 30],
         of,
         (0, 0),
-        &[
-            (0, 0),
-            (1, 0),
-            (1, 1),
-            (0, 1),
-            (0, 0),
-            (1, 1),
-            (0, 2),
-            (-1, 1),
-            (0, 0),
-        ],
+        &round,
     )?;
     Ok(())
 }

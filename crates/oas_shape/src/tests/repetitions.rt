@@ -77,6 +77,12 @@ fn repetitions_two_ways(rt: HostRuntime) -> Result<(), Fail> {
         &[8, 0, 1, 9, 3, 11, 4],
         &[(0, 0), (2, -1), (-2, 2), (0, 1), (-4, 4), (-2, 3)],
     )?;
+    Ok(())
+}
+
+#[test]
+fn counts_of_many(rt: HostRuntime) -> Result<(), Fail> {
+    let alloc = rt.alloc();
     let mut source = SliceSource::new(&[1, 0xFE, 0x1F, 0xFE, 0x1F, 0, 0], 100);
     let RepField::New(many) = RepField::read(alloc, &mut source)? else {
         assert!(rt; false);
@@ -132,6 +138,12 @@ fn repetitions_refused(rt: HostRuntime) -> Result<(), Fail> {
         ),
         Some(Why::CoordinateRange)
     );
+    Ok(())
+}
+
+#[test]
+fn sums_that_are_not_asked(rt: HostRuntime) -> Result<(), Fail> {
+    let alloc = rt.alloc();
     // evenly spaced ones aren't looked at while they are read
     assert_eq!(rt;
         repetition_refused(
@@ -151,17 +163,17 @@ fn repetitions_refused(rt: HostRuntime) -> Result<(), Fail> {
         repetition_refused(alloc, &wide),
         Some(Why::CoordinateRange)
     );
-    wide[2] = 0x80;
-    wide[3] = 0x80;
-    wide[4] = 0x80;
-    wide[5] = 0x80;
-    wide[6] = 0x80;
-    wide[7] = 0x80;
-    wide[8] = 0x80;
-    wide[9] = 0x80;
-    wide[10] = 0x80;
+    for i in 2..11 {
+        wide[i] = 0x80;
+    }
     wide[11] = 0;
     assert_eq!(rt; repetition_refused(alloc, &wide), None);
+    Ok(())
+}
+
+#[test]
+fn dimensions_without_displacements(rt: HostRuntime) -> Result<(), Fail> {
+    let alloc = rt.alloc();
     // a dimension of 2^64 - 1, and nothing there
     assert_eq!(rt;
         repetition_refused(alloc, &[10, 255, 255, 255, 255, 255, 255, 255, 255, 255, 1]),
