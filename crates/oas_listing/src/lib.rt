@@ -19,12 +19,13 @@
 //! What this crate promises to the crates above it: a writer takes exactly the bytes of `listing` (specs/Listing.antt) of
 //! what the layout means, and [`write_listing`] answers how many they are (`IsWritten`, oas_num's specs/Written.antt); or it fails,
 //! by [`oas_num::Why::Write`], and then it took as many of the first of them as the refusal's place says (`IsCutOff`). No
-//! memory is taken.
+//! memory is taken. Layouts that are the same have one listing ([`laws`]).
 #![tactic(auto)]
 
 mod cells;
 mod elements;
 mod fields;
+pub mod laws;
 mod writing;
 
 pub use writing::write_listing;
