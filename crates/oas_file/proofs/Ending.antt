@@ -47,7 +47,7 @@ refuses_within {old = old} {new = new} {refusal = refusal} same r = subst (λ (l
 
 -- ---- after END
 
-file_all : {head : Head} {rs : List Record} {bytes last : List ℕ} → FrontOf head rs bytes → record_in Any head.flag_in_end End last → FileOf head rs (bytes ++ last)
+pub file_all : {head : Head} {rs : List Record} {bytes last : List ℕ} → FrontOf head rs bytes → record_in Any head.flag_in_end End last → FileOf head rs (bytes ++ last)
 file_all {last = last} f end = record {
   spelled = record {
     front = f.start;

@@ -1,5 +1,6 @@
 pub mod Fronts
 pub mod PlaceLaws
+pub mod SomePlaces
 pub mod Judged
 pub mod Refusing
 pub mod Taking

@@ -86,3 +86,7 @@ OnePlace = (limits : Limits) (b : List ℕ) (p q : ℕ) → RefusedAt limits b p
 -- and at none where it is accepted
 abbrev pub NoPlace : Type 0
 NoPlace = (limits : Limits) (b : List ℕ) (p : ℕ) → Accepted limits b → RefusedAt limits b p → ⊥
+
+-- and at some place where it isn't: it can't be neither
+abbrev pub SomePlace : Type 0
+SomePlace = (limits : Limits) (b : List ℕ) → (Accepted limits b → ⊥) → ((p : ℕ) → RefusedAt limits b p → ⊥) → ⊥

@@ -1,7 +1,7 @@
 //! Laws of the definitions, each the contract of a function that does nothing.
 ghost use Rattle.oas_file.specs.Files.{OneReading};
 ghost use Rattle.oas_file.specs.Acceptance.{OneMeaning};
-ghost use Rattle.oas_file.specs.Places.{OnePlace, NoPlace};
+ghost use Rattle.oas_file.specs.Places.{OnePlace, NoPlace, SomePlace};
 
 /// One byte list has at most one START and one list of records.
 pub fn one_reading()
@@ -13,8 +13,10 @@ pub fn one_meaning()
     ensures { OneMeaning }
 {}
 
-/// A file is refused at one place at most, and at none where it is accepted.
+/// A file is refused at one place at most, at none where it is accepted, and at some where it isn't: no bytes are neither
+/// accepted nor refused at a place.
 pub fn one_place()
     ensures one { OnePlace }
     ensures none { NoPlace }
+    ensures some { SomePlace }
 {}

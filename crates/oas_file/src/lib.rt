@@ -10,8 +10,8 @@
 //! - Of a source that had given nothing before: the offset of a refusal whose reason lies in the file is a place at which
 //!   every file that goes on so is refused (`IsPlaced`), and each refusal says which of the bytes that were taken decided,
 //!   and that its reason holds of them (`IsReasoned`, specs/Deciding.antt).
-//! - The laws stand over the definitions alone: [`laws`]. A file has one reading, one meaning, and at most one place at
-//!   which it is refused, and none where it is accepted.
+//! - The laws stand over the definitions alone: [`laws`]. A file has one reading and one meaning, and is either accepted or
+//!   refused at exactly one place.
 //!
 //! The definitions: what a file is, in a style (specs/Files.antt); which files are accepted, and what they mean
 //! (specs/Acceptance.antt); where a file is refused (specs/Places.antt), and which bytes decide that it is
