@@ -2,11 +2,13 @@
 use Rattle.std.proofs.Common.{◌≡◌, ℕ, List, [], ◌∷◌, ◌++◌, length, Option, Result, Ok, Err, inl, inr, refl, sym, ap, ◌∙◌, append_assoc, append-nil, arith, MutBor}
 use Rattle.oas_num.specs.Outlet.{Outlet}
 use Rattle.oas_num.specs.declared.refusals.Refusal.{Refusal}
+use Rattle.oas_num.specs.Refusals.{number_of}
 use Rattle.oas_num.specs.SinkFault.{SinkFault}
 use Rattle.oas_num.specs.OutletLaws.{given_since, takes_front, stays}
 use Rattle.oas_num.specs.Outlets.{Opens, IsGiven, failures_of}
 use Rattle.oas_num.specs.Writing.{Writes}
 use Rattle.oas_num.proofs.WritingLemmas.{Puts-none}
+use Rattle.oascanon.specs.Lines.{refusal_line}
 use Rattle.oascanon.specs.Runs.{said, Tells, Ends, AppendsFront}
 
 none_front : (a b : List ℕ) → [] ≡ a ++ b → a ≡ []
@@ -29,9 +31,9 @@ module _ {W : Type 0} (contents : W → Option (List ℕ)) (writer : MutBor W) w
       record { front = some.front; back = some.back; joined = some.joined; given = given_since contents writer o now some.front opens some.puts }
 
   -- what a run said was told
-  pub ended : (o now : Outlet W) (name : List ℕ) (answer : Result ℕ Refusal) → Opens writer o → Ends (IsGiven contents) failures_of name o answer now → GivenFront o (said name answer) now
-  ended o now name (Ok count) opens same = rw same (told o o [] opens (inl (Puts-none (IsGiven contents) failures_of o)))
-  ended o now name (Err refusal) opens tells = told o now (said name (Err refusal)) opens tells
+  pub ended : {T : Type 0} (o now : Outlet W) (name : List ℕ) (answer : Result T Refusal) → Opens writer o → Ends (IsGiven contents) failures_of name o answer now → GivenFront o (said name answer) now
+  ended o now name (Ok value) opens same = rw same (told o o [] opens (inl (Puts-none (IsGiven contents) failures_of o)))
+  ended o now name (Err refusal) opens tells = told o now (refusal_line name (number_of refusal.why) refusal.at) opens tells
 
   -- and then it was closed
   pub closed : (o mid now : Outlet W) (line : List ℕ) (r : Result Unit SinkFault) → GivenFront o line mid → Writes (IsGiven contents) failures_of mid [] r now → GivenFront o line now

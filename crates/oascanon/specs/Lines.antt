@@ -1,5 +1,34 @@
--- The lines that the command writes to its error output.
-use Rattle.std.specs.Prelude.{ℕ, List, [], ◌∷◌, ◌++◌, codes, decimal}
+-- The lines that the command writes.
+use Rattle.std.specs.Prelude.{ℕ, Bool, true, false, List, [], ◌∷◌, ◌++◌, codes, decimal}
+use Rattle.hex.specs.Hex.{encode_lower}
+
+-- a text, and the line's end
+abbrev pub line_of : List ℕ → List ℕ
+line_of text = text ++ 10 ∷ []
+
+-- ---- to its output
+
+-- what `check` answers
+abbrev pub check_text : Bool → List ℕ
+check_text true = codes "canonical"
+check_text false = codes "not canonical"
+
+abbrev pub check_line : Bool → List ℕ
+check_line canonical = line_of (check_text canonical)
+
+-- what `same` answers
+abbrev pub same_text : Bool → List ℕ
+same_text true = codes "same"
+same_text false = codes "different"
+
+abbrev pub same_line : Bool → List ℕ
+same_line same = line_of (same_text same)
+
+-- what `key` answers: two lower-case hex digits for each byte, the high four bits first
+abbrev pub key_line : List ℕ → List ℕ
+key_line digest = line_of (encode_lower digest)
+
+-- ---- to its error output
 
 -- NAME: refused N at OFFSET, and the line's end
 abbrev pub refusal_line : List ℕ → ℕ → ℕ → List ℕ

@@ -1,26 +1,45 @@
--- How a run ends: its status, and what it says on its error output.
-use Rattle.std.specs.Prelude.{◌≡◌, ℕ, List, [], ◌++◌, Option, Result, Ok, Err, IfOk, IfErr, ◌⊎◌}
+-- How a run ends: its status, what it writes, and what it says on its error output.
+use Rattle.std.specs.Prelude.{◌≡◌, ℕ, Bool, true, false, List, [], ◌++◌, Option, Result, Ok, Err, ◌⊎◌}
 use Rattle.std.specs.Io.KnownBytes.{Appends}
 use Rattle.oas_num.specs.declared.refusals.Refusal.{Refusal}
-use Rattle.oas_num.specs.declared.refusals.Why.TheVariants.{Write}
 use Rattle.oas_num.specs.Refusals.{number_of}
-use Rattle.oas_num.specs.Script.{Script}
 use Rattle.oas_num.specs.Writing.{Puts, PutsFront}
-use Rattle.oas_layout.specs.declared.limits.Limits.{Limits}
-use Rattle.oas_file.specs.Deciding.{IsReasoned}
-use Rattle.oas_file.specs.Reading.{IsRefused, IsPlaced}
-use Rattle.oas_canon.specs.declared.profile.TheConstants.{PROFILE}
-use Rattle.oas_canon.specs.Run.{IsDone, IsCut, Exactly}
+use Rattle.oas_num.specs.Written.{IsCutOff}
+use Rattle.oas_canon.specs.declared.sameness.Which.{Which}
+use Rattle.oas_canon.specs.declared.sameness.Which.TheVariants.{First, Second}
 use Rattle.oascanon.specs.Lines.{refusal_line}
 
+-- ---- its status
+
+-- this one after an answer, 1 after a refusal
+abbrev pub status_after : {T : Type 0} → ℕ → Result T Refusal → ℕ
+status_after status (Ok value) = status
+status_after status (Err refusal) = 1
+
 -- 0 after an answer, 1 after a refusal
-abbrev pub status_of : Result ℕ Refusal → ℕ
-status_of (Ok count) = 0
-status_of (Err refusal) = 1
+abbrev pub status_of : {T : Type 0} → Result T Refusal → ℕ
+status_of answer = status_after 0 answer
+
+-- 0 after yes, 3 after no, 1 after a refusal
+abbrev pub verdict_status : Result Bool Refusal → ℕ
+verdict_status (Ok true) = 0
+verdict_status (Ok false) = 3
+verdict_status (Err refusal) = 1
+
+-- ---- its output
+
+-- Of what was found the text was written, or the writer failed and took a front of it, as long as the place of the answer's
+-- refusal says. Where nothing was found nothing was written.
+abbrev pub Delivers : {T W : Type 0} → (W → Option (List ℕ)) → (T → List ℕ) → W → Result T Refusal → Result T Refusal → W → Type 0
+Delivers contents text before (Ok value) (Ok answer) after = (answer ≡ value) × Appends (contents before) (contents after) (text value)
+Delivers contents text before (Ok value) (Err refusal) after = IsCutOff contents before (text value) after refusal
+Delivers contents text before (Err refusal) answer after = (answer ≡ Err refusal) × (after ≡ before)
+
+-- ---- its error output
 
 -- nothing after an answer, and the line of a refusal
-abbrev pub said : List ℕ → Result ℕ Refusal → List ℕ
-said name (Ok count) = []
+abbrev pub said : {T : Type 0} → List ℕ → Result T Refusal → List ℕ
+said name (Ok value) = []
 said name (Err refusal) = refusal_line name (number_of refusal.why) refusal.at
 
 -- the line was put, or a front of it, and the sink has failed
@@ -28,9 +47,9 @@ abbrev pub Tells : {K : Type 0} → (K → List ℕ → K → Type 0) → (K →
 Tells given failures old line new = Puts given failures old line new ⊎ PutsFront given failures old line new
 
 -- after an answer the sink stays as it was, and after a refusal its line was told
-abbrev pub Ends : {K : Type 0} → (K → List ℕ → K → Type 0) → (K → ℕ) → List ℕ → K → Result ℕ Refusal → K → Type 0
-Ends given failures name old (Ok count) new = new ≡ old
-Ends given failures name old (Err refusal) new = Tells given failures old (said name (Err refusal)) new
+abbrev pub Ends : {K T : Type 0} → (K → List ℕ → K → Type 0) → (K → ℕ) → List ℕ → K → Result T Refusal → K → Type 0
+Ends given failures name old (Ok value) new = new ≡ old
+Ends given failures name old (Err refusal) new = Tells given failures old (refusal_line name (number_of refusal.why) refusal.at) new
 
 -- known bytes grow by a front of these
 pub record AppendsFront (old new : Option (List ℕ)) (bytes : List ℕ) : Type 0 where
@@ -39,12 +58,19 @@ pub record AppendsFront (old new : Option (List ℕ)) (bytes : List ℕ) : Type 
   pub joined : bytes ≡ front ++ back
   pub appends : Appends old new front
 
--- What `canonicalize` says of its answer, clause by clause: all was read, and the canonical file of it was written; or it is refused, at an offset and for a reason that the bytes taken decide, and nothing was written; or the writer failed, and took a front of the canonical file. And it is refused exactly where it isn't accepted.
-pub record Canonicalizes {W : Type 0} (contents : W → Option (List ℕ)) (limits : Limits) (old : Script) (before : W) (answer : Result ℕ Refusal) (new : Script) (after : W) : Type 0 where
-  pub done : IfOk answer (λ n. IsDone limits PROFILE old new (contents before) (contents after) n)
-  pub refused : IfErr answer (λ refusal. (refusal.why ≡ Write) ⊎ IsRefused limits old refusal.why new)
-  pub placed : IfErr answer (λ refusal. (refusal.why ≡ Write) ⊎ IsPlaced limits old refusal new)
-  pub decided : IfErr answer (λ refusal. (refusal.why ≡ Write) ⊎ IsReasoned limits old refusal new)
-  pub nothing : IfErr answer (λ refusal. (refusal.why ≡ Write) ⊎ (after ≡ before))
-  pub cut : IfErr answer (λ refusal. refusal.why ≡ Write → IsCut limits PROFILE old new (contents before) (contents after) refusal.at)
-  pub exactly : Exactly limits old answer new
+-- ---- of two files
+
+-- what was found, or the refusal of the file that is refused
+abbrev pub found_in : {T : Type 0} → Result T (Which × Refusal) → Result T Refusal
+found_in (Ok value) = Ok value
+found_in (Err e) = Err e.1
+
+-- one of two names
+abbrev pub name_of : Which → List ℕ → List ℕ → List ℕ
+name_of First a b = a
+name_of Second a b = b
+
+-- the name of the file that is refused, and the first one where none is
+abbrev pub blamed : {T : Type 0} → List ℕ → List ℕ → Result T (Which × Refusal) → List ℕ
+blamed a b (Ok value) = a
+blamed a b (Err e) = name_of e.0 a b

@@ -4,20 +4,27 @@
 //! `run_` functions, which are generic over their input and outputs, so that tests call them over memory; `main` opens
 //! the streams of the process and calls them. What they promise to `main`:
 //!
-//! - [`run::run_canon`] answers status 0 where `oas_canon::canonicalize` answered Ok, and 1 where it refused. What was
-//!   read and written is all that the contract of that call says of its answer (`Canonicalizes`, specs/Runs.antt), the
+//! - [`runs::run_canon`] answers status 0 where `oas_canon::canonicalize` answered Ok, and 1 where it refused. What was
+//!   read and written is all that the contract of that call says of its answer (`Canonicalizes`, specs/Calls.antt), the
 //!   offset and the reason of a refusal among it, and what the error output took is a front of that refusal's line, and
-//!   nothing after an Ok (`AppendsFront`).
-//! - [`run::canon_telling`] is the same over a sink for that line, whose contract counts failures: the line was put, unless
-//!   the sink failed (`Ends`).
-//! - [`output::put_refusal`] puts the line `NAME: refused N at OFFSET` (`refusal_line`, specs/Lines.antt).
+//!   nothing after an Ok (`AppendsFront`, specs/Runs.antt).
+//! - [`runs::run_check`], [`runs::run_key`], [`runs::run_show`] and [`runs::run_same`] each hand on what the contract of
+//!   the call that they make says of what it found (`Judges`, `Keys`, `ReadsLayout`, `Compares`). The text of what was found
+//!   was written, or the writer failed after a front of it that is as long as the refusal says, and where nothing was found
+//!   nothing was written (`Delivers`). The status is 0, of a `check` and a `same` whose answer is no it is 3, and after a
+//!   refusal 1; the error output as above, in `same` under the name of the refused file.
+//! - [`runs::canon_telling`] and the like are the same over a sink for that line, whose contract counts failures: the line
+//!   was put, unless the sink failed (`Ends`).
+//! - [`lines::write_line`] writes a line to an output, or a front of it (`IsWritten`, `IsCutOff`).
+//! - [`messages::put_refusal`] puts the line `NAME: refused N at OFFSET` (`refusal_line`, specs/Lines.antt).
 //!
 //! Not under a contract: what `main` opens, and which words `clap` understands.
 #![tactic(auto)]
 
 mod commands;
-mod output;
-mod run;
+mod lines;
+mod messages;
+mod runs;
 #[cfg(test)]
 mod tests;
 
@@ -43,7 +50,7 @@ fn canon(rt: &HostRuntime) -> u8 {
     let mut err = rt.stderr();
     let limits = Limits::standard();
     match ReaderSource::new(rt.alloc(), rt.stdin(), limits.input()) {
-        Ok(mut from) => run::run_canon(
+        Ok(mut from) => runs::run_canon(
             rt.alloc(),
             STANDARD_INPUT,
             &mut from,
@@ -56,7 +63,7 @@ fn canon(rt: &HostRuntime) -> u8 {
                 at: 0,
                 why: Why::Memory,
             };
-            run::run_refused(STANDARD_INPUT, refusal, &mut err)
+            runs::run_refused(STANDARD_INPUT, refusal, &mut err)
         }
     }
 }

@@ -2,7 +2,7 @@
 
 use super::devices::{After, Full, Reader, Writer};
 use super::rows::{RECTANGLE, bytes_of, record_at};
-use crate::run::{run_canon, run_refused};
+use crate::runs::{run_canon, run_refused};
 use oas_canon::Limits;
 use oas_num::{INPUT_MAX, ReaderSource, Refusal, SliceSource, Why};
 use std::alloc::Global;

@@ -3,10 +3,8 @@
 //! The process's heap is filled with pieces, down to the smallest, and then emptied a piece at a time, so that each run
 //! has a little more memory than the one before. (Under `rt try` the heap can't be filled, and nothing is refused.)
 
-use super::devices::{Full, Writer};
-use super::rows::bytes_of;
-use oas_canon::{Limits, canonicalize};
-use oas_num::{INPUT_MAX, SliceSource, Why};
+use super::answers::{Run, answering, writer};
+use super::devices::Writer;
 use std::alloc::{AllocError, Global};
 use std::process::Abort;
 use std::test::Fail;
@@ -36,42 +34,36 @@ fn fill(alloc: Global, most: usize, held: &mut Vec<Vec<u8>>) {
     }
 }
 
-/// Runs `canonicalize` once, and asserts that it writes the canonical bytes, or nothing where memory was refused. Answers
+/// Runs a command once, and asserts that it answers as it is to, or says that memory was refused and writes nothing. Answers
 /// whether it was.
 fn is_refused(
     rt: &impl Abort,
     alloc: Global,
-    file: &[u8],
-    canonical: &[u8],
+    run: &Run<'_>,
     out: &mut Writer,
+    err: &mut Writer,
 ) -> bool {
     out.taken.clear();
-    let mut from = SliceSource::new(file, INPUT_MAX);
-    match canonicalize(alloc, &mut from, out, Limits::standard()) {
-        Ok(count) => {
-            assert_eq!(rt; count, canonical.len() as u64);
-            assert_eq!(rt; out.taken.as_slice(), canonical);
-            false
-        }
-        Err(refusal) => {
-            assert_eq!(rt; refusal.why, Why::Memory);
-            assert!(rt; out.taken.is_empty());
-            true
-        }
+    err.taken.clear();
+    let status = run.run(alloc, out, err);
+    if err.taken.is_empty() {
+        assert_eq!(rt; status, run.status);
+        assert_eq!(rt; out.taken.as_slice(), run.answer.as_slice());
+        return false;
     }
+    assert_eq!(rt; status, 1);
+    assert!(rt; out.taken.is_empty());
+    match str::from_utf8(err.taken.as_slice()) {
+        Ok(line) => assert!(rt; line.contains(": refused 34 at ")),
+        Err(_) => assert!(rt; false, "the line is no text"),
+    }
+    true
 }
 
-/// Runs `canonicalize` on one file with a little more memory each time.
-fn expect_growths(rt: &impl Abort, alloc: Global, file: &str, canonical: &str) -> Result<(), Fail> {
-    let file = bytes_of(alloc, file)?;
-    let canonical = bytes_of(alloc, canonical)?;
-    let mut out = Writer {
-        taken: Vec::with_capacity(alloc, 1024)?,
-        most: usize::MAX,
-        room: usize::MAX,
-        full: Full::Fault,
-        flush_fails: false,
-    };
+/// Runs a command with a little more memory each time.
+fn expect_growths(rt: &impl Abort, alloc: Global, run: &Run<'_>) -> Result<(), Fail> {
+    let mut out = writer(alloc, usize::MAX)?;
+    let mut err = writer(alloc, usize::MAX)?;
     let mut held: Vec<Vec<u8>> = Vec::with_capacity(alloc, 300000)?;
     let room: Vec<u8> = Vec::with_capacity(alloc, 65536)?;
     fill(alloc, LARGEST, &mut held);
@@ -82,7 +74,7 @@ fn expect_growths(rt: &impl Abort, alloc: Global, file: &str, canonical: &str) -
     let mut refused = 0u64;
     let mut done = 0u64;
     for _ in large..held.len() {
-        if is_refused(rt, alloc, file.as_slice(), canonical.as_slice(), &mut out) {
+        if is_refused(rt, alloc, run, &mut out, &mut err) {
             refused = refused.saturating_add(1);
         } else {
             done = done.saturating_add(1);
@@ -96,12 +88,22 @@ fn expect_growths(rt: &impl Abort, alloc: Global, file: &str, canonical: &str) -
 }
 
 #[test]
-fn each_growth(rt: HostRuntime) -> Result<(), Fail> {
+fn each_growth_of_canon(rt: HostRuntime) -> Result<(), Fail> {
     let alloc = rt.alloc();
-    expect_growths(&rt, alloc, "HEAD CELL RECT TAIL", "HEAD CELL RECT TAIL")?;
+    let rectangle = Run::of_canon(alloc, "HEAD CELL RECT TAIL", "HEAD CELL RECT TAIL")?;
+    expect_growths(&rt, alloc, &rectangle)?;
     let cells =
         "HEAD 0E0142 RECT 147B02000A140000 RECT 147B00000A140000 RECT CELL RECT 0E0143 TAIL";
     let ordered =
         "HEAD CELL RECT 0E0142 147B00000A140000 RECT RECT RECT 147B02000A140000 0E0143 TAIL";
-    expect_growths(&rt, alloc, cells, ordered)
+    expect_growths(&rt, alloc, &Run::of_canon(alloc, cells, ordered)?)
+}
+
+#[test]
+fn each_growth_of_an_answer(rt: HostRuntime) -> Result<(), Fail> {
+    let alloc = rt.alloc();
+    for run in &answering(alloc)? {
+        expect_growths(&rt, alloc, run)?;
+    }
+    Ok(())
 }

@@ -1,7 +1,7 @@
 //! The worked rows through `run_canon`, over a slice.
 
 use super::table::ROWS;
-use crate::run::run_canon;
+use crate::runs::run_canon;
 use oas_canon::Limits;
 use oas_num::{INPUT_MAX, SliceSource};
 use std::alloc::Global;

@@ -3,7 +3,7 @@ use Rattle.std.specs.Prelude.{decimal}
 use Rattle.std.proofs.lemmas.Result.{err_from_is_err_and}
 use Rattle.oas_num.specs.Refusals.{number_of}
 use Rattle.oascanon.proofs.PuttingLemmas.{first, fails_at, ends, ◌▸◌}
-use Rattle.oascanon.proofs.output.put_refusal.Goals as goal
+use Rattle.oascanon.proofs.messages.put_refusal.Goals as goal
 
 pub returns-in_err-put_all-2 : goal.returns-in_err-put_all-2
 returns-in_err-put_all-2 g c =

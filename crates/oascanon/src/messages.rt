@@ -1,3 +1,5 @@
+//! The lines of messages.
+
 ghost use Rattle.oas_num.specs.Refusals.{number_of};
 ghost use Rattle.oas_num.specs.Writing.{Writes};
 ghost use Rattle.oascanon.specs.Lines.{refusal_line};

@@ -1,6 +1,6 @@
 use Rattle.std.proofs.Common.{rules}
 use Rattle.oascanon.proofs.MessageLemmas.{told, closed, appended, same_name}
-use Rattle.oascanon.proofs.run.run_refused.Goals as goal
+use Rattle.oascanon.proofs.runs.ends.run_refused.Goals as goal
 
 pub returns-clause-tells : goal.returns-clause-tells
 returns-clause-tells g c =

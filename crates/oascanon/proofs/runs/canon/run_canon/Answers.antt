@@ -1,6 +1,6 @@
 use Rattle.std.proofs.Common.{rules}
 use Rattle.oascanon.proofs.MessageLemmas.{ended, closed, appended, same_name}
-use Rattle.oascanon.proofs.run.run_canon.Goals as goal
+use Rattle.oascanon.proofs.runs.canon.run_canon.Goals as goal
 
 pub returns : goal.returns
 returns g c =

@@ -1,0 +1,45 @@
+-- What the calls that a run makes say of their answers, clause by clause, each of one or two sources.
+use Rattle.std.specs.Prelude.{◌≡◌, ℕ, Bool, List, Option, Result, IfOk, IfErr, ◌⊎◌}
+use Rattle.oas_num.specs.declared.refusals.Refusal.{Refusal}
+use Rattle.oas_num.specs.declared.refusals.Why.TheVariants.{Write, Memory}
+use Rattle.oas_num.specs.Script.{Script}
+use Rattle.oas_layout.specs.declared.limits.Limits.{Limits}
+use Rattle.oas_file.specs.Deciding.{IsReasoned}
+use Rattle.oas_file.specs.Reading.{IsRefused, IsPlaced, Refuses}
+use Rattle.oas_canon.specs.declared.profile.TheConstants.{PROFILE}
+use Rattle.oas_canon.specs.declared.sameness.Which.{Which}
+use Rattle.oas_canon.specs.declared.sameness.Which.TheVariants.{First, Second}
+use Rattle.oas_canon.specs.Run.{IsTaken, IsDone, IsCut, IsJudged, IsKeyed, IsCompared, Exactly, ExactlyBoth}
+
+-- `canonicalize`: all was read, and the canonical file of it was written; or it is refused, at an offset and for a reason that the bytes taken decide, and nothing was written; or the writer failed, and took a front of the canonical file. And it is refused exactly where it isn't accepted.
+pub record Canonicalizes {W : Type 0} (contents : W → Option (List ℕ)) (limits : Limits) (old : Script) (before : W) (answer : Result ℕ Refusal) (new : Script) (after : W) : Type 0 where
+  pub done : IfOk answer (λ n. IsDone limits PROFILE old new (contents before) (contents after) n)
+  pub refused : IfErr answer (λ refusal. (refusal.why ≡ Write) ⊎ IsRefused limits old refusal.why new)
+  pub placed : IfErr answer (λ refusal. (refusal.why ≡ Write) ⊎ IsPlaced limits old refusal new)
+  pub decided : IfErr answer (λ refusal. (refusal.why ≡ Write) ⊎ IsReasoned limits old refusal new)
+  pub nothing : IfErr answer (λ refusal. (refusal.why ≡ Write) ⊎ (after ≡ before))
+  pub cut : IfErr answer (λ refusal. refusal.why ≡ Write → IsCut limits PROFILE old new (contents before) (contents after) refusal.at)
+  pub exactly : Exactly limits old answer new
+
+-- `is_canonical`: all was read, and the answer is whether it is canonical; or it is refused, as above or for want of memory. And it is refused exactly where it isn't accepted.
+pub record Judges (limits : Limits) (old : Script) (found : Result Bool Refusal) (new : Script) : Type 0 where
+  pub judged : IfOk found (λ yes. IsJudged limits PROFILE old new yes)
+  pub refused : IfErr found (λ refusal. IsRefused limits old refusal.why new)
+  pub placed : IfErr found (λ refusal. IsPlaced limits old refusal new)
+  pub decided : IfErr found (λ refusal. (refusal.why ≡ Memory) ⊎ IsReasoned limits old refusal new)
+  pub exactly : Exactly limits old found new
+
+-- `key`: all was read, and the answer is the SHA-256 of its canonical file; or it is refused, as above. And it is refused exactly where it isn't accepted.
+pub record Keys (limits : Limits) (old : Script) (found : Result (List ℕ) Refusal) (new : Script) : Type 0 where
+  pub keyed : IfOk found (λ digest. IsKeyed limits PROFILE old new digest)
+  pub refused : IfErr found (λ refusal. IsRefused limits old refusal.why new)
+  pub placed : IfErr found (λ refusal. IsPlaced limits old refusal new)
+  pub decided : IfErr found (λ refusal. IsReasoned limits old refusal new)
+  pub exactly : Exactly limits old found new
+
+-- `same_files`: both were read, the second after the first, and the answer is whether they mean the same layout; or the first is refused, and nothing is read of the second; or all of the first was read, and the second is refused. And they are refused exactly where they aren't accepted.
+pub record Compares {T : Type 0} (script : T → Script) (limits : Limits) (old new : Script) (before after : T) (found : Result Bool (Which × Refusal)) : Type 0 where
+  pub compared : IfOk found (λ same. IsCompared limits PROFILE old new (script before) (script after) same)
+  pub first : IfErr found (λ e. e.0 ≡ First → Refuses limits old e.1 new × (after ≡ before))
+  pub second : IfErr found (λ e. e.0 ≡ Second → ((bytes : List ℕ) × IsTaken limits old bytes new) × Refuses limits (script before) e.1 (script after))
+  pub exactly : ExactlyBoth limits old new (script before) (script after) found

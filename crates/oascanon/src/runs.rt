@@ -1,0 +1,15 @@
+//! The run of each command: what it reads, what it writes, and the status with which the process is to end.
+
+mod canon;
+mod check;
+mod ends;
+mod key;
+mod same;
+mod show;
+
+pub use canon::{canon_telling, run_canon};
+pub use check::{check_telling, run_check};
+pub use ends::run_refused;
+pub use key::{key_telling, run_key};
+pub use same::{run_same, same_telling};
+pub use show::{run_show, show_telling};
