@@ -7,7 +7,7 @@ use Rattle.oas_layout.specs.declared.element.Element.{Element}
 use Rattle.oas_layout.specs.Bag.{items}
 use Rattle.oas_layout.specs.Contents.{Cell, names, bags, expanded}
 use Rattle.oas_listing.specs.Listing.{element_line, cell_lines}
-use Rattle.oas_listing.proofs.PuttingLemmas.{PutSoFar, fails_at, item_put, item_fails, items_put, ◌▸◌}
+use Rattle.oas_num.proofs.PuttingLemmas.{PutSoFar, fails_at, item_put, item_fails, items_put, ◌▸◌}
 
 -- a cell with each element as often as it is there
 cell_at : (cs : List Cell) (i : ℕ) (name : List ℕ) (es : List (Element × ℕ)) → get_or (expanded cs) i (name, items es) ≡ (get_or (names cs) i name, items (get_or (bags cs) i es))

@@ -3,6 +3,7 @@ pub mod IntegerLemmas
 pub mod GrammarLemmas
 pub mod PieceLemmas
 pub mod WritingLemmas
+pub mod PuttingLemmas
 pub mod TextLemmas
 pub mod RealLemmas
 pub mod DeltaLemmas

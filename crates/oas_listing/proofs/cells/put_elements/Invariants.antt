@@ -1,7 +1,7 @@
 use Rattle.std.proofs.Common.{flat_map}
 use Rattle.oas_layout.specs.Bag.{items}
 use Rattle.oas_listing.specs.Listing.{element_line}
-use Rattle.oas_listing.proofs.PuttingLemmas.{PutSoFar}
+use Rattle.oas_num.proofs.PuttingLemmas.{PutSoFar}
 use Rattle.oas_listing.proofs.cells.put_elements.Given as goal
 
 abbrev pub invariant-loop-element : goal.invariant-loop-element

@@ -1,7 +1,7 @@
 use Rattle.std.proofs.Common.{◌≡◌, ◌∙◌, ◌<◌, ◌≤◌, length, Some, slice_get, sym, ap, ℕ, List, arith}
 use Rattle.std.proofs.lemmas.Result.{err_from_is_err_and}
 use Rattle.oas_layout.specs.Contents.{names}
-use Rattle.oas_listing.proofs.PuttingLemmas.{begins, fails_at}
+use Rattle.oas_num.proofs.PuttingLemmas.{begins, fails_at}
 use Rattle.oas_listing.proofs.Lengths.{short_enough}
 use Rattle.oas_listing.proofs.CellLemmas.{cell_put, cell_fails, cells_put}
 use Rattle.oas_listing.proofs.cells.put_listing.Goals as goal

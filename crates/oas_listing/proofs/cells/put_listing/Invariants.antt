@@ -1,7 +1,7 @@
 use Rattle.std.proofs.Common.{drop, flat_map}
 use Rattle.oas_layout.specs.Contents.{expanded, meaning_of}
 use Rattle.oas_listing.specs.Listing.{listing, cell_lines}
-use Rattle.oas_listing.proofs.PuttingLemmas.{PutSoFar}
+use Rattle.oas_num.proofs.PuttingLemmas.{PutSoFar}
 use Rattle.oas_listing.proofs.cells.put_listing.Given as goal
 
 abbrev pub invariant-loop-i : goal.invariant-loop-i

@@ -1,5 +1,5 @@
 use Rattle.std.proofs.lemmas.Result.{err_from_is_err_and}
-use Rattle.oas_listing.proofs.PuttingLemmas.{first, begins, fails_at, ends, ◌▸◌}
+use Rattle.oas_num.proofs.PuttingLemmas.{first, begins, fails_at, ends, ◌▸◌}
 use Rattle.oas_listing.proofs.FieldLemmas.{name_fields}
 use Rattle.oas_listing.proofs.cells.put_name.Goals as goal
 

@@ -1,6 +1,6 @@
 use Rattle.std.proofs.Common.{◌≡◌, ◌∙◌, ap, decimal}
 use Rattle.std.proofs.lemmas.Result.{err_from_is_err_and}
-use Rattle.oas_listing.proofs.PuttingLemmas.{first, begins, fails_at, ends, ◌▸◌}
+use Rattle.oas_num.proofs.PuttingLemmas.{first, begins, fails_at, ends, ◌▸◌}
 use Rattle.oas_listing.proofs.FieldLemmas.{unit_fields}
 use Rattle.oas_listing.proofs.cells.put_unit.Goals as goal
 

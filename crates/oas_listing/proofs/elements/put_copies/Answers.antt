@@ -2,7 +2,7 @@ use Rattle.std.proofs.Common.{◌≡◌, ◌<◌, ◌≤◌, replicate, get_or, 
 use Rattle.std.proofs.lemmas.List.{length-replicate, get_or-replicate}
 use Rattle.std.proofs.lemmas.Result.{err_from_is_err_and}
 use Rattle.oas_listing.specs.Listing.{element_line}
-use Rattle.oas_listing.proofs.PuttingLemmas.{begins, item_put, item_fails, items_put}
+use Rattle.oas_num.proofs.PuttingLemmas.{begins, item_put, item_fails, items_put}
 use Rattle.oas_listing.proofs.elements.put_copies.Goals as goal
 
 pub loop-init : goal.loop-init

@@ -1,6 +1,6 @@
 use Rattle.std.proofs.Common.{drop, flat_map, replicate}
 use Rattle.oas_listing.specs.Listing.{element_line}
-use Rattle.oas_listing.proofs.PuttingLemmas.{PutSoFar}
+use Rattle.oas_num.proofs.PuttingLemmas.{PutSoFar}
 use Rattle.oas_listing.proofs.elements.put_copies.Given as goal
 
 abbrev pub invariant-loop : goal.invariant-loop

@@ -1,5 +1,5 @@
 use Rattle.std.proofs.lemmas.Result.{err_from_is_err_and}
-use Rattle.oas_listing.proofs.PuttingLemmas.{first, begins, fails_at, ends}
+use Rattle.oas_num.proofs.PuttingLemmas.{first, begins, fails_at, ends}
 use Rattle.oas_listing.proofs.elements.put_element.Goals as goal
 
 pub returns-in_err-put_fields : goal.returns-in_err-put_fields

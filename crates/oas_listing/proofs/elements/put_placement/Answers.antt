@@ -3,7 +3,7 @@ use Rattle.std.proofs.lemmas.Int.{to_z-of_z}
 use Rattle.std.proofs.lemmas.Result.{err_from_is_err_and}
 use Rattle.oas_layout.specs.Element.{turn_count}
 use Rattle.oas_listing.specs.Listing.{flip_count}
-use Rattle.oas_listing.proofs.PuttingLemmas.{first, begins, fails_at, ends, ◌▸◌}
+use Rattle.oas_num.proofs.PuttingLemmas.{first, begins, fails_at, ends, ◌▸◌}
 use Rattle.oas_listing.proofs.FieldLemmas.{placement_fields}
 use Rattle.oas_listing.proofs.elements.put_placement.Goals as goal
 

@@ -1,7 +1,7 @@
 use Rattle.std.proofs.Common.{◌≡◌, [], ◌∷◌, decimal}
 use Rattle.std.specs.Prelude.{codes}
 use Rattle.std.proofs.lemmas.Result.{err_from_is_err_and}
-use Rattle.oas_listing.proofs.PuttingLemmas.{first, begins, fails_at, ends}
+use Rattle.oas_num.proofs.PuttingLemmas.{first, begins, fails_at, ends}
 use Rattle.oas_listing.proofs.FieldLemmas.{point_fields}
 use Rattle.oas_listing.proofs.elements.put_polygon.Goals as goal
 

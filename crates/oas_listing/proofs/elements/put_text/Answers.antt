@@ -3,7 +3,7 @@ use Rattle.std.specs.Prelude.{codes}
 use Rattle.std.specs.Fmt.{signed_decimal}
 use Rattle.std.proofs.lemmas.Int.{to_z-of_z}
 use Rattle.std.proofs.lemmas.Result.{err_from_is_err_and}
-use Rattle.oas_listing.proofs.PuttingLemmas.{first, begins, fails_at, ends}
+use Rattle.oas_num.proofs.PuttingLemmas.{first, begins, fails_at, ends}
 use Rattle.oas_listing.proofs.FieldLemmas.{last_field}
 use Rattle.oas_listing.proofs.elements.put_text.Goals as goal
 

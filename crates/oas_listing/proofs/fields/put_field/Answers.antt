@@ -1,5 +1,5 @@
 use Rattle.std.proofs.lemmas.Result.{err_from_is_err_and}
-use Rattle.oas_listing.proofs.PuttingLemmas.{first, fails_at, ends, begins}
+use Rattle.oas_num.proofs.PuttingLemmas.{first, fails_at, ends, begins}
 use Rattle.oas_listing.proofs.fields.put_field.Goals as goal
 
 pub returns-in_err-put : goal.returns-in_err-put

@@ -1,6 +1,6 @@
 use Rattle.std.proofs.Common.{◌≡◌, ◌∙◌, ◌∷◌, decimal, get_or}
 use Rattle.std.proofs.lemmas.Result.{err_from_is_err_and}
-use Rattle.oas_listing.proofs.PuttingLemmas.{item_put, item_fails}
+use Rattle.oas_num.proofs.PuttingLemmas.{item_put, item_fails}
 use Rattle.oas_listing.proofs.fields.put_numbers.Goals as goal
 
 pub returns-in_err-put_field : goal.returns-in_err-put_field

@@ -1,6 +1,6 @@
 use Rattle.std.proofs.Common.{◌∷◌, drop, flat_map}
 use Rattle.std.specs.Fmt.{decimal}
-use Rattle.oas_listing.proofs.PuttingLemmas.{PutSoFar}
+use Rattle.oas_num.proofs.PuttingLemmas.{PutSoFar}
 use Rattle.oas_listing.proofs.fields.put_numbers.Given as goal
 
 abbrev pub invariant-loop-value : goal.invariant-loop-value

@@ -1,7 +1,7 @@
 use Rattle.std.proofs.Common.{◌∷◌}
 use Rattle.std.proofs.lemmas.Result.{err_from_is_err_and}
 use Rattle.oas_listing.specs.Listing.{pair}
-use Rattle.oas_listing.proofs.PuttingLemmas.{item_put, item_fails}
+use Rattle.oas_num.proofs.PuttingLemmas.{item_put, item_fails}
 use Rattle.oas_listing.proofs.fields.put_points.Goals as goal
 
 pub returns-in_err-put_point : goal.returns-in_err-put_point

@@ -1,6 +1,6 @@
 use Rattle.std.proofs.Common.{◌∷◌, drop, flat_map}
 use Rattle.oas_listing.specs.Listing.{pair}
-use Rattle.oas_listing.proofs.PuttingLemmas.{PutSoFar}
+use Rattle.oas_num.proofs.PuttingLemmas.{PutSoFar}
 use Rattle.oas_listing.proofs.fields.put_points.Given as goal
 
 abbrev pub invariant-loop-point : goal.invariant-loop-point

@@ -3,7 +3,7 @@ use Rattle.std.specs.Fmt.{signed_decimal}
 use Rattle.std.specs.Prelude.{pos}
 use Rattle.std.proofs.lemmas.Int.{to_z-of_z}
 use Rattle.std.proofs.lemmas.Result.{err_from_is_err_and}
-use Rattle.oas_listing.proofs.PuttingLemmas.{item_put, item_fails}
+use Rattle.oas_num.proofs.PuttingLemmas.{item_put, item_fails}
 use Rattle.oas_listing.proofs.fields.put_signed_numbers.Goals as goal
 
 pub returns-in_err-put_field : goal.returns-in_err-put_field

@@ -1,4 +1,4 @@
-use Rattle.oas_listing.proofs.PuttingLemmas.{nothing_left, ends}
+use Rattle.oas_num.proofs.PuttingLemmas.{nothing_left, ends}
 use Rattle.oas_listing.proofs.writing.put_and_close.Goals as goal
 
 pub returns-clause-writes : goal.returns-clause-writes
