@@ -1,3 +1,2 @@
 pub mod MessageLemmas
-pub mod PuttingLemmas
 pub mod RunLemmas

@@ -1,5 +1,5 @@
 use Rattle.std.proofs.lemmas.Result.{err_from_is_err_and}
-use Rattle.oascanon.proofs.PuttingLemmas.{first, fails_at, ends, ◌▸◌}
+use Rattle.oas_num.proofs.PuttingLemmas.{first, fails_at, ends, ◌▸◌}
 use Rattle.oascanon.proofs.lines.put_and_close.Goals as goal
 
 pub returns-in_err-put-clause-writes : goal.returns-in_err-put-clause-writes

@@ -2,7 +2,7 @@ use Rattle.std.proofs.Common.{◌≡◌, ◌∙◌, ap}
 use Rattle.std.specs.Prelude.{decimal}
 use Rattle.std.proofs.lemmas.Result.{err_from_is_err_and}
 use Rattle.oas_num.specs.Refusals.{number_of}
-use Rattle.oascanon.proofs.PuttingLemmas.{first, fails_at, ends, ◌▸◌}
+use Rattle.oas_num.proofs.PuttingLemmas.{first, fails_at, ends, ◌▸◌}
 use Rattle.oascanon.proofs.messages.put_refusal.Goals as goal
 
 pub returns-in_err-put_all-2 : goal.returns-in_err-put_all-2
