@@ -1,6 +1,9 @@
 pub mod Fronts
 pub mod PlaceLaws
 pub mod SomePlaces
+pub mod Found
+pub mod FoundParts
+pub mod FoundRecords
 pub mod Judged
 pub mod Refusing
 pub mod Taking

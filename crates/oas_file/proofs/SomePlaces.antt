@@ -1,19 +1,23 @@
--- A file that isn't accepted is refused at some place.
-use Rattle.std.proofs.Common.{◌≡◌, ℕ, Bool, zero, suc, ◌+◌, ◌<◌, ◌≤◌, List, [], ◌∷◌, ◌++◌, length, refl, sym, ap, subst, ◌∙◌, append_assoc, arith}
+-- A byte list is accepted, or refused at some place.
+use Rattle.std.proofs.Common.{◌≡◌, ℕ, zero, suc, ◌+◌, ◌<◌, ◌≤◌, Bool, List, [], ◌∷◌, ◌++◌, length, Option, None, Some, ◌⊎◌, inl, inr, refl, sym, ap, subst, ◌∙◌, append_assoc, arith}
 use Rattle.std.proofs.lemmas.List.{append-nil, length-append}
+use Rattle.oas_num.specs.declared.refusals.Why.{Why}
 use Rattle.oas_num.specs.Integers.{IsClosed}
 use Rattle.oas_num.specs.Style.{Any}
 use Rattle.oas_record.specs.declared.heads.Head.{Head}
 use Rattle.oas_record.specs.declared.records.Record.{Record}
 use Rattle.oas_record.specs.declared.records.Record.TheVariants.{End}
-use Rattle.oas_record.specs.Heads.{magic, start_in}
+use Rattle.oas_record.specs.Heads.{magic}
 use Rattle.oas_record.specs.Records.{record_in}
 use Rattle.oas_layout.specs.declared.limits.Limits.{Limits}
+use Rattle.oas_modal.specs.Stands.{refusal, end_refusal}
 use Rattle.oas_file.specs.Files.{FileOf}
-use Rattle.oas_file.specs.Acceptance.{IsWhole, Accepted}
-use Rattle.oas_file.specs.Places.{IsBefore, IsNext, RefusedAt, ByMagic, ByStart, ByRecord, AfterLast, ByEnd, SomePlace}
+use Rattle.oas_file.specs.Acceptance.{Accepted}
+use Rattle.oas_file.specs.Places.{IsBefore, RefusedAt, ByMagic, ByStart, ByRecord, AfterLast, ByEnd, SomePlace}
 use Rattle.oas_file.proofs.Ending.{file_all}
-use Rattle.oas_file.proofs.Fronts.{front_more}
+use Rattle.oas_file.proofs.Fronts.{allowed_last, allowed_more, front_more}
+use Rattle.oas_file.proofs.Found.{Settled, Stands, only, found_exactly}
+use Rattle.oas_file.proofs.FoundRecords.{settled_end, found_record, found_start}
 
 -- ---- a record takes a byte at least
 
@@ -26,70 +30,104 @@ record_long in_end r bytes s =
     let p = s.parts in
     omega (arith, ap length p.joined, length-append p.front p.back, closed_long p.front p.first.closed)
 
--- ---- a file that is neither accepted nor refused
+-- ---- what stands after the front of a file
 
-module _ {limits : Limits} {b : List ℕ} (not_accepted : Accepted limits b → ⊥) (not_refused : (p : ℕ) → RefusedAt limits b p → ⊥) where
-  -- END doesn't stand there: nothing may follow it, and it may not refuse, yet it may not end the file
-  no_end : {left : List ℕ} {at : ℕ} {head : Head} {records : List Record} → IsBefore limits b left at head records → (last rest : List ℕ) → record_in Any head.flag_in_end End last → left ≡ last ++ rest → ⊥
-  no_end {left = left} {at = at} {head = head} {records = records} i last [] end e = not_refused at (ByEnd (record { left = left; head = head; records = records; before = i; end = whole; torn = torn })) where
-    is : left ≡ last
-    is = e ∙ append-nil last
+settled_none : (o : Option Why) → Settled (o ≡ None)
+settled_none None = inl refl
+settled_none (Some why) = inr (λ e. cc)
 
-    whole : record_in Any head.flag_in_end End left
-    whole = subst (λ (c : List ℕ). record_in Any head.flag_in_end End c) (sym is) end
+module _ (limits : Limits) (b : List ℕ) where
+  abbrev Judged : Type 0
+  Judged = Accepted limits b ⊎ ((p : ℕ) × RefusedAt limits b p)
 
-    file : FileOf head records b
-    file = subst (FileOf head records) (sym i.joined) (file_all i.front whole)
+  module _ {left : List ℕ} {at : ℕ} {head : Head} {records : List Record} (i : IsBefore limits b left at head records) where
+    -- END, and nothing after it
+    by_end : record_in Any head.flag_in_end End left → Judged
+    by_end end = elim (settled_none (end_refusal limits records)) [
+      | inl whole ↦ inl (record { head = head; records = records; file = file; allowed = i.allowed; whole = whole })
+      | inr torn ↦ inr (at, ByEnd (record { left = left; head = head; records = records; before = i; end = end; torn = torn }))
+    ] where
+      file : FileOf head records b
+      file = subst (FileOf head records) (sym i.joined) (file_all i.front end)
 
-    torn : IsWhole limits records → ⊥
-    torn w = not_accepted (record { head = head; records = records; file = file; allowed = i.allowed; whole = w })
-  no_end {left = left} {at = at} {head = head} {records = records} i last (byte ∷ rest) end e =
-      not_refused (at + length last) (AfterLast (record { left = left; head = head; records = records; start = at; before = i; last = last; byte = byte; rest = rest; end = end; joined = e; place = refl }))
+    -- END, and what is left after it
+    at_end : (last rest : List ℕ) → record_in Any head.flag_in_end End last → left ≡ last ++ rest → Judged
+    at_end last [] end e = by_end (subst (λ (c : List ℕ). record_in Any head.flag_in_end End c) (sym (e ∙ append-nil last)) end)
+    at_end last (byte ∷ rest) end e =
+        inr (at + length last, AfterLast (record { left = left; head = head; records = records; start = at; before = i; last = last; byte = byte; rest = rest; end = end; joined = e; place = refl }))
 
-  -- one record more
-  before_next : {left : List ℕ} {at : ℕ} {head : Head} {records : List Record} (i : IsBefore limits b left at head records) (r : Record) (front rest : List ℕ) → IsNext limits head records r front → left ≡ front ++ rest
-      → IsBefore limits b rest (length (i.before ++ front)) head (records ++ r ∷ [])
-  before_next {left = left} {head = head} i r front rest next e = record {
-    before = i.before ++ front;
-    front = front_more i.front (record { holds = λ is. no_end i front rest (subst (λ (q : Record). record_in Any head.flag_in_end q front) is next.spelled) e; spelled = next.spelled });
-    allowed = next.allowed;
-    place = refl;
-    joined = i.joined ∙ ap (λ (c : List ℕ). i.before ++ c) e ∙ sym (append_assoc i.before front rest);
-  }
+    module _ (s : Stands (record_in Any head.flag_in_end) left) where
+      -- a record that isn't allowed
+      not_next : (s.value ≡ End → ⊥) → (refusal limits records s.value ≡ None → ⊥) → Judged
+      not_next inner refused = inr (
+        at,
+        ByRecord (record {
+          left = left;
+          head = head;
+          records = records;
+          before = i;
+          no_end = λ front rest end e. inner (only (found_record head.flag_in_end).one s End front rest end e).value;
+          no_record = record {
+            none = λ r front rest next e.
+                let same = (only (found_record head.flag_in_end).one s r front rest next.spelled e).value in
+                refused (subst (λ (q : Record). refusal limits records q ≡ None) (sym same) (allowed_last limits records r next.allowed));
+          };
+        }),
+      )
 
-  -- a record stands there by which they are allowed still
-  at_record : {left : List ℕ} {at : ℕ} {head : Head} {records : List Record} → IsBefore limits b left at head records → ((r : Record) (front rest : List ℕ) → IsNext limits head records r front → left ≡ front ++ rest → ⊥) → ⊥
-  at_record {left = left} {at = at} {head = head} {records = records} i none = not_refused at (ByRecord (record { left = left; head = head; records = records; before = i; no_end = no_end i; no_record = record { none = none } }))
+      -- one more
+      next : (s.value ≡ End → ⊥) → refusal limits records s.value ≡ None → IsBefore limits b s.rest (length (i.before ++ s.front)) head (records ++ s.value ∷ [])
+      next inner none = record {
+        before = i.before ++ s.front;
+        front = front_more i.front (record { holds = inner; spelled = s.spelled });
+        allowed = allowed_more limits records s.value i.allowed none;
+        place = refl;
+        joined = i.joined ∙ ap (λ (c : List ℕ). i.before ++ c) s.joined ∙ sym (append_assoc i.before s.front s.rest);
+      }
 
-  -- and so on without end, though each takes a byte
-  no_front : (n : ℕ) (left : List ℕ) (at : ℕ) (head : Head) (records : List Record) → length left ≤ n → IsBefore limits b left at head records → ⊥
-  no_front zero left at head records short i =
-      at_record i (λ r front rest next e. omega (arith, short, record_long head.flag_in_end r front next.spelled, ap length e, length-append front rest))
-  no_front (suc n) left at head records short i =
-      at_record i (λ r front rest next e.
-      let shorter : length rest ≤ n = omega (arith, short, record_long head.flag_in_end r front next.spelled, ap length e, length-append front rest) in
-      no_front n rest (length (i.before ++ front)) head (records ++ r ∷ []) shorter (before_next i r front rest next e))
+      shorter : length s.rest < length left
+      shorter = omega (arith, record_long head.flag_in_end s.value s.front s.spelled, ap length s.joined, length-append s.front s.rest)
 
-  -- START stands there, and no records can follow it
-  no_start : (left : List ℕ) → b ≡ magic ++ left → ⊥
-  no_start left e = not_refused 13 (ByStart (record { left = left; place = refl; joined = e; none = record { none = started } })) where
-    started : (head : Head) (front rest : List ℕ) → start_in Any head front → left ≡ front ++ rest → ⊥
-    started head front rest s is = no_front (length rest) rest (length (magic ++ front)) head [] (omega arith) (record {
-      before = magic ++ front;
+    -- END, a record, or neither
+    at_record : ((s : Stands (record_in Any head.flag_in_end) left) → (s.value ≡ End → ⊥) → refusal limits records s.value ≡ None → Judged) → Judged
+    at_record more = elim ((found_record head.flag_in_end).find left) [
+      | inl s ↦ elim (settled_end s.value) [
+        | inl end ↦ at_end s.front s.rest (subst (λ (r : Record). record_in Any head.flag_in_end r s.front) end s.spelled) s.joined
+        | inr inner ↦ elim (settled_none (refusal limits records s.value)) [ inl none ↦ more s inner none | inr refused ↦ not_next s inner refused ]
+      ]
+      | inr lacks ↦ inr (at, ByRecord (record { left = left; head = head; records = records; before = i; no_end = lacks.none End; no_record = record { none = λ r front rest q e. lacks.none r front rest q.spelled e } }))
+    ]
+
+  -- record by record, each of which takes a byte
+  after_front : (n : ℕ) {left : List ℕ} {at : ℕ} {head : Head} {records : List Record} → length left ≤ n → IsBefore limits b left at head records → Judged
+  after_front zero short i = at_record i (λ s inner none. absurd (omega (arith, short, shorter i s)))
+  after_front (suc n) short i = at_record i (λ s inner none. after_front n (omega (arith, short, shorter i s)) (next i s inner none))
+
+  -- ---- from the first byte
+
+  at_start : (left : List ℕ) → b ≡ magic ++ left → Judged
+  at_start left e = elim (found_start.find left) [
+    | inl s ↦ after_front (length s.rest) {head = s.value} {records = []} (omega arith) (record {
+      before = magic ++ s.front;
       front = record {
-        start = magic ++ front;
+        start = magic ++ s.front;
         body = [];
-        begun = record { from = (tt, head); is = refl; spelled = record { front = magic; back = front; first = refl; second = s; joined = refl } };
+        begun = record { from = (tt, s.value); is = refl; spelled = record { front = magic; back = s.front; first = refl; second = s.spelled; joined = refl } };
         each = refl;
-        joined = sym (append-nil (magic ++ front));
+        joined = sym (append-nil (magic ++ s.front));
       };
       allowed = tt;
       place = refl;
-      joined = e ∙ ap (λ (c : List ℕ). magic ++ c) is ∙ sym (append_assoc magic front rest);
+      joined = e ∙ ap (λ (c : List ℕ). magic ++ c) s.joined ∙ sym (append_assoc magic s.front s.rest);
     })
+    | inr lacks ↦ inr (13, ByStart (record { left = left; place = refl; joined = e; none = lacks }))
+  ]
 
-  neither : ⊥
-  neither = not_refused 0 (ByMagic (record { place = refl; differs = no_start }))
+  judged : Judged
+  judged = elim ((found_exactly magic).find b) [
+    | inl s ↦ at_start s.rest (s.joined ∙ ap (λ (c : List ℕ). c ++ s.rest) s.spelled)
+    | inr lacks ↦ inr (0, ByMagic (record { place = refl; differs = λ rest. lacks.none tt magic rest refl }))
+  ]
 
 pub some_place : SomePlace
-some_place limits b not_accepted not_refused = neither not_accepted not_refused
+some_place = judged

@@ -1,5 +1,5 @@
 -- Where a file that isn't accepted is refused.
-use Rattle.std.specs.Prelude.{◌≡◌, ◌≢◌, ℕ, ◌+◌, List, [], ◌∷◌, ◌++◌, length}
+use Rattle.std.specs.Prelude.{◌≡◌, ◌≢◌, ℕ, ◌+◌, List, [], ◌∷◌, ◌++◌, length, ◌⊎◌}
 use Rattle.oas_num.specs.Style.{Any}
 use Rattle.oas_record.specs.declared.heads.Head.{Head}
 use Rattle.oas_record.specs.declared.records.Record.{Record}
@@ -87,6 +87,6 @@ OnePlace = (limits : Limits) (b : List ℕ) (p q : ℕ) → RefusedAt limits b p
 abbrev pub NoPlace : Type 0
 NoPlace = (limits : Limits) (b : List ℕ) (p : ℕ) → Accepted limits b → RefusedAt limits b p → ⊥
 
--- and at some place where it isn't: it can't be neither
+-- and at some place where it isn't
 abbrev pub SomePlace : Type 0
-SomePlace = (limits : Limits) (b : List ℕ) → (Accepted limits b → ⊥) → ((p : ℕ) → RefusedAt limits b p → ⊥) → ⊥
+SomePlace = (limits : Limits) (b : List ℕ) → Accepted limits b ⊎ ((p : ℕ) × RefusedAt limits b p)

@@ -13,8 +13,7 @@ pub fn one_meaning()
     ensures { OneMeaning }
 {}
 
-/// A file is refused at one place at most, at none where it is accepted, and at some where it isn't: no bytes are neither
-/// accepted nor refused at a place.
+/// A file is refused at one place at most, at none where it is accepted, and at some where it isn't.
 pub fn one_place()
     ensures one { OnePlace }
     ensures none { NoPlace }
