@@ -30,6 +30,7 @@ bench: all
 	bench/run
 	cd crates/layout_bench && rt run --jobs $(JOBS) </dev/null >/dev/null
 	bench/layouts
+	bench/canon ./oascanon
 
 clean:
 	rm -rf crates/*/out oascanon
