@@ -69,7 +69,7 @@ find_is q [] = refl
 find_is q (c ∷ cs) = ap (λ o. cond (is_at (name_cmp q) c.0) (Some c.1) o) (find_is q cs)
 
 -- layouts that are the same have equal cells
-cells_from_same : (a b : Contents) → a.profile ≡ b.profile → IsLayout a → IsLayout b → SameLayout a.profile (meaning_of a) (meaning_of b) → a.cells ≡ b.cells
+pub cells_from_same : (a b : Contents) → a.profile ≡ b.profile → IsLayout a → IsLayout b → SameLayout a.profile (meaning_of a) (meaning_of b) → a.cells ≡ b.cells
 cells_from_same a b alike k l s =
     let others : AllByRecursion (IsCell a.profile) b.cells = subst (λ p. AllByRecursion (IsCell p) b.cells) (sym alike) l.cells in
     same_entries name_cmp nat_list_cmp_total exact_bytes a.cells b.cells (sorted_list a.cells k.ascending) (sorted_list b.cells l.ascending)
