@@ -1,20 +1,19 @@
 -- What was read of a source whose bytes are kept is read of that source.
-use Rattle.std.proofs.Common.{◌≡◌, ◌≢◌, ℕ, List, Option, Some, None, Result, Ok, Err, inl, inr, refl, sym, subst, arith}
+use Rattle.std.proofs.Common.{◌≡◌, ◌≢◌, ℕ, List, Some, None, Ok, Err, inl, inr, refl, sym, subst}
 use Rattle.std.specs.Prelude.{◌⊎◌}
 use base.Fml.{GName}
 use Rattle.oas_num.specs.declared.refusals.Why.{Why}
-use Rattle.oas_num.specs.declared.refusals.Why.TheVariants.{Truncated, Read, InputTooLong, Memory}
-use Rattle.oas_num.specs.declared.refusals.Refusal.{Refusal}
+use Rattle.oas_num.specs.declared.refusals.Why.TheVariants.{Read, Memory}
 use Rattle.oas_num.specs.SourceFault.TheVariants.{Device, TooLong}
 use Rattle.oas_num.specs.Script.{Script, Takes, IsAtEnd, HasFailed, IsTooLong}
 use Rattle.oas_layout.specs.declared.limits.Limits.{Limits}
 use Rattle.oas_layout.specs.declared.profile.Profile.{Profile}
 use Rattle.oas_layout.specs.Contents.{Contents}
-use Rattle.oas_file.specs.Reading.{IsRead, IsRefused, IsPlaced, Refuses}
+use Rattle.oas_file.specs.Reading.{IsRead, Refuses}
 use Rattle.oas_canon.specs.declared.keeping.Ending.{Ending}
 use Rattle.oas_canon.specs.declared.keeping.Ending.TheVariants as endings
 use Rattle.oas_canon.specs.Keeping.{EndsSo, IsKeeping, reason_by}
-use Rattle.oas_canon.specs.KeptScripts.{settled_by, refused_by, kept_script}
+use Rattle.oas_canon.specs.KeptScripts.{settled_by, kept_script}
 use Rattle.oas_canon.specs.Kept.{IsKept, RefusesKept}
 
 -- ---- what an ending says of the source

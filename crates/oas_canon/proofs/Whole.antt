@@ -1,5 +1,5 @@
 -- A whole run, from its parts.
-use Rattle.std.proofs.Common.{◌≡◌, ℕ, ◌⊎◌, inl, inr, Bool, true, false, List, [], ◌++◌, Option, Some, None, Result, Ok, Err, IfOk, IfErr, IsTrue, ◌↔◌, IsSome, refl, sym, ◌∙◌, ap, subst, arith}
+use Rattle.std.proofs.Common.{◌≡◌, ℕ, ◌⊎◌, inl, inr, Bool, true, false, List, ◌++◌, Option, Some, None, Result, Ok, Err, IfOk, IfErr, IsTrue, ◌↔◌, IsSome, refl, sym, ◌∙◌, ap, subst, arith}
 use Rattle.std.proofs.lemmas.List.{append-nil, append_cancel_right}
 use Rattle.sha2.specs.Sha256.{sha256}
 use Rattle.oas_num.specs.declared.refusals.Why.{Why}
@@ -25,10 +25,10 @@ module _ {limits : Limits} {profile : Profile} {old new : Script} {l : Contents}
   taken = record { takes = read.takes; ended = read.ended; accepted = read.accepted }
 
   -- what is written of it, under the limits and the profile that were handed in
-  form : IsLayout l → CanonicalForm limits profile (canonical_bytes (meaning_of l))
+  pub form : IsLayout l → CanonicalForm limits profile (canonical_bytes (meaning_of l))
   form held = subst (λ (p : Limits × Profile). CanonicalForm p.0 p.1 (canonical_bytes (meaning_of l))) (λ i. (read.within i, read.by i)) (canonical_form l held).0
 
-  is_form : IsLayout l → IsCanonicalOf limits profile read.bytes (canonical_bytes (meaning_of l))
+  pub is_form : IsLayout l → IsCanonicalOf limits profile read.bytes (canonical_bytes (meaning_of l))
   is_form held = record { form = form held; source = read.meaning; target = meaning_of l; means = read.means; becomes = (canonical_form l held).1; same = read.same }
 
   pub done : {W : Type 0} (contents : W → Option (List ℕ)) (before after : W) (r : Result ℕ Refusal) → IsLayout l → IfOk r (IsWritten contents before (canonical_bytes (meaning_of l)) after) → IfOk r (λ n. IsDone limits profile old new (contents before) (contents after) n)
@@ -110,12 +110,12 @@ compared {profile = profile} {l = l} {k = k} first second h =
 -- ---- of known bytes
 
 -- what was taken to the end is all of it
-all_given : (bytes : List ℕ) (rest : Rest) (new : Option Rest) → Gave (Some rest) bytes new → NoneLeft new false → bytes ≡ rest.bytes
+pub all_given : (bytes : List ℕ) (rest : Rest) (new : Option Rest) → Gave (Some rest) bytes new → NoneLeft new false → bytes ≡ rest.bytes
 all_given bytes rest None g n = absurd g
 all_given bytes rest (Some r) g n = sym (append-nil bytes) ∙ ap (λ (bs : List ℕ). bytes ++ bs) (sym n.0) ∙ sym g.0
 
 -- the reasons that are not the bytes'
-data Cause (why : Why) : Type 0 where
+pub data Cause (why : Why) : Type 0 where
   Bytes : IsTrue (decides why) → Cause why
   End : why ≡ Truncated → Cause why
   Device : why ≡ Read → Cause why
@@ -123,7 +123,7 @@ data Cause (why : Why) : Type 0 where
   Writer : why ≡ Write → Cause why
   Room : why ≡ Memory → Cause why
 
-cause_of : (why : Why) → Cause why
+pub cause_of : (why : Why) → Cause why
 cause_of Truncated = End refl
 cause_of Read = Device refl
 cause_of InputTooLong = Limit refl
@@ -131,11 +131,11 @@ cause_of Write = Writer refl
 cause_of Memory = Room refl
 cause_of _ = Bytes refl
 
-within_not : (bytes : List ℕ) (rest : Rest) (new : Option Rest) → Gave (Some rest) bytes new → NoneLeft new true → rest.goes_on ≡ false → ⊥
+pub within_not : (bytes : List ℕ) (rest : Rest) (new : Option Rest) → Gave (Some rest) bytes new → NoneLeft new true → rest.goes_on ≡ false → ⊥
 within_not bytes rest None g n e = absurd g
 within_not bytes rest (Some r) g n e = let h : ◌≡◌ {A = Bool} true false = sym n.1 ∙ g.1 ∙ e in cc
 
-front_not : {limits : Limits} (bytes : List ℕ) (rest : Rest) (new : Option Rest) → Gave (Some rest) bytes new → ((more : List ℕ) → Accepted limits (bytes ++ more) → ⊥) → Accepted limits rest.bytes → ⊥
+pub front_not : {limits : Limits} (bytes : List ℕ) (rest : Rest) (new : Option Rest) → Gave (Some rest) bytes new → ((more : List ℕ) → Accepted limits (bytes ++ more) → ⊥) → Accepted limits rest.bytes → ⊥
 front_not bytes rest None g n a = absurd g
 front_not {limits = limits} bytes rest (Some r) g n a = n r.bytes (subst (Accepted limits) g.0 a)
 
@@ -159,12 +159,12 @@ exactly_taken {limits = limits} {old = old} {new = new} {bytes = bytes} value t 
   by_rest None g w z = tt
   by_rest (Some rest) g w z = subst (Accepted limits) (all_given bytes rest new.rest g t.ended.none) t.accepted
 
-exactly_unwritten : (limits : Limits) (old new : Script) (refusal : Refusal) → refusal.why ≡ Write → Exactly {T = ℕ} limits old (Err refusal) new
-exactly_unwritten limits old new refusal e = by_rest old.rest where
-  by_rest : (rest : Option Rest) → IsWithinSource rest → new.failures ≡ 0 → IsDecided {T = ℕ} limits rest (Err refusal)
+pub exactly_unwritten : (T : Type 0) (limits : Limits) (old new : Script) (refusal : Refusal) → refusal.why ≡ Write → Exactly {T = T} limits old (Err refusal) new
+exactly_unwritten T limits old new refusal e = by_rest old.rest where
+  by_rest : (rest : Option Rest) → IsWithinSource rest → new.failures ≡ 0 → IsDecided {T = T} limits rest (Err refusal)
   by_rest None w z = tt
   by_rest (Some rest) w z = inl e
 
 pub exactly_written : {limits : Limits} {profile : Profile} {old new : Script} {l : Contents} {W : Type 0} (contents : W → Option (List ℕ)) (before after : W) (r : Result ℕ Refusal) → IsRead limits profile old l new → IfErr r (IsCutOff contents before (canonical_bytes (meaning_of l)) after) → Exactly limits old r new
 exactly_written contents before after (Ok n) read h = exactly_taken n (taken read)
-exactly_written {limits = limits} {old = old} {new = new} contents before after (Err refusal) read h = exactly_unwritten limits old new refusal h.reason
+exactly_written {limits = limits} {old = old} {new = new} contents before after (Err refusal) read h = exactly_unwritten ℕ limits old new refusal h.reason

@@ -1,5 +1,5 @@
 -- The script of a source whose bytes are kept.
-use Rattle.std.specs.Prelude.{◌≡◌, ℕ, ◌+◌, List, false, Option, None, Some, Result, Ok, Err}
+use Rattle.std.specs.Prelude.{ℕ, ◌+◌, false, Option, None, Some, Result, Ok, Err}
 use Rattle.oas_num.specs.SourceFault.{SourceFault}
 use Rattle.oas_num.specs.SourceFault.TheVariants.{Device, TooLong}
 use Rattle.oas_num.specs.Script.{Script}

@@ -4,3 +4,4 @@ pub mod KeptScripts
 pub mod Comparing
 pub mod Hashing
 pub mod Kept
+pub mod Rekeying

@@ -27,12 +27,12 @@ pub fn is_canonical<S: Source>(alloc: Global, from: &mut S, limits: Limits) -> R
     ensures decided { IfErr result (λ refusal. (refusal.why ≡ NoMemory) ⊎ IsReasoned limits (S.script from.old) refusal (S.script from.new)) }
     ensures exactly { Exactly limits (S.script from.old) result (S.script from.new) }
 {
-    let (layout, kept) = read_kept(alloc, from, limits)?;
+    let (layout, kept) = read_kept(alloc, from, limits, PROFILE)?;
     Ok(is_spelled(&layout, &kept))
 }
 
 /// Whether these are the canonical bytes of a layout.
-fn is_spelled(layout: &Layout, bytes: &[u8]) -> bool
+pub(crate) fn is_spelled(layout: &Layout, bytes: &[u8]) -> bool
     ensures spelled { IsTrue result ↔ (canonical_bytes (meaning_of layout.now) ≡ bytes.now) }
     ensures layout { IsLayout layout.now }
 {

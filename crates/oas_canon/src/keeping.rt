@@ -4,9 +4,8 @@ ghost use Rattle.oas_canon.specs.declared.keeping.Ending.TheVariants.{Open};
 ghost use Rattle.oas_canon.specs.Keeping.{IsKeeping, IsKeeping-prop, reason_by};
 ghost use Rattle.oas_canon.specs.Kept.{IsKept, RefusesKept};
 
-use crate::profile::PROFILE;
 use oas_file::read_layout;
-use oas_layout::{Layout, Limits};
+use oas_layout::{Layout, Limits, Profile};
 use oas_num::{Refusal, Source, SourceFault, Why};
 use std::alloc::Global;
 use std::marker::{Brand, PhantomData};
@@ -109,13 +108,14 @@ pub(crate) fn read_kept<S: Source>(
     alloc: Global,
     source: &mut S,
     limits: Limits,
+    profile: Profile,
 ) -> Result<(Layout, Vec<u8>), Refusal>
-    ensures kept { IfOk result (λ read. IsKept limits PROFILE (S.script source.old) read.0 read.1.items (S.script source.new)) }
+    ensures kept { IfOk result (λ read. IsKept limits profile (S.script source.old) read.0 read.1.items (S.script source.new)) }
     ensures refused { IfErr result (λ refusal. RefusesKept limits (S.script source.old) refusal (S.script source.new)) }
 {
     match Vec::with_capacity(alloc, ROOM) {
         Ok(room) => {
-            let (read, _source) = read_named::<S, Brand>(alloc, source, room, limits);
+            let (read, _source) = read_named::<S, Brand>(alloc, source, room, limits, profile);
             read
         }
         Err(_) => Err(Refusal {
@@ -131,13 +131,14 @@ fn read_named<'a, S: Source, K: Start>(
     source: &'a mut S,
     room: Vec<u8>,
     limits: Limits,
+    profile: Profile,
 ) -> (Result<(Layout, Vec<u8>), Refusal>, &'a mut S)
     requires named { source.ghost_name ≡ K.name }
     requires starts { S.script source.old ≡ K.script }
     requires none { room.items ≡ [] }
     requires room { vec_len room < vec_capacity room }
     ensures same { result.1.ghost_name ≡ source.entry.ghost_name }
-    ensures kept { IfOk result.0 (λ read. IsKept limits PROFILE (S.script source.old) read.0 read.1.items (S.script result.1.now)) }
+    ensures kept { IfOk result.0 (λ read. IsKept limits profile (S.script source.old) read.0 read.1.items (S.script result.1.now)) }
     ensures refused { IfErr result.0 (λ refusal. RefusesKept limits (S.script source.old) refusal (S.script result.1.now)) }
 {
     let mut keeping: KeepingSource<'a, S, K> = KeepingSource {
@@ -146,7 +147,7 @@ fn read_named<'a, S: Source, K: Start>(
         ending: Ending::Open,
         start: PhantomData,
     };
-    let outcome = read_layout(alloc, &mut keeping, limits, PROFILE);
+    let outcome = read_layout(alloc, &mut keeping, limits, profile);
     let KeepingSource {
         source,
         kept,

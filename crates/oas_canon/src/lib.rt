@@ -1,5 +1,6 @@
 //! From a file to its one canonical spelling, and what depends on it alone: whether a file is canonical as it stands,
-//! whether two mean the same layout, and a file's key.
+//! whether two mean the same layout, and a file's key. And from the canonical spelling by profile one to that by profile
+//! two.
 //!
 //! What this crate promises to the one above it, in the words of its contracts (specs/Run.antt):
 //!
@@ -9,13 +10,16 @@
 //! - [`is_canonical`] answers whether the bytes of an accepted file are its canonical form (`IsJudged`), which is said of a
 //!   source whose bytes are known; [`same_files`] whether two accepted files mean the same layout (`IsCompared`); [`key`]
 //!   the SHA-256 of an accepted file's canonical form (`IsKeyed`).
+//! - [`rekey`] writes the canonical file by profile two of a file that is canonical by profile one (`IsRekeyed`,
+//!   specs/Rekeying.antt), and answers [`Rekeyed::NotProfile1`], with the writer as it was, of an accepted file that isn't,
+//!   which is said of a source whose bytes are known (`IsOther`). It keeps the bytes, as [`is_canonical`] does.
 //! - Each of them refuses as [`read_layout`] of `oas_file` does, whose words stand in the contracts: no accepted file goes
 //!   on from what was taken (`IsRefused`), the place (`IsPlaced`), and which bytes decide it, for which reason
 //!   (`IsReasoned`). A refusal of [`same_files`] names its file, and of the second nothing is read where the first is
 //!   refused. [`is_canonical`] keeps the bytes, and so may want memory at any byte.
 //! - Each of them says besides, of known bytes under the source's limit and over a device that has not failed, that it
 //!   answers exactly where the files are accepted, if not for the writer or the memory (`Exactly`, `ExactlyBoth`).
-//! - Limits are handed in; the profile, which says what is taken for the same element, is [`PROFILE`].
+//! - Limits are handed in; the profile, which says what is taken for the same element, is [`PROFILE`], but for re-keying.
 //! - The laws of files and of canonical forms, over the definitions alone, are [`laws`].
 //!
 //! What a file is, means and is refused for stands in `oas_file`, what a canonical form is and how it is put in `oas_form`.
@@ -32,6 +36,7 @@ mod keeping;
 mod keys;
 pub mod laws;
 mod profile;
+mod rekeying;
 mod sameness;
 
 pub use canonical::canonicalize;
@@ -41,6 +46,7 @@ pub use oas_file::read_layout;
 pub use oas_form::{put_canonical, write_canonical};
 pub use oas_layout::{Layout, Limits, Profile};
 pub use profile::PROFILE;
+pub use rekeying::{Rekeyed, rekey};
 pub use sameness::{Which, same_files};
 
 #[cfg(test)]

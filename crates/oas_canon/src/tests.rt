@@ -2,12 +2,14 @@
 //! fails, and memory that is refused at each growth. The worked rows are the command's.
 
 mod memory;
+mod rekeying;
 
 use super::*;
 use oas_num::{ReaderSource, Refusal, SliceSource, Source, Why};
 use std::alloc::{AllocError, Global};
 use std::io;
-use std::io::{ErrorKind, Read};
+use std::io::{ErrorKind, Read, Write};
+use std::process::Abort;
 use std::test::Fail;
 
 /// The magic, START with unit 1000, and one cell `A` with one rectangle.

@@ -3,8 +3,8 @@
 //! The process's heap is filled with pieces, down to the smallest, and then emptied a piece at a time, so that each run
 //! has a little more memory than the one before. (Under `rt try` the heap can't be filled, and nothing is refused.)
 
+use super::rekeying::{Short, boxed};
 use super::*;
-use std::process::Abort;
 
 /// More than any piece of memory that is there.
 const LARGEST: usize = 68_719_476_736;
@@ -18,6 +18,7 @@ enum Call {
     IsCanonical,
     Key,
     SameFiles,
+    Rekey,
 }
 
 /// Takes pieces of memory, of `most` bytes and less, until there is none or `held` is full.
@@ -56,6 +57,10 @@ fn is_refused(rt: &impl Abort, alloc: Global, call: Call, file: &[u8], digest: &
         Call::SameFiles => match same_files(alloc, &mut from, &mut other, limits) {
             Ok(same) => (same, None),
             Err((_, refusal)) => (false, Some(refusal.why)),
+        },
+        Call::Rekey => match rekey(alloc, &mut from, &mut Short { room: 301 }, limits) {
+            Ok(rekeyed) => (rekeyed == Rekeyed::Done(301), None),
+            Err(refusal) => (false, Some(refusal.why)),
         },
     };
     assert!(rt; is_right || why == Some(Why::Memory));
@@ -109,5 +114,6 @@ fn each_growth(rt: HostRuntime) -> Result<(), Fail> {
     };
     expect_growths(&rt, alloc, Call::IsCanonical, &file, &digest)?;
     expect_growths(&rt, alloc, Call::Key, &file, &digest)?;
-    expect_growths(&rt, alloc, Call::SameFiles, &file, &digest)
+    expect_growths(&rt, alloc, Call::SameFiles, &file, &digest)?;
+    expect_growths(&rt, alloc, Call::Rekey, &boxed(alloc)?, &digest)
 }
