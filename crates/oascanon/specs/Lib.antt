@@ -1,3 +1,5 @@
 pub mod Lines
 pub mod Calls
 pub mod Runs
+pub mod Opening
+pub mod Creating

@@ -1,8 +1,9 @@
-//! The command `oascanon`: the canonical form of an OASIS file.
+//! The command `oascanon`: the canonical form of an OASIS file, and what can be asked of one.
 //!
-//! `oascanon canon` reads standard input and writes its canonical bytes to standard output. The work is done by the
-//! `run_` functions, which are generic over their input and outputs, so that tests call them over memory; `main` opens
-//! the streams of the process and calls them. What they promise to `main`:
+//! The words of the command line are read by [`commands`]. [`opening`] opens an input by its name, and [`creating`] has an
+//! output that is created at its first byte. The work is done by the `run_` functions, which are generic over their inputs
+//! and outputs, so that tests call them over memory; `main` opens the streams of the process and calls them. What they
+//! promise to `main`:
 //!
 //! - [`runs::run_canon`] answers status 0 where `oas_canon::canonicalize` answered Ok, and 1 where it refused. What was
 //!   read and written is all that the contract of that call says of its answer (`Canonicalizes`, specs/Calls.antt), the
@@ -16,54 +17,132 @@
 //! - [`runs::canon_telling`] and the like are the same over a sink for that line, whose contract counts failures: the line
 //!   was put, unless the sink failed (`Ends`).
 //! - [`lines::write_line`] writes a line to an output, or a front of it (`IsWritten`, `IsCutOff`).
-//! - [`messages::put_refusal`] puts the line `NAME: refused N at OFFSET` (`refusal_line`, specs/Lines.antt).
+//! - [`messages::put_refusal`] puts the line `NAME: refused N at OFFSET` (`refusal_line`, specs/Lines.antt), and
+//!   [`opening::put_unopened`] the line `NAME: cannot be opened` (`unopened_line`, specs/Opening.antt).
+//! - [`creating::NewFile`] creates nothing as long as no byte is written to it (`is_created`, specs/Creating.antt).
 //!
-//! Not under a contract: what `main` opens, and which words `clap` understands.
+//! Not under a contract: which words `clap` understands, and that `main` hands each run what it opened.
 #![tactic(auto)]
 
 mod commands;
+mod creating;
 mod lines;
 mod messages;
+mod opening;
 mod runs;
 #[cfg(test)]
 mod tests;
 
-use commands::{Request, read_request};
+use commands::{Request, Task, limits_of};
+use creating::Output;
 use oas_canon::Limits;
 use oas_num::{ReaderSource, Refusal, Why};
+use opening::{Input, name_of, run_unopened};
+use runs::{run_canon, run_check, run_key, run_refused, run_same, run_show};
 use std::process::ExitCode;
 
-/// The name of standard input in messages.
-const STANDARD_INPUT: &str = "standard input";
-
 fn main(rt: HostRuntime) -> ExitCode {
-    let status = match read_request(&rt) {
-        Ok(Request::Canon) => canon(&rt),
+    let status = match commands::words_of(&rt) {
+        Ok(words) => match commands::parse(rt.alloc(), words.as_slice()) {
+            Ok(request) => answer(&rt, request),
+            Err(error) => commands::end(&rt, &error),
+        },
         Err(status) => status,
     };
     ExitCode::from(status)
 }
 
-/// Runs `canon` from standard input to standard output, and answers the status.
-fn canon(rt: &HostRuntime) -> u8 {
-    let mut out = rt.stdout();
-    let mut err = rt.stderr();
-    let limits = Limits::standard();
-    match ReaderSource::new(rt.alloc(), rt.stdin(), limits.input()) {
-        Ok(mut from) => runs::run_canon(
-            rt.alloc(),
-            STANDARD_INPUT,
-            &mut from,
-            &mut out,
-            &mut err,
-            limits,
-        ),
-        Err(_) => {
-            let refusal = Refusal {
-                at: 0,
-                why: Why::Memory,
-            };
-            runs::run_refused(STANDARD_INPUT, refusal, &mut err)
-        }
+/// Does what is asked for, and answers the status.
+fn answer(rt: &HostRuntime, request: Request<'_>) -> u8 {
+    let limits = limits_of(request.is_large);
+    let ended = match request.task {
+        Task::Canon { input, output } => canon(rt, input, output, limits),
+        Task::Check { input } => check(rt, input, limits),
+        Task::Same { first, second } => same(rt, first, second, limits),
+        Task::Show { input } => show(rt, input, limits),
+        Task::Key { input } => key(rt, input, limits),
+    };
+    match ended {
+        Ok(status) => status,
+        Err(status) => status,
     }
+}
+
+/// The source of an input, or the status where there is none, after its line on standard error.
+fn source_of(
+    rt: &HostRuntime,
+    input: Option<&str>,
+    limits: Limits,
+) -> Result<ReaderSource<Input>, u8> {
+    match Input::open(rt, input) {
+        Ok(opened) => reader_of(rt, input, opened, limits),
+        Err(_) => Err(run_unopened(name_of(input), &mut rt.stderr())),
+    }
+}
+
+/// The source of an input that was opened, or the status where there is no memory for it.
+fn reader_of(
+    rt: &HostRuntime,
+    input: Option<&str>,
+    opened: Input,
+    limits: Limits,
+) -> Result<ReaderSource<Input>, u8> {
+    ReaderSource::new(rt.alloc(), opened, limits.input()).map_err(|_| {
+        let why = Why::Memory;
+        run_refused(name_of(input), Refusal { at: 0, why }, &mut rt.stderr())
+    })
+}
+
+/// `canon [IN [OUT]]`
+fn canon(
+    rt: &HostRuntime,
+    input: Option<&str>,
+    output: Option<&str>,
+    limits: Limits,
+) -> Result<u8, u8> {
+    let mut from = source_of(rt, input, limits)?;
+    let mut out = Output::new(rt, output);
+    let (name, mut err) = (name_of(input), rt.stderr());
+    Ok(run_canon(rt.alloc(), name, &mut from, &mut out, &mut err, limits))
+}
+
+/// `check [IN]`
+fn check(rt: &HostRuntime, input: Option<&str>, limits: Limits) -> Result<u8, u8> {
+    let mut from = source_of(rt, input, limits)?;
+    let (mut out, mut err) = (rt.stdout(), rt.stderr());
+    let name = name_of(input);
+    Ok(run_check(rt.alloc(), name, &mut from, &mut out, &mut err, limits))
+}
+
+/// `same A B`: both are opened before one is read.
+fn same(rt: &HostRuntime, first: &str, second: &str, limits: Limits) -> Result<u8, u8> {
+    let mut a = source_of(rt, Some(first), limits)?;
+    let mut b = source_of(rt, Some(second), limits)?;
+    let (mut out, mut err) = (rt.stdout(), rt.stderr());
+    Ok(run_same(
+        rt.alloc(),
+        first,
+        &mut a,
+        second,
+        &mut b,
+        &mut out,
+        &mut err,
+        limits,
+    ))
+}
+
+/// `show [IN]`
+fn show(rt: &HostRuntime, input: Option<&str>, limits: Limits) -> Result<u8, u8> {
+    let mut from = source_of(rt, input, limits)?;
+    let (mut out, mut err) = (rt.stdout(), rt.stderr());
+    let name = name_of(input);
+    Ok(run_show(rt.alloc(), name, &mut from, &mut out, &mut err, limits))
+}
+
+/// `key [IN]`
+fn key(rt: &HostRuntime, input: Option<&str>, limits: Limits) -> Result<u8, u8> {
+    let mut from = source_of(rt, input, limits)?;
+    let (mut out, mut err) = (rt.stdout(), rt.stderr());
+    let name = name_of(input);
+    Ok(run_key(rt.alloc(), name, &mut from, &mut out, &mut err, limits))
 }

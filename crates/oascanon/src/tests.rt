@@ -1,8 +1,11 @@
-//! The worked rows, and what no contract says: readers and writers that cut, fail or never end, and want of memory.
+//! The worked rows, and what no contract says: readers and writers that cut, fail or never end, want of memory, command
+//! lines, and files by name.
 
 mod answers;
 mod devices;
 mod faults;
+mod files;
 mod memory;
 mod rows;
 mod table;
+mod words;

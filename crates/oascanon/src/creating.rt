@@ -1,0 +1,104 @@
+//! Outputs: standard output, or a file that is created at its first byte.
+ghost use Rattle.std.specs.Prelude.{◌≡◌, ◌<◌, true, false, IfOk};
+ghost use Rattle.oascanon.specs.Creating.{is_created, IsOutput};
+
+use std::fs::File;
+use std::io;
+use std::io::{Stdout, Write};
+
+/// A file that is created, or replaced whole, when the first byte is written to it. Where nothing is written nothing is
+/// created, and what stands under its name stays as it is.
+#[derive(Drop)]
+pub struct NewFile<'a> {
+    rt: &'a HostRuntime,
+    path: &'a str,
+    file: Option<File>,
+}
+
+impl<'a> NewFile<'a> {
+    /// One that isn't created yet.
+    pub fn new(rt: &'a HostRuntime, path: &'a str) -> NewFile<'a>
+        ensures path { result.path ≡ path.entry }
+        ensures uncreated { is_created result ≡ false }
+    {
+        NewFile {
+            rt,
+            path,
+            file: None,
+        }
+    }
+}
+
+impl Write for NewFile<'_> {
+    ghost use Rattle.std.specs.Prelude.{[], None, Ok};
+    ghost use Rattle.std.specs.Io.{WritesAtMost};
+    ghost use Rattle.std.specs.Io.KnownBytes.{WriteAppends};
+
+    fn write(&mut self, buf: &[u8]) -> io::Result<usize>
+        ensures bound { WritesAtMost result buf.now }
+        ensures bytes { WriteAppends None None result buf.now }
+        ensures nothing { buf.now ≡ [] → (result ≡ Ok 0) × (self.new ≡ self.old) }
+        ensures taken { IfOk result (λ count. 0 < count → is_created self.new ≡ true) }
+        ensures stays { is_created self.old ≡ true → is_created self.new ≡ true }
+        ensures path { self.new.path ≡ self.old.path }
+    {
+        if buf.is_empty() {
+            return Ok(0);
+        }
+        match &mut self.file {
+            Some(file) => file.write(buf),
+            None => {
+                let mut file = File::create(self.rt, self.path)?;
+                let count = file.write(buf);
+                self.file = Some(file);
+                count
+            }
+        }
+    }
+
+    fn flush(&mut self) -> io::Result<()>
+        ensures uncreated { is_created self.old ≡ false → (result ≡ Ok tt) × (self.new ≡ self.old) }
+        ensures stays { is_created self.new ≡ is_created self.old }
+        ensures path { self.new.path ≡ self.old.path }
+    {
+        match &mut self.file {
+            Some(file) => file.flush(),
+            None => Ok(()),
+        }
+    }
+}
+
+/// Where a file is written to.
+#[derive(Drop)]
+pub enum Output<'a> {
+    Standard(Stdout),
+    New(NewFile<'a>),
+}
+
+impl<'a> Output<'a> {
+    /// The new file of this name, or standard output.
+    pub fn new(rt: &'a HostRuntime, path: Option<&'a str>) -> Output<'a>
+        ensures { IsOutput path.entry result }
+    {
+        match path {
+            Some(path) => Output::New(NewFile::new(rt, path)),
+            None => Output::Standard(rt.stdout()),
+        }
+    }
+}
+
+impl Write for Output<'_> {
+    fn write(&mut self, buf: &[u8]) -> io::Result<usize> {
+        match self {
+            Output::Standard(stdout) => stdout.write(buf),
+            Output::New(file) => file.write(buf),
+        }
+    }
+
+    fn flush(&mut self) -> io::Result<()> {
+        match self {
+            Output::Standard(stdout) => stdout.flush(),
+            Output::New(file) => file.flush(),
+        }
+    }
+}
