@@ -1,5 +1,5 @@
 -- Inputs by name, and what is said of one that can't be opened.
-use Rattle.std.specs.Prelude.{ℕ, List, [], ◌∷◌, ◌++◌, Bool, true, false, Option, Some, None, codes}
+use Rattle.std.specs.Prelude.{ℕ, List, ◌++◌, Bool, true, false, Option, Some, None, codes}
 use Rattle.std.specs.Borrow.{Bor}
 use Rattle.oascanon.specs.declared.opening.Input.{Input}
 use Rattle.oascanon.specs.declared.opening.Input.TheVariants.{Standard, Named}

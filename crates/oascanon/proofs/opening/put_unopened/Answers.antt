@@ -1,6 +1,5 @@
 use Rattle.std.proofs.Common.{◌≡◌}
-use Rattle.std.proofs.lemmas.Result.{err_from_is_err_and}
-use Rattle.oas_num.proofs.PuttingLemmas.{first, fails_at, ends}
+use Rattle.oas_num.proofs.PuttingLemmas.{first, ends}
 use Rattle.oascanon.proofs.opening.put_unopened.Goals as goal
 
 pub returns : goal.returns
