@@ -1,0 +1,89 @@
+//! Inflates the packets of standard input, each behind its length in four bytes, the lowest first. For each a line says
+//! how many bytes it stands for, and a digest of them, or why it is refused. `inflate_bench TIMES` inflates each so many
+//! times, and prints the time of all of it on standard error, in microseconds.
+#![tactic(auto)]
+
+use oas_bytes::SliceSource;
+use oas_inflate::{Bits, Fault, inflate};
+use std::alloc::Global;
+use std::env;
+use std::io::{self, Read};
+use std::time::{Duration, Instant};
+
+/// How many bytes a packet may stand for: 2^28.
+const LIMIT: usize = 268_435_456;
+
+/// What a packet stands for: how many bytes, and their digest; or why it is refused.
+#[derive(Drop)]
+enum Outcome {
+    Given(usize, u64),
+    Refused(Fault),
+}
+
+/// A digest of bytes: each times a prime, and the next one added, modulo 2^64.
+fn digest(bytes: &[u8]) -> u64 {
+    let mut sum: u64 = 0;
+    for byte in bytes {
+        sum = sum
+            .wrapping_mul(1_099_511_628_211)
+            .wrapping_add(u64::from(*byte));
+    }
+    sum
+}
+
+/// What a packet stands for.
+fn inflate_packet(alloc: Global, packet: &[u8]) -> Outcome {
+    let mut bits = Bits::new(SliceSource::new(packet, u64::MAX));
+    match inflate(alloc, &mut bits, LIMIT) {
+        Ok(bytes) => Outcome::Given(bytes.len(), digest(bytes.as_slice())),
+        Err(fault) => Outcome::Refused(fault),
+    }
+}
+
+/// A length in four bytes, the lowest first.
+fn length_of(first: u8, second: u8, third: u8, fourth: u8) -> usize {
+    let low = usize::from(first) + 256 * usize::from(second);
+    let high = usize::from(third) + 256 * usize::from(fourth);
+    low + 65_536 * high
+}
+
+/// A packet of this length, or of as many bytes as there are, and what comes behind it.
+fn packet_of(bytes: &[u8], length: usize) -> (&[u8], &[u8]) {
+    bytes.split_at(length.min(bytes.len()))
+}
+
+/// How often each packet is inflated: once, where no word says otherwise.
+fn times(rt: &HostRuntime) -> io::Result<u64> {
+    match env::args(rt)?.nth(1) {
+        Some(word) => Ok(word.as_str().parse::<u64>().unwrap_or(1)),
+        None => Ok(1),
+    }
+}
+
+fn main(rt: HostRuntime) -> io::Result<()> {
+    let times = times(&rt)?;
+    let mut input = Vec::new(rt.alloc());
+    rt.stdin().read_to_end(&mut input)?;
+    let mut rest = input.as_slice();
+    let mut taken = Duration::ZERO;
+    // Each turn takes at least the four bytes of a length.
+    for _ in 0..input.len() {
+        if rest.len() < 4 {
+            break;
+        }
+        let length = length_of(rest[0], rest[1], rest[2], rest[3]);
+        let (packet, others) = packet_of(&rest[4..], length);
+        let start = Instant::now(&rt)?;
+        let mut found = inflate_packet(rt.alloc(), packet);
+        for _ in 1..times {
+            found = inflate_packet(rt.alloc(), packet);
+        }
+        taken = taken.saturating_add(start.elapsed(&rt)?);
+        match found {
+            Outcome::Given(count, digest) => println!(rt; "{count} {digest}")?,
+            Outcome::Refused(fault) => println!(rt; "refused: {fault}")?,
+        }
+        rest = others;
+    }
+    eprintln!(rt; "{}", taken.as_micros())
+}
