@@ -3,7 +3,7 @@
 PREFIX ?= /usr/local
 JOBS ?= 2
 
-.PHONY: all install test test-large test-reference bench clean
+.PHONY: all install test test-large test-reference test-workflows test-klayout bench clean
 
 # The program: proves every crate that it stands on, builds it, and leaves it as ./oascanon.
 all:
@@ -11,7 +11,7 @@ all:
 	cp crates/oascanon/out/oascanon oascanon
 
 install: all
-	install -D -m 755 oascanon $(DESTDIR)$(PREFIX)/bin/oascanon
+	install -D -m 755 -t $(DESTDIR)$(PREFIX)/bin oascanon scripts/oascanon-textconv scripts/klayout-to-canonical
 
 # The gate: every proof from nothing, the edits that must fail, the tests, the stored runs.
 test:
@@ -24,6 +24,16 @@ test-large: all
 # Random files, given to the built program and to a plain, slow one that was written from the same rules.
 test-reference: all
 	tests/reference/compare ./oascanon
+
+# The recipes of docs/WORKFLOWS.md as they are printed there. One wants GNU parallel: Debian's package, where it isn't there.
+test-workflows: all
+	command -v parallel >/dev/null || apt-get install -y parallel
+	tests/workflows/run ./oascanon
+
+# The way from KLayout's files into the profile, by the real KLayout: Debian's package, where it isn't there.
+test-klayout: all
+	test -x /usr/lib/klayout/strm2oas || apt-get install -y klayout
+	tests/klayout/run ./oascanon
 
 # Speed and memory, beside a baseline in the same run.
 bench: all
