@@ -3,7 +3,7 @@
 PREFIX ?= /usr/local
 JOBS ?= 2
 
-.PHONY: all install test test-large test-reference test-workflows test-klayout bench clean
+.PHONY: all install test test-large test-reference test-command test-workflows test-klayout bench clean
 
 # The program: proves every crate that it stands on, builds it, and leaves it as ./oascanon.
 all:
@@ -12,6 +12,10 @@ all:
 
 install: all
 	install -D -m 755 -t $(DESTDIR)$(PREFIX)/bin oascanon scripts/oascanon-textconv scripts/klayout-to-canonical
+	install -D -m 644 man/oascanon.1 $(DESTDIR)$(PREFIX)/share/man/man1/oascanon.1
+	install -D -m 644 completions/oascanon.bash $(DESTDIR)$(PREFIX)/share/bash-completion/completions/oascanon
+	install -D -m 644 completions/_oascanon $(DESTDIR)$(PREFIX)/share/zsh/site-functions/_oascanon
+	install -D -m 644 completions/oascanon.fish $(DESTDIR)$(PREFIX)/share/fish/vendor_completions.d/oascanon.fish
 
 # The gate: every proof from nothing, the edits that must fail, the tests, the stored runs.
 test:
@@ -24,6 +28,10 @@ test-large: all
 # Random files, given to the built program and to a plain, slow one that was written from the same rules.
 test-reference: all
 	tests/reference/compare ./oascanon
+
+# What a user sees of the built program, by real files, pipes and limits.
+test-command: all
+	tests/command/run ./oascanon
 
 # The recipes of docs/WORKFLOWS.md as they are printed there. One wants GNU parallel: Debian's package, where it isn't there.
 test-workflows: all
