@@ -3,14 +3,17 @@
 PREFIX ?= /usr/local
 JOBS ?= 2
 
-.PHONY: all install test test-large test-reference test-command test-workflows test-klayout bench clean
+.PHONY: all install install-built dist test test-large test-reference test-command test-workflows test-klayout bench clean
 
 # The program: proves every crate that it stands on, builds it, and leaves it as ./oascanon.
 all:
 	cd crates/oascanon && rt run --jobs $(JOBS) -- --help >/dev/null
 	cp crates/oascanon/out/oascanon oascanon
 
-install: all
+install: all install-built
+
+# The same of the ./oascanon that is there.
+install-built:
 	install -D -m 755 -t $(DESTDIR)$(PREFIX)/bin oascanon scripts/oascanon-textconv scripts/klayout-to-canonical
 	install -D -m 644 man/oascanon.1 $(DESTDIR)$(PREFIX)/share/man/man1/oascanon.1
 	install -D -m 644 completions/oascanon.bash $(DESTDIR)$(PREFIX)/share/bash-completion/completions/oascanon
@@ -28,6 +31,11 @@ test-large: all
 # Random files, given to the built program and to a plain, slow one that was written from the same rules.
 test-reference: all
 	tests/reference/compare ./oascanon
+
+# The packages: a tar.gz, a .deb and SHA256SUMS in dist/, tried in clean folders.
+dist: all
+	tests/dist/run
+	scripts/dist dist
 
 # What a user sees of the built program, by real files, pipes and limits.
 test-command: all
