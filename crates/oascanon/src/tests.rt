@@ -6,6 +6,7 @@ mod devices;
 mod faults;
 mod files;
 mod memory;
+mod rekeying;
 mod rows;
 mod table;
 mod words;

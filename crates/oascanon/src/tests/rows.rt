@@ -119,7 +119,7 @@ fn each_row(rt: HostRuntime) -> Result<(), Fail> {
             count = count.saturating_add(1);
         }
     }
-    assert_eq!(rt; count, 188);
+    assert_eq!(rt; count, 199);
     Ok(())
 }
 
