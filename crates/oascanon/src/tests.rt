@@ -6,6 +6,8 @@ mod devices;
 mod faults;
 mod files;
 mod memory;
+mod readings;
+mod readings_table;
 mod rekeying;
 mod rows;
 mod table;
