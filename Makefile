@@ -3,7 +3,7 @@
 PREFIX ?= /usr/local
 JOBS ?= 2
 
-.PHONY: all install test test-large test-reference bench clean
+.PHONY: all install test test-large test-reference test-readings bench clean
 
 # The program: proves every crate that it stands on, builds it, and leaves it as ./oascanon.
 all:
@@ -24,6 +24,10 @@ test-large: all
 # Random files, given to the built program and to a plain, slow one that was written from the same rules.
 test-reference: all
 	tests/reference/compare ./oascanon
+
+# Each rule of that program changed in turn: some row of the gate must tell the difference.
+test-readings:
+	tests/reference/readings
 
 # Speed and memory, beside a baseline in the same run.
 bench: all

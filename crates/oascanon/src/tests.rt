@@ -6,6 +6,7 @@ mod devices;
 mod faults;
 mod files;
 mod memory;
+mod modal_table;
 mod readings;
 mod readings_table;
 mod rekeying;

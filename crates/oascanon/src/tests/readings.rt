@@ -1,8 +1,11 @@
-//! The rows that rule out wrong readings of the rules, through `run_canon`, over a slice.
+//! The rows that rule out wrong readings of the rules, through `run_canon` and `run_show`, over a slice.
 
-use super::readings_table::{READINGS, UNDER_LIMITS, WHOLE};
-use super::rows::expect_row;
+use super::modal_table::MODAL;
+use super::readings_table::{LISTED, READINGS, UNDER_LIMITS, WHOLE};
+use super::rows::{bytes_of, expect_row};
+use crate::runs::run_show;
 use oas_canon::Limits;
+use oas_num::{INPUT_MAX, SliceSource};
 use std::alloc::Global;
 use std::process::Abort;
 use std::test::Fail;
@@ -25,6 +28,20 @@ fn expect_body(
     expect_row(rt, alloc, limits, row.as_str())
 }
 
+/// Asserts what each row of a table under the standard limits says, and how many there are.
+fn expect_bodies(rt: &impl Abort, alloc: Global, table: &str, wanted: u64) -> Result<(), Fail> {
+    let mut count = 0u64;
+    for row in table.lines() {
+        if !row.starts_with('#') {
+            let (name, row) = row.split_once(" | ").ok_or("a row has a body")?;
+            expect_body(rt, alloc, Limits::standard(), name, row)?;
+            count = count.saturating_add(1);
+        }
+    }
+    assert_eq!(rt; count, wanted);
+    Ok(())
+}
+
 /// The limits of three numbers.
 fn limits_of(numbers: &str) -> Result<Limits, Fail> {
     let (elements, rest) = numbers.split_once(' ').ok_or("limits have a weight")?;
@@ -34,35 +51,79 @@ fn limits_of(numbers: &str) -> Result<Limits, Fail> {
     Ok(limits.ok_or("these are limits")?)
 }
 
-#[test]
-fn each_reading(rt: HostRuntime) -> Result<(), Fail> {
-    for row in READINGS.lines() {
-        if !row.starts_with('#') {
-            let (name, row) = row.split_once(" | ").ok_or("a row has a body")?;
-            expect_body(&rt, rt.alloc(), Limits::standard(), name, row)?;
-        }
+/// Asserts what `show` answers to a body between HEAD and TAIL, with `;` for the end of a line.
+fn expect_listing(rt: &impl Abort, alloc: Global, name: &str, row: &str) -> Result<(), Fail> {
+    let (body, listing) = row.split_once(" | ").ok_or("a row has a listing")?;
+    let file = format!(in alloc; "HEAD {body} TAIL")?;
+    let file = bytes_of(alloc, file.as_str())?;
+    let mut from = SliceSource::new(file.as_slice(), INPUT_MAX);
+    let (mut out, mut err): (Vec<u8>, Vec<u8>) = (Vec::new(alloc), Vec::new(alloc));
+    let status = run_show(
+        alloc,
+        "first",
+        &mut from,
+        &mut out,
+        &mut err,
+        Limits::standard(),
+    );
+    let mut lines: Vec<u8> = Vec::new(alloc);
+    for byte in listing.as_bytes() {
+        lines.push(if *byte == b';' { b'\n' } else { *byte })?;
     }
+    assert_eq!(rt; status, 0, "at {name}");
+    assert_eq!(rt; out.as_slice(), lines.as_slice(), "at {name}");
+    assert!(rt; err.is_empty(), "at {name}");
     Ok(())
 }
 
 #[test]
-fn each_reading_under_limits(rt: HostRuntime) -> Result<(), Fail> {
+fn modal_variables(rt: HostRuntime) -> Result<(), Fail> {
+    expect_bodies(&rt, rt.alloc(), MODAL, 62)
+}
+
+#[test]
+fn other_readings(rt: HostRuntime) -> Result<(), Fail> {
+    expect_bodies(&rt, rt.alloc(), READINGS, 81)
+}
+
+#[test]
+fn readings_under_limits(rt: HostRuntime) -> Result<(), Fail> {
+    let mut count = 0u64;
     for row in UNDER_LIMITS.lines() {
         if !row.starts_with('#') {
             let (name, row) = row.split_once(" | ").ok_or("a row has limits")?;
             let (numbers, row) = row.split_once(" | ").ok_or("a row has a body")?;
             expect_body(&rt, rt.alloc(), limits_of(numbers)?, name, row)?;
+            count = count.saturating_add(1);
         }
     }
+    assert_eq!(rt; count, 29);
     Ok(())
 }
 
 #[test]
-fn each_reading_of_a_whole_file(rt: HostRuntime) -> Result<(), Fail> {
+fn readings_of_whole_files(rt: HostRuntime) -> Result<(), Fail> {
+    let mut count = 0u64;
     for row in WHOLE.lines() {
         if !row.starts_with('#') {
             expect_row(&rt, rt.alloc(), Limits::standard(), row)?;
+            count = count.saturating_add(1);
         }
     }
+    assert_eq!(rt; count, 4);
+    Ok(())
+}
+
+#[test]
+fn listings(rt: HostRuntime) -> Result<(), Fail> {
+    let mut count = 0u64;
+    for row in LISTED.lines() {
+        if !row.starts_with('#') {
+            let (name, row) = row.split_once(" | ").ok_or("a row has a body")?;
+            expect_listing(&rt, rt.alloc(), name, row)?;
+            count = count.saturating_add(1);
+        }
+    }
+    assert_eq!(rt; count, 1);
     Ok(())
 }
