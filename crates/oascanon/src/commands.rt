@@ -22,7 +22,11 @@ const AFTER_HELP: &str = "Status:
 
 Limits:
   2^24 elements, a weight of 2^28, 2^36 bytes of input
-  with --large: 2^26 elements, a weight of 2^30, 2^38 bytes of input";
+  with --large: 2^26 elements, a weight of 2^30, 2^38 bytes of input
+
+Profiles:
+  a polygon that goes round a rectangle is that rectangle by profile 2, by which each
+  command answers, and was a polygon by profile 1; `rekey` leads from the one to the other";
 
 /// What a command line asks for.
 #[derive(Clone, Copy, Debug, PartialEq, Eq)]
