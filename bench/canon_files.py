@@ -120,7 +120,8 @@ def polygons(chance):
             first = steps[0][0] == 0
             points = unsigned(first) + unsigned(len(steps) - 1) + b"".join(signed(x + y) for x, y in steps[:-1])
         else:
-            points = unsigned(kind) + unsigned(len(steps)) + b"".join(itertools.starmap(two_delta if kind == 2 else gdelta, steps))
+            spell = two_delta if kind == 2 else gdelta
+            points = unsigned(kind) + unsigned(len(steps)) + b"".join(itertools.starmap(spell, steps))
         yield b"\x15\x3b" + unsigned(chance.randrange(64)) + b"\x00" + points + place(chance)
 
 
