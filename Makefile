@@ -3,7 +3,7 @@
 PREFIX ?= /usr/local
 JOBS ?= 2
 
-.PHONY: all install install-built dist test test-large test-reference test-command test-workflows test-klayout bench clean
+.PHONY: all install install-built dist test test-large test-reference test-readings test-command test-workflows test-klayout bench clean
 
 # The program: proves every crate that it stands on, builds it, and leaves it as ./oascanon.
 all:
@@ -31,6 +31,10 @@ test-large: all
 # Random files, given to the built program and to a plain, slow one that was written from the same rules.
 test-reference: all
 	tests/reference/compare ./oascanon
+
+# Each rule of that program changed in turn: some row of the gate must tell the difference.
+test-readings:
+	tests/reference/readings
 
 # The packages: a tar.gz, a .deb and SHA256SUMS in dist/, tried in clean folders.
 dist: all
