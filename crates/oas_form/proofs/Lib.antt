@@ -10,6 +10,7 @@ pub mod Held
 pub mod InGrid
 pub mod KindLemmas
 pub mod LargerLimits
+pub mod LayoutForms
 pub mod Lengths
 pub mod MeantLemmas
 pub mod OrderedLayouts

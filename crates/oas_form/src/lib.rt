@@ -9,7 +9,7 @@
 //! - [`put_canonical`] puts the canonical bytes of a layout into a sink, and answers how many they are; at a fault a front of
 //!   them was put (`Counts`, specs/Putting.antt). [`write_canonical`] has a writer take exactly these bytes; its only refusal
 //!   is `Why::Write`, after a front of them that is as long as its place says (`IsWritten`, `IsCutOff`, oas_num's
-//!   specs/Written.antt). Neither takes memory.
+//!   specs/Written.antt). Of both it is said that these bytes are a canonical form and mean the layout. Neither takes memory.
 //! - [`laws`] joins the three, over the definitions alone. Each accepted file has a canonical form, and it is the same under
 //!   all limits that accept the file; what is accepted under limits is accepted under larger ones. One layout has one
 //!   canonical form; it is what is written of each layout that is the same; it is accepted, and its own canonical form; two
