@@ -1,4 +1,6 @@
+pub mod TookLemmas
 pub mod MayLemmas
+pub mod FieldTook
 pub mod PassLemmas
 pub mod EndLemmas
 pub mod HeadLemmas
@@ -8,3 +10,5 @@ pub mod ElementLemmas
 pub mod IdLemmas
 pub mod AfterLemmas
 pub mod RecordLemmas
+pub mod ReasonLemmas
+pub mod NeverLemmas

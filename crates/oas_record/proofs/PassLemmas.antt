@@ -5,10 +5,14 @@ use Rattle.oas_num.specs.declared.refusals.Why.{Why}
 use Rattle.oas_num.specs.Script.{Script}
 use Rattle.oas_num.specs.Grammar.{OneFront, IsImage, IsCount}
 use Rattle.oas_num.specs.Begun.{HasSome}
+use Rattle.oas_num.specs.Integers.{IsUnsigned}
+use Rattle.oas_num.specs.IntegerLaws.{OneFront-IsUnsigned}
+use Rattle.oas_num.specs.Pieces.{ThereTook}
+use Rattle.oas_num.proofs.PieceLemmas.{fails_behind, item_fails}
 use Rattle.oas_num.specs.Reading.{ReadsValue, Fails, FailsPiece, IntegerMay}
-use Rattle.oas_num.proofs.ReadLemmas.{Takes-none, Fails-after}
+use Rattle.oas_num.proofs.ReadLemmas.{Takes-none}
 use Rattle.oas_num.proofs.GrammarLemmas.{image_fails, Listed, listed_none, listed_more, listed_fails}
-use Rattle.oas_record.specs.Ends.{nothing, offsets_if, IsOffsets}
+use Rattle.oas_record.specs.Ends.{nothing, offsets_if, IsOffsets, OffsetsTook}
 
 -- so many were read, and not kept
 pub record Passed {V : Type 0} (A : V → List ℕ → Type 0) (old now : Script) (count : ℕ) : Type 0 where
@@ -38,12 +42,11 @@ module _ {V : Type 0} (A : V → List ℕ → Type 0) where
     takes = p.listed.takes;
   }
 
--- table-offsets that are there, and that aren't
-pub offsets_fail : {old new : Script} {why : Why} (there : Bool) → IsTrue there → Fails IsOffsets IntegerMay old why new → Fails (offsets_if there) IntegerMay old why new
-offsets_fail {old = old} {new = new} {why = why} true is f =
-    Fails-after (offsets_if true) IsOffsets IntegerMay IntegerMay old old new why [] (λ _ h. h) (Takes-none old) (record { wants = λ v p r rest s e. (v, p, r, s, e) }) (λ a b. record { value = b.value; rest = b.rest; spelled = b.spelled }) f
-offsets_fail false is f = absurd cc
+-- table-offsets
+pub offset_fails : {old mid new : Script} {at : ℕ} {why : Why} → at < 12 → Passed IsUnsigned old mid at → FailsPiece IsUnsigned IntegerMay mid why new → FailsPiece IsOffsets OffsetsTook old why new
+offset_fails lt p f = image_fails nothing (item_fails OneFront-IsUnsigned (λ _ h. h) (omega (arith, p.len, lt)) p.listed f)
 
-pub offsets_read : {old new : Script} {v : Unit {0}} (there : Bool) → IsTrue there → ReadsValue IsOffsets old v new → ReadsValue (offsets_if there) old v new
-offsets_read true is read = record { bytes = read.bytes; spelled = read.spelled; takes = read.takes }
-offsets_read false is read = absurd cc
+-- that are there, and that aren't
+pub offsets_fail : {old new : Script} {why : Why} (there : Bool) → IsTrue there → FailsPiece IsOffsets OffsetsTook old why new → FailsPiece (offsets_if there) (ThereTook there OffsetsTook) old why new
+offsets_fail {old = old} true is f = fails_behind (offsets_if true) IsOffsets [] (λ _ h. h) (Takes-none old) (record { wants = λ v p r rest s e. (v, p, r, s, e) }) f
+offsets_fail false is f = absurd cc

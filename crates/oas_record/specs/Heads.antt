@@ -1,5 +1,5 @@
 -- How the front of a file is spelled: the magic and START (SEMI P39, START record).
-use Rattle.std.specs.Prelude.{◌≡◌, ◌≢◌, ℕ, ◌<◌, ◌≤◌, ◌==◌, Bool, false, List, [], ◌∷◌, ◌++◌, Result, Ok, Err, ◌⊎◌}
+use Rattle.std.specs.Prelude.{◌≡◌, ◌≢◌, ℕ, ◌<◌, ◌==◌, Bool, false, List, [], ◌∷◌, ◌++◌, Result, Ok, Err, ◌⊎◌}
 use Rattle.oas_num.specs.declared.refusals.Why.{Why}
 use Rattle.oas_num.specs.declared.refusals.Why.TheVariants.{Magic, Truncated, IntegerRange, StringByte, Unit as UnitIsRefused, Version, OffsetFlag, OutOfPlace, InputTooLong, Read}
 use Rattle.oas_num.specs.declared.refusals.Refusal.{Refusal}
@@ -11,10 +11,12 @@ use Rattle.oas_num.specs.Integers.{IsUnsigned}
 use Rattle.oas_num.specs.Style.{Style, Any, Shortest, unsigned_in}
 use Rattle.oas_num.specs.Texts.{IsLabelByte, IsText, label_in}
 use Rattle.oas_num.specs.Reals.{real_in, RealTook}
-use Rattle.oas_num.specs.Reading.{IsUnended, IsOutOfRange, IntegerMay, ClassMay, NoneWithin, IsCutOff, ReadsValue, Fails}
+use Rattle.oas_num.specs.Pieces.{PairTook, ThereTook}
+use Rattle.oas_num.specs.Reading.{IsUnended, IsOutOfRange, IntegerMay, ClassMay, NoneWithin, IsCutOff, ReadsValue, Fails, FailsPiece}
 use Rattle.oas_num.specs.Script.{Script, Takes}
 use Rattle.oas_record.specs.declared.heads.Head.{Head}
-use Rattle.oas_record.specs.Ends.{nothing, IsNumber, offsets_if}
+use Rattle.oas_record.specs.Ends.{nothing, IsNumber, offsets_if, OffsetsTook}
+use Rattle.oas_record.specs.Took.{SuchTook, Unless}
 
 -- %SEMI-OASIS, CR, LF
 abbrev pub magic : List ℕ
@@ -142,11 +144,19 @@ abbrev pub UnitMay : Why → List ℕ → Type 0
 UnitMay UnitIsRefused last = (real : Real) × real_in Any real last × ¬ IsPositiveReal real
 UnitMay why last = RealTook why last × NoneWithin (real_in Any) last
 
--- where a read of START may fail: one of its integers, the version or the unit
-abbrev pub StartMay : Why → List ℕ → Type 0
-StartMay OffsetFlag last = (flag : ℕ) × IsUnsigned flag last × (2 ≤ flag)
-StartMay (OutOfPlace id) last = IsUnsigned id last × (id ≢ 1)
-StartMay why last = IntegerMay why last ⊎ (VersionMay why last ⊎ UnitMay why last)
+-- where in it a read of START may fail, part by part: its id, the version, the unit, the flag, the table-offsets
+abbrev pub IsOtherId : ℕ → Why → Type 0
+IsOtherId id why = (why ≡ OutOfPlace id) × (id ≢ 1)
+
+abbrev pub StartRestTook : Why → List ℕ → Type 0
+StartRestTook =
+    PairTook (version_in Any) VersionMay (λ _.
+    PairTook (unit_in Any) UnitMay (λ _.
+    PairTook (flag_in Any) (SuchTook IsUnsigned IntegerMay (Unless IsFlag OffsetFlag)) (λ flag.
+    ThereTook (flag == 0) OffsetsTook)))
+
+abbrev pub StartTook : Why → List ℕ → Type 0
+StartTook = PairTook (IsSuch (IsNumber 1) IsUnsigned) (SuchTook IsUnsigned IntegerMay IsOtherId) (λ _. StartRestTook)
 
 -- the magic is refused, at 0
 pub record RefusesMagic (old : Script) (refusal : Refusal) (new : Script) : Type 0 where
@@ -158,7 +168,7 @@ pub record RefusesStart (old : Script) (refusal : Refusal) (new : Script) : Type
   pub at : refusal.at ≡ 13
   pub mid : Script
   pub takes : Takes old magic mid
-  pub fails : Fails (start_in Any) StartMay mid refusal.why new
+  pub fails : FailsPiece (start_in Any) StartTook mid refusal.why new
 
 -- What a read of the front of a file does.
 abbrev pub ReadsHead : Script → Result Head Refusal → Script → Type 0

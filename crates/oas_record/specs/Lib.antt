@@ -1,3 +1,4 @@
+pub mod Took
 pub mod Info
 pub mod InfoLaws
 pub mod References
