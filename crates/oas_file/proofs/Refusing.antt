@@ -15,7 +15,7 @@ use Rattle.oas_record.specs.declared.heads.Head.{Head}
 use Rattle.oas_record.specs.declared.records.Record.{Record}
 use Rattle.oas_record.specs.Heads.{magic, MagicMay, StartTook, RefusesMagic, RefusesStart}
 use Rattle.oas_record.specs.Records.{record_in}
-use Rattle.oas_record.specs.May.{RecordTook}
+use Rattle.oas_record.specs.Refusals.{RecordTook}
 use Rattle.oas_layout.specs.declared.limits.Limits.{Limits}
 use Rattle.oas_file.specs.Files.{file_in, FrontOf}
 use Rattle.oas_file.specs.Acceptance.{Allowed, Accepted}

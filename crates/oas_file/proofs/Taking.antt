@@ -12,7 +12,7 @@ use Rattle.oas_record.specs.declared.records.Record.{Record}
 use Rattle.oas_record.specs.declared.records.Record.TheVariants.{End}
 use Rattle.oas_record.specs.Records.{record_in}
 use Rattle.oas_record.specs.RecordLaws.{OneFront-record}
-use Rattle.oas_record.specs.May.{RecordTook}
+use Rattle.oas_record.specs.Refusals.{RecordTook}
 use Rattle.oas_layout.specs.declared.limits.Limits.{Limits}
 use Rattle.oas_modal.specs.Stands.{ReaderState, StandsFor, refusal as refusal_of}
 use Rattle.oas_file.specs.Files.{FrontOf}

@@ -13,7 +13,7 @@ use Rattle.oas_record.specs.declared.records.Record.{Record}
 use Rattle.oas_record.specs.declared.records.Record.TheVariants.{End}
 use Rattle.oas_record.specs.Heads.{magic, IsMagic, MagicMay, start_in, StartTook}
 use Rattle.oas_record.specs.Records.{record_in}
-use Rattle.oas_record.specs.May.{RecordTook}
+use Rattle.oas_record.specs.Refusals.{RecordTook}
 use Rattle.oas_layout.specs.declared.limits.Limits.{Limits}
 use Rattle.oas_modal.specs.Stands.{refusal, end_refusal}
 use Rattle.oas_file.specs.Places.{IsBefore}

@@ -11,7 +11,7 @@ use Rattle.oas_record.specs.declared.heads.Head.{Head}
 use Rattle.oas_record.specs.declared.records.Record.{Record}
 use Rattle.oas_record.specs.declared.records.Record.TheVariants.{End}
 use Rattle.oas_record.specs.Records.{record_in, IsInner}
-use Rattle.oas_record.specs.May.{RecordTook}
+use Rattle.oas_record.specs.Refusals.{RecordTook}
 use Rattle.oas_modal.specs.Stands.{ReaderState, StandsFor}
 use Rattle.oas_file.specs.Acceptance.{Allowed}
 use Rattle.oas_file.specs.Files.{FrontOf}

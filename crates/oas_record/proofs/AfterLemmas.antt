@@ -25,7 +25,7 @@ use Rattle.oas_record.specs.Polygons.{polygon_in, PolygonTook}
 use Rattle.oas_record.specs.Paths.{path_in, PathTook}
 use Rattle.oas_record.specs.Circles.{circle_in, CircleTook}
 use Rattle.oas_record.specs.Records.{pad, end, xy_absolute, xy_relative, cell_name, text_string, a_cell, placement, text, rectangle, polygon, path, circle, after_id}
-use Rattle.oas_record.specs.May.{AfterTook}
+use Rattle.oas_record.specs.Refusals.{AfterTook}
 use Rattle.oas_num.specs.Grammar.{IsImage}
 
 -- ---- no fields

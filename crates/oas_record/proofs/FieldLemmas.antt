@@ -37,8 +37,8 @@ pub OneFront-extensions_if : (there : Bool) → OneFront (IsThere there (extensi
 OneFront-extensions_if there = OneFront-there there (extensions_in Any) (OneFront-extensions Any)
 
 -- an extension-scheme
-pub with_scheme : {old new : Script} {scheme : ℕ} → scheme < 16 → ReadsValue IsUnsigned old scheme new → OneFront (IsSuch IsScheme IsUnsigned) × ReadsValue (IsSuch IsScheme IsUnsigned) old scheme new
-with_scheme {old = old} {new = new} {scheme = scheme} lt read = (OneFront-scheme Any, such_read IsScheme IsUnsigned old new scheme lt read)
+pub scheme_field : {old new : Script} {scheme : ℕ} → scheme < 16 → ReadsValue IsUnsigned old scheme new → OneFront (IsSuch IsScheme IsUnsigned) × ReadsValue (IsSuch IsScheme IsUnsigned) old scheme new
+scheme_field {old = old} {new = new} {scheme = scheme} lt read = (OneFront-scheme Any, such_read IsScheme IsUnsigned old new scheme lt read)
 
 pub other_scheme : {scheme : ℕ} → 16 ≤ scheme → ¬ IsScheme scheme
 other_scheme le lt = omega (arith, lt, le)

@@ -12,7 +12,7 @@ use Rattle.oas_record.specs.declared.references.CellRef.TheVariants as cell
 use Rattle.oas_record.specs.declared.placements.Turn.{Turn}
 use Rattle.oas_record.specs.declared.placements.Turn.TheVariants.{Quarters, Degrees}
 use Rattle.oas_record.specs.Records.{id_of, cell_name, text_string, a_cell, placement, text, rectangle, polygon, path, circle, after_id}
-use Rattle.oas_record.specs.May.{IsKnown, IsLeftOut}
+use Rattle.oas_record.specs.Refusals.{IsKnown, IsLeftOut}
 
 -- ---- the id of what was read
 

@@ -1,6 +1,4 @@
-pub mod TookLemmas
-pub mod MayLemmas
-pub mod FieldTook
+pub mod InfoLemmas
 pub mod PassLemmas
 pub mod EndLemmas
 pub mod HeadLemmas

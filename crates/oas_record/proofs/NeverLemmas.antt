@@ -2,14 +2,12 @@
 use Rattle.std.proofs.Common.{◌≡◌, ℕ, Bool, true, false, List, inl, inr}
 use Rattle.std.specs.Prelude.{◌==◌}
 use Rattle.oas_num.specs.declared.refusals.Why.{Why}
-use Rattle.oas_num.specs.declared.refusals.Why.TheVariants.{Write, InfoByte, OffsetFlag, ValidationScheme}
+use Rattle.oas_num.specs.declared.refusals.Why.TheVariants.{Write, InfoByte, OffsetFlag, ValidationScheme, Version, Unit as UnitIsRefused}
 use Rattle.oas_num.specs.Combinators.{IsEither}
-use Rattle.oas_num.specs.Pieces.{PairTook, ThereTook, CountTook}
+use Rattle.oas_num.specs.Pieces.{PairTook, ThereTook, CountTook, SuchTook, Unless}
 use Rattle.oas_num.specs.Reals.{RealTook}
-use Rattle.oas_num.proofs.RealLemmas.{real_decides}
 use Rattle.oas_num.specs.Reading.{IntegerMay, NameTook, LabelTook, PaddingTook}
-use Rattle.oas_record.specs.Took.{SuchTook, LastTook, Unless}
-use Rattle.oas_record.specs.Info.{InfoTook}
+use Rattle.oas_record.specs.Info.{InfoTook, LastTook}
 use Rattle.oas_record.specs.Fields.{LayersTook, SpotTook}
 use Rattle.oas_record.specs.References.{CellTook, TextRefTook}
 use Rattle.oas_record.specs.NameRecords.{CellNameTook, TextStringTook}
@@ -24,8 +22,8 @@ use Rattle.oas_shape.specs.declared.list_use.ListUse.TheVariants as uses
 use Rattle.oas_shape.specs.PointLists.{point_list_in, PointListMay}
 use Rattle.oas_record.specs.Paths.{ExtensionsTook, PathTook}
 use Rattle.oas_record.specs.Circles.{CircleTook}
-use Rattle.oas_record.specs.Heads.{VersionMay, UnitMay, StartRestTook, StartTook}
-use Rattle.oas_record.specs.May.{AfterTook, RecordTook}
+use Rattle.oas_record.specs.Heads.{PassedTook, VersionTook, UnitTook, StartRestTook, StartTook}
+use Rattle.oas_record.specs.Refusals.{AfterTook, RecordTook}
 
 pub record Never (took : Why → List ℕ → Type 0) : Type 0 where
   pub none : (bytes : List ℕ) → took Write bytes → ⊥
@@ -59,8 +57,11 @@ number = record { none = λ bytes h. h }
 number_if : (here : Bool) → Never (ThereTook here IntegerMay)
 number_if here = there here number
 
+real : Never RealTook
+real = pair (record { none = λ bytes h. h }) (λ kind. pair (number_if _) (λ _. number_if _))
+
 real_if : (here : Bool) → Never (ThereTook here RealTook)
-real_if here = there here (pair (record { none = λ bytes h. h }) (λ kind. pair (number_if _) (λ _. number_if _)))
+real_if here = there here real
 
 name : Never NameTook
 name = pair (record { none = λ bytes h. h }) (λ n. count (record { none = λ bytes h. h }))
@@ -149,14 +150,17 @@ record_never in_end bytes (inl (inl (inr h))) = h.2
 record_never in_end bytes (inl (inr b)) = (after in_end b.value).none b.last b.holds
 record_never in_end bytes (inr e) = let is = e.0 in cc
 
-version_never : Never VersionMay
-version_never = record { none = λ bytes d. d.reason.holds }
+passed : (count : ℕ) → Never (PassedTook count)
+passed n = count (record { none = λ bytes h. h })
 
-unit_never : Never UnitMay
-unit_never = record { none = λ bytes d. (real_decides Write bytes d.0).holds }
+version : Never VersionTook
+version = unless Version (λ e. cc) (pair number passed)
+
+unit : Never UnitTook
+unit = unless UnitIsRefused (λ e. cc) real
 
 start_rest : Never StartRestTook
-start_rest = pair version_never (λ _. pair unit_never (λ _. pair (unless OffsetFlag (λ e. cc) number) (λ flag. there _ offsets)))
+start_rest = pair version (λ _. pair unit (λ _. pair (unless OffsetFlag (λ e. cc) number) (λ flag. there _ offsets)))
 
 pub start_never : (bytes : List ℕ) → StartTook Write bytes → ⊥
 start_never bytes (inl (inl h)) = h

@@ -10,7 +10,7 @@ use Rattle.oas_num.specs.IntegerLaws.{open_front, OneFront-IsUnsigned}
 use Rattle.oas_num.specs.Reading.{ByteMay, IntegerMay, IsUnended, IsOutOfRange}
 use Rattle.oas_record.specs.Heads.{StartTook}
 use Rattle.oas_record.specs.Circles.{IsCircleInfo, CircleTook}
-use Rattle.oas_record.specs.May.{IsKnown, IsRefusedId, AfterTook, RecordTook}
+use Rattle.oas_record.specs.Refusals.{IsKnown, IsRefusedId, AfterTook, RecordTook}
 use Rattle.oas_record.proofs.IdLemmas.{either_id}
 use Rattle.oas_record.proofs.RecordLemmas.{refused_unknown}
 

@@ -18,9 +18,9 @@ use Rattle.oas_record.specs.Ends.{end_in, EndTook}
 use Rattle.oas_record.specs.Records.{id_of, end, after_id, parts_in, record_in}
 use Rattle.oas_record.specs.RecordLaws.{OneFront-parts}
 use Rattle.oas_record.specs.SomeLaws.{HasSome-end, HasSome-parts}
-use Rattle.oas_record.specs.May.{AfterTook, RecordTook, IsKnown, IsRefusedId, RefusesId, IsWrongEnd}
+use Rattle.oas_record.specs.Refusals.{AfterTook, RecordTook, IsKnown, IsRefusedId, RefusesId, IsWrongEnd}
 use Rattle.oas_num.proofs.PieceLemmas.{fails_behind}
-use Rattle.oas_record.proofs.TookLemmas.{by_format}
+use Rattle.oas_num.proofs.HalfwayLemmas.{by_format}
 use Rattle.oas_record.proofs.IdLemmas.{id_after, known_id, left_out_unknown, large_unknown, one_unknown}
 use Rattle.oas_record.proofs.AfterLemmas.{fails_2, read_2}
 

@@ -3,9 +3,8 @@ use Rattle.std.specs.Prelude.{◌≡◌, ℕ, Bool, true, false, List, [], ◌�
 use Rattle.oas_num.specs.declared.refusals.Why.{Why}
 use Rattle.oas_num.specs.declared.texts.Padding.{Padding}
 use Rattle.oas_num.specs.Integers.{IsUnsigned}
-use Rattle.oas_num.specs.Pieces.{PairTook, ThereTook, CountTook}
+use Rattle.oas_num.specs.Pieces.{PairTook, ThereTook, CountTook, SuchTook, Unless}
 use Rattle.oas_num.specs.Reading.{IntegerMay, PaddingTook}
-use Rattle.oas_record.specs.Took.{SuchTook, Unless}
 use Rattle.oas_num.specs.declared.refusals.Why.TheVariants.{ValidationScheme}
 use Rattle.oas_num.specs.Grammar.{IsPair, IsSuch, IsImage, IsCount}
 use Rattle.oas_num.specs.Combinators.{IsExactly, IsEither}

@@ -6,11 +6,10 @@ use Rattle.oas_num.specs.Style.{Style, Any, unsigned_in, signed_in}
 use Rattle.oas_num.specs.Integers.{IsUnsigned, IsSigned}
 use Rattle.oas_num.specs.Pieces.{PairTook, ThereTook}
 use Rattle.oas_num.specs.Reading.{IntegerMay}
-use Rattle.oas_record.specs.Took.{LastTook}
 use Rattle.oas_shape.specs.declared.repetitions.RepField.{RepField}
 use Rattle.oas_shape.specs.Repetitions.{rep_field_in, RepFieldMay}
 use Rattle.oas_record.specs.declared.spots.Spot.{Spot}
-use Rattle.oas_record.specs.Info.{has}
+use Rattle.oas_record.specs.Info.{has, LastTook}
 
 abbrev pub Layers : Type 0
 Layers = Option ℕ × Option ℕ

@@ -1,22 +1,21 @@
 -- How the front of a file is spelled: the magic and START (SEMI P39, START record).
 use Rattle.std.specs.Prelude.{◌≡◌, ◌≢◌, ℕ, ◌<◌, ◌==◌, Bool, false, List, [], ◌∷◌, ◌++◌, Result, Ok, Err, ◌⊎◌}
 use Rattle.oas_num.specs.declared.refusals.Why.{Why}
-use Rattle.oas_num.specs.declared.refusals.Why.TheVariants.{Magic, Truncated, IntegerRange, StringByte, Unit as UnitIsRefused, Version, OffsetFlag, OutOfPlace, InputTooLong, Read}
+use Rattle.oas_num.specs.declared.refusals.Why.TheVariants.{Magic, Truncated, Unit as UnitIsRefused, Version, OffsetFlag, OutOfPlace, InputTooLong, Read}
 use Rattle.oas_num.specs.declared.refusals.Refusal.{Refusal}
 use Rattle.oas_num.specs.declared.reals.Real.{Real}
 use Rattle.oas_num.specs.Ratio.{Ratio, IsLowest, Reduces}
-use Rattle.oas_num.specs.Grammar.{IsPair, IsSuch, IsImage}
+use Rattle.oas_num.specs.Grammar.{IsPair, IsSuch, IsImage, IsByte}
 use Rattle.oas_num.specs.Combinators.{IsExactly}
 use Rattle.oas_num.specs.Integers.{IsUnsigned}
 use Rattle.oas_num.specs.Style.{Style, Any, Shortest, unsigned_in}
 use Rattle.oas_num.specs.Texts.{IsLabelByte, IsText, label_in}
 use Rattle.oas_num.specs.Reals.{real_in, RealTook}
-use Rattle.oas_num.specs.Pieces.{PairTook, ThereTook}
-use Rattle.oas_num.specs.Reading.{IsUnended, IsOutOfRange, IntegerMay, ClassMay, NoneWithin, IsCutOff, ReadsValue, Fails, FailsPiece}
+use Rattle.oas_num.specs.Pieces.{PairTook, ThereTook, CountTook, SuchTook, Unless}
+use Rattle.oas_num.specs.Reading.{IntegerMay, ClassMay, ReadsValue, Fails, FailsPiece}
 use Rattle.oas_num.specs.Script.{Script, Takes}
 use Rattle.oas_record.specs.declared.heads.Head.{Head}
 use Rattle.oas_record.specs.Ends.{nothing, IsNumber, offsets_if, OffsetsTook}
-use Rattle.oas_record.specs.Took.{SuchTook, Unless}
 
 -- %SEMI-OASIS, CR, LF
 abbrev pub magic : List ℕ
@@ -112,8 +111,8 @@ pub record IsOffMagic (bytes : List ℕ) : Type 0 where
   pub joined : bytes ≡ front ++ byte ∷ []
   pub other : byte ≢ wanted
 
--- The tables below say of each reason what the bytes are that decided: those with which what was read ends. What was read
--- before them begins a spelling.
+-- Of the magic the table says of each reason what the bytes are that decided: those with which what was read ends. What was
+-- read before them begins the magic.
 
 -- where a read of the magic may fail
 abbrev pub MagicMay : Why → List ℕ → Type 0
@@ -123,26 +122,22 @@ MagicMay Read last = last ≡ []
 MagicMay InputTooLong last = last ≡ []
 MagicMay _ last = ⊥
 
--- where a read of an a-string that isn't kept may fail
-abbrev pub PassedMay : Why → List ℕ → Type 0
-PassedMay Truncated last = IsUnended last
-PassedMay Read last = IsUnended last
-PassedMay InputTooLong last = IsUnended last
-PassedMay IntegerRange last = IsOutOfRange last
-PassedMay StringByte last = ClassMay IsLabelByte StringByte last
-PassedMay _ last = ⊥
+-- The tables below say of each reason what all bytes are that were taken.
 
--- Where a read of the version may fail. It is read as one a-string, even where its length or a byte has shown already that
--- it isn't 1.0: what decided is all of it so far.
-abbrev pub VersionMay : Why → List ℕ → Type 0
-VersionMay Version last = (text : List ℕ) × label_in Any text last × (text ≢ version)
-VersionMay why last = IsCutOff (label_in Any) (PassedMay why) last
+-- where in them a read of so many bytes of an a-string that aren't kept may fail
+abbrev pub PassedTook : ℕ → Why → List ℕ → Type 0
+PassedTook count = CountTook (IsSuch IsLabelByte IsByte) count (ClassMay IsLabelByte)
 
--- Where a read of the unit may fail. It is read as one real, even where its type has shown already that it is negative:
--- what decided is all of it so far, of which no front is a whole real.
-abbrev pub UnitMay : Why → List ℕ → Type 0
-UnitMay UnitIsRefused last = (real : Real) × real_in Any real last × ¬ IsPositiveReal real
-UnitMay why last = RealTook why last × NoneWithin (real_in Any) last
+-- where in it a read of the version may fail: in the a-string that stands for it, or this is another
+abbrev pub IsVersion : List ℕ → Type 0
+IsVersion text = text ≡ version
+
+abbrev pub VersionTook : Why → List ℕ → Type 0
+VersionTook = SuchTook (label_in Any) (PairTook IsUnsigned IntegerMay PassedTook) (Unless IsVersion Version)
+
+-- where in it a read of the unit may fail: in the real, or this isn't positive
+abbrev pub UnitTook : Why → List ℕ → Type 0
+UnitTook = SuchTook (real_in Any) RealTook (Unless IsPositiveReal UnitIsRefused)
 
 -- where in it a read of START may fail, part by part: its id, the version, the unit, the flag, the table-offsets
 abbrev pub IsOtherId : ℕ → Why → Type 0
@@ -150,8 +145,8 @@ IsOtherId id why = (why ≡ OutOfPlace id) × (id ≢ 1)
 
 abbrev pub StartRestTook : Why → List ℕ → Type 0
 StartRestTook =
-    PairTook (version_in Any) VersionMay (λ _.
-    PairTook (unit_in Any) UnitMay (λ _.
+    PairTook (version_in Any) VersionTook (λ _.
+    PairTook (unit_in Any) UnitTook (λ _.
     PairTook (flag_in Any) (SuchTook IsUnsigned IntegerMay (Unless IsFlag OffsetFlag)) (λ flag.
     ThereTook (flag == 0) OffsetsTook)))
 

@@ -1,4 +1,3 @@
-pub mod Took
 pub mod Info
 pub mod InfoLaws
 pub mod References
@@ -25,4 +24,4 @@ pub mod CircleLaws
 pub mod Records
 pub mod RecordLaws
 pub mod SomeLaws
-pub mod May
+pub mod Refusals

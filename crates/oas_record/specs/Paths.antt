@@ -13,11 +13,10 @@ use Rattle.oas_record.specs.declared.spots.Spot.{Spot}
 use Rattle.oas_record.specs.Info.{has, info_in, InfoTook}
 use Rattle.oas_record.specs.Fields.{Layers, layers_in, spot_in, LayersTook, SpotTook}
 use Rattle.oas_record.specs.Polygons.{PointsTook}
-use Rattle.oas_record.specs.Took.{SuchTook, Unless}
 use Rattle.oas_num.specs.Integers.{IsUnsigned, IsSigned}
 use Rattle.oas_num.specs.declared.refusals.Why.TheVariants.{InfoByte}
 use Rattle.oas_num.specs.Reading.{IntegerMay}
-use Rattle.oas_num.specs.Pieces.{PairTook, ThereTook}
+use Rattle.oas_num.specs.Pieces.{PairTook, ThereTook, SuchTook, Unless}
 use Rattle.oas_num.specs.declared.refusals.Why.{Why}
 
 -- the extension of a code: 0 modal, 1 flush, 2 the half-width, 3 the number that stands with it

@@ -7,10 +7,9 @@ use Rattle.oas_shape.specs.Polylines.{Polyline}
 use Rattle.oas_shape.specs.PointLists.{point_list_in, PointListMay}
 use Rattle.oas_record.specs.declared.polygons.Polygon.{Polygon}
 use Rattle.oas_record.specs.declared.spots.Spot.{Spot}
-use Rattle.oas_record.specs.Info.{has, info_in, InfoTook}
+use Rattle.oas_record.specs.Info.{has, info_in, InfoTook, LastTook}
 use Rattle.oas_record.specs.Fields.{Layers, layers_in, spot_in, LayersTook, SpotTook}
 use Rattle.oas_shape.specs.declared.list_use.ListUse.{ListUse}
-use Rattle.oas_record.specs.Took.{LastTook}
 use Rattle.oas_num.specs.Pieces.{PairTook, ThereTook}
 use Rattle.oas_num.specs.declared.refusals.Why.{Why}
 

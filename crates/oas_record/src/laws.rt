@@ -10,7 +10,7 @@ ghost use Rattle.oas_num.specs.declared.refusals.Why.TheVariants as why;
 ghost use Rattle.oas_record.specs.Circles.{IsCircleInfo};
 ghost use Rattle.oas_record.specs.Heads.{head_in, StartTook};
 ghost use Rattle.oas_record.specs.Records.{after_id, record_in, records_in};
-ghost use Rattle.oas_record.specs.May.{IsKnown, IsRefusedId, RecordTook};
+ghost use Rattle.oas_record.specs.Refusals.{IsKnown, IsRefusedId, RecordTook};
 ghost use Rattle.oas_record.specs.declared.records.Record.{Record};
 
 /// The front of a file. In the shortest style the unit is in lowest terms, the flag and the table-offsets are zeros (own

@@ -1,7 +1,7 @@
 ghost use Rattle.std.specs.Prelude.{◌≡◌, ◌≢◌, ◌<◌, ◌≤◌, ℕ, Bool};
 ghost use Rattle.oas_num.specs.Reading.{ReadsPiece};
 ghost use Rattle.oas_num.specs.Style.{Any};
-ghost use Rattle.oas_record.specs.May.{AfterTook, RecordTook, ReadsAt, IsKnown, RefusesId};
+ghost use Rattle.oas_record.specs.Refusals.{AfterTook, RecordTook, ReadsAt, IsKnown, RefusesId};
 
 use crate::circles::Circle;
 use crate::ends::read_end;

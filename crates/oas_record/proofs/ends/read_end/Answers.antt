@@ -5,7 +5,7 @@ use Rattle.oas_num.specs.IntegerLaws.{OneFront-IsUnsigned}
 use Rattle.oas_record.specs.Ends.{nothing, end_parts, EndTook}
 use Rattle.oas_record.specs.EndLaws.{OneFront-offsets_if}
 use Rattle.oas_record.proofs.EndLemmas.{other_scheme, scheme_read}
-use Rattle.oas_record.proofs.TookLemmas.{◌▸◌, at_image, fails_at, fails_last, is_read, such_took, such_refused}
+use Rattle.oas_num.proofs.HalfwayLemmas.{◌▸◌, at_image, fails_at, fails_last, is_read, such_took, such_refused}
 use Rattle.oas_record.proofs.ends.read_end.Goals as goal
 
 pub returns-in_err-pass_offsets_if : goal.returns-in_err-pass_offsets_if

@@ -2,8 +2,7 @@ use Rattle.std.proofs.lemmas.Result.{err_from_is_err_and}
 use Rattle.oas_num.specs.Style.{Any}
 use Rattle.oas_num.specs.TextLaws.{OneFront-label}
 use Rattle.oas_record.specs.NameRecords.{TextStringTook}
-use Rattle.oas_record.proofs.TookLemmas.{◌▸◌, at_start, fails_at, fails_last, is_read}
-use Rattle.oas_record.proofs.FieldTook.{number_took}
+use Rattle.oas_num.proofs.HalfwayLemmas.{◌▸◌, at_start, fails_at, fails_last, is_read, number_took}
 use Rattle.oas_record.proofs.name_records.read_text_string.Goals as goal
 
 pub returns-in_err-label : goal.returns-in_err-label

@@ -1,5 +1,5 @@
 use Rattle.std.proofs.lemmas.Result.{err_from_is_err_and}
-use Rattle.oas_record.proofs.TookLemmas.{there_took}
+use Rattle.oas_num.proofs.HalfwayLemmas.{there_took}
 use Rattle.oas_record.proofs.references.read_cell_if.Goals as goal
 
 pub returns-in_err-read_cell : goal.returns-in_err-read_cell

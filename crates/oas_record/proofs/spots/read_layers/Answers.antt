@@ -1,8 +1,7 @@
 use Rattle.std.proofs.lemmas.Result.{err_from_is_err_and}
 use Rattle.oas_record.specs.Fields.{LayersTook}
 use Rattle.oas_record.proofs.ElementLemmas.{OneFront-number_if}
-use Rattle.oas_record.proofs.TookLemmas.{◌▸◌, at_start, fails_at, fails_last, is_read}
-use Rattle.oas_record.proofs.FieldTook.{number_took}
+use Rattle.oas_num.proofs.HalfwayLemmas.{◌▸◌, at_start, fails_at, fails_last, is_read, number_took}
 use Rattle.oas_record.proofs.spots.read_layers.Goals as goal
 
 pub returns-in_err-layer : goal.returns-in_err-layer

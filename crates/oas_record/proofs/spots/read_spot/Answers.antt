@@ -1,8 +1,7 @@
 use Rattle.std.proofs.lemmas.Result.{err_from_is_err_and}
 use Rattle.oas_record.specs.Fields.{SpotTook}
 use Rattle.oas_record.proofs.FieldLemmas.{OneFront-signed_if}
-use Rattle.oas_record.proofs.TookLemmas.{◌▸◌, at_image, fails_at, fails_last, is_read}
-use Rattle.oas_record.proofs.FieldTook.{signed_took}
+use Rattle.oas_num.proofs.HalfwayLemmas.{◌▸◌, at_image, fails_at, fails_last, is_read, signed_took}
 use Rattle.oas_record.proofs.spots.read_spot.Goals as goal
 
 pub returns-in_err-x : goal.returns-in_err-x

@@ -3,8 +3,8 @@ use Rattle.oas_num.specs.Style.{Any}
 use Rattle.oas_record.specs.Circles.{CircleFieldsTook}
 use Rattle.oas_record.specs.FieldLaws.{OneFront-layers}
 use Rattle.oas_record.proofs.ElementLemmas.{allowed_by, refused_by, OneFront-number_if}
-use Rattle.oas_record.proofs.TookLemmas.{◌▸◌, fails_at, fails_last, is_read}
-use Rattle.oas_record.proofs.FieldTook.{info_took, info_refused, info_read, number_took}
+use Rattle.oas_num.proofs.HalfwayLemmas.{◌▸◌, fails_at, fails_last, is_read, number_took}
+use Rattle.oas_record.proofs.InfoLemmas.{info_took, info_refused, info_read}
 use Rattle.oas_record.proofs.circles.Circle.read.Goals as goal
 
 pub returns-in_err-info : goal.returns-in_err-info

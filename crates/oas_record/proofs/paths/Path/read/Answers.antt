@@ -5,8 +5,8 @@ use Rattle.oas_record.specs.Paths.{PathFieldsTook}
 use Rattle.oas_record.specs.FieldLaws.{OneFront-layers}
 use Rattle.oas_record.proofs.ElementLemmas.{OneFront-number_if}
 use Rattle.oas_record.proofs.FieldLemmas.{OneFront-points_if, OneFront-extensions_if}
-use Rattle.oas_record.proofs.TookLemmas.{◌▸◌, fails_at, fails_last, is_read}
-use Rattle.oas_record.proofs.FieldTook.{info_took, info_read, number_took}
+use Rattle.oas_num.proofs.HalfwayLemmas.{◌▸◌, fails_at, fails_last, is_read, number_took}
+use Rattle.oas_record.proofs.InfoLemmas.{info_took, info_read}
 use Rattle.oas_record.proofs.paths.Path.read.Goals as goal
 
 pub returns-in_err-info : goal.returns-in_err-info

@@ -2,8 +2,8 @@ use Rattle.std.proofs.lemmas.Result.{err_from_is_err_and}
 use Rattle.oas_num.specs.Style.{Any}
 use Rattle.oas_record.specs.Placements.{degrees_of, IsPlacementInfo, degree_fields, DegreeFieldsTook}
 use Rattle.oas_record.proofs.FieldLemmas.{OneFront-cell_if, OneFront-real_if}
-use Rattle.oas_record.proofs.TookLemmas.{◌▸◌, fails_at, fails_last, is_read}
-use Rattle.oas_record.proofs.FieldTook.{info_took, info_read}
+use Rattle.oas_num.proofs.HalfwayLemmas.{◌▸◌, fails_at, fails_last, is_read}
+use Rattle.oas_record.proofs.InfoLemmas.{info_took, info_read}
 use Rattle.oas_record.proofs.placements.Placement.read_degrees.Goals as goal
 
 pub returns-in_err-info : goal.returns-in_err-info

@@ -5,11 +5,10 @@ use Rattle.oas_num.specs.declared.refusals.Why.TheVariants.{RecordLeftOut, Unkno
 use Rattle.oas_num.specs.declared.refusals.Refusal.{Refusal}
 use Rattle.oas_num.specs.Integers.{IsUnsigned}
 use Rattle.oas_num.specs.Combinators.{IsEither, IsNever}
-use Rattle.oas_num.specs.Pieces.{PairTook}
+use Rattle.oas_num.specs.Pieces.{PairTook, SuchTook}
 use Rattle.oas_num.specs.Reading.{ReadsValue, FailsPiece, IntegerMay}
 use Rattle.oas_num.specs.Style.{Any}
 use Rattle.oas_num.specs.Script.{Script}
-use Rattle.oas_record.specs.Took.{SuchTook}
 use Rattle.oas_record.specs.References.{CellTook}
 use Rattle.oas_record.specs.NameRecords.{CellNameTook, TextStringTook}
 use Rattle.oas_record.specs.Placements.{QuarterTook, DegreeTook}
