@@ -150,7 +150,7 @@ fn oascanon<'a>(alloc: Global) -> Result<Command<'a>, Error> {
         Command::new(alloc, "oascanon")
             .about("The canonical form of OASIS mask layouts (SEMI P39)")
             .after_help(AFTER_HELP)
-            .version("0.1.0")
+            .version("0.2.0")
             .subcommand_required(true)
             .subcommand(canon(alloc)?)?
             .subcommand(check)?

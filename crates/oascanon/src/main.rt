@@ -33,6 +33,7 @@ mod creating;
 mod lines;
 mod messages;
 mod opening;
+mod replacing;
 mod runs;
 #[cfg(test)]
 mod tests;
