@@ -100,7 +100,7 @@ impl Write for Replacement<'_> {
             return Err(io::Error::from(ErrorKind::Other));
         }
         let written = self.file.write(buf);
-        if written.is_err() && buf.is_empty() {
+        if written.is_err() {
             self.remove();
         }
         written
