@@ -85,7 +85,7 @@ impl Draft {
     /// weight passes its limit (`TooHeavy`), or for want of memory (`Memory`).
     pub fn add_cell(&mut self, name: Name) -> Result<usize, (Why, Name)>
         ensures ok { IfOk result (λ i. (cell_refusal self.old name ≡ None) × (i ≡ length self.old.cells) × (self.new ≡ with_cell self.old name)) }
-        ensures why { IfErr result (λ e. (e.0 ≡ Memory) ⊎ (cell_refusal self.old name ≡ Some e.0)) }
+        ensures why { IfErr result (λ e. ((e.0 ≡ Memory) × (cell_refusal self.old name ≡ None)) ⊎ (cell_refusal self.old name ≡ Some e.0)) }
         ensures back { IfErr result (λ e. e.1 ≡ name) }
         ensures err { OnErr result (self.new ≡ self.old) }
     {
@@ -142,7 +142,7 @@ impl Draft {
     pub fn add(&mut self, cell: usize, element: Element) -> Result<(), (Why, Element)>
         requires { cell < length self.old.cells }
         ensures ok { OnOk result ((refusal self.old element 1 ≡ None) × (self.new ≡ added self.old cell element 1)) }
-        ensures why { IfErr result (λ e. (e.0 ≡ Memory) ⊎ (refusal self.old element 1 ≡ Some e.0)) }
+        ensures why { IfErr result (λ e. ((e.0 ≡ Memory) × (refusal self.old element 1 ≡ None)) ⊎ (refusal self.old element 1 ≡ Some e.0)) }
         ensures back { IfErr result (λ e. e.1 ≡ element) }
         ensures err { OnErr result (self.new ≡ self.old) }
     {
@@ -163,7 +163,7 @@ impl Draft {
         requires cell { cell < length self.old.cells }
         requires some { 0 < times }
         ensures ok { OnOk result ((refusal self.old element times ≡ None) × (self.new ≡ added self.old cell element times)) }
-        ensures why { IfErr result (λ e. (e.0 ≡ Memory) ⊎ (refusal self.old element times ≡ Some e.0)) }
+        ensures why { IfErr result (λ e. ((e.0 ≡ Memory) × (refusal self.old element times ≡ None)) ⊎ (refusal self.old element times ≡ Some e.0)) }
         ensures back { IfErr result (λ e. e.1 ≡ element) }
         ensures err { OnErr result (self.new ≡ self.old) }
     {
