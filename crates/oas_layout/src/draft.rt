@@ -81,8 +81,8 @@ impl Draft {
 
     /// Adds a cell with no elements, and answers how many cells stand before it. Such a place is what `add` takes.
     ///
-    /// It hands the name back, and the draft is as it was, where there is a cell of that name (`DuplicateCell`), where the
-    /// weight passes its limit (`TooHeavy`), or for want of memory (`Memory`).
+    /// It hands the name back, and the draft is as it was, for the first of these that holds: a cell of that name
+    /// (`DuplicateCell`), more weight than the limit (`TooHeavy`), want of memory (`Memory`).
     pub fn add_cell(&mut self, name: Name) -> Result<usize, (Why, Name)>
         ensures ok { IfOk result (λ i. (cell_refusal self.old name ≡ None) × (i ≡ length self.old.cells) × (self.new ≡ with_cell self.old name)) }
         ensures why { IfErr result (λ e. ((e.0 ≡ Memory) × (cell_refusal self.old name ≡ None)) ⊎ (cell_refusal self.old name ≡ Some e.0)) }
@@ -113,7 +113,7 @@ impl Draft {
     /// (`Memory`). The name and the elements are gone then.
     pub fn add_plain(&mut self, name: Name, elements: PlainElements) -> Result<usize, Why>
         ensures ok { IfOk result (λ i. (plain_refusal self.old name elements ≡ None) × (i ≡ length self.old.cells) × (self.new ≡ with_plain self.old name elements)) }
-        ensures why { IfErr result (λ why. (why ≡ Memory) ⊎ (plain_refusal self.old name elements ≡ Some why)) }
+        ensures why { IfErr result (λ why. ((why ≡ Memory) × (plain_refusal self.old name elements ≡ None)) ⊎ (plain_refusal self.old name elements ≡ Some why)) }
         ensures err { OnErr result (self.new ≡ self.old) }
     {
         if self.cells.contains_key(&name) {

@@ -154,8 +154,8 @@ module _ (table strings : List (ℕ × List ℕ)) (d : Contents) (name : List �
       }
 
   -- why putting the first part is refused
-  pub plain_refused : (why : Why) → IsFresh d o → element_count (expanded d.cells) + length (items whole) ≤ d.limits.elements → (why ≡ Memory) ⊎ (plain_refusal d name es ≡ Some why) → (why ≡ Memory) ⊎ ((why ≡ TooHeavy) × (d.limits.weight < d.spelled + cells_weight (expanded (with_counted_cell o all []))))
-  plain_refused why fresh few (inl m) = inl m
+  pub plain_refused : (why : Why) → IsFresh d o → element_count (expanded d.cells) + length (items whole) ≤ d.limits.elements → ((why ≡ Memory) × (plain_refusal d name es ≡ None)) ⊎ (plain_refusal d name es ≡ Some why) → (why ≡ Memory) ⊎ ((why ≡ TooHeavy) × (d.limits.weight < d.spelled + cells_weight (expanded (with_counted_cell o all []))))
+  plain_refused why fresh few (inl m) = inl m.0
   plain_refused why fresh few (inr h) =
       let heavy = refused_plain d name es why h (subst (IsFresh d) named fresh) (omega (arith, few, count)) in
       inr (heavy.0, omega (arith, heavy.1, weighs))
