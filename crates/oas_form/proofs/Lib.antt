@@ -1,11 +1,16 @@
 pub mod AllowedLemmas
+pub mod DrawnSound
 pub mod ElementPutting
 pub mod ElementSpelling
+pub mod Existence
 pub mod FieldsFit
+pub mod FieldsGiven
 pub mod Forms
 pub mod Held
 pub mod InGrid
 pub mod KindLemmas
+pub mod LargerLimits
+pub mod LayoutForms
 pub mod Lengths
 pub mod MeantLemmas
 pub mod OrderedLayouts

@@ -24,3 +24,11 @@ ThereTook false took why bytes = ⊥
 -- of so many items: fewer are spelled, and then in the next
 abbrev pub CountTook : {V : Type 0} → (V → List ℕ → Type 0) → ℕ → (Why → List ℕ → Type 0) → Why → List ℕ → Type 0
 CountTook spells count took why bytes = IsBehind (IsEach spells) (λ items last. (length items < count) × took why last) bytes
+
+-- of a value that has to be such: in reading it, or it was read whole and is refused for that reason
+abbrev pub SuchTook : {V : Type 0} → (V → List ℕ → Type 0) → (Why → List ℕ → Type 0) → (V → Why → Type 0) → Why → List ℕ → Type 0
+SuchTook {V} spells took refuses why bytes = took why bytes ⊎ ((v : V) × spells v bytes × refuses v why)
+
+-- that one reason, of a value of which that doesn't hold
+abbrev pub Unless : {V : Type 0} → (V → Type 0) → Why → V → Why → Type 0
+Unless P reason v why = (why ≡ reason) × ¬ P v

@@ -1,4 +1,4 @@
-pub mod MayLemmas
+pub mod InfoLemmas
 pub mod PassLemmas
 pub mod EndLemmas
 pub mod HeadLemmas
@@ -8,3 +8,5 @@ pub mod ElementLemmas
 pub mod IdLemmas
 pub mod AfterLemmas
 pub mod RecordLemmas
+pub mod ReasonLemmas
+pub mod NeverLemmas

@@ -1,6 +1,11 @@
 -- How the end of a file is spelled, after its id (SEMI P39, END record).
 use Rattle.std.specs.Prelude.{◌≡◌, ℕ, Bool, true, false, List, [], ◌∷◌, ◌++◌, replicate}
+use Rattle.oas_num.specs.declared.refusals.Why.{Why}
 use Rattle.oas_num.specs.declared.texts.Padding.{Padding}
+use Rattle.oas_num.specs.Integers.{IsUnsigned}
+use Rattle.oas_num.specs.Pieces.{PairTook, ThereTook, CountTook, SuchTook, Unless}
+use Rattle.oas_num.specs.Reading.{IntegerMay, PaddingTook}
+use Rattle.oas_num.specs.declared.refusals.Why.TheVariants.{ValidationScheme}
 use Rattle.oas_num.specs.Grammar.{IsPair, IsSuch, IsImage, IsCount}
 use Rattle.oas_num.specs.Combinators.{IsExactly, IsEither}
 use Rattle.oas_num.specs.Style.{Style, Any, Shortest, unsigned_in}
@@ -13,6 +18,10 @@ nothing v = tt
 -- six pairs of a flag and an offset, of any values (SEMI P39, table-offsets)
 abbrev pub IsOffsets : Unit {0} → List ℕ → Type 0
 IsOffsets = IsImage nothing (IsCount (unsigned_in Any) 12)
+
+-- where in them a read may fail
+abbrev pub OffsetsTook : Why → List ℕ → Type 0
+OffsetsTook = CountTook IsUnsigned 12 IntegerMay
 
 -- the same, where they are there
 abbrev pub offsets_if : Bool → Unit {0} → List ℕ → Type 0
@@ -41,3 +50,10 @@ abbrev pub end_in : Style → Bool → Unit {0} → List ℕ → Type 0
 end_in Any in_end done bytes = IsImage nothing (end_parts in_end) done bytes
 end_in Shortest true done bytes = ⊥
 end_in Shortest false done bytes = bytes ≡ end_bytes
+
+-- where in it a read of what follows END's id may fail
+abbrev pub EndTook : Bool → Why → List ℕ → Type 0
+EndTook in_end =
+    PairTook (offsets_if in_end) (ThereTook in_end OffsetsTook) (λ _.
+    PairTook SpellsPadding PaddingTook (λ _.
+    SuchTook IsUnsigned IntegerMay (Unless (IsNumber 0) ValidationScheme)))

@@ -24,4 +24,4 @@ pub mod CircleLaws
 pub mod Records
 pub mod RecordLaws
 pub mod SomeLaws
-pub mod May
+pub mod Refusals

@@ -1,16 +1,19 @@
 -- How placements are spelled, after their ids (SEMI P39, PLACEMENT records).
 use Rattle.std.specs.Prelude.{ℕ, ◌/◌, ◌%◌, ◌<◌, ◌≤◌, ◌==◌, List, Option}
-use Rattle.oas_num.specs.Grammar.{IsPair, IsImage, IsThere}
-use Rattle.oas_num.specs.Style.{Style}
+use Rattle.oas_num.specs.Grammar.{IsPair, IsSuch, IsImage, IsThere, IsByte}
+use Rattle.oas_num.specs.Style.{Style, Any}
 use Rattle.oas_num.specs.declared.reals.Real.{Real}
 use Rattle.oas_num.specs.Reals.{real_in}
 use Rattle.oas_record.specs.declared.placements.Placement.{Placement}
 use Rattle.oas_record.specs.declared.placements.Turn.TheVariants.{Quarters, Degrees}
 use Rattle.oas_record.specs.declared.references.CellRef.{CellRef}
 use Rattle.oas_record.specs.declared.spots.Spot.{Spot}
-use Rattle.oas_record.specs.Info.{has, info_in, only_any}
-use Rattle.oas_record.specs.Fields.{spot_in}
-use Rattle.oas_record.specs.References.{cell_in}
+use Rattle.oas_record.specs.Info.{has, info_in, InfoTook, only_any}
+use Rattle.oas_record.specs.Fields.{spot_in, SpotTook}
+use Rattle.oas_record.specs.References.{cell_in, CellTook}
+use Rattle.oas_num.specs.Reals.{SpellsReal, RealTook}
+use Rattle.oas_num.specs.Pieces.{PairTook, ThereTook}
+use Rattle.oas_num.specs.declared.refusals.Why.{Why}
 
 -- any info byte is one
 abbrev pub IsPlacementInfo : ℕ → Type 0
@@ -55,3 +58,23 @@ degrees_of p = record { cell = p.1.0; turn = Degrees p.1.1.0 p.1.1.1.0; flip = p
 -- after the id 18: in no canonical file
 abbrev pub degrees_in : Style → Placement → List ℕ → Type 0
 degrees_in style = only_any style (IsImage degrees_of (IsPair (info_in IsPlacementInfo IsPlacementInfo style) (degree_fields style)))
+
+-- where in it a read of a placement may fail: in its info byte, or in a field that this gives, those before it being whole
+abbrev pub QuarterFieldsTook : ℕ → Why → List ℕ → Type 0
+QuarterFieldsTook info =
+    PairTook (IsThere (has info 128) (cell_in Any (has info 64))) (ThereTook (has info 128) (CellTook (has info 64))) (λ _.
+    SpotTook (has info 32) (has info 16) (has info 8))
+
+abbrev pub QuarterTook : Why → List ℕ → Type 0
+QuarterTook = PairTook (IsSuch IsPlacementInfo IsByte) (InfoTook IsPlacementInfo) QuarterFieldsTook
+
+-- the same after the id 18
+abbrev pub DegreeFieldsTook : ℕ → Why → List ℕ → Type 0
+DegreeFieldsTook info =
+    PairTook (IsThere (has info 128) (cell_in Any (has info 64))) (ThereTook (has info 128) (CellTook (has info 64))) (λ _.
+    PairTook (IsThere (has info 4) SpellsReal) (ThereTook (has info 4) RealTook) (λ _.
+    PairTook (IsThere (has info 2) SpellsReal) (ThereTook (has info 2) RealTook) (λ _.
+    SpotTook (has info 32) (has info 16) (has info 8))))
+
+abbrev pub DegreeTook : Why → List ℕ → Type 0
+DegreeTook = PairTook (IsSuch IsPlacementInfo IsByte) (InfoTook IsPlacementInfo) DegreeFieldsTook

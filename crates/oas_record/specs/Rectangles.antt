@@ -1,11 +1,15 @@
 -- How a rectangle is spelled, after its id (SEMI P39, RECTANGLE record).
 use Rattle.std.specs.Prelude.{◌≡◌, ◌≢◌, ℕ, bit_and, List, Option}
-use Rattle.oas_num.specs.Grammar.{IsPair, IsImage, IsThere}
-use Rattle.oas_num.specs.Style.{Style, unsigned_in}
+use Rattle.oas_num.specs.Grammar.{IsPair, IsSuch, IsImage, IsThere, IsByte}
+use Rattle.oas_num.specs.Style.{Style, Any, unsigned_in}
 use Rattle.oas_record.specs.declared.rectangles.Rectangle.{Rectangle}
 use Rattle.oas_record.specs.declared.spots.Spot.{Spot}
-use Rattle.oas_record.specs.Info.{has, info_in}
-use Rattle.oas_record.specs.Fields.{Layers, layers_in, spot_in}
+use Rattle.oas_record.specs.Info.{has, info_in, InfoTook}
+use Rattle.oas_record.specs.Fields.{Layers, layers_in, spot_in, LayersTook, SpotTook}
+use Rattle.oas_num.specs.Reading.{IntegerMay}
+use Rattle.oas_num.specs.Pieces.{PairTook, ThereTook}
+use Rattle.oas_num.specs.Integers.{IsUnsigned}
+use Rattle.oas_num.specs.declared.refusals.Why.{Why}
 
 abbrev pub RectangleFields : Type 0
 RectangleFields = Layers × (Option ℕ × (Option ℕ × Spot))
@@ -31,3 +35,14 @@ rectangle_of p = record { square = has p.0 128; layer = p.1.0.0; datatype = p.1.
 
 abbrev pub rectangle_in : Style → Rectangle → List ℕ → Type 0
 rectangle_in style = IsImage rectangle_of (IsPair (info_in IsRectangleInfo IsCanonicalRectangle style) (rectangle_fields style))
+
+-- where in it a read of a rectangle may fail: in its info byte, or in a field that this gives, those before it being whole
+abbrev pub RectangleFieldsTook : ℕ → Why → List ℕ → Type 0
+RectangleFieldsTook info =
+    PairTook (layers_in Any info) (LayersTook info) (λ _.
+    PairTook (IsThere (has info 64) IsUnsigned) (ThereTook (has info 64) IntegerMay) (λ _.
+    PairTook (IsThere (has info 32) IsUnsigned) (ThereTook (has info 32) IntegerMay) (λ _.
+    SpotTook (has info 16) (has info 8) (has info 4))))
+
+abbrev pub RectangleTook : Why → List ℕ → Type 0
+RectangleTook = PairTook (IsSuch IsRectangleInfo IsByte) (InfoTook IsRectangleInfo) RectangleFieldsTook

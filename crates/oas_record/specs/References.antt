@@ -8,6 +8,8 @@ use Rattle.oas_record.specs.declared.references.CellRef.{CellRef}
 use Rattle.oas_record.specs.declared.references.CellRef.TheVariants as cell
 use Rattle.oas_record.specs.declared.references.TextRef.{TextRef}
 use Rattle.oas_record.specs.declared.references.TextRef.TheVariants as text
+use Rattle.oas_num.specs.Reading.{IntegerMay, NameTook, LabelTook}
+use Rattle.oas_num.specs.declared.refusals.Why.{Why}
 
 abbrev pub cell_number : ℕ → CellRef
 cell_number n = cell.Number n
@@ -28,3 +30,10 @@ text_label label = text.Label label
 -- a text string: its number, or itself
 abbrev pub text_in : Style → Bool → TextRef → List ℕ → Type 0
 text_in style numbered = IsEither numbered (IsImage text_number (unsigned_in style)) (IsImage text_label (label_in style))
+
+-- where in them a read may fail
+abbrev pub CellTook : Bool → Why → List ℕ → Type 0
+CellTook numbered = IsEither numbered IntegerMay NameTook
+
+abbrev pub TextRefTook : Bool → Why → List ℕ → Type 0
+TextRefTook numbered = IsEither numbered IntegerMay LabelTook

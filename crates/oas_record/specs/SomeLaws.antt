@@ -33,7 +33,7 @@ use Rattle.oas_record.specs.Polygons.{IsPolygonInfo, polygon_fields, polygon_of,
 use Rattle.oas_record.specs.Paths.{IsScheme, numbers_in, extensions_of, extensions_in, IsPathInfo, path_fields, path_of, path_in}
 use Rattle.oas_record.specs.Circles.{IsCircleInfo, circle_fields, circle_of, circle_in}
 use Rattle.oas_record.specs.Records.{pad, end, xy_absolute, xy_relative, cell_name as cell_record, text_string, a_cell, placement, text, rectangle, polygon, path, circle, after_id, parts_in, record_in}
-use Rattle.oas_record.specs.May.{IsKnown}
+use Rattle.oas_record.specs.Refusals.{IsKnown}
 use Rattle.oas_num.specs.BegunLaws.{HasSome-pair, HasSome-image, HasSome-there, HasSome-either, HasSome-exactly}
 use Rattle.oas_num.specs.IntegerLaws.{zero_spelled, HasSome-IsUnsigned, HasSome-IsSigned}
 use Rattle.oas_shape.specs.PointListLaws.{HasSome-point_list}

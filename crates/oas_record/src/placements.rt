@@ -1,11 +1,13 @@
-ghost use Rattle.oas_num.specs.Reading.{Reads};
+ghost use Rattle.oas_num.specs.Reading.{ReadsPiece};
+ghost use Rattle.oas_num.specs.Grammar.{IsThere};
+ghost use Rattle.oas_num.specs.Pieces.{ThereTook};
+ghost use Rattle.oas_num.specs.Reals.{SpellsReal, RealTook};
 ghost use Rattle.oas_num.specs.Style.{Any};
-ghost use Rattle.oas_record.specs.Placements.{quarters_in, degrees_in};
-ghost use Rattle.oas_record.specs.May.{FieldMay};
+ghost use Rattle.oas_record.specs.Placements.{quarters_in, QuarterTook, degrees_in, DegreeTook};
 
 use crate::references::{CellRef, read_cell_if};
 use crate::spots::{Spot, read_spot};
-use oas_num::{Real, Source, Why, next_byte, read_if};
+use oas_num::{Real, Source, Spelled, Why, next_byte};
 use std::alloc::Global;
 
 /// How a placed cell is turned, counterclockwise.
@@ -32,10 +34,21 @@ pub struct Placement {
     pub spot: Spot,
 }
 
+/// A real, where it is there.
+fn read_real_if<S: Source>(alloc: Global, there: bool, source: &mut S) -> Result<Option<Real>, Why>
+    ensures { ReadsPiece (IsThere there SpellsReal) (ThereTook there RealTook) (S.script source.old) result (S.script source.new) }
+{
+    if there {
+        Ok(Some(Real::read(alloc, source)?))
+    } else {
+        Ok(None)
+    }
+}
+
 impl Placement {
     /// What follows the id 17.
     pub(crate) fn read_quarters<S: Source>(alloc: Global, source: &mut S) -> Result<Placement, Why>
-        ensures { Reads (quarters_in Any) FieldMay (S.script source.old) result (S.script source.new) }
+        ensures { ReadsPiece (quarters_in Any) QuarterTook (S.script source.old) result (S.script source.new) }
     {
         let info = next_byte(source)?;
         let cell = read_cell_if(alloc, info & 128 != 0, info & 64 != 0, source)?;
@@ -50,12 +63,12 @@ impl Placement {
 
     /// What follows the id 18.
     pub(crate) fn read_degrees<S: Source>(alloc: Global, source: &mut S) -> Result<Placement, Why>
-        ensures { Reads (degrees_in Any) FieldMay (S.script source.old) result (S.script source.new) }
+        ensures { ReadsPiece (degrees_in Any) DegreeTook (S.script source.old) result (S.script source.new) }
     {
         let info = next_byte(source)?;
         let cell = read_cell_if(alloc, info & 128 != 0, info & 64 != 0, source)?;
-        let magnification = read_if::<Real, S>(alloc, info & 4 != 0, source)?;
-        let angle = read_if::<Real, S>(alloc, info & 2 != 0, source)?;
+        let magnification = read_real_if(alloc, info & 4 != 0, source)?;
+        let angle = read_real_if(alloc, info & 2 != 0, source)?;
         let spot = read_spot(alloc, info & 32 != 0, info & 16 != 0, info & 8 != 0, source)?;
         Ok(Placement {
             cell,

@@ -10,7 +10,7 @@
 //! - [`PointList::vertices`] gives every vertex of the table's sum, `vertices_of` (specs/Polylines.antt), or refuses where
 //!   one of them is past the limit of coordinates. [`PointList::len`] is their number.
 //! - [`Repetition::count`] and [`Repetition::offset`] are the table's, `count_of` and `offset_of` (specs/Offsets.antt). An
-//!   offset is worked out in constant time and takes no memory.
+//!   offset takes no memory.
 //!
 //! A count in the input reserves nothing: a list grows with what was read.
 #![tactic(auto)]
