@@ -9,11 +9,13 @@ ghost use Rattle.oas_layout.specs.Grid.{fits_grid};
 ghost use Rattle.oas_layout.specs.Same.{IsNormal};
 ghost use Rattle.oas_layout.specs.Meaning.{element_count};
 ghost use Rattle.oas_layout.specs.Contents.{expanded, nothing, with_cell, holding, added, cell_refusal, refusal, IsSealed};
+ghost use Rattle.oas_layout.specs.Plain.{plain_refusal, with_plain};
 
 use crate::bag::Bag;
 use crate::element::Element;
 use crate::layout::Layout;
 use crate::limits::Limits;
+use crate::plain::PlainElements;
 use crate::profile::Profile;
 use crate::sound::unit_fits;
 use indexmap::IndexMap;
@@ -101,6 +103,38 @@ impl Draft {
         }
         self.weight += 1 + weight;
         self.spelled += 1 + weight;
+        Ok(before)
+    }
+
+    /// Adds a cell with these elements, and answers how many cells stand before it.
+    ///
+    /// It is refused, and the draft is as it was, for the first of these that holds: there is a cell of that name
+    /// (`DuplicateCell`), more elements or weight than the limits allow (`TooManyElements`, `TooHeavy`), want of memory
+    /// (`Memory`). The name and the elements are gone then.
+    pub fn add_plain(&mut self, name: Name, elements: PlainElements) -> Result<usize, Why>
+        ensures ok { IfOk result (λ i. (plain_refusal self.old name elements ≡ None) × (i ≡ length self.old.cells) × (self.new ≡ with_plain self.old name elements)) }
+        ensures why { IfErr result (λ why. ((why ≡ Memory) × (plain_refusal self.old name elements ≡ None)) ⊎ (plain_refusal self.old name elements ≡ Some why)) }
+        ensures err { OnErr result (self.new ≡ self.old) }
+    {
+        if self.cells.contains_key(&name) {
+            return Err(Why::DuplicateCell);
+        }
+        let PlainElements { bag, count, weight } = elements;
+        if count > self.limits.elements() - self.count {
+            return Err(Why::TooManyElements);
+        }
+        let own = name.as_bytes().len() as u128;
+        if 1 + own + weight > u128::from(self.limits.weight() - self.spelled) {
+            return Err(Why::TooHeavy);
+        }
+        let more = (1 + own + weight) as u64;
+        let before = self.cells();
+        if let Err(_) = self.cells.insert(name, bag) {
+            return Err(Why::Memory);
+        }
+        self.count += count;
+        self.weight += more;
+        self.spelled += more;
         Ok(before)
     }
 
