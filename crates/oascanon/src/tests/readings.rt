@@ -83,7 +83,7 @@ fn modal_variables(rt: HostRuntime) -> Result<(), Fail> {
 
 #[test]
 fn other_readings(rt: HostRuntime) -> Result<(), Fail> {
-    expect_bodies(&rt, rt.alloc(), READINGS, 81)
+    expect_bodies(&rt, rt.alloc(), READINGS, 87)
 }
 
 #[test]

@@ -169,6 +169,18 @@ points-by-x-first | CELL 153B01000402012829001400 153B01000402012829000014 | CEL
 points-and-their-beginning | CELL 16FB0100050F0000040115000000 16FB0100050F000004000000 | CELL 16FB0100050F000004000000 16FB0100050F0000040115000000
 # circles come by place before radius
 circles-by-radius-first | CELL 1B3B0100090000 1B3B0100051400 | CELL 1B3B0100051400 1B3B0100090000
+# F says that a field of a placement is given
+flipped-with-fields-left-out | CELL 11B001420A0A 1101 112128 111128 1201 12213C 12113C | CELL 11B001420A0A 11B101420A0A 11B10142280A 11B101422828 11B101422828 11B101423C28 11B101423C3C
+# L says that a path gives extensions
+path-with-a-layer-and-modal-extensions | CELL 16FB0100050F040804000000 167B01000504002800 | CELL 16FB0100050F040804000000 16FB0100050F040804002800
+# a text may not give all its fields
+text-with-all-its-fields | CELL 137F000100000002001E 050142 | CELL 135B014201000000 135B014201003C00
+# bit 6 of an info byte says nothing where it stands alone
+polygon-with-a-zero-bit-alone | CELL 1540 | 14@37
+# a polygon of type 1 may have an odd number of deltas
+polygon-of-three-deltas-type-1 | CELL 153B01000103 | 16@37
+# displacements count from the second copy on
+four-displacements-in-turn | CELL 147F01000A1400000A020D08170C0D08 | CELL 147B01000A140514 RECT 147B01000A14021C 147B01000A140608
 ";
 
 /// Rows under limits of their own: after the name stand those of elements, weight and input.
