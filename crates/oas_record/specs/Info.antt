@@ -17,11 +17,6 @@ abbrev pub info_in : (ℕ → Type 0) → (ℕ → Type 0) → Style → ℕ →
 info_in allowed canonical Any = IsSuch allowed IsByte
 info_in allowed canonical Shortest = IsSuch (λ info. allowed info × canonical info) IsByte
 
--- what has no canonical spelling
-abbrev pub only_any : {V : Type 0} → Style → (V → List ℕ → Type 0) → V → List ℕ → Type 0
-only_any Any spells v bytes = spells v bytes
-only_any Shortest spells v bytes = ⊥
-
 -- where a read of an info byte may fail
 abbrev pub InfoTook : (ℕ → Type 0) → Why → List ℕ → Type 0
 InfoTook allowed = SuchTook IsByte ByteMay (Unless allowed InfoByte)
