@@ -24,11 +24,14 @@ abbrev pub IsCanonicalCircle : ℕ → Type 0
 IsCanonicalCircle info = info ≡ 0x3B
 
 -- 00rXYRDL
-abbrev pub circle_fields : ℕ → Kind CircleFields
-circle_fields info =
+abbrev pub circle_parts : ℕ → Kind CircleFields
+circle_parts info =
     pair (layers info) (λ _.
     pair (there (has info 32) number) (λ _.
     spot (has info 16) (has info 8) (has info 4)))
+
+abbrev pub circle_fields : Style → ℕ → CircleFields → List ℕ → Type 0
+circle_fields style info = spelled_in style (circle_parts info)
 
 abbrev pub circle_of : ℕ × CircleFields → Circle
 circle_of p = record { layer = p.1.0.0; datatype = p.1.0.1; radius = p.1.1.0; spot = p.1.1.1 }
@@ -38,7 +41,7 @@ circle_back c = (0x3B, ((c.layer, c.datatype), (c.radius, c.spot)))
 
 abbrev pub circle_kind : Kind Circle
 circle_kind =
-    image circle_of circle_back (pair (info_byte IsCircleInfo IsCanonicalCircle (λ info. settled_below info 64) zero_allowed) circle_fields)
+    image circle_of circle_back (pair (info_byte IsCircleInfo IsCanonicalCircle (λ info. settled_below info 64) zero_allowed) circle_parts)
     (λ u bytes p. info_is u p.first.holds.1)
 
 abbrev pub circle_in : Style → Circle → List ℕ → Type 0

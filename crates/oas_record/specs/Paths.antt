@@ -47,6 +47,9 @@ Numbers = Option ℤ × Option ℤ
 abbrev pub numbers : ℕ → Kind Numbers
 numbers scheme = pair (there (scheme / 4 == 3) signed) (λ _. there (scheme % 4 == 3) signed)
 
+abbrev pub numbers_in : Style → ℕ → Numbers → List ℕ → Type 0
+numbers_in style scheme = spelled_in style (numbers scheme)
+
 abbrev pub extensions_of : ℕ × Numbers → Extensions
 extensions_of p = record { start = extension_of (p.0 / 4) p.1.0; end = extension_of (p.0 % 4) p.1.1 }
 
@@ -101,13 +104,16 @@ abbrev pub IsCanonicalPath : ℕ → Type 0
 IsCanonicalPath info = info ≡ 0xFB
 
 -- EWPXYRDL
-abbrev pub path_fields : ℕ → Kind PathFields
-path_fields info =
+abbrev pub path_parts : ℕ → Kind PathFields
+path_parts info =
     pair (layers info) (λ _.
     pair (there (has info 64) number) (λ _.
     pair (there (has info 128) extensions_kind) (λ _.
     pair (there (has info 32) (points uses.Path)) (λ _.
     spot (has info 16) (has info 8) (has info 4)))))
+
+abbrev pub path_fields : Style → ℕ → PathFields → List ℕ → Type 0
+path_fields style info = spelled_in style (path_parts info)
 
 abbrev pub path_of : ℕ × PathFields → Path
 path_of p = record { layer = p.1.0.0; datatype = p.1.0.1; half_width = p.1.1.0; extensions = p.1.1.1.0; points = p.1.1.1.1.0; spot = p.1.1.1.1.1 }
@@ -117,7 +123,7 @@ path_back c = (0xFB, ((c.layer, c.datatype), (c.half_width, (c.extensions, (c.po
 
 abbrev pub path_kind : Kind Path
 path_kind =
-    image path_of path_back (pair (info_byte IsPathInfo IsCanonicalPath (λ info. settled_below info 256) zero_allowed) path_fields)
+    image path_of path_back (pair (info_byte IsPathInfo IsCanonicalPath (λ info. settled_below info 256) zero_allowed) path_parts)
     (λ u bytes p. info_is u p.first.holds.1)
 
 abbrev pub path_in : Style → Path → List ℕ → Type 0

@@ -33,10 +33,13 @@ abbrev pub QuarterFields : Type 0
 QuarterFields = Option CellRef × Spot
 
 -- CNXYRAAF
-abbrev pub quarter_fields : ℕ → Kind QuarterFields
-quarter_fields info =
+abbrev pub quarter_parts : ℕ → Kind QuarterFields
+quarter_parts info =
     pair (there (has info 128) (cell_kind (has info 64))) (λ _.
     spot (has info 32) (has info 16) (has info 8))
+
+abbrev pub quarter_fields : Style → ℕ → QuarterFields → List ℕ → Type 0
+quarter_fields style info = spelled_in style (quarter_parts info)
 
 -- bits 1 and 2 are the quarter turns, bit 0 the flip
 abbrev pub quarters_of : ℕ × QuarterFields → Placement
@@ -68,7 +71,7 @@ quarters_back u h = ap (λ (info : ℕ). let v : ℕ × QuarterFields = (info, u
 
 abbrev pub quarters_kind : Kind Placement
 quarters_kind =
-    image quarters_of quarter_back (pair (info_byte IsPlacementInfo IsCanonicalPlacement (λ info. settled_below info 256) zero_allowed) quarter_fields)
+    image quarters_of quarter_back (pair (info_byte IsPlacementInfo IsCanonicalPlacement (λ info. settled_below info 256) zero_allowed) quarter_parts)
     (λ u bytes p. quarters_back u p.first.holds.1)
 
 abbrev pub quarters_in : Style → Placement → List ℕ → Type 0
@@ -84,8 +87,8 @@ abbrev pub DegreeFields : Type 0
 DegreeFields = Option CellRef × (Option Real × (Option Real × Spot))
 
 -- CNXYRMAF
-abbrev pub degree_fields : ℕ → Kind DegreeFields
-degree_fields info =
+abbrev pub degree_parts : ℕ → Kind DegreeFields
+degree_parts info =
     pair (there (has info 128) (cell_kind (has info 64))) (λ _.
     pair (there (has info 4) real) (λ _.
     pair (there (has info 2) real) (λ _.
@@ -96,7 +99,7 @@ abbrev pub degrees_of : ℕ × DegreeFields → Placement
 degrees_of p = record { cell = p.1.0; turn = Degrees p.1.1.0 p.1.1.1.0; flip = p.0 % 2 == 1; spot = p.1.1.1.1 }
 
 abbrev pub degrees_kind : Kind Placement
-degrees_kind = image_any degrees_of (pair (info_byte IsPlacementInfo IsPlacementInfo (λ info. settled_below info 256) zero_allowed) degree_fields)
+degrees_kind = image_any degrees_of (pair (info_byte IsPlacementInfo IsPlacementInfo (λ info. settled_below info 256) zero_allowed) degree_parts)
 
 abbrev pub degrees_in : Style → Placement → List ℕ → Type 0
 degrees_in style = spelled_in style degrees_kind

@@ -26,11 +26,14 @@ abbrev pub IsCanonicalPolygon : ℕ → Type 0
 IsCanonicalPolygon info = info ≡ 0x3B
 
 -- 00PXYRDL
-abbrev pub polygon_fields : ℕ → Kind PolygonFields
-polygon_fields info =
+abbrev pub polygon_parts : ℕ → Kind PolygonFields
+polygon_parts info =
     pair (layers info) (λ _.
     pair (there (has info 32) (points uses.Polygon)) (λ _.
     spot (has info 16) (has info 8) (has info 4)))
+
+abbrev pub polygon_fields : Style → ℕ → PolygonFields → List ℕ → Type 0
+polygon_fields style info = spelled_in style (polygon_parts info)
 
 abbrev pub polygon_of : ℕ × PolygonFields → Polygon
 polygon_of p = record { layer = p.1.0.0; datatype = p.1.0.1; points = p.1.1.0; spot = p.1.1.1 }
@@ -40,7 +43,7 @@ polygon_back c = (0x3B, ((c.layer, c.datatype), (c.points, c.spot)))
 
 abbrev pub polygon_kind : Kind Polygon
 polygon_kind =
-    image polygon_of polygon_back (pair (info_byte IsPolygonInfo IsCanonicalPolygon (λ info. settled_below info 64) zero_allowed) polygon_fields)
+    image polygon_of polygon_back (pair (info_byte IsPolygonInfo IsCanonicalPolygon (λ info. settled_below info 64) zero_allowed) polygon_parts)
     (λ u bytes p. info_is u p.first.holds.1)
 
 abbrev pub polygon_in : Style → Polygon → List ℕ → Type 0

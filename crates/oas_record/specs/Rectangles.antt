@@ -25,12 +25,15 @@ abbrev pub IsCanonicalRectangle : ℕ → Type 0
 IsCanonicalRectangle info = info ≡ 0x7B
 
 -- SWHXYRDL
-abbrev pub rectangle_fields : ℕ → Kind RectangleFields
-rectangle_fields info =
+abbrev pub rectangle_parts : ℕ → Kind RectangleFields
+rectangle_parts info =
     pair (layers info) (λ _.
     pair (there (has info 64) number) (λ _.
     pair (there (has info 32) number) (λ _.
     spot (has info 16) (has info 8) (has info 4))))
+
+abbrev pub rectangle_fields : Style → ℕ → RectangleFields → List ℕ → Type 0
+rectangle_fields style info = spelled_in style (rectangle_parts info)
 
 abbrev pub rectangle_of : ℕ × RectangleFields → Rectangle
 rectangle_of p = record { square = has p.0 128; layer = p.1.0.0; datatype = p.1.0.1; width = p.1.1.0; height = p.1.1.1.0; spot = p.1.1.1.1 }
@@ -40,7 +43,7 @@ rectangle_back c = (0x7B, ((c.layer, c.datatype), (c.width, (c.height, c.spot)))
 
 abbrev pub rectangle_kind : Kind Rectangle
 rectangle_kind =
-    image rectangle_of rectangle_back (pair (info_byte IsRectangleInfo IsCanonicalRectangle (λ info. settled_not (settled_number (bit_and info 160) 160)) zero_allowed) rectangle_fields)
+    image rectangle_of rectangle_back (pair (info_byte IsRectangleInfo IsCanonicalRectangle (λ info. settled_not (settled_number (bit_and info 160) 160)) zero_allowed) rectangle_parts)
     (λ u bytes p. info_is u p.first.holds.1)
 
 abbrev pub rectangle_in : Style → Rectangle → List ℕ → Type 0

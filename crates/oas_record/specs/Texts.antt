@@ -26,11 +26,14 @@ abbrev pub IsCanonicalText : ℕ → Type 0
 IsCanonicalText info = info ≡ 0x5B
 
 -- 0CNXYRTL
-abbrev pub text_fields : ℕ → Kind TextFields
-text_fields info =
+abbrev pub text_parts : ℕ → Kind TextFields
+text_parts info =
     pair (there (has info 64) (string_kind (has info 32))) (λ _.
     pair (layers info) (λ _.
     spot (has info 16) (has info 8) (has info 4)))
+
+abbrev pub text_fields : Style → ℕ → TextFields → List ℕ → Type 0
+text_fields style info = spelled_in style (text_parts info)
 
 abbrev pub text_of : ℕ × TextFields → Text
 text_of p = record { string = p.1.0; textlayer = p.1.1.0.0; texttype = p.1.1.0.1; spot = p.1.1.1 }
@@ -40,7 +43,7 @@ text_back c = (0x5B, (c.string, ((c.textlayer, c.texttype), c.spot)))
 
 abbrev pub text_kind : Kind Text
 text_kind =
-    image text_of text_back (pair (info_byte IsTextInfo IsCanonicalText (λ info. settled_below info 128) zero_allowed) text_fields)
+    image text_of text_back (pair (info_byte IsTextInfo IsCanonicalText (λ info. settled_below info 128) zero_allowed) text_parts)
     (λ u bytes p. info_is u p.first.holds.1)
 
 abbrev pub text_record_in : Style → Text → List ℕ → Type 0

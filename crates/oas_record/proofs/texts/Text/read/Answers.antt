@@ -1,6 +1,6 @@
 use Rattle.std.proofs.lemmas.Result.{err_from_is_err_and}
 use Rattle.oas_num.specs.Style.{Any}
-use Rattle.oas_record.specs.Texts.{text_fields}
+use Rattle.oas_record.specs.Texts.{text_parts}
 use Rattle.oas_record.proofs.ElementLemmas.{allowed_by, refused_by}
 use Rattle.oas_record.proofs.FieldLemmas.{OneFront-layers, OneFront-text_if}
 use Rattle.oas_num.proofs.HalfwayLemmas.{◌▸◌, fails_at, fails_last, is_read}
@@ -31,4 +31,4 @@ returns-in_err-spot g c =
     rw (p.1, p.2) (fails_last (info_read (allowed_by c.is_text_info.ensures c.if-not-is_text_info.false) c.in_ok-info.ensures ▸ (OneFront-text_if _ _, c.in_ok-string.ensures) ▸ (OneFront-layers Any _, c.in_ok-layers.ensures)) c.in_err-spot.ensures)
 
 pub returns : goal.returns
-returns g c = is_read (info_read {took = λ info. (text_fields info).took} (allowed_by c.is_text_info.ensures c.if-not-is_text_info.false) c.in_ok-info.ensures ▸ (OneFront-text_if _ _, c.in_ok-string.ensures) ▸ (OneFront-layers Any _, c.in_ok-layers.ensures)) c.in_ok-spot.ensures
+returns g c = is_read (info_read {took = λ info. (text_parts info).took} (allowed_by c.is_text_info.ensures c.if-not-is_text_info.false) c.in_ok-info.ensures ▸ (OneFront-text_if _ _, c.in_ok-string.ensures) ▸ (OneFront-layers Any _, c.in_ok-layers.ensures)) c.in_ok-spot.ensures
