@@ -5,13 +5,14 @@ use Rattle.oas_num.specs.Style.{Style, Any, Shortest}
 use Rattle.oas_shape.specs.declared.list_use.ListUse.{ListUse}
 use Rattle.oas_shape.specs.declared.repetitions.RepField.{RepField}
 use Rattle.oas_shape.specs.Polylines.{Polyline}
-use Rattle.oas_shape.specs.PointLists.{point_list_in, PointListMay}
+use Rattle.oas_shape.specs.PointLists.{point_list_in, PointListTook}
 use Rattle.oas_shape.specs.PointListLaws.{OneSpelling-point_list, IsWithin-point_list, HasSome-point_list}
-use Rattle.oas_shape.specs.Repetitions.{rep_field_in, RepFieldMay}
+use Rattle.oas_shape.specs.Repetitions.{rep_field_in, RepFieldTook}
 use Rattle.oas_shape.specs.RepetitionLaws.{OneSpelling-rep_field, IsWithin-rep_field, HasSome-rep_field}
 use Rattle.oas_record.specs.declared.spots.Spot.{Spot}
 use Rattle.oas_record.specs.FoundParts.{found_point_list, found_rep_field}
-use Rattle.oas_record.specs.Info.{has, LastTook}
+use Rattle.oas_record.specs.ShapeNever.{point_list_never, rep_field_never}
+use Rattle.oas_record.specs.Info.{has}
 use Rattle.oas_record.specs.Kinds.{Kind, spelled_in, number, signed, pair, there, image}
 
 abbrev pub Layers : Type 0
@@ -31,12 +32,12 @@ abbrev pub repetition : Kind RepField
 repetition = record {
   any = rep_field_in Any;
   shortest = rep_field_in Shortest;
-  took = LastTook (rep_field_in Any) RepFieldMay;
+  took = RepFieldTook;
   found = found_rep_field;
   one = OneSpelling-rep_field;
   within = IsWithin-rep_field;
   some = HasSome-rep_field;
-  never = record { none = λ bytes d. d.holds };
+  never = rep_field_never;
 }
 
 abbrev pub RepetitionTook : Bool → Why → List ℕ → Type 0
@@ -62,12 +63,12 @@ abbrev pub points : ListUse → Kind Polyline
 points purpose = record {
   any = point_list_in Any purpose;
   shortest = point_list_in Shortest purpose;
-  took = LastTook (point_list_in Any purpose) (PointListMay purpose);
+  took = PointListTook purpose;
   found = found_point_list purpose;
   one = OneSpelling-point_list purpose;
   within = IsWithin-point_list purpose;
   some = HasSome-point_list purpose;
-  never = record { none = λ bytes d. d.holds };
+  never = point_list_never purpose;
 }
 
 abbrev pub PointsTook : Bool → ListUse → Why → List ℕ → Type 0
