@@ -118,15 +118,14 @@ impl Spelled for Name {
 
     ghost spells = { SpellsName };
 
-    ghost may = { NameMay };
+    ghost took = { NameTook };
 
     ghost one_front = { OneFront-name Any };
 
     ghost some = { HasSome-name Any };
 
     fn read<S: Source>(alloc: Global, source: &mut S) -> Result<Name, Why>
-        ensures reads { Reads SpellsName NameMay (S.script source.old) result (S.script source.new) }
-        ensures took { ReadsPiece SpellsName NameTook (S.script source.old) result (S.script source.new) }
+        ensures { ReadsPiece SpellsName NameTook (S.script source.old) result (S.script source.new) }
     {
         let length = read_unsigned(source)?;
         if length == 0 {
@@ -226,15 +225,14 @@ impl Spelled for Label {
 
     ghost spells = { SpellsLabel };
 
-    ghost may = { LabelMay };
+    ghost took = { LabelTook };
 
     ghost one_front = { OneFront-label Any };
 
     ghost some = { HasSome-label Any };
 
     fn read<S: Source>(alloc: Global, source: &mut S) -> Result<Label, Why>
-        ensures reads { Reads SpellsLabel LabelMay (S.script source.old) result (S.script source.new) }
-        ensures took { ReadsPiece SpellsLabel LabelTook (S.script source.old) result (S.script source.new) }
+        ensures { ReadsPiece SpellsLabel LabelTook (S.script source.old) result (S.script source.new) }
     {
         let length = read_unsigned(source)?;
         let bytes = read_text(alloc, TextClass::Label, length, source)?;
@@ -314,15 +312,14 @@ impl Spelled for Padding {
 
     ghost spells = { SpellsPadding };
 
-    ghost may = { IntegerMay };
+    ghost took = { PaddingTook };
 
     ghost one_front = { OneFront-padding };
 
     ghost some = { HasSome-padding };
 
     fn read<S: Source>(_alloc: Global, source: &mut S) -> Result<Padding, Why>
-        ensures reads { Reads SpellsPadding IntegerMay (S.script source.old) result (S.script source.new) }
-        ensures took { ReadsPiece SpellsPadding PaddingTook (S.script source.old) result (S.script source.new) }
+        ensures { ReadsPiece SpellsPadding PaddingTook (S.script source.old) result (S.script source.new) }
     {
         let length = read_unsigned(source)?;
         pass_over(length, source)

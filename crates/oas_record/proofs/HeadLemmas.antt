@@ -18,7 +18,6 @@ use Rattle.oas_num.specs.TextLaws.{OneFront-label, OneFront-class}
 use Rattle.oas_num.specs.Reals.{real_in, RealTook}
 use Rattle.oas_num.specs.RealLaws.{OneFront-real}
 use Rattle.oas_num.specs.Begun.{Begins}
-use Rattle.oas_num.specs.BegunLaws.{Begins-none}
 use Rattle.oas_num.specs.Reading.{ReadsValue, Fails, FailsPiece, ByteMay, IntegerMay, ClassMay}
 use Rattle.oas_num.proofs.ReadLemmas.{Takes-none, Takes-then, Wants, Fails-after}
 use Rattle.oas_num.proofs.PieceLemmas.{fails_behind, first_fails, second_fails, keyed_fails, item_fails}
@@ -27,7 +26,7 @@ use Rattle.oas_record.specs.declared.heads.Head.{Head}
 use Rattle.oas_record.specs.Ends.{IsNumber}
 use Rattle.oas_record.specs.Heads.{magic, IsMagic, MagicMay, IsPassedLabel, PassedTook, version, version_in, VersionTook, IsPositiveReal, IsUnit, SpellsUnit, UnitTook, IsFlag, flag_in, start_in, StartTook, head_in, ReadsHead}
 use Rattle.oas_record.specs.HeadLaws.{OneFront-start_id, OneFront-flag}
-use Rattle.oas_record.specs.SomeLaws.{HasSome-magic}
+use Rattle.oas_num.specs.BegunLaws.{Begins-none, HasSome-exactly}
 
 -- ---- the magic
 
@@ -105,7 +104,7 @@ module _ (old mid new : Script) (count : ℕ) (lt : count < 13) (m : Matched old
       record {
         bytes = m.front ++ byte ∷ [];
         takes = Takes-then old mid new m.front (byte ∷ []) m.takes (rw only at read.takes);
-        reason = record { front = []; last = m.front ++ byte ∷ []; joined = refl; begun = Begins-none IsMagic HasSome-magic; holds = record { front = m.front; wanted = left.0; rest = left.1; byte = byte; is_magic = is; joined = refl; other = isnt } };
+        reason = record { front = []; last = m.front ++ byte ∷ []; joined = refl; begun = Begins-none IsMagic (HasSome-exactly magic); holds = record { front = m.front; wanted = left.0; rest = left.1; byte = byte; is_magic = is; joined = refl; other = isnt } };
         format = λ _. record {
           none = λ v p r more s e.
               let same : (left.0 ∷ left.1) ++ r ≡ (byte ∷ []) ++ more =

@@ -1,14 +1,14 @@
 -- Reading an info byte, and the fields after it.
-use Rattle.std.proofs.Common.{ℕ, List, [], refl}
+use Rattle.std.proofs.Common.{ℕ, List, refl}
 use Rattle.oas_num.specs.declared.refusals.Why.{Why}
 use Rattle.oas_num.specs.declared.refusals.Why.TheVariants.{InfoByte}
 use Rattle.oas_num.specs.Script.{Script}
 use Rattle.oas_num.specs.Grammar.{IsPair, IsSuch, IsImage, IsByte}
 use Rattle.oas_num.specs.GrammarLaws.{OneFront-such, OneFront-byte}
 use Rattle.oas_num.specs.Pieces.{PairTook}
-use Rattle.oas_num.specs.Reading.{ReadsValue, Fails, FailsPiece, ByteMay}
+use Rattle.oas_num.specs.Reading.{ReadsValue, FailsPiece, ByteMay}
 use Rattle.oas_num.proofs.GrammarLemmas.{such_read}
-use Rattle.oas_record.specs.Info.{InfoTook, LastTook}
+use Rattle.oas_record.specs.Info.{InfoTook}
 use Rattle.oas_num.proofs.HalfwayLemmas.{Halfway, at_image, ◌▸◌, fails_at, such_took, such_refused}
 
 module _ {U F : Type 0} {of : ℕ × F → U} {allowed : ℕ → Type 0} {fields : ℕ → F → List ℕ → Type 0} {took : ℕ → Why → List ℕ → Type 0} where
@@ -24,16 +24,3 @@ module _ {U F : Type 0} {of : ℕ × F → U} {allowed : ℕ → Type 0} {fields
   pub info_read : {old new : Script} {info : ℕ} → allowed info → ReadsValue IsByte old info new
       → Halfway (IsImage of (IsPair (IsSuch allowed IsByte) fields)) (fields info) (λ f. of (info, f)) (PairTook (IsSuch allowed IsByte) (InfoTook allowed) took) (took info) old new
   info_read {old = old} {new = new} {info = info} holds read = at_image old ▸ (OneFront-such allowed IsByte OneFront-byte, such_read allowed IsByte old new info holds read)
-
--- a part of which it is known only with which bytes it ends
-pub last_took : {V : Type 0} {A : V → List ℕ → Type 0} {may : Why → List ℕ → Type 0} {old new : Script} {why : Why} → Fails A may old why new → FailsPiece A (LastTook A may) old why new
-last_took f = record {
-  bytes = f.bytes;
-  takes = f.takes;
-  reason = record { front = []; last = f.bytes; joined = refl; begun = refl; holds = f.reason };
-  format = f.format;
-  cut = f.cut;
-  truncated = f.truncated;
-  device = f.device;
-  too_long = f.too_long;
-}

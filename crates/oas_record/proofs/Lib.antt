@@ -7,6 +7,7 @@ pub mod FieldLemmas
 pub mod ElementLemmas
 pub mod IdLemmas
 pub mod AfterLemmas
+pub mod SomeLemmas
 pub mod RecordLemmas
 pub mod ReasonLemmas
 pub mod NeverLemmas

@@ -4,12 +4,12 @@ use Rattle.std.proofs.lemmas.List.{length_push}
 use Rattle.oas_num.specs.declared.refusals.Why.{Why}
 use Rattle.oas_num.specs.Script.{Script}
 use Rattle.oas_num.specs.Grammar.{OneFront, IsImage, IsCount}
-use Rattle.oas_num.specs.Pieces.{ThereTook, CountTook}
+use Rattle.oas_num.specs.Pieces.{CountTook}
 use Rattle.oas_num.proofs.PieceLemmas.{fails_behind, item_fails}
 use Rattle.oas_num.specs.Reading.{ReadsValue, FailsPiece}
 use Rattle.oas_num.proofs.ReadLemmas.{Takes-none}
 use Rattle.oas_num.proofs.GrammarLemmas.{image_fails, Listed, listed_none, listed_more}
-use Rattle.oas_record.specs.Ends.{nothing, offsets_if, IsOffsets, OffsetsTook}
+use Rattle.oas_record.specs.Ends.{nothing, offsets_if, IsOffsets, OffsetsTook, OffsetsIfTook}
 
 -- so many were read, and not kept
 pub record Passed {V : Type 0} (A : V → List ℕ → Type 0) (old now : Script) (count : ℕ) : Type 0 where
@@ -39,6 +39,6 @@ module _ {V : Type 0} (A : V → List ℕ → Type 0) where
   }
 
 -- table-offsets that are there, and that aren't
-pub offsets_fail : {old new : Script} {why : Why} (there : Bool) → IsTrue there → FailsPiece IsOffsets OffsetsTook old why new → FailsPiece (offsets_if there) (ThereTook there OffsetsTook) old why new
+pub offsets_fail : {old new : Script} {why : Why} (there : Bool) → IsTrue there → FailsPiece IsOffsets OffsetsTook old why new → FailsPiece (offsets_if there) (OffsetsIfTook there) old why new
 offsets_fail {old = old} true is f = fails_behind (offsets_if true) IsOffsets [] (λ _ h. h) (Takes-none old) (record { wants = λ v p r rest s e. (v, p, r, s, e) }) f
 offsets_fail false is f = absurd cc

@@ -75,49 +75,61 @@ first_other id bytes why s isnt (inr b) =
 
 after_known : (in_end : Bool) (id : ℕ) (why : Why) (bytes : List ℕ) → AfterTook in_end id why bytes → IsKnown id
 after_known in_end id why bytes h =
-    elim (either_id id 2 _ _ why bytes h) [
-      | inl p ↦ inr (inl (omega (arith, p.0), omega (arith, p.0)))
+    elim (either_id id 0 _ _ why bytes h) [
+      | inl p ↦ absurd p.1
       | inr r ↦
-          elim (either_id id 3 _ _ why bytes r) [
+          elim (either_id id 2 _ _ why bytes r) [
             | inl p ↦ inr (inl (omega (arith, p.0), omega (arith, p.0)))
             | inr r ↦
-                elim (either_id id 4 _ _ why bytes r) [
+                elim (either_id id 3 _ _ why bytes r) [
                   | inl p ↦ inr (inl (omega (arith, p.0), omega (arith, p.0)))
                   | inr r ↦
-                      elim (either_id id 5 _ _ why bytes r) [
+                      elim (either_id id 4 _ _ why bytes r) [
                         | inl p ↦ inr (inl (omega (arith, p.0), omega (arith, p.0)))
                         | inr r ↦
-                            elim (either_id id 6 _ _ why bytes r) [
+                            elim (either_id id 5 _ _ why bytes r) [
                               | inl p ↦ inr (inl (omega (arith, p.0), omega (arith, p.0)))
                               | inr r ↦
-                                  elim (either_id id 13 _ _ why bytes r) [
-                                    | inl p ↦ inr (inr (inl (omega (arith, p.0), omega (arith, p.0))))
+                                  elim (either_id id 6 _ _ why bytes r) [
+                                    | inl p ↦ inr (inl (omega (arith, p.0), omega (arith, p.0)))
                                     | inr r ↦
-                                        elim (either_id id 14 _ _ why bytes r) [
+                                        elim (either_id id 13 _ _ why bytes r) [
                                           | inl p ↦ inr (inr (inl (omega (arith, p.0), omega (arith, p.0))))
                                           | inr r ↦
-                                              elim (either_id id 17 _ _ why bytes r) [
+                                              elim (either_id id 14 _ _ why bytes r) [
                                                 | inl p ↦ inr (inr (inl (omega (arith, p.0), omega (arith, p.0))))
                                                 | inr r ↦
-                                                    elim (either_id id 18 _ _ why bytes r) [
-                                                      | inl p ↦ inr (inr (inl (omega (arith, p.0), omega (arith, p.0))))
+                                                    elim (either_id id 15 _ _ why bytes r) [
+                                                      | inl p ↦ absurd p.1
                                                       | inr r ↦
-                                                          elim (either_id id 19 _ _ why bytes r) [
-                                                            | inl p ↦ inr (inr (inl (omega (arith, p.0), omega (arith, p.0))))
+                                                          elim (either_id id 16 _ _ why bytes r) [
+                                                            | inl p ↦ absurd p.1
                                                             | inr r ↦
-                                                                elim (either_id id 20 _ _ why bytes r) [
+                                                                elim (either_id id 17 _ _ why bytes r) [
                                                                   | inl p ↦ inr (inr (inl (omega (arith, p.0), omega (arith, p.0))))
                                                                   | inr r ↦
-                                                                      elim (either_id id 21 _ _ why bytes r) [
+                                                                      elim (either_id id 18 _ _ why bytes r) [
                                                                         | inl p ↦ inr (inr (inl (omega (arith, p.0), omega (arith, p.0))))
                                                                         | inr r ↦
-                                                                            elim (either_id id 22 _ _ why bytes r) [
+                                                                            elim (either_id id 19 _ _ why bytes r) [
                                                                               | inl p ↦ inr (inr (inl (omega (arith, p.0), omega (arith, p.0))))
                                                                               | inr r ↦
-                                                                                  elim (either_id id 27 _ _ why bytes r) [
-                                                                                    | inl p ↦ inr (inr (inr p.0))
+                                                                                  elim (either_id id 20 _ _ why bytes r) [
+                                                                                    | inl p ↦ inr (inr (inl (omega (arith, p.0), omega (arith, p.0))))
                                                                                     | inr r ↦
-                                                                                        absurd r
+                                                                                        elim (either_id id 21 _ _ why bytes r) [
+                                                                                          | inl p ↦ inr (inr (inl (omega (arith, p.0), omega (arith, p.0))))
+                                                                                          | inr r ↦
+                                                                                              elim (either_id id 22 _ _ why bytes r) [
+                                                                                                | inl p ↦ inr (inr (inl (omega (arith, p.0), omega (arith, p.0))))
+                                                                                                | inr r ↦
+                                                                                                    elim (either_id id 27 _ _ why bytes r) [
+                                                                                                      | inl p ↦ inr (inr (inr p.0))
+                                                                                                      | inr r ↦
+                                                                                                          absurd r
+                                                                                                    ]
+                                                                                              ]
+                                                                                        ]
                                                                                   ]
                                                                             ]
                                                                       ]

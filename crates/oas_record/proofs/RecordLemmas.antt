@@ -14,10 +14,10 @@ use Rattle.oas_num.proofs.ReadLemmas.{Takes-none, Wants}
 use Rattle.oas_num.proofs.GrammarLemmas.{Midway, begins, key_read, is_read, uncut}
 use Rattle.oas_record.specs.declared.records.Record.{Record}
 use Rattle.oas_record.specs.declared.records.Record.TheVariants as record_of
-use Rattle.oas_record.specs.Ends.{end_in, EndTook}
+use Rattle.oas_record.specs.Ends.{end_in, EndTook, end_kind}
 use Rattle.oas_record.specs.Records.{id_of, end, after_id, parts_in, record_in}
 use Rattle.oas_record.specs.RecordLaws.{OneFront-parts}
-use Rattle.oas_record.specs.SomeLaws.{HasSome-end, HasSome-parts}
+use Rattle.oas_record.proofs.SomeLemmas.{HasSome-parts}
 use Rattle.oas_record.specs.Refusals.{AfterTook, RecordTook, IsKnown, IsRefusedId, RefusesId, IsWrongEnd}
 use Rattle.oas_num.proofs.PieceLemmas.{fails_behind}
 use Rattle.oas_num.proofs.HalfwayLemmas.{by_format}
@@ -105,7 +105,7 @@ inner_done in_end id old mid new (Err why) isnt read rest = after_fails in_end r
 
 -- END's id was read
 with_end : {old mid : Script} {id : ℕ} (in_end : Bool) → id ≡ 2 → ReadsValue IsUnsigned old id mid → Midway (parts_in Any in_end) (after_id Any in_end id) (λ v. v) old mid
-with_end {id = id} in_end is read = with_id in_end (subst (λ k. HasSome (after_id Any in_end k)) (sym is) (HasSome-image end (end_in Any in_end) (HasSome-end in_end))) read
+with_end {id = id} in_end is read = with_id in_end (subst (λ k. HasSome (after_id Any in_end k)) (sym is) (HasSome-image end (end_in Any in_end) (end_kind in_end).some)) read
 
 pub end_fails : {old mid new : Script} {id : ℕ} {why : Why} (in_end : Bool) → id ≡ 2 → ReadsValue IsUnsigned old id mid → FailsPiece (end_in Any in_end) (EndTook in_end) mid why new → FailsPiece (record_in Any in_end) (RecordTook in_end) old why new
 end_fails {id = id} in_end is read f = after_fails in_end read (fails_2 in_end id is f)

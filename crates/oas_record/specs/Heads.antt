@@ -11,11 +11,11 @@ use Rattle.oas_num.specs.Integers.{IsUnsigned}
 use Rattle.oas_num.specs.Style.{Style, Any, Shortest, unsigned_in}
 use Rattle.oas_num.specs.Texts.{IsLabelByte, IsText, label_in}
 use Rattle.oas_num.specs.Reals.{real_in, RealTook}
-use Rattle.oas_num.specs.Pieces.{PairTook, ThereTook, CountTook, SuchTook, Unless}
+use Rattle.oas_num.specs.Pieces.{PairTook, CountTook, SuchTook, Unless}
 use Rattle.oas_num.specs.Reading.{IntegerMay, ClassMay, ReadsValue, Fails, FailsPiece}
 use Rattle.oas_num.specs.Script.{Script, Takes}
 use Rattle.oas_record.specs.declared.heads.Head.{Head}
-use Rattle.oas_record.specs.Ends.{nothing, IsNumber, offsets_if, OffsetsTook}
+use Rattle.oas_record.specs.Ends.{nothing, IsNumber, offsets_if, OffsetsIfTook}
 
 -- %SEMI-OASIS, CR, LF
 abbrev pub magic : List ℕ
@@ -148,7 +148,7 @@ StartRestTook =
     PairTook (version_in Any) VersionTook (λ _.
     PairTook (unit_in Any) UnitTook (λ _.
     PairTook (flag_in Any) (SuchTook IsUnsigned IntegerMay (Unless IsFlag OffsetFlag)) (λ flag.
-    ThereTook (flag == 0) OffsetsTook)))
+    OffsetsIfTook (flag == 0))))
 
 abbrev pub StartTook : Why → List ℕ → Type 0
 StartTook = PairTook (IsSuch (IsNumber 1) IsUnsigned) (SuchTook IsUnsigned IntegerMay IsOtherId) (λ _. StartRestTook)

@@ -1,23 +1,16 @@
 -- Where a read of a record may fail.
-use Rattle.std.specs.Prelude.{◌≡◌, ◌≢◌, ℕ, ◌<◌, ◌≤◌, ◌==◌, Bool, true, false, List, ◌++◌, length, ◌⊎◌, Option, Some, None, Result, Ok, Err}
+use Rattle.std.specs.Prelude.{◌≡◌, ◌≢◌, ℕ, ◌<◌, ◌≤◌, Bool, List, ◌++◌, length, ◌⊎◌, Option, Some, None, Result, Ok, Err}
 use Rattle.oas_num.specs.declared.refusals.Why.{Why}
 use Rattle.oas_num.specs.declared.refusals.Why.TheVariants.{RecordLeftOut, UnknownRecord, OutOfPlace, EndLength}
 use Rattle.oas_num.specs.declared.refusals.Refusal.{Refusal}
 use Rattle.oas_num.specs.Integers.{IsUnsigned}
-use Rattle.oas_num.specs.Combinators.{IsEither, IsNever}
 use Rattle.oas_num.specs.Pieces.{PairTook, SuchTook}
 use Rattle.oas_num.specs.Reading.{ReadsValue, FailsPiece, IntegerMay}
 use Rattle.oas_num.specs.Style.{Any}
 use Rattle.oas_num.specs.Script.{Script}
-use Rattle.oas_record.specs.References.{CellTook}
-use Rattle.oas_record.specs.NameRecords.{CellNameTook, TextStringTook}
-use Rattle.oas_record.specs.Placements.{QuarterTook, DegreeTook}
-use Rattle.oas_record.specs.Texts.{TextTook}
-use Rattle.oas_record.specs.Rectangles.{RectangleTook}
-use Rattle.oas_record.specs.Polygons.{PolygonTook}
-use Rattle.oas_record.specs.Paths.{PathTook}
-use Rattle.oas_record.specs.Circles.{CircleTook}
-use Rattle.oas_record.specs.Ends.{end_in, EndTook}
+use Rattle.oas_record.specs.declared.records.Record.{Record}
+use Rattle.oas_record.specs.Ends.{end_in}
+use Rattle.oas_record.specs.Records.{id_of, after, record_in}
 
 -- the ids that the profile leaves out: PROPNAME to LAYERNAME, trapezoids, properties, XNAME to CBLOCK
 abbrev pub IsLeftOut : ℕ → Type 0
@@ -26,6 +19,10 @@ IsLeftOut id = ((7 ≤ id) × (id ≤ 12)) ⊎ (((23 ≤ id) × (id ≤ 26)) ⊎
 -- the ids that the profile has, but for START's
 abbrev pub IsKnown : ℕ → Type 0
 IsKnown id = (id ≡ 0) ⊎ (((2 ≤ id) × (id ≤ 6)) ⊎ (((13 ≤ id) × (id ≤ 22)) ⊎ (id ≡ 27)))
+
+-- of that id there is a record
+abbrev pub HasRecord : Bool → ℕ → Type 0
+HasRecord in_end id = (r : Record) × (bytes : List ℕ) × record_in Any in_end r bytes × (id_of r ≡ id)
 
 -- for that reason no record has that id here
 abbrev pub IsRefusedId : ℕ → Why → Type 0
@@ -56,22 +53,7 @@ IdTook = SuchTook IsUnsigned IntegerMay IsRefusedId
 
 -- Where in it a read of what follows an id may fail. Where nothing follows, nothing fails.
 abbrev pub AfterTook : Bool → ℕ → Why → List ℕ → Type 0
-AfterTook in_end id =
-    IsEither (id == 2) (EndTook in_end)
-    (IsEither (id == 3) (CellNameTook false)
-    (IsEither (id == 4) (CellNameTook true)
-    (IsEither (id == 5) (TextStringTook false)
-    (IsEither (id == 6) (TextStringTook true)
-    (IsEither (id == 13) (CellTook true)
-    (IsEither (id == 14) (CellTook false)
-    (IsEither (id == 17) QuarterTook
-    (IsEither (id == 18) DegreeTook
-    (IsEither (id == 19) TextTook
-    (IsEither (id == 20) RectangleTook
-    (IsEither (id == 21) PolygonTook
-    (IsEither (id == 22) PathTook
-    (IsEither (id == 27) CircleTook
-    IsNever)))))))))))))
+AfterTook in_end id = (after in_end id).took
 
 -- where in it a read of a record may fail: in its id, or in what follows that id; or it is END, whole, and not of 256 bytes
 abbrev pub RecordTook : Bool → Why → List ℕ → Type 0

@@ -1,7 +1,6 @@
-ghost use Rattle.oas_num.specs.Pieces.{ThereTook};
 ghost use Rattle.oas_num.specs.Reading.{ReadsPiece};
 ghost use Rattle.oas_num.specs.Style.{Any};
-ghost use Rattle.oas_record.specs.Ends.{end_in, EndTook, offsets_if, OffsetsTook};
+ghost use Rattle.oas_record.specs.Ends.{end_in, EndTook, offsets_if, OffsetsIfTook};
 
 use crate::passing::pass_offsets;
 use oas_num::{Padding, Source, Spelled, Why, read_unsigned};
@@ -9,7 +8,7 @@ use std::alloc::Global;
 
 /// Table-offsets, where they are there.
 pub(crate) fn pass_offsets_if<S: Source>(there: bool, source: &mut S) -> Result<(), Why>
-    ensures { ReadsPiece (offsets_if there) (ThereTook there OffsetsTook) (S.script source.old) result (S.script source.new) }
+    ensures { ReadsPiece (offsets_if there) (OffsetsIfTook there) (S.script source.old) result (S.script source.new) }
 {
     if there {
         pass_offsets(source)?;

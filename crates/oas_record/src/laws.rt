@@ -9,8 +9,8 @@ ghost use Rattle.oas_num.specs.declared.refusals.Why.{Why};
 ghost use Rattle.oas_num.specs.declared.refusals.Why.TheVariants as why;
 ghost use Rattle.oas_record.specs.Circles.{IsCircleInfo};
 ghost use Rattle.oas_record.specs.Heads.{head_in, StartTook};
-ghost use Rattle.oas_record.specs.Records.{after_id, record_in, records_in};
-ghost use Rattle.oas_record.specs.Refusals.{IsKnown, IsRefusedId, RecordTook};
+ghost use Rattle.oas_record.specs.Records.{record_in, records_in};
+ghost use Rattle.oas_record.specs.Refusals.{HasRecord, IsKnown, IsRefusedId, RecordTook};
 ghost use Rattle.oas_record.specs.declared.records.Record.{Record};
 
 /// The front of a file. In the shortest style the unit is in lowest terms, the flag and the table-offsets are zeros (own
@@ -23,12 +23,13 @@ pub fn heads()
 {}
 
 /// Records: none begins another. In the shortest style there are CELL by name, elements with all their fields and no
-/// repetition, and END with zeros in its padding (own rule). After each id of the profile some fields may stand.
+/// repetition, and END with zeros in its padding (own rule). Of each id of the profile there is a record, and END
+/// is 256 bytes wherever the table-offsets stand.
 pub fn records()
     ensures front { (style : Style) (in_end : Bool) → OneFront (record_in style in_end) }
     ensures one { (in_end : Bool) → OneSpelling (record_in Shortest in_end) }
     ensures within { (in_end : Bool) → IsWithin (record_in Shortest in_end) (record_in Any in_end) }
-    ensures some { (in_end : Bool) (id : ℕ) → IsKnown id → HasSome (after_id Any in_end id) }
+    ensures some { (in_end : Bool) (id : ℕ) → IsKnown id → HasRecord in_end id }
 {}
 
 /// What follows START: records and END. No such bytes begin others, and in the shortest style a list has one spelling.

@@ -1,13 +1,10 @@
 ghost use Rattle.oas_num.specs.Reading.{ReadsPiece};
-ghost use Rattle.oas_num.specs.Grammar.{IsThere};
-ghost use Rattle.oas_num.specs.Pieces.{ThereTook};
-ghost use Rattle.oas_num.specs.Reals.{SpellsReal, RealTook};
 ghost use Rattle.oas_num.specs.Style.{Any};
 ghost use Rattle.oas_record.specs.Placements.{quarters_in, QuarterTook, degrees_in, DegreeTook};
 
 use crate::references::{CellRef, read_cell_if};
 use crate::spots::{Spot, read_spot};
-use oas_num::{Real, Source, Spelled, Why, next_byte};
+use oas_num::{Real, Source, Why, next_byte, read_if};
 use std::alloc::Global;
 
 /// How a placed cell is turned, counterclockwise.
@@ -34,17 +31,6 @@ pub struct Placement {
     pub spot: Spot,
 }
 
-/// A real, where it is there.
-fn read_real_if<S: Source>(alloc: Global, there: bool, source: &mut S) -> Result<Option<Real>, Why>
-    ensures { ReadsPiece (IsThere there SpellsReal) (ThereTook there RealTook) (S.script source.old) result (S.script source.new) }
-{
-    if there {
-        Ok(Some(Real::read(alloc, source)?))
-    } else {
-        Ok(None)
-    }
-}
-
 impl Placement {
     /// What follows the id 17.
     pub(crate) fn read_quarters<S: Source>(alloc: Global, source: &mut S) -> Result<Placement, Why>
@@ -67,8 +53,8 @@ impl Placement {
     {
         let info = next_byte(source)?;
         let cell = read_cell_if(alloc, info & 128 != 0, info & 64 != 0, source)?;
-        let magnification = read_real_if(alloc, info & 4 != 0, source)?;
-        let angle = read_real_if(alloc, info & 2 != 0, source)?;
+        let magnification = read_if::<Real, S>(alloc, info & 4 != 0, source)?;
+        let angle = read_if::<Real, S>(alloc, info & 2 != 0, source)?;
         let spot = read_spot(alloc, info & 32 != 0, info & 16 != 0, info & 8 != 0, source)?;
         Ok(Placement {
             cell,

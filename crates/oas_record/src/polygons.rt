@@ -2,7 +2,8 @@ ghost use Rattle.std.specs.Prelude.{◌↔◌, IsTrue};
 ghost use Rattle.oas_num.specs.Grammar.{IsThere};
 ghost use Rattle.oas_num.specs.Reading.{ReadsPiece};
 ghost use Rattle.oas_num.specs.Style.{Any};
-ghost use Rattle.oas_record.specs.Polygons.{IsPolygonInfo, polygon_in, PointsTook, PolygonTook};
+ghost use Rattle.oas_record.specs.Fields.{PointsTook};
+ghost use Rattle.oas_record.specs.Polygons.{IsPolygonInfo, polygon_in, PolygonTook};
 ghost use Rattle.oas_shape.specs.PointLists.{point_list_in};
 
 use crate::spots::{Spot, read_layers, read_spot};

@@ -8,12 +8,12 @@ use Rattle.oas_record.proofs.name_records.read_cell_name.Goals as goal
 pub returns-in_err-name : goal.returns-in_err-name
 returns-in_err-name g c =
     let p = err_from_is_err_and c.from_residual.result c.from_residual.ensures.1 in
-    rw (p.1, p.2) (fails_at (at_start _) c.in_err-name.ensures.took)
+    rw (p.1, p.2) (fails_at (at_start _) c.in_err-name.ensures)
 
 pub returns-in_err-number : goal.returns-in_err-number
 returns-in_err-number g c =
     let p = err_from_is_err_and c.from_residual-in_err-number.result c.from_residual-in_err-number.ensures.1 in
-    rw (p.1, p.2) (fails_last (at_start _ ▸ (OneFront-name Any, c.in_ok-name.ensures.reads)) (number_took _ c.in_err-number.ensures))
+    rw (p.1, p.2) (fails_last (at_start _ ▸ (OneFront-name Any, c.in_ok-name.ensures)) (number_took _ c.in_err-number.ensures))
 
 pub returns : goal.returns
-returns g c = is_read (at_start {took = CellNameTook c.args.numbered} _ ▸ (OneFront-name Any, c.in_ok-name.ensures.reads)) c.in_ok-number.ensures
+returns g c = is_read (at_start {took = CellNameTook c.args.numbered} _ ▸ (OneFront-name Any, c.in_ok-name.ensures)) c.in_ok-number.ensures

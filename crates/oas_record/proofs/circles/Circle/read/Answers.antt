@@ -1,7 +1,7 @@
 use Rattle.std.proofs.lemmas.Result.{err_from_is_err_and}
 use Rattle.oas_num.specs.Style.{Any}
-use Rattle.oas_record.specs.Circles.{CircleFieldsTook}
-use Rattle.oas_record.specs.FieldLaws.{OneFront-layers}
+use Rattle.oas_record.specs.Circles.{circle_parts}
+use Rattle.oas_record.proofs.FieldLemmas.{OneFront-layers}
 use Rattle.oas_record.proofs.ElementLemmas.{allowed_by, refused_by, OneFront-number_if}
 use Rattle.oas_num.proofs.HalfwayLemmas.{◌▸◌, fails_at, fails_last, is_read, number_took}
 use Rattle.oas_record.proofs.InfoLemmas.{info_took, info_refused, info_read}
@@ -31,4 +31,4 @@ returns-in_err-spot g c =
     rw (p.1, p.2) (fails_last (info_read (allowed_by c.is_circle_info.ensures c.if-not-is_circle_info.false) c.in_ok-info.ensures ▸ (OneFront-layers Any _, c.in_ok-layers.ensures) ▸ (OneFront-number_if _, c.in_ok-radius.ensures)) c.in_err-spot.ensures)
 
 pub returns : goal.returns
-returns g c = is_read (info_read {took = CircleFieldsTook} (allowed_by c.is_circle_info.ensures c.if-not-is_circle_info.false) c.in_ok-info.ensures ▸ (OneFront-layers Any _, c.in_ok-layers.ensures) ▸ (OneFront-number_if _, c.in_ok-radius.ensures)) c.in_ok-spot.ensures
+returns g c = is_read (info_read {took = λ info. (circle_parts info).took} (allowed_by c.is_circle_info.ensures c.if-not-is_circle_info.false) c.in_ok-info.ensures ▸ (OneFront-layers Any _, c.in_ok-layers.ensures) ▸ (OneFront-number_if _, c.in_ok-radius.ensures)) c.in_ok-spot.ensures

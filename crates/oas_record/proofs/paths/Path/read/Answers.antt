@@ -1,10 +1,9 @@
 use Rattle.std.proofs.lemmas.Result.{err_from_is_err_and}
 use Rattle.oas_num.specs.Style.{Any}
 use Rattle.oas_shape.specs.declared.list_use.ListUse.TheVariants as uses
-use Rattle.oas_record.specs.Paths.{PathFieldsTook}
-use Rattle.oas_record.specs.FieldLaws.{OneFront-layers}
+use Rattle.oas_record.specs.Paths.{path_parts}
 use Rattle.oas_record.proofs.ElementLemmas.{OneFront-number_if}
-use Rattle.oas_record.proofs.FieldLemmas.{OneFront-points_if, OneFront-extensions_if}
+use Rattle.oas_record.proofs.FieldLemmas.{OneFront-layers, OneFront-points_if, OneFront-extensions_if}
 use Rattle.oas_num.proofs.HalfwayLemmas.{◌▸◌, fails_at, fails_last, is_read, number_took}
 use Rattle.oas_record.proofs.InfoLemmas.{info_took, info_read}
 use Rattle.oas_record.proofs.paths.Path.read.Goals as goal
@@ -40,4 +39,4 @@ returns-in_err-spot g c =
     rw (p.1, p.2) (fails_last (info_read c.in_ok-info.ensures.spelled.small c.in_ok-info.ensures ▸ (OneFront-layers Any _, c.in_ok-layers.ensures) ▸ (OneFront-number_if _, c.in_ok-half_width.ensures) ▸ (OneFront-extensions_if _, c.in_ok-extensions.ensures) ▸ (OneFront-points_if _ uses.Path, c.in_ok-points.ensures)) c.in_err-spot.ensures)
 
 pub returns : goal.returns
-returns g c = is_read (info_read {took = PathFieldsTook} c.in_ok-info.ensures.spelled.small c.in_ok-info.ensures ▸ (OneFront-layers Any _, c.in_ok-layers.ensures) ▸ (OneFront-number_if _, c.in_ok-half_width.ensures) ▸ (OneFront-extensions_if _, c.in_ok-extensions.ensures) ▸ (OneFront-points_if _ uses.Path, c.in_ok-points.ensures)) c.in_ok-spot.ensures
+returns g c = is_read (info_read {took = λ info. (path_parts info).took} c.in_ok-info.ensures.spelled.small c.in_ok-info.ensures ▸ (OneFront-layers Any _, c.in_ok-layers.ensures) ▸ (OneFront-number_if _, c.in_ok-half_width.ensures) ▸ (OneFront-extensions_if _, c.in_ok-extensions.ensures) ▸ (OneFront-points_if _ uses.Path, c.in_ok-points.ensures)) c.in_ok-spot.ensures

@@ -1,10 +1,9 @@
 use Rattle.std.proofs.lemmas.Result.{err_from_is_err_and}
 use Rattle.oas_num.specs.Style.{Any}
 use Rattle.oas_shape.specs.declared.list_use.ListUse.TheVariants as uses
-use Rattle.oas_record.specs.Polygons.{PolygonFieldsTook}
-use Rattle.oas_record.specs.FieldLaws.{OneFront-layers}
+use Rattle.oas_record.specs.Polygons.{polygon_parts}
 use Rattle.oas_record.proofs.ElementLemmas.{allowed_by, refused_by}
-use Rattle.oas_record.proofs.FieldLemmas.{OneFront-points_if}
+use Rattle.oas_record.proofs.FieldLemmas.{OneFront-layers, OneFront-points_if}
 use Rattle.oas_num.proofs.HalfwayLemmas.{◌▸◌, fails_at, fails_last, is_read}
 use Rattle.oas_record.proofs.InfoLemmas.{info_took, info_refused, info_read}
 use Rattle.oas_record.proofs.polygons.Polygon.read.Goals as goal
@@ -33,4 +32,4 @@ returns-in_err-spot g c =
     rw (p.1, p.2) (fails_last (info_read (allowed_by c.is_polygon_info.ensures c.if-not-is_polygon_info.false) c.in_ok-info.ensures ▸ (OneFront-layers Any _, c.in_ok-layers.ensures) ▸ (OneFront-points_if _ uses.Polygon, c.in_ok-points.ensures)) c.in_err-spot.ensures)
 
 pub returns : goal.returns
-returns g c = is_read (info_read {took = PolygonFieldsTook} (allowed_by c.is_polygon_info.ensures c.if-not-is_polygon_info.false) c.in_ok-info.ensures ▸ (OneFront-layers Any _, c.in_ok-layers.ensures) ▸ (OneFront-points_if _ uses.Polygon, c.in_ok-points.ensures)) c.in_ok-spot.ensures
+returns g c = is_read (info_read {took = λ info. (polygon_parts info).took} (allowed_by c.is_polygon_info.ensures c.if-not-is_polygon_info.false) c.in_ok-info.ensures ▸ (OneFront-layers Any _, c.in_ok-layers.ensures) ▸ (OneFront-points_if _ uses.Polygon, c.in_ok-points.ensures)) c.in_ok-spot.ensures

@@ -1,11 +1,10 @@
 -- Whether a spelling stands at the front of some bytes: of what is made of spellings of which that can be settled, it can be.
-use Rattle.std.proofs.Common.{◌≡◌, ℕ, zero, suc, Bool, true, false, List, [], ◌∷◌, ◌++◌, Option, Some, None, ◌⊎◌, inl, inr, refl, sym, ap, subst, ◌∙◌, append_assoc, arith}
+use Rattle.std.proofs.Common.{◌≡◌, ◌≢◌, ℕ, zero, suc, Bool, true, false, List, [], ◌∷◌, ◌++◌, Option, Some, None, ◌⊎◌, inl, inr, refl, sym, ap, subst, ◌∙◌, append_assoc, arith}
 use Rattle.std.proofs.lemmas.Bool.Decides.{eqb_tells}
 use Rattle.oas_num.specs.Grammar.{OneFront, IsPair, IsSuch, IsImage, IsThere, IsEach, IsCount}
 use Rattle.oas_num.specs.GrammarLaws.{OneFront-pair, OneFront-such, OneFront-image, OneFront-there, OneFront-count, after_same}
 use Rattle.oas_num.specs.Combinators.{IsExactly, IsNever, IsEither, IsKeyed}
 use Rattle.oas_num.specs.CombinatorLaws.{OneFront-exactly, OneFront-within, OneFront-keyed}
-use Rattle.oas_file.specs.Places.{NoneStands}
 
 -- ---- what holds, or doesn't
 
@@ -30,6 +29,10 @@ settled_either (inr lacks) (inl q) = inl (inr q)
 settled_either (inr lacks) (inr nor) = inr (λ one. elim one [ inl p ↦ lacks p | inr q ↦ nor q ])
 
 -- ---- a spelling that stands there
+
+-- no spelling is a front of what is left
+pub record NoneStands {V : Type 0} (spells : V → List ℕ → Type 0) (left : List ℕ) : Type 0 where
+  pub none : (v : V) (front rest : List ℕ) → spells v front → left ≢ front ++ rest
 
 pub record Stands {V : Type 0} (spells : V → List ℕ → Type 0) (left : List ℕ) : Type 0 where
   pub value : V
