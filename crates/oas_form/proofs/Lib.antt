@@ -1,4 +1,5 @@
 pub mod AllowedLemmas
+pub mod ComparingLemmas
 pub mod DrawnSound
 pub mod ElementPutting
 pub mod ElementSpelling
@@ -8,6 +9,9 @@ pub mod FieldsGiven
 pub mod Forms
 pub mod Held
 pub mod InGrid
+pub mod JudgeBytes
+pub mod JudgeRecords
+pub mod JudgeStanding
 pub mod KindLemmas
 pub mod LargerLimits
 pub mod LayoutForms

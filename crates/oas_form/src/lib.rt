@@ -16,13 +16,18 @@
 //!   accepted files mean the same layout exactly if they have one. It has as many elements as its file, weighs no more, and its
 //!   length is bounded by that weight and by the limit of an input. A file's canonical form by profile two is that of its
 //!   canonical form by profile one.
+//! - [`judge_laws`] says when an accepted file is a canonical form, record by record as it is read (specs/Judging.antt), and
+//!   [`FormJudge`] judges so: of what was read it keeps the name of the open cell and the latest element.
 //! - [`meaning_laws`] and [`spelling_laws`] say of the records of a canonical file (`records_of`, specs/Records.antt) what
 //!   they mean, that they are accepted, and how they are spelled.
 #![tactic(auto)]
 
 mod cells;
+mod comparing;
 mod elements;
 mod frames;
+pub mod judge_laws;
+mod judging;
 pub mod laws;
 pub mod meaning_laws;
 mod parts;
@@ -30,4 +35,5 @@ mod point_lists;
 pub mod spelling_laws;
 mod writing;
 
+pub use judging::FormJudge;
 pub use writing::{put_canonical, write_canonical};
