@@ -1,7 +1,7 @@
 ghost use Rattle.std.specs.Prelude.{◌≡◌, ◌<◌, ◌^◌, List, ℕ};
 ghost use Rattle.oas_num.specs.Deltas.{toward, delta2_of, delta3_of, gdelta_from};
 ghost use Rattle.oas_num.specs.Integers.{signed_of};
-ghost use Rattle.oas_num.specs.Reading.{Reads, ReadsPiece, IntegerMay};
+ghost use Rattle.oas_num.specs.Reading.{ReadsPiece, IntegerMay};
 
 use crate::integers::{read_signed, read_unsigned, read_unsigned_if};
 use crate::refusals::Why;

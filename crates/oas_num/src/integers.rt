@@ -1,7 +1,7 @@
 ghost use Rattle.std.specs.Prelude.{◌≡◌, List, ℕ};
 ghost use Rattle.oas_num.specs.Grammar.{IsThere};
 ghost use Rattle.oas_num.specs.Integers.{IsUnsigned, IsSigned};
-ghost use Rattle.oas_num.specs.Reading.{Reads, ReadsPiece, IntegerMay};
+ghost use Rattle.oas_num.specs.Reading.{ReadsPiece, IntegerMay};
 
 use crate::refusals::Why;
 use crate::spelling::{Spelled, next_byte};

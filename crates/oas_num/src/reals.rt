@@ -20,7 +20,7 @@ pub struct Real {
 }
 
 impl Spelled for Real {
-    ghost use Rattle.oas_num.specs.Reading.{Reads, ReadsPiece};
+    ghost use Rattle.oas_num.specs.Reading.{ReadsPiece};
     ghost use Rattle.oas_num.specs.Reals.{SpellsReal, RealMay, RealTook};
     ghost use Rattle.oas_num.specs.RealLaws.{OneFront-SpellsReal, HasSome-SpellsReal};
 

@@ -6,7 +6,7 @@ ghost use Rattle.std.specs.Cmp.Lexicographic.{slice_cmp, pointwise};
 ghost use Rattle.std.specs.Ordering.{nat_cmp, as_partial_cmp};
 ghost use Rattle.std.specs.Hash as fed;
 ghost use Rattle.oas_num.specs.Pieces.{CountTook};
-ghost use Rattle.oas_num.specs.Reading.{Reads, ReadsPiece, ReadsPieceAs, ByteMay, ClassMay, TextTook};
+ghost use Rattle.oas_num.specs.Reading.{ReadsPiece, ReadsPieceAs, ByteMay, ClassMay, TextTook};
 ghost use Rattle.oas_num.specs.Grammar.{IsSuch, IsByte};
 ghost use Rattle.oas_num.specs.Texts.{IsIn, IsText, IsName, IsLabel, IsPassed};
 
@@ -114,7 +114,7 @@ impl Spelled for Name {
     ghost use Rattle.oas_num.specs.Texts.{SpellsName};
     ghost use Rattle.oas_num.specs.Style.{Any};
     ghost use Rattle.oas_num.specs.TextLaws.{OneFront-name, HasSome-name};
-    ghost use Rattle.oas_num.specs.Reading.{NameMay, NameTook};
+    ghost use Rattle.oas_num.specs.Reading.{NameTook};
 
     ghost spells = { SpellsName };
 
@@ -221,7 +221,7 @@ impl Spelled for Label {
     ghost use Rattle.oas_num.specs.Texts.{SpellsLabel};
     ghost use Rattle.oas_num.specs.Style.{Any};
     ghost use Rattle.oas_num.specs.TextLaws.{OneFront-label, HasSome-label};
-    ghost use Rattle.oas_num.specs.Reading.{LabelMay, LabelTook};
+    ghost use Rattle.oas_num.specs.Reading.{LabelTook};
 
     ghost spells = { SpellsLabel };
 

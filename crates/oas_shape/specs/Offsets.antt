@@ -1,5 +1,5 @@
 -- The copies of a repetition (SEMI P39, Repetitions). A dimension d stands for d + 2 copies.
-use Rattle.std.specs.Prelude.{◌≡◌, ℕ, pos, ◌+◌, ◌*◌, ◌/◌, ◌%◌, ◌≤◌, List, ◌∷◌, map, length, slice_index_or}
+use Rattle.std.specs.Prelude.{ℕ, pos, ◌+◌, ◌*◌, ◌/◌, ◌%◌, List, map, length, slice_index_or}
 use Rattle.oas_num.specs.declared.deltas.GDelta.{GDelta}
 use Rattle.oas_num.specs.Deltas.{step}
 use Rattle.oas_shape.specs.declared.repetitions.Repetition.{Repetition}
@@ -32,9 +32,3 @@ offset_of (Listed offsets) i = slice_index_or offsets i still
 -- the offsets of a list: the grid times the sum of the first 0, 1, 2 and so on of the displacements
 abbrev pub offsets_by : ℕ → List GDelta → List GDelta
 offsets_by grid displacements = map (times grid) (sums displacements)
-
--- what a list of offsets is: two at least, of which the first is no step
-pub record AreOffsets (offsets : List GDelta) : Type 0 where
-  pub two : 2 ≤ length offsets
-  pub rest : List GDelta
-  pub first : offsets ≡ still ∷ rest

@@ -8,7 +8,7 @@ ghost use Rattle.oas_num.specs.Style.{Style, Any, Shortest};
 ghost use Rattle.oas_shape.specs.declared.list_use.ListUse.{ListUse};
 ghost use Rattle.oas_shape.specs.PointLists.{point_list_in};
 ghost use Rattle.oas_shape.specs.declared.offsets.Along.{Along};
-ghost use Rattle.oas_shape.specs.Offsets.{AreOffsets};
+ghost use Rattle.oas_shape.specs.OffsetLists.{AreOffsets};
 ghost use Rattle.oas_shape.specs.Repetitions.{rep_field_in, after_dim};
 
 /// Point lists. In the shortest style one is of type 4, with g-deltas in their shortest spelling (own rule).

@@ -20,6 +20,7 @@
 mod displacements;
 pub mod laws;
 mod list_use;
+mod offset_list;
 mod offsets;
 mod point_list;
 mod repetitions;
@@ -27,7 +28,7 @@ mod steps;
 mod vertices;
 
 pub use list_use::ListUse;
-pub use offsets::OffsetList;
+pub use offset_list::OffsetList;
 pub use point_list::{Closing, PointList};
 pub use repetitions::{RepField, Repetition};
 

@@ -5,7 +5,8 @@ ghost use Rattle.oas_num.specs.Style.{Any};
 ghost use Rattle.oas_shape.specs.Offsets.{HasList};
 ghost use Rattle.oas_shape.specs.Repetitions.{rep_field_in, RepFieldTook, RepetitionTook, ListedTook, MatrixTook, LatticeTook, LineTook, TwoTook, repetition_by, AreTwo, IsMatrix, IsColumns, IsRows, IsLattice, IsLine, IsListed, grid_of};
 
-use crate::offsets::{Along, OffsetList};
+use crate::offset_list::OffsetList;
+use crate::offsets::Along;
 use oas_num::{GDelta, Source, Spelled, Why, read_unsigned, read_unsigned_if};
 use std::alloc::{AllocError, Global};
 

@@ -1,7 +1,8 @@
-use Rattle.std.proofs.Common.{sym, arith}
+use Rattle.std.proofs.Common.{◌+◌, sym, arith}
 use Rattle.std.proofs.lemmas.Result.{err_from_is_err_and}
+use Rattle.oas_shape.specs.RepetitionLaws.{offsets_are}
 use Rattle.oas_shape.proofs.OffsetLemmas.{summing_more, summed_all, summed_more, summed_fails, summed_past, summed_no_memory}
-use Rattle.oas_shape.proofs.offsets.OffsetList.read.Goals as goal
+use Rattle.oas_shape.proofs.offset_list.OffsetList.read.Goals as goal
 
 pub returns-in_err-by : goal.returns-in_err-by
 returns-in_err-by g c =
@@ -28,3 +29,8 @@ returns-then-left-eq0 g c =
 pub loop-items-preserved : goal.loop-items-preserved
 loop-items-preserved g c =
     rw c.in_ok-push.ensures.items (summing_more c.loop-items.invariant c.if-left-eq0.false c.in_ok-by.ensures c.in-Some.ensures.0 (sym c.in-Some.ensures.1))
+
+pub invariant_of-result : goal.invariant_of-result
+invariant_of-result g c =
+    let read = summed_all (summed_more c.loop-items.invariant.summed c.in_ok-by.ensures c.in-Some.ensures.0 (sym c.in-Some.ensures.1)) (c.args.more + 1) (omega (arith, c.loop-items.invariant.left_is)) in
+    rw (c.in_ok-push-2.ensures.items, c.in_ok-push.ensures.items) (offsets_are _ _ _ _ _ read.spelled)
