@@ -3,15 +3,22 @@
 PREFIX ?= /usr/local
 JOBS ?= 2
 
-.PHONY: all install test test-large test-reference bench clean
+.PHONY: all install install-built dist test test-large test-reference test-readings test-command test-workflows test-klayout bench clean
 
 # The program: proves every crate that it stands on, builds it, and leaves it as ./oascanon.
 all:
 	cd crates/oascanon && rt run --jobs $(JOBS) -- --help >/dev/null
 	cp crates/oascanon/out/oascanon oascanon
 
-install: all
-	install -D -m 755 oascanon $(DESTDIR)$(PREFIX)/bin/oascanon
+install: all install-built
+
+# The same of the ./oascanon that is there.
+install-built:
+	install -D -m 755 -t $(DESTDIR)$(PREFIX)/bin oascanon scripts/oascanon-textconv scripts/klayout-to-canonical
+	install -D -m 644 man/oascanon.1 $(DESTDIR)$(PREFIX)/share/man/man1/oascanon.1
+	install -D -m 644 completions/oascanon.bash $(DESTDIR)$(PREFIX)/share/bash-completion/completions/oascanon
+	install -D -m 644 completions/_oascanon $(DESTDIR)$(PREFIX)/share/zsh/site-functions/_oascanon
+	install -D -m 644 completions/oascanon.fish $(DESTDIR)$(PREFIX)/share/fish/vendor_completions.d/oascanon.fish
 
 # The gate: every proof from nothing, the edits that must fail, the tests, the stored runs.
 test:
@@ -24,6 +31,29 @@ test-large: all
 # Random files, given to the built program and to a plain, slow one that was written from the same rules.
 test-reference: all
 	tests/reference/compare ./oascanon
+
+# Each rule of that program changed in turn: some row of the gate must tell the difference.
+test-readings:
+	tests/reference/readings
+
+# The packages: a tar.gz, a .deb and SHA256SUMS in dist/, tried in clean folders.
+dist: all
+	tests/dist/run
+	scripts/dist dist
+
+# What a user sees of the built program, by real files, pipes and limits.
+test-command: all
+	tests/command/run ./oascanon
+
+# The recipes of docs/WORKFLOWS.md as they are printed there. One wants GNU parallel: Debian's package, where it isn't there.
+test-workflows: all
+	command -v parallel >/dev/null || apt-get install -y parallel
+	tests/workflows/run ./oascanon
+
+# The way from KLayout's files into the profile, by the real KLayout: Debian's package, where it isn't there.
+test-klayout: all
+	test -x /usr/lib/klayout/strm2oas || apt-get install -y klayout
+	tests/klayout/run ./oascanon
 
 # Speed and memory, beside a baseline in the same run.
 bench: all

@@ -8,8 +8,9 @@ TAIL = bytes.fromhex("02FC01") + bytes(253)
 CELL = b"\x0e\x03TOP"
 MILLION = 1_000_000
 XYRELATIVE = b"\x10"
-# The corners of an L, and the bits of a 2-delta for east, north, west and south.
-CORNERS = ((0, 0), (2, 0), (2, 1), (1, 1), (1, 2), (0, 2))
+# The corners of an L and of a box, and the bits of a 2-delta for east, north, west and south.
+ANGLE = ((0, 0), (2, 0), (2, 1), (1, 1), (1, 2), (0, 2))
+BOX = ((0, 0), (1, 0), (1, 1), (0, 1))
 EAST, NORTH, WEST, SOUTH = range(4)
 
 
@@ -95,11 +96,11 @@ def compact(chance):
         yield bytes((0x14, info)) + fields + repeated
 
 
-def ring(chance):
-    """The steps of an L from any corner, either way round."""
+def ring(chance, corners):
+    """The steps of a ring from any corner, either way round."""
     wide, high = chance.randrange(10, 1000), chance.randrange(10, 1000)
-    corners = CORNERS if chance.random() < 0.5 else CORNERS[::-1]
-    begin = chance.randrange(6)
+    corners = corners if chance.random() < 0.5 else corners[::-1]
+    begin = chance.randrange(len(corners))
     corners = [(x * wide, y * high) for x, y in corners[begin:] + corners[:begin]]
     return [(x - w, y - h) for (w, h), (x, y) in zip(corners, corners[1:])]
 
@@ -110,15 +111,17 @@ def two_delta(x, y):
 
 
 def polygons(chance):
-    """A million of six points, a third each by 1-deltas, 2-deltas and g-deltas."""
+    """A million, a third each by 1-deltas, 2-deltas and g-deltas. A fifth are boxes, the others have six points."""
     yield CELL
     for _ in range(MILLION):
-        steps, kind = ring(chance), chance.choice((1, 2, 4))
+        corners = BOX if chance.random() < 0.2 else ANGLE
+        steps, kind = ring(chance, corners), chance.choice((1, 2, 4))
         if kind == 1:
             first = steps[0][0] == 0
-            points = unsigned(first) + b"\x04" + b"".join(signed(x + y) for x, y in steps[:4])
+            points = unsigned(first) + unsigned(len(steps) - 1) + b"".join(signed(x + y) for x, y in steps[:-1])
         else:
-            points = unsigned(kind) + b"\x05" + b"".join(itertools.starmap(two_delta if kind == 2 else gdelta, steps))
+            spell = two_delta if kind == 2 else gdelta
+            points = unsigned(kind) + unsigned(len(steps)) + b"".join(itertools.starmap(spell, steps))
         yield b"\x15\x3b" + unsigned(chance.randrange(64)) + b"\x00" + points + place(chance)
 
 

@@ -40,6 +40,12 @@ pub fn moved(at: i64, by: i128) -> Option<i64> {
 }
 
 impl Element {
+    /// The rectangle between two corners.
+    pub fn rectangle(layer: u64, datatype: u64, low: Point, high: Point) -> Element {
+        let (width, height) = (high.x.abs_diff(low.x), high.y.abs_diff(low.y));
+        Element::Rectangle { layer, datatype, width, height, x: low.x, y: low.y }
+    }
+
     /// Whether all of it lies within the grid. Its positions and points are known to.
     pub fn fits_grid(&self) -> bool {
         match self {

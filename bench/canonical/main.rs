@@ -1,4 +1,5 @@
-//! The baseline of `bench/canon`: plain Rust that does what `oascanon canon` does, from standard input to standard output.
+//! The baseline of `bench/canon`: plain Rust that does what `oascanon canon` does, by profile two, from standard input to
+//! standard output.
 //! A refusal is named by its number alone, without a place.
 
 mod element;

@@ -2,6 +2,7 @@
 
 import random
 
+import boxes
 from canonical import real, signed, string, unsigned
 from reading import MAGIC
 
@@ -101,6 +102,8 @@ class Maker:
         return self.spelled(scheme) + b"".join(self.signed() for code in divmod(scheme, 4) if code == 3)
 
     def record(self):
+        if self.one_in(8):
+            return boxes.records(self.random)
         kinds = (0, 3, 5, 13, 14, 14, 15, 16, 17, 17, 18, 19, 20, 20, 20, 21, 21, 22, 22, 27)
         kind = self.random.choice(kinds) if not self.one_in(80) else self.random.randrange(36)
         if kind in (17, 18, 19, 20, 21, 22, 27):

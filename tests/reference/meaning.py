@@ -1,15 +1,12 @@
-"""From records to a layout: docs/PROFILE.md and docs/CANONICAL.md read aloud. Nothing is kept from one record to the
-next: each value is looked for by going back over the records.
+"""From records to elements: docs/PROFILE.md read aloud. Nothing is kept from one record to the next: each value is looked
+for by going back over the records.
 """
 
 from collections import Counter
-from math import gcd
 
-from reading import ELEMENTS, END, XY_ABSOLUTE, XY_RELATIVE, Bytes, Refused, Stop, START_AT, MAGIC, head, one_record
+from reading import ELEMENTS, XY_ABSOLUTE, XY_RELATIVE
 
 FURTHEST = 2**60
-MOST_ELEMENTS = 2**24
-MOST_WEIGHT = 2**28
 
 CELLS = (13, 14)
 NAMES = (3, 4, 5, 6)
@@ -135,8 +132,8 @@ def weight(made):
 class Drawn:
     """Elements and weight so far, and the elements of each CELL record."""
 
-    def __init__(self):
-        self.count, self.weight, self.cells = 0, 0, {}
+    def __init__(self, limits):
+        self.count, self.weight, self.cells, self.limits = 0, 0, {}, limits
 
 
 def draw(records, i, drawn):
@@ -153,10 +150,10 @@ def draw(records, i, drawn):
         return 20
     count, place = copies(records, i)
     drawn.count += count
-    if drawn.count > MOST_ELEMENTS:
+    if drawn.count > drawn.limits.elements:
         return 24
     drawn.weight += count * weight_of(records, i)
-    if drawn.weight > MOST_WEIGHT:
+    if drawn.weight > drawn.limits.weight:
         return 25
     for n in range(count):
         made = at_place(records, i, place(n))
@@ -206,57 +203,5 @@ def take(records, drawn):
         drawn.cells[i] = Counter()
         if kind == 14:
             drawn.weight += 1 + len(records[i]["cell"])
-            return 25 if drawn.weight > MOST_WEIGHT else None
+            return 25 if drawn.weight > drawn.limits.weight else None
     return None
-
-
-def finish(records, drawn):
-    """The cells by name, or the number of the reason for which there are none."""
-    cells, strings = dict(numbers(records, (3, 4))), dict(numbers(records, (5, 6)))
-    resolved, used = {}, []
-
-    def behind(reference, table):
-        used.append(reference if isinstance(reference, bytes) else table.get(reference))
-        return used[-1]
-
-    defined = [(behind(records[i]["cell"], cells), counted) for i, counted in drawn.cells.items()]
-    for cell, counted in defined:
-        for made, times in counted.items():
-            if made[0] < 2:
-                made = (made[0], behind(made[1], strings if made[0] else cells), *made[2:])
-            resolved.setdefault(cell, Counter())[made] += times
-        resolved.setdefault(cell, Counter())
-    if None in used:
-        return 26
-    if len(resolved) < len(defined):
-        return 27
-    total = sum(1 + len(cell) + sum(times * weight(made) for made, times in counted.items())
-                for cell, counted in resolved.items())
-    return 25 if total > MOST_WEIGHT else resolved
-
-
-def read(data):
-    """The unit in lowest terms, and by name the elements with how often each is there; or Refused."""
-    source = Bytes(data)
-    try:
-        (num, den), offsets_in_end = head(source)
-    except Stop as stop:
-        raise Refused(0 if source.at < len(MAGIC) or stop.args[0] == 1 else START_AT, stop.args[0]) from None
-    records, drawn = [], Drawn()
-    while True:
-        start = source.at
-        try:
-            record = one_record(source, offsets_in_end)
-        except Stop as stop:
-            raise Refused(start, stop.args[0]) from None
-        if record["kind"] == END:
-            break
-        records.append(record)
-        if (why := take(records, drawn)) is not None:
-            raise Refused(start, why)
-    if source.at < len(data):
-        raise Refused(source.at, 30)
-    cells = finish(records, drawn)
-    if isinstance(cells, int):
-        raise Refused(start, cells)
-    return (num // gcd(num, den), den // gcd(num, den)), cells

@@ -32,14 +32,16 @@ def step(direction, far):
 
 
 class Bytes:
-    """A place in a list of bytes."""
+    """A place in a list of bytes, of which no more than a limit are looked at."""
 
-    def __init__(self, data):
-        self.data, self.at = data, 0
+    def __init__(self, data, limit):
+        self.data, self.limit, self.at = data, limit, 0
 
     def byte(self):
         if self.at == len(self.data):
             raise Stop(2)
+        if self.at == self.limit:
+            raise Stop(31)
         self.at += 1
         return self.data[self.at - 1]
 

@@ -5,6 +5,6 @@
 pub use oas_file::laws::{one_meaning, one_place, one_reading};
 pub use oas_form::laws::{
     canonical_again, canonical_bytes, canonical_weight, equal_in_order, form_is_accepted,
-    form_is_bytes, form_is_its_bytes, form_length, form_within, one_canonical_form, rekeying,
-    same_exactly, same_sizes,
+    form_is_bytes, form_is_its_bytes, form_length, form_within, has_canonical_form, larger_limits,
+    one_canonical_form, rekeying, same_exactly, same_sizes,
 };

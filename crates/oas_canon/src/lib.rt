@@ -22,6 +22,9 @@
 //! - Limits are handed in; the profile, which says what is taken for the same element, is [`PROFILE`], but for re-keying.
 //! - The laws of files and of canonical forms, over the definitions alone, are [`laws`].
 //!
+//! A caller needs this crate alone: it hands on the sources and sinks, refusals, limits, layouts and drafts of those below,
+//! and the writer of the listing (docs/LIBRARY.md).
+//!
 //! What a file is, means and is refused for stands in `oas_file`, what a canonical form is and how it is put in `oas_form`.
 //! This crate has no definition of its own but of what a run does.
 //!
@@ -44,7 +47,13 @@ pub use checking::is_canonical;
 pub use keys::key;
 pub use oas_file::read_layout;
 pub use oas_form::{put_canonical, write_canonical};
-pub use oas_layout::{Layout, Limits, Profile};
+pub use oas_layout::{Draft, Element, Elements, Layout, Limits, Profile, Turns};
+pub use oas_listing::write_listing;
+pub use oas_num::{
+    Counter, Fraction, INPUT_MAX, Label, Name, Outlet, ReaderSource, Refusal, Sink, SinkFault,
+    SliceSource, Source, SourceFault, Spelled, Why,
+};
+pub use oas_ring::{Point, Points};
 pub use profile::PROFILE;
 pub use rekeying::{Rekeyed, rekey};
 pub use sameness::{Which, same_files};

@@ -1,7 +1,7 @@
 -- where vertices lie
 use Rattle.std.proofs.Common.{◌≡◌, List, [], ◌∷◌, refl, ap, ◌∙◌, arith, Bool, true, false, ◌⊎◌, inl, inr}
 use Rattle.std.proofs.lemmas.Int.{ints}
-use Rattle.std.specs.Prelude.{ℤ, pos, ◌+ℤ◌, ◌^◌, ◌&&◌}
+use Rattle.std.specs.Prelude.{ℤ, pos, ◌+ℤ◌, ◌^◌, ◌&&◌, not, Option, None, Some}
 use Rattle.std.specs.List.{list_all, AllByRecursion}
 use Rattle.oas_num.specs.declared.refusals.Why.{Why}
 use Rattle.oas_num.specs.declared.refusals.Why.TheVariants.{CoordinateRange, Memory}
@@ -11,7 +11,9 @@ use Rattle.oas_shape.specs.Polylines.{Polyline, vertices_of, VerticesMay}
 use Rattle.oas_layout.specs.Grid.{is_coordinate, is_grid_point}
 use Rattle.oas_drawing.specs.declared.positions.Position.{Position}
 use Rattle.oas_drawing.specs.Positions as positions
-use Rattle.oas_drawing.specs.Reasons.{is_on_grid}
+use Rattle.oas_drawing.specs.declared.drawn.Drawn.{Drawn}
+use Rattle.oas_drawing.specs.Drawn.{drawn_fits}
+use Rattle.oas_drawing.specs.Reasons.{first_of, fault_of, is_on_grid}
 
 near : (x : ℤ) → is_coordinate x ≡ true → IsNear (2 ^ 60) x
 near x h = grind (arith, ints)
@@ -61,3 +63,11 @@ on_grid at h =
     let x = near at.x b.0 in
     let y = near at.y b.1 in
     record { x = record { low = x.0; high = x.1 }; y = record { low = y.0; high = y.1 } }
+
+-- an element is never at fault for want of memory
+pub never_memory : (o : Option Drawn) → fault_of o ≡ Some Memory → ⊥
+never_memory None h = cc
+never_memory (Some d) h = by (drawn_fits d) h where
+  by : (b : Bool) → first_of ((not b, CoordinateRange) ∷ []) ≡ Some Memory → ⊥
+  by true h = cc
+  by false h = cc

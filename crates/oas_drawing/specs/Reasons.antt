@@ -1,5 +1,5 @@
 -- Why an element record is refused. m are the variables after it.
-use Rattle.std.specs.Prelude.{ℕ, ◌+◌, ◌*◌, ◌&&◌, nat_lt, not, Bool, true, false, cond, is_none, Option, None, Some, List, [], ◌∷◌}
+use Rattle.std.specs.Prelude.{◌≡◌, ℕ, ◌+◌, ◌*◌, ◌&&◌, nat_lt, not, Bool, true, false, cond, is_none, Option, None, Some, List, [], ◌∷◌}
 use Rattle.std.specs.List.{list_all}
 use Rattle.std.specs.Option.{option_or}
 use Rattle.oas_num.specs.declared.refusals.Why.{Why}
@@ -13,7 +13,7 @@ use Rattle.oas_layout.specs.Grid.{is_coordinate}
 use Rattle.oas_drawing.specs.declared.drawn.Drawn.{Drawn}
 use Rattle.oas_drawing.specs.declared.drawn.Drawn.TheVariants.{Named}
 use Rattle.oas_drawing.specs.declared.kinds.Kind.{Kind}
-use Rattle.oas_drawing.specs.declared.kinds.Kind.TheVariants.{Placement}
+use Rattle.oas_drawing.specs.declared.kinds.Kind.TheVariants.{Placement, Text, Polygon, Path}
 use Rattle.oas_drawing.specs.declared.positions.Position.{Position}
 use Rattle.oas_drawing.specs.Modal.{ModalState}
 use Rattle.oas_drawing.specs.Turns.{is_one, is_quarters}
@@ -57,6 +57,15 @@ fits_if (Some d) = drawn_fits d
 -- why an element isn't drawn
 abbrev pub fault_of : Option Drawn → Option Why
 fault_of o = first_of ((is_none o, ModalUndefined) ∷ (not (fits_if o), CoordinateRange) ∷ [])
+
+-- Where memory may be wanted for an element: only where each variable that it needs is defined, for a placement or a text
+-- only where it lies within the grid, and for a rectangle or a circle never.
+abbrev pub MayWant : Kind → Option Drawn → Type 0
+MayWant (Placement turn flip) o = fault_of o ≡ None
+MayWant Text o = fault_of o ≡ None
+MayWant Polygon o = is_none o ≡ false
+MayWant Path o = is_none o ≡ false
+MayWant _ o = ⊥
 
 -- why a record is refused whatever its offsets, where so many elements stand before it and weigh so much
 abbrev pub kind_reason : Limits → ℕ → ℕ → ModalState → Kind → Bool → Option Why

@@ -1,8 +1,6 @@
 pub mod Fronts
 pub mod PlaceLaws
 pub mod SomePlaces
-pub mod Found
-pub mod FoundParts
 pub mod FoundRecords
 pub mod Judged
 pub mod Refusing

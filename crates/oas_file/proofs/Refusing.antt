@@ -4,17 +4,18 @@ use Rattle.std.proofs.lemmas.List.{append-nil}
 use Rattle.oas_num.specs.declared.refusals.Why.{Why}
 use Rattle.oas_num.specs.declared.refusals.Why.TheVariants.{Truncated, Read, InputTooLong, Write, Memory}
 use Rattle.oas_num.specs.declared.refusals.Refusal.{Refusal}
-use Rattle.oas_num.specs.Reading.{is_cut, Fails}
+use Rattle.oas_num.specs.Reading.{is_cut, FailsBy, FailsPiece}
 use Rattle.oas_num.specs.Script.{Script, Takes, IsAtEnd}
 use Rattle.oas_num.specs.Style.{Any}
 use Rattle.oas_num.proofs.ReadLemmas.{Takes-none, Takes-then, Wants, NoneFits-after, NoneWithin-after}
-use Rattle.oas_num.proofs.RealLemmas.{real_decides}
+use Rattle.oas_num.proofs.PieceLemmas.{whole_piece}
+use Rattle.oas_record.proofs.NeverLemmas.{record_never, start_never}
 use Rattle.oas_record.specs.declared.records.Record.TheVariants.{End}
 use Rattle.oas_record.specs.declared.heads.Head.{Head}
 use Rattle.oas_record.specs.declared.records.Record.{Record}
-use Rattle.oas_record.specs.Heads.{magic, MagicMay, StartMay, RefusesMagic, RefusesStart}
+use Rattle.oas_record.specs.Heads.{magic, MagicMay, StartTook, RefusesMagic, RefusesStart}
 use Rattle.oas_record.specs.Records.{record_in}
-use Rattle.oas_record.specs.May.{RecordMay}
+use Rattle.oas_record.specs.Refusals.{RecordTook}
 use Rattle.oas_layout.specs.declared.limits.Limits.{Limits}
 use Rattle.oas_file.specs.Files.{file_in, FrontOf}
 use Rattle.oas_file.specs.Acceptance.{Allowed, Accepted}
@@ -31,8 +32,8 @@ ended_cut : (why : Why) → why ≡ Truncated → IsTrue (is_cut why)
 ended_cut why e = subst (λ (w : Why). IsTrue (is_cut w)) (sym e) refl
 
 -- what fails where a file wants it refuses the file
-pub read_refused : {W : Type 0} {next : W → List ℕ → Type 0} {may : Why → List ℕ → Type 0} {old mid new : Script} {why : Why} (limits : Limits) (front : List ℕ)
-    → Wants (file_in Any) front next → Takes old front mid → Fails next may mid why new → why ≢ Write → IsRefused limits old why new
+pub read_refused : {W : Type 0} {piece : Bool} {next : W → List ℕ → Type 0} {may : Why → List ℕ → Type 0} {old mid new : Script} {why : Why} (limits : Limits) (front : List ℕ)
+    → Wants (file_in Any) front next → Takes old front mid → FailsBy piece next may mid why new → why ≢ Write → IsRefused limits old why new
 read_refused {next = next} {old = old} {mid = mid} {new = new} {why = why} limits front wants takes f reading = record {
   bytes = front ++ f.bytes;
   takes = Takes-then old mid new front f.bytes takes f.takes;
@@ -49,7 +50,7 @@ read_refused {next = next} {old = old} {mid = mid} {new = new} {why = why} limit
 }
 
 -- where a read fails stands no spelling
-pub none_stands : {V : Type 0} {spells : V → List ℕ → Type 0} {may : Why → List ℕ → Type 0} {old new : Script} {why : Why} (f : Fails spells may old why new) → IsTrue (is_of_file why)
+pub none_stands : {V : Type 0} {piece : Bool} {spells : V → List ℕ → Type 0} {may : Why → List ℕ → Type 0} {old new : Script} {why : Why} (f : FailsBy piece spells may old why new) → IsTrue (is_of_file why)
     → (more : List ℕ) → (IsAtEnd new → more ≡ []) → (v : V) (front rest : List ℕ) → spells v front → f.bytes ++ more ≢ front ++ rest
 none_stands {why = why} f is more ended v front rest s e =
     elim (format_or_end why is) [
@@ -101,11 +102,6 @@ memory_placed at why bytes takes e = record {
 not_writing : (why : Why) (may : Why → List ℕ → Type 0) (last : List ℕ) → (may Write last → ⊥) → may why last → why ≢ Write
 not_writing why may last not h e = not (subst (λ (w : Why). may w last) e h)
 
-start_not_writing : (last : List ℕ) → StartMay Write last → ⊥
-start_not_writing last (inl h) = h
-start_not_writing last (inr (inl h)) = h.reason.holds
-start_not_writing last (inr (inr h)) = (real_decides Write last h.0).holds
-
 module _ {limits : Limits} {old new : Script} (refusal : Refusal) where
   magic_refuses : RefusesMagic old refusal new → Refuses limits old refusal new
   magic_refuses r =
@@ -119,13 +115,13 @@ module _ {limits : Limits} {old new : Script} (refusal : Refusal) where
   start_refuses r =
       let f = r.fails in
       let takes = Takes-then old r.mid new magic f.bytes r.takes f.takes in (
-        read_refused limits magic start_wanted r.takes f (not_writing refusal.why StartMay f.reason.last (start_not_writing f.reason.last) f.reason.holds),
+        read_refused limits magic start_wanted r.takes f (not_writing refusal.why StartTook f.reason.last (start_never f.reason.last) f.reason.holds),
         record {
           bytes = magic ++ f.bytes;
           takes = takes;
           placed = λ fresh is more ended. ByStart (record { left = f.bytes ++ more; place = r.at; joined = append_assoc magic f.bytes more; none = record { none = none_stands f is more ended } });
         },
-        record { bytes = magic ++ f.bytes; takes = takes; decided = λ fresh. TheStart (record { left = f.bytes; place = r.at; joined = refl; decides = f.reason; cut = f.cut }) },
+        record { bytes = magic ++ f.bytes; takes = takes; decided = λ fresh. TheStart (record { left = f.bytes; place = r.at; joined = refl; took = whole_piece f; cut = f.cut }) },
       )
 
   pub head_refuses : RefusesMagic old refusal new ⊎ RefusesStart old refusal new → Refuses limits old refusal new
@@ -134,17 +130,13 @@ module _ {limits : Limits} {old new : Script} (refusal : Refusal) where
 
 -- ---- a record
 
-record_not_writing : (in_end : Bool) (last : List ℕ) → RecordMay in_end Write last → ⊥
-record_not_writing in_end last (inl h) = h
-record_not_writing in_end last (inr h) = h.decides.reason.holds
-
 module _ {limits : Limits} {origin mid new : Script} {head : Head} {rs : List Record} {bytes : List ℕ} where
   -- neither a record nor END can be read
   pub record_refuses : (refusal : Refusal) → FrontOf head rs bytes → Allowed limits rs → Takes origin bytes mid → refusal.at ≡ mid.given
-      → Fails (record_in Any head.flag_in_end) (RecordMay head.flag_in_end) mid refusal.why new → Refuses limits origin refusal new
+      → FailsPiece (record_in Any head.flag_in_end) (RecordTook head.flag_in_end) mid refusal.why new → Refuses limits origin refusal new
   record_refuses refusal front allowed takes at f =
       let both = Takes-then origin mid new bytes f.bytes takes f.takes in (
-        read_refused limits bytes (file_wants front) takes f (not_writing refusal.why (RecordMay head.flag_in_end) f.reason.last (record_not_writing head.flag_in_end f.reason.last) f.reason.holds),
+        read_refused limits bytes (file_wants front) takes f (not_writing refusal.why (RecordTook head.flag_in_end) f.reason.last (record_never head.flag_in_end f.reason.last) f.reason.holds),
         record {
           bytes = bytes ++ f.bytes;
           takes = both;
@@ -165,7 +157,7 @@ module _ {limits : Limits} {origin mid new : Script} {head : Head} {rs : List Re
             head = head;
             records = rs;
             before = record { before = bytes; front = front; allowed = allowed; place = omega (arith, at, takes.given, fresh); joined = refl };
-            decides = f.reason;
+            took = whole_piece f;
             cut = f.cut;
           });
         },

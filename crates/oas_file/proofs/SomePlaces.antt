@@ -16,7 +16,7 @@ use Rattle.oas_file.specs.Acceptance.{Accepted}
 use Rattle.oas_file.specs.Places.{IsBefore, RefusedAt, ByMagic, ByStart, ByRecord, AfterLast, ByEnd, SomePlace}
 use Rattle.oas_file.proofs.Ending.{file_all}
 use Rattle.oas_file.proofs.Fronts.{allowed_last, allowed_more, front_more}
-use Rattle.oas_file.proofs.Found.{Settled, Stands, only, found_exactly}
+use Rattle.oas_record.specs.Found.{Settled, Stands, only, found_exactly}
 use Rattle.oas_file.proofs.FoundRecords.{settled_end, found_record, found_start}
 
 -- ---- a record takes a byte at least

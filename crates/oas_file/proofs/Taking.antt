@@ -3,7 +3,7 @@ use Rattle.std.proofs.Common.{◌≡◌, ℕ, [], ◌∷◌, ◌++◌, None, Som
 use Rattle.oas_num.specs.declared.refusals.Why.{Why}
 use Rattle.oas_num.specs.declared.refusals.Why.TheVariants.{Memory}
 use Rattle.oas_num.specs.declared.refusals.Refusal.{Refusal}
-use Rattle.oas_num.specs.Reading.{ReadsValue, Fails}
+use Rattle.oas_num.specs.Reading.{ReadsValue, FailsPiece}
 use Rattle.oas_num.specs.Script.{Script, Takes}
 use Rattle.oas_num.specs.Style.{Any}
 use Rattle.oas_num.proofs.ReadLemmas.{Takes-then}
@@ -12,7 +12,7 @@ use Rattle.oas_record.specs.declared.records.Record.{Record}
 use Rattle.oas_record.specs.declared.records.Record.TheVariants.{End}
 use Rattle.oas_record.specs.Records.{record_in}
 use Rattle.oas_record.specs.RecordLaws.{OneFront-record}
-use Rattle.oas_record.specs.May.{RecordMay}
+use Rattle.oas_record.specs.Refusals.{RecordTook}
 use Rattle.oas_layout.specs.declared.limits.Limits.{Limits}
 use Rattle.oas_modal.specs.Stands.{ReaderState, StandsFor, refusal as refusal_of}
 use Rattle.oas_file.specs.Files.{FrontOf}
@@ -36,7 +36,7 @@ gathered_none b = record {
 
 module _ {origin mid new : Script} {head : Head} {first s : ReaderState} (m : HasGathered origin head first mid s) where
   -- a record can't be read
-  pub gather_fails : (refusal : Refusal) → refusal.at ≡ mid.given → Fails (record_in Any head.flag_in_end) (RecordMay head.flag_in_end) mid refusal.why new → Refuses first.limits origin refusal new
+  pub gather_fails : (refusal : Refusal) → refusal.at ≡ mid.given → FailsPiece (record_in Any head.flag_in_end) (RecordTook head.flag_in_end) mid refusal.why new → Refuses first.limits origin refusal new
   gather_fails refusal at f = record_refuses refusal m.front m.taken.allowed m.takes at f
 
   module _ {r : Record} (read : ReadsValue (inner_in head.flag_in_end) mid r new) where

@@ -11,9 +11,9 @@ use Rattle.oas_num.specs.Style.{Any}
 use Rattle.oas_record.specs.declared.heads.Head.{Head}
 use Rattle.oas_record.specs.declared.records.Record.{Record}
 use Rattle.oas_record.specs.declared.records.Record.TheVariants.{End}
-use Rattle.oas_record.specs.Heads.{magic, IsMagic, MagicMay, start_in, StartMay}
+use Rattle.oas_record.specs.Heads.{magic, IsMagic, MagicMay, start_in, StartTook}
 use Rattle.oas_record.specs.Records.{record_in}
-use Rattle.oas_record.specs.May.{RecordMay}
+use Rattle.oas_record.specs.Refusals.{RecordTook}
 use Rattle.oas_layout.specs.declared.limits.Limits.{Limits}
 use Rattle.oas_modal.specs.Stands.{refusal, end_refusal}
 use Rattle.oas_file.specs.Places.{IsBefore}
@@ -29,7 +29,7 @@ pub record InStart (taken : List ℕ) (at : ℕ) (why : Why) : Type 0 where
   pub left : List ℕ
   pub place : at ≡ 13
   pub joined : taken ≡ magic ++ left
-  pub decides : Decides false (start_in Any) (StartMay why) left
+  pub took : StartTook why left
   pub cut : IsTrue (is_cut why) → NoneWithin (start_in Any) left
 
 -- in a record or END
@@ -38,7 +38,7 @@ pub record InRecord (limits : Limits) (taken : List ℕ) (at : ℕ) (why : Why) 
   pub head : Head
   pub records : List Record
   pub before : IsBefore limits taken left at head records
-  pub decides : Decides false (record_in Any head.flag_in_end) (RecordMay head.flag_in_end why) left
+  pub took : RecordTook head.flag_in_end why left
   pub cut : IsTrue (is_cut why) → NoneWithin (record_in Any head.flag_in_end) left
 
 -- a record that was read isn't taken after those before it: for the first reason that holds, or for want of memory

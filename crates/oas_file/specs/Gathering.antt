@@ -4,14 +4,14 @@ use Rattle.oas_num.specs.declared.refusals.Why.{Why}
 use Rattle.oas_num.specs.declared.refusals.Why.TheVariants.{TrailingBytes, Read, InputTooLong}
 use Rattle.oas_num.specs.declared.refusals.Refusal.{Refusal}
 use Rattle.oas_num.specs.Grammar.{IsSuch}
-use Rattle.oas_num.specs.Reading.{ReadsValue, Fails}
+use Rattle.oas_num.specs.Reading.{ReadsValue, FailsPiece}
 use Rattle.oas_num.specs.Script.{Script, Takes, IsAtEnd, HasFailed, IsTooLong}
 use Rattle.oas_num.specs.Style.{Any}
 use Rattle.oas_record.specs.declared.heads.Head.{Head}
 use Rattle.oas_record.specs.declared.records.Record.{Record}
 use Rattle.oas_record.specs.declared.records.Record.TheVariants.{End}
 use Rattle.oas_record.specs.Records.{record_in, IsInner}
-use Rattle.oas_record.specs.May.{RecordMay}
+use Rattle.oas_record.specs.Refusals.{RecordTook}
 use Rattle.oas_modal.specs.Stands.{ReaderState, StandsFor}
 use Rattle.oas_file.specs.Acceptance.{Allowed}
 use Rattle.oas_file.specs.Files.{FrontOf}
@@ -27,7 +27,7 @@ inner_in in_end = IsSuch IsInner (record_in Any in_end)
 abbrev pub TakesNext : Bool → Script → Result (Option Record) Refusal → Script → Type 0
 TakesNext in_end old (Ok (Some r)) new = ReadsValue (inner_in in_end) old r new
 TakesNext in_end old (Ok None) new = ReadsValue (record_in Any in_end) old End new
-TakesNext in_end old (Err refusal) new = (refusal.at ≡ old.given) × Fails (record_in Any in_end) (RecordMay in_end) old refusal.why new
+TakesNext in_end old (Err refusal) new = (refusal.at ≡ old.given) × FailsPiece (record_in Any in_end) (RecordTook in_end) old refusal.why new
 
 -- ---- all records
 

@@ -8,11 +8,8 @@ use Rattle.oas_record.specs.Heads.{magic, start_in}
 use Rattle.oas_record.specs.Records.{record_in}
 use Rattle.oas_layout.specs.declared.limits.Limits.{Limits}
 use Rattle.oas_file.specs.Files.{FrontOf}
+use Rattle.oas_record.specs.Found.{NoneStands}
 use Rattle.oas_file.specs.Acceptance.{Allowed, IsWhole, Accepted}
-
--- no spelling is a front of what is left
-pub record NoneStands {V : Type 0} (spells : V → List ℕ → Type 0) (left : List ℕ) : Type 0 where
-  pub none : (v : V) (front rest : List ℕ) → spells v front → left ≢ front ++ rest
 
 -- before the magic
 pub record AtMagic (b : List ℕ) (at : ℕ) : Type 0 where

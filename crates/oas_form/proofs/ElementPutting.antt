@@ -11,11 +11,11 @@ use Rattle.oas_layout.specs.Weight.{weight_of}
 use Rattle.oas_layout.specs.Sound.{IsSound}
 use Rattle.oas_layout.specs.Bag.{items}
 use Rattle.oas_layout.specs.Meaning.{cells_weight}
-use Rattle.oas_layout.specs.Contents.{Cell, Contents, names, bags, expanded, meaning_of, AllSound, IsCell, IsLayout}
-use Rattle.oas_form.specs.Bytes.{element_bytes, elements_bytes, cell_bytes, cells_bytes, canonical_bytes}
+use Rattle.oas_layout.specs.Contents.{Cell, Contents, names, bags, expanded, AllSound, IsCell, IsLayout}
+use Rattle.oas_form.specs.Bytes.{element_bytes, elements_bytes, cell_bytes, cells_bytes}
 use Rattle.oas_form.specs.Spelling.{HasPoint}
 use Rattle.oas_form.specs.Putting.{PutsAll}
-use Rattle.oas_form.proofs.Lengths.{length-elements, length-cells, canonical_length}
+use Rattle.oas_form.proofs.Lengths.{length-elements, length-cells}
 use Rattle.oas_form.proofs.PuttingLemmas.{PutSoFar, fails_at, part_fits, ◌▸◌}
 
 elements_bytes-append : (es fs : List Element) → elements_bytes (es ++ fs) ≡ elements_bytes es ++ elements_bytes fs
@@ -47,7 +47,7 @@ items_points : (es : List (Element × ℕ)) → AllSound es → AllByRecursion H
 items_points [] h = tt
 items_points (e ∷ es) h = append_points (replicate e.1 e.0) (items es) (copies_points e.1 e.0 (sound_point e.0 h.0)) (items_points es h.1)
 
-cells_points : (profile : Profile) (cs : List Cell) → AllByRecursion (IsCell profile) cs → AllByRecursion (λ c. AllByRecursion HasPoint c.1) (expanded cs)
+pub cells_points : (profile : Profile) (cs : List Cell) → AllByRecursion (IsCell profile) cs → AllByRecursion (λ c. AllByRecursion HasPoint c.1) (expanded cs)
 cells_points profile [] h = tt
 cells_points profile (c ∷ cs) h = (items_points c.1 h.0.sound, cells_points profile cs h.1)
 
@@ -136,10 +136,6 @@ pub record CellsLeft {K : Type 0} (given : K → List ℕ → K → Type 0) (fai
 -- all of them together
 pub cells_short : (l : Contents) → IsLayout l → length (cells_bytes (expanded l.cells)) ≤ 64 * 2 ^ 30
 cells_short l h = omega (arith, h.light, h.limits.light, length-cells (expanded l.cells) (cells_points l.profile l.cells h.cells))
-
--- and the whole file
-pub layout_short : (l : Contents) → IsLayout l → length (canonical_bytes (meaning_of l)) ≤ 320 + 64 * 2 ^ 30
-layout_short l h = omega (arith, h.light, h.limits.light, canonical_length (meaning_of l) (cells_points l.profile l.cells h.cells))
 
 pub cells_begin : {K : Type 0} {given : K → List ℕ → K → Type 0} {failures : K → ℕ} {s : K} (l : Contents) → IsLayout l → PutSoFar given failures (cells_bytes (expanded l.cells)) (cells_bytes (expanded l.cells)) s s 0 → CellsLeft given failures l.profile l.cells 0 s s 0
 cells_begin l h p = record { so_far = p; are_cells = h.cells; light = omega (arith, h.light, h.limits.light) }

@@ -14,7 +14,7 @@ use Rattle.oas_file.specs.FileLaws.{one_reading, one_spelling, means_one}
 use Rattle.oas_file.specs.Acceptance.{Allowed, IsWhole, Means}
 use Rattle.oas_form.specs.Records.{records_of}
 use Rattle.oas_form.specs.RecordMeaning.{HavePoints}
-use Rattle.oas_form.specs.Canonical.{IsOrdered, CanonicalForm, IsCanonicalOf, OneCanonicalForm, LimitsApart, SameExactly, CanonicalAgain}
+use Rattle.oas_form.specs.Canonical.{IsOrdered, CanonicalForm, IsCanonicalOf, OneCanonicalForm, LimitsApart, FormsEqual, CanonicalAgain}
 use Rattle.oas_form.proofs.OrderedLayouts.{equal_in_order}
 use Rattle.oas_form.proofs.ShortestLemmas.{shortest_is_canonical, shortest_has_points, shortest_head}
 
@@ -67,9 +67,9 @@ forms_alike one other profile b d c e m n p q k j s =
 pub limits_apart : LimitsApart
 limits_apart one other profile b c d p q = forms_alike one other profile b b c d p.source p.source p q p.means p.means (reflexive profile p.source)
 
-pub same_exactly : SameExactly
-same_exactly limits profile b d c e m n p q k j = (
-  λ s. forms_alike limits limits profile b d c e m n p q k j s,
+pub forms_equal : FormsEqual
+forms_equal one other profile b d c e m n p q k j = (
+  λ s. forms_alike one other profile b d c e m n p q k j s,
   λ same.
       let target : p.target ≡ q.target = means_one e p.target q.target (subst (λ (f : List ℕ). Means f p.target) same p.becomes) q.becomes in
       let left : SameLayout profile m p.target = subst (λ (l : Meaning). SameLayout profile l p.target) (means_one b p.source m p.means k) p.same in

@@ -52,11 +52,11 @@ no_more : (most n : ℕ) → nat_lt most n ≡ false → n ≤ most
 no_more most n h = grind (arith, nat_tests)
 
 -- no name stands twice
-whole_once : (limits : Limits) (unit : Ratio) (rs : List Record) → IsWhole limits rs → has_twice (keys_of (records_mean unit rs).cells) ≡ false
+pub whole_once : (limits : Limits) (unit : Ratio) (rs : List Record) → IsWhole limits rs → has_twice (keys_of (records_mean unit rs).cells) ≡ false
 whole_once limits unit rs h = (none_holds _ _ _ h).0
 
 -- and all is light enough
-whole_light : (limits : Limits) (unit : Ratio) (rs : List Record) → IsWhole limits rs → cells_weight (records_mean unit rs).cells ≤ limits.weight
+pub whole_light : (limits : Limits) (unit : Ratio) (rs : List Record) → IsWhole limits rs → cells_weight (records_mean unit rs).cells ≤ limits.weight
 whole_light limits unit rs h = no_more limits.weight (cells_weight (records_mean unit rs).cells) (none_holds _ _ _ h).1
 
 -- ---- what a canonical form means can be spelled
@@ -96,7 +96,7 @@ form_is_bytes limits c m l h k held s =
 -- ---- what it keeps
 
 -- in an accepted file no name stands twice
-accepted_once : (limits : Limits) (b : List ℕ) (m : Meaning) → Accepted limits b → Means b m → has_twice (keys_of m.cells) ≡ false
+pub accepted_once : (limits : Limits) (b : List ℕ) (m : Meaning) → Accepted limits b → Means b m → has_twice (keys_of m.cells) ≡ false
 accepted_once limits b m h k =
     let both = one_reading Any Any h.head k.head h.records k.records b h.file k.file in
     let mean : records_mean h.head.unit h.records ≡ m = ap (λ (p : Head × List Record). records_mean p.0.unit p.1) (λ i. (both.0 i, both.1 i)) ∙ k.is in

@@ -7,7 +7,7 @@ use Rattle.oas_num.specs.Ratio.{Ratio, IsLowest}
 use Rattle.oas_num.specs.Style.{Shortest}
 use Rattle.oas_record.specs.declared.heads.Head.{Head}
 use Rattle.oas_record.specs.declared.records.Record.{Record}
-use Rattle.oas_record.specs.Heads.{head_of}
+use Rattle.oas_record.specs.Heads.{head_of, head_in}
 use Rattle.oas_record.specs.Records.{record_in, IsInner}
 use Rattle.oas_layout.specs.declared.element.Element.{Element}
 use Rattle.oas_layout.specs.declared.element.Element.TheVariants.{Placement, Text, Rectangle, Polygon, Path, Circle}
@@ -105,6 +105,11 @@ pub shortest_has_points : ShortestHasPoints
 shortest_has_points limits head rs c file allowed = let h = of_cells limits head rs c file allowed in subst HavePoints (sym (meant head.unit rs h)) h.points
 
 -- ---- the front of the file
+
+pub shortest_flag : (head : Head) (start : List ℕ) → head_in Shortest head start → head.flag_in_end ≡ false
+shortest_flag head start h =
+    let s = h.spelled.second in
+    sym (ap (λ (p : Head). p.flag_in_end) (s.is ∙ h.is)) ∙ ap (λ (flag : ℕ). flag == 1) s.spelled.second.second.second.first.holds
 
 pub shortest_head : ShortestHead
 shortest_head head rs c file =

@@ -127,7 +127,7 @@ unfolding IsStrictlySortedBy
 strictly [] h = tt
 strictly (c ∷ cs) h = let both = split _ _ h in (above_all c.0 cs both.0, strictly cs both.1)
 
-all_put : (P : List Element → Type 0) (k : List ℕ) (v : List Element) (cs : Cells) → P v → AllByRecursion (λ c. P c.1) cs → AllByRecursion (λ c. P c.1) (put name_cmp k v cs)
+pub all_put : (P : List Element → Type 0) (k : List ℕ) (v : List Element) (cs : Cells) → P v → AllByRecursion (λ c. P c.1) cs → AllByRecursion (λ c. P c.1) (put name_cmp k v cs)
 all_put P k v [] h all = (h, tt)
 all_put P k v (c ∷ cs) h all =
     elim (name_cmp k c.0) as (λ r. AllByRecursion (λ c. P c.1) (by_order r ((k, v) ∷ c ∷ cs) ((c.0, v) ∷ cs) (c ∷ put name_cmp k v cs))) [
@@ -165,7 +165,7 @@ nothing_found (Some x) h = cc
 
 module _ (profile : Profile) where
   -- the cells by ascending names, and the elements of each in order
-  abbrev ordered : Cells → Cells
+  abbrev pub ordered : Cells → Cells
   ordered [] = []
   ordered (c ∷ cs) = put name_cmp c.0 (items (tally profile c.1)) (ordered cs)
 
@@ -181,7 +181,7 @@ module _ (profile : Profile) where
   cells_normal [] = tt
   cells_normal (c ∷ cs) = all_put (AllByRecursion (IsNormal profile)) c.0 (items (tally profile c.1)) (ordered cs) (items_normal profile (tally profile c.1) (tally_is_bag profile c.1).normal) (cells_normal cs)
 
-  is_ordered : (cs : Cells) → IsOrdered profile (ordered cs)
+  pub is_ordered : (cs : Cells) → IsOrdered profile (ordered cs)
   is_ordered cs = record { names = strictly (ordered cs) (names_sorted cs); ascending = cells_ascend cs; normal = cells_normal cs }
 
   found : (name : List ℕ) (c : List ℕ × List Element) (cs : Cells) → elements_of name (ordered (c ∷ cs)) ≡ cond (pointwise ◌==◌ name c.0) (Some (items (tally profile c.1))) (elements_of name (ordered cs))
@@ -205,10 +205,10 @@ module _ (profile : Profile) where
       ]
 
   -- the layout, put in order
-  abbrev in_order : Meaning → Meaning
+  abbrev pub in_order : Meaning → Meaning
   in_order m = record { unit = m.unit; cells = ordered m.cells }
 
-  in_order_same : (m : Meaning) → SameLayout profile (in_order m) m
+  pub in_order_same : (m : Meaning) → SameLayout profile (in_order m) m
   in_order_same m = record { unit = refl; cells = λ name. there name m.cells; counts = λ name q. as_often name q m.cells }
 
   new_name : (c : List ℕ × List Element) (cs : Cells) → has_twice (keys_of (c ∷ cs)) ≡ false → (find name_cmp c.0 (ordered cs) ≡ None) × (has_twice (keys_of cs) ≡ false)
@@ -216,13 +216,13 @@ module _ (profile : Profile) where
       let apart = neither (list_any (same_string c.0) (keys_of cs)) (has_twice (keys_of cs)) h in
       (find_is c.0 (ordered cs) ∙ nothing_found (elements_of c.0 (ordered cs)) (there c.0 cs ∙ absent c.0 cs apart.0), apart.1)
 
-  ordered_count : (cs : Cells) → has_twice (keys_of cs) ≡ false → element_count (ordered cs) ≡ element_count cs
+  pub ordered_count : (cs : Cells) → has_twice (keys_of cs) ≡ false → element_count (ordered cs) ≡ element_count cs
   ordered_count [] h = refl
   ordered_count (c ∷ cs) h =
       let new = new_name c cs h in
       omega (arith, sum_put (λ c. length c.1) c.0 (items (tally profile c.1)) (ordered cs) new.0, tally_length profile c.1, ordered_count cs new.1)
 
-  ordered_weight : (cs : Cells) → has_twice (keys_of cs) ≡ false → cells_weight (ordered cs) ≤ cells_weight cs
+  pub ordered_weight : (cs : Cells) → has_twice (keys_of cs) ≡ false → cells_weight (ordered cs) ≤ cells_weight cs
   ordered_weight [] h = omega arith
   ordered_weight (c ∷ cs) h =
       let new = new_name c cs h in

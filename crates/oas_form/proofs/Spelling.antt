@@ -32,14 +32,14 @@ use Rattle.oas_form.proofs.ElementSpelling.{small_spelled, text_spelled, name_sp
 -- ---- records
 
 -- a record that isn't END, by its id and what follows it
-record Inner (r : Record) (bytes : List ℕ) : Type 0 where
+pub record Inner (r : Record) (bytes : List ℕ) : Type 0 where
   pub inner : IsInner r
   pub small : id_of r < 128
   pub rest : List ℕ
   pub after : after_id Shortest false (id_of r) r rest
   pub is : bytes ≡ id_of r ∷ rest
 
-spelled : (r : Record) (bytes : List ℕ) → Inner r bytes → IsSuch IsInner (record_in Shortest false) r bytes
+pub spelled : (r : Record) (bytes : List ℕ) → Inner r bytes → IsSuch IsInner (record_in Shortest false) r bytes
 spelled r bytes h = record {
   holds = h.inner;
   spelled = record {
@@ -49,7 +49,7 @@ spelled r bytes h = record {
 }
 
 -- an element is spelled by its bytes
-element_inner : (e : Element) → IsSound e → weight_of e ≤ 2 ^ 30 → Inner (element_record e) (element_bytes e)
+pub element_inner : (e : Element) → IsSound e → weight_of e ≤ 2 ^ 30 → Inner (element_record e) (element_bytes e)
 element_inner (Placement name x y turns flip) h light = record { inner = λ e. cc; small = omega arith; rest = _; is = refl; after = record { from = _; is = refl; spelled = placement_spelled name x y turns flip h.fits h.inside } }
 element_inner (Text string textlayer texttype x y) h light = record { inner = λ e. cc; small = omega arith; rest = _; is = refl; after = record { from = _; is = refl; spelled = string_spelled string textlayer texttype x y h.fits h.inside } }
 element_inner (Rectangle layer datatype width height x y) h light = record { inner = λ e. cc; small = omega arith; rest = _; is = refl; after = record { from = _; is = refl; spelled = box_spelled layer datatype width height x y h.fits h.inside } }
@@ -63,7 +63,7 @@ element_inner (Path layer datatype half_width start end points) h light = record
 }
 element_inner (Circle layer datatype radius x y) h light = record { inner = λ e. cc; small = omega arith; rest = _; is = refl; after = record { from = _; is = refl; spelled = circle_spelled layer datatype radius x y h.fits h.inside } }
 
-cell_inner : (name : List ℕ) → IsName name → Inner (record_of.Cell (cell.Name name)) (14 ∷ string_bytes name)
+pub cell_inner : (name : List ℕ) → IsName name → Inner (record_of.Cell (cell.Name name)) (14 ∷ string_bytes name)
 cell_inner name h = record { inner = λ e. cc; small = omega arith; rest = string_bytes name; is = refl; after = record { from = cell.Name name; is = refl; spelled = record { from = name; is = refl; spelled = name_spelled name h } } }
 
 -- records, one after another
@@ -151,7 +151,7 @@ start_spelled u h = record {
   };
 }
 
-head_spelled : (u : Ratio) → IsUnit u → head_in Shortest (record { unit = u; flag_in_end = false }) (head_bytes u)
+pub head_spelled : (u : Ratio) → IsUnit u → head_in Shortest (record { unit = u; flag_in_end = false }) (head_bytes u)
 unfolding head_bytes
 head_spelled u h = record {
   from = (tt, record { unit = u; flag_in_end = false });
@@ -167,7 +167,7 @@ head_spelled u h = record {
 
 -- ---- END
 
-end_spelled : record_in Shortest false record_of.End end_bytes
+pub end_spelled : record_in Shortest false record_of.End end_bytes
 unfolding end_bytes ending
 end_spelled = record { whole = λ e. refl; parts = record { front = 2 ∷ []; back = ending; first = small_spelled 2 (omega arith); second = record { from = tt; is = refl; spelled = refl }; joined = refl } }
 

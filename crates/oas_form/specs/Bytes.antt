@@ -55,9 +55,13 @@ abbrev pub elements_bytes : List Element → List ℕ
 elements_bytes [] = []
 elements_bytes (e ∷ es) = element_bytes e ++ elements_bytes es
 
--- a CELL by its name, and its elements
+-- a CELL by its name
+abbrev pub opening_bytes : List ℕ → List ℕ
+opening_bytes name = 14 ∷ string_bytes name
+
+-- and its elements
 abbrev pub cell_bytes : List ℕ × List Element → List ℕ
-cell_bytes c = 14 ∷ (string_bytes c.0 ++ elements_bytes c.1)
+cell_bytes c = opening_bytes c.0 ++ elements_bytes c.1
 
 abbrev pub cells_bytes : Cells → List ℕ
 cells_bytes [] = []

@@ -1,5 +1,5 @@
 -- The one spelling of a layout, judged on bytes (own rule).
-use Rattle.std.specs.Prelude.{◌≡◌, ℕ, List}
+use Rattle.std.specs.Prelude.{◌≡◌, ℕ, ◌↔◌, List}
 use Rattle.std.specs.List.{AllByRecursion}
 use Rattle.std.specs.List.Sorted.{IsStrictlySortedBy}
 use Rattle.std.specs.Ordering.{nat_cmp}
@@ -54,9 +54,13 @@ OneCanonicalForm = (one other : Limits) (profile : Profile) (c d : List ℕ) (m 
 abbrev pub LimitsApart : Type 0
 LimitsApart = (one other : Limits) (profile : Profile) (b c d : List ℕ) → IsCanonicalOf one profile b c → IsCanonicalOf other profile b d → c ≡ d
 
--- two files mean the same layout exactly if their canonical forms are equal
+-- two accepted files mean the same layout exactly if they have one and the same canonical form, each under its limits
 abbrev pub SameExactly : Type 0
-SameExactly = (limits : Limits) (profile : Profile) (b d c e : List ℕ) (m n : Meaning) → IsCanonicalOf limits profile b c → IsCanonicalOf limits profile d e → Means b m → Means d n → (SameLayout profile m n → c ≡ e) × (c ≡ e → SameLayout profile m n)
+SameExactly = (one other : Limits) (profile : Profile) (b d : List ℕ) (m n : Meaning) → Accepted one b → Accepted other d → Means b m → Means d n → SameLayout profile m n ↔ ((c : List ℕ) × IsCanonicalOf one profile b c × IsCanonicalOf other profile d c)
+
+-- two files that have canonical forms mean the same layout exactly if these are equal
+abbrev pub FormsEqual : Type 0
+FormsEqual = (one other : Limits) (profile : Profile) (b d c e : List ℕ) (m n : Meaning) → IsCanonicalOf one profile b c → IsCanonicalOf other profile d e → Means b m → Means d n → SameLayout profile m n ↔ (c ≡ e)
 
 -- the canonical form of a canonical form is that form
 abbrev pub CanonicalAgain : Type 0

@@ -63,3 +63,22 @@ CanonicalWeight = (limits : Limits) (profile : Profile) (b c : List ℕ) (m n : 
 -- its length is bounded by the weight of the file
 abbrev pub FormLength : Type 0
 FormLength = (limits : Limits) (profile : Profile) (b c : List ℕ) (m : Meaning) → Accepted limits b → IsCanonicalOf limits profile b c → Means b m → length c ≤ 320 + 64 * cells_weight m.cells
+
+-- ---- that there is one, whatever the limits
+
+-- each accepted file has a canonical form
+abbrev pub HasCanonicalForm : Type 0
+HasCanonicalForm = (limits : Limits) (profile : Profile) (b : List ℕ) → Accepted limits b → (c : List ℕ) × IsCanonicalOf limits profile b c
+
+-- which is the file's canonical form under all limits that accept the file
+abbrev pub LimitsTogether : Type 0
+LimitsTogether = (one other : Limits) (profile : Profile) (b c : List ℕ) → Accepted other b → IsCanonicalOf one profile b c → IsCanonicalOf other profile b c
+
+-- and no longer than an input may be
+abbrev pub FormFitsInput : Type 0
+FormFitsInput = (limits : Limits) (profile : Profile) (b c : List ℕ) → Accepted limits b → IsCanonicalOf limits profile b c → length c ≤ limits.input
+
+-- A file that is accepted is accepted under larger limits. Their third, of the input's length, is the source's, and no
+-- part of `Accepted`.
+abbrev pub LargerLimits : Type 0
+LargerLimits = (one other : Limits) (b : List ℕ) → one.elements ≤ other.elements → one.weight ≤ other.weight → Accepted one b → Accepted other b

@@ -7,3 +7,5 @@ pub mod Putting
 pub mod Layouts
 pub mod Spelling
 pub mod Rekeying
+pub mod Judging
+pub mod Comparing

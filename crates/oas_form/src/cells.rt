@@ -5,7 +5,7 @@ ghost use Rattle.oas_layout.specs.Weight.{weight_of};
 ghost use Rattle.oas_layout.specs.Bag.{items};
 ghost use Rattle.oas_layout.specs.Sound.{IsSound};
 ghost use Rattle.oas_layout.specs.Contents.{expanded, AllSound, IsLayout};
-ghost use Rattle.oas_form.specs.Bytes.{elements_bytes, cell_bytes, cells_bytes};
+ghost use Rattle.oas_form.specs.Bytes.{elements_bytes, opening_bytes, cell_bytes, cells_bytes};
 ghost use Rattle.oas_form.specs.Putting.{Counts};
 
 use crate::elements::put_element;
@@ -43,16 +43,26 @@ fn put_elements<K: Sink>(sink: &mut K, elements: Elements<'_>) -> Result<u64, Si
     Ok(count)
 }
 
+/// Puts a CELL record by name.
+pub(crate) fn put_opening<K: Sink>(sink: &mut K, name: &[u8]) -> Result<u64, SinkFault>
+    requires { length name.now ≤ 2 ^ 30 }
+    ensures counts { Counts K.given K.failures sink.old (opening_bytes name.now) result sink.new }
+    ensures short { IfOk result (λ n. n ≤ 11 + length name.now) }
+{
+    let id = put_bytes(sink, &CELL)?;
+    let string = put_string(sink, name)?;
+    Ok(id + string)
+}
+
 /// Puts a CELL record by name, and its elements.
 fn put_cell<K: Sink>(sink: &mut K, name: &[u8], elements: Elements<'_>) -> Result<u64, SinkFault>
     requires sound { AllSound elements }
     requires light { (1 + length name.now) + sum_by weight_of (items elements) ≤ 2 ^ 30 }
     ensures { Counts K.given K.failures sink.old (cell_bytes (name.now, items elements.entry)) result sink.new }
 {
-    let id = put_bytes(sink, &CELL)?;
-    let string = put_string(sink, name)?;
+    let opening = put_opening(sink, name)?;
     let body = put_elements(sink, elements)?;
-    Ok(id + string + body)
+    Ok(opening + body)
 }
 
 /// Puts all cells of a layout, one after another.

@@ -1,18 +1,34 @@
 //! Laws of canonical forms, each the contract of a function that does nothing.
-ghost use Rattle.oas_form.specs.Canonical.{CanonicalAgain, FormIsAccepted, LimitsApart, OneCanonicalForm, SameExactly};
-ghost use Rattle.oas_form.specs.Layouts.{CanonicalBytes, CanonicalWeight, EqualInOrder, FormIsBytes, FormIsItsBytes, FormLength, FormWithin, LayoutInOrder, LeastWeight, SameCount, SameWeight};
+ghost use Rattle.oas_form.specs.Canonical.{CanonicalAgain, FormIsAccepted, FormsEqual, LimitsApart, OneCanonicalForm, SameExactly};
+ghost use Rattle.oas_form.specs.Layouts.{CanonicalBytes, CanonicalWeight, EqualInOrder, FormFitsInput, FormIsBytes, FormIsItsBytes, FormLength, FormWithin, HasCanonicalForm, LargerLimits, LayoutInOrder, LeastWeight, LimitsTogether, SameCount, SameWeight};
 ghost use Rattle.oas_form.specs.Rekeying.{FormIsItsOwn, OneThenTwo, SameByTwo, TwoIsOne};
 
 /// Two canonical forms that mean the same layout are equal bytes, whatever the limits under which each is one. So a file
-/// that is accepted under two limits has the same canonical form under both.
+/// has at most one canonical form, whatever the limits.
 pub fn one_canonical_form()
     ensures one { OneCanonicalForm }
     ensures apart { LimitsApart }
 {}
 
-/// Two files mean the same layout exactly if their canonical forms are equal bytes.
+/// Each accepted file has a canonical form, whichever the limits and the profile. It is the file's canonical form under all
+/// limits that accept the file, and has no more bytes than these allow an input.
+pub fn has_canonical_form()
+    ensures exists { HasCanonicalForm }
+    ensures together { LimitsTogether }
+    ensures fits { FormFitsInput }
+{}
+
+/// A file that is accepted under limits is accepted under all that are as large; so by
+/// [`has_canonical_form`] its canonical form is the same. How long the input may be is asked of the source alone.
+pub fn larger_limits()
+    ensures { LargerLimits }
+{}
+
+/// Two accepted files mean the same layout exactly if they have one canonical form, each under its own limits. Of two files
+/// that have canonical forms, accepted or not, it is so exactly if these are equal bytes.
 pub fn same_exactly()
-    ensures { SameExactly }
+    ensures exactly { SameExactly }
+    ensures equal { FormsEqual }
 {}
 
 /// The canonical form of a canonical form is that form.

@@ -9,18 +9,25 @@
 //! - [`put_canonical`] puts the canonical bytes of a layout into a sink, and answers how many they are; at a fault a front of
 //!   them was put (`Counts`, specs/Putting.antt). [`write_canonical`] has a writer take exactly these bytes; its only refusal
 //!   is `Why::Write`, after a front of them that is as long as its place says (`IsWritten`, `IsCutOff`, oas_num's
-//!   specs/Written.antt). Neither takes memory.
-//! - [`laws`] joins the three, over the definitions alone. One layout has one canonical form, whatever the limits; it is what
-//!   is written of each layout that is the same; it is accepted, and its own canonical form; two files mean the same layout
-//!   exactly if their canonical forms are equal. It has as many elements as its file, weighs no more, and its length is
-//!   bounded by that weight. A file's canonical form by profile two is that of its canonical form by profile one.
+//!   specs/Written.antt). Of both it is said that these bytes are a canonical form and mean the layout. Neither takes memory.
+//! - [`laws`] joins the three, over the definitions alone. Each accepted file has a canonical form, and it is the same under
+//!   all limits that accept the file; what is accepted under limits is accepted under larger ones. One layout has one
+//!   canonical form; it is what is written of each layout that is the same; it is accepted, and its own canonical form; two
+//!   accepted files mean the same layout exactly if they have one. It has as many elements as its file, weighs no more, and its
+//!   length is bounded by that weight and by the limit of an input. A file's canonical form by profile two is that of its
+//!   canonical form by profile one.
+//! - [`judge_laws`] says when an accepted file is a canonical form, record by record as it is read (specs/Judging.antt), and
+//!   [`FormJudge`] judges so: of what was read it keeps the name of the open cell and the latest element.
 //! - [`meaning_laws`] and [`spelling_laws`] say of the records of a canonical file (`records_of`, specs/Records.antt) what
 //!   they mean, that they are accepted, and how they are spelled.
 #![tactic(auto)]
 
 mod cells;
+mod comparing;
 mod elements;
 mod frames;
+pub mod judge_laws;
+mod judging;
 pub mod laws;
 pub mod meaning_laws;
 mod parts;
@@ -28,4 +35,5 @@ mod point_lists;
 pub mod spelling_laws;
 mod writing;
 
+pub use judging::FormJudge;
 pub use writing::{put_canonical, write_canonical};

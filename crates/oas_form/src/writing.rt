@@ -1,10 +1,13 @@
 //! The canonical bytes of a layout, put into a sink or written.
 
-ghost use Rattle.std.specs.Prelude.{◌+◌, ◌*◌, ◌≤◌, ◌^◌, length, IfErr, IfOk, OnOk};
+ghost use Rattle.std.specs.Prelude.{◌+◌, ◌*◌, ◌≤◌, length, IfErr, IfOk, OnOk};
 ghost use Rattle.oas_num.specs.Outlets.{IsGiven, IsSent, failures_of};
 ghost use Rattle.oas_num.specs.Written.{IsCutOff, IsWritten};
-ghost use Rattle.oas_layout.specs.Contents.{meaning_of, IsLayout};
+ghost use Rattle.oas_layout.specs.Contents.{expanded, meaning_of, IsLayout};
+ghost use Rattle.oas_layout.specs.Meaning.{cells_weight};
+ghost use Rattle.oas_file.specs.Acceptance.{Means};
 ghost use Rattle.oas_form.specs.Bytes.{canonical_bytes};
+ghost use Rattle.oas_form.specs.Canonical.{CanonicalForm};
 ghost use Rattle.oas_form.specs.Putting.{Counts};
 
 use crate::cells::put_cells;
@@ -18,11 +21,14 @@ mod tests;
 
 /// Puts the canonical bytes of a layout, and answers how many they are. At a fault a front of them was put.
 ///
-/// They number at most 320 and 64 for each unit of the layout's weight. Neither memory nor a copy is needed. They are
-/// the canonical form by [`laws::canonical_bytes`](crate::laws::canonical_bytes), which asks what every layout is (`layout`).
+/// They are a canonical form within the layout's limits, and mean the layout. They number at most 320 and 64 for each unit
+/// of its weight. Neither memory nor a copy is needed.
+#[tactic(auto, using(crate::proofs::LayoutForms::layout_form, crate::proofs::LayoutForms::layout_means, crate::proofs::LayoutForms::layout_short))]
 pub fn put_canonical<K: Sink>(layout: &Layout, sink: &mut K) -> Result<u64, SinkFault>
     ensures counts { Counts K.given K.failures sink.old (canonical_bytes (meaning_of layout.now)) result sink.new }
-    ensures short { length (canonical_bytes (meaning_of layout.now)) ≤ 320 + 64 * 2 ^ 30 }
+    ensures form { CanonicalForm layout.now.limits layout.now.profile (canonical_bytes (meaning_of layout.now)) }
+    ensures means { Means (canonical_bytes (meaning_of layout.now)) (meaning_of layout.now) }
+    ensures short { length (canonical_bytes (meaning_of layout.now)) ≤ 320 + 64 * cells_weight (expanded layout.now.cells) }
     ensures layout { IsLayout layout.now }
 {
     let cells = layout.cells();
@@ -33,11 +39,10 @@ pub fn put_canonical<K: Sink>(layout: &Layout, sink: &mut K) -> Result<u64, Sink
     Ok(head + body + end)
 }
 
-/// Puts the canonical bytes of a layout into an outlet, and has its writer take all of them.
+/// Puts the canonical bytes of a layout into an outlet, has its writer take all of them, and flushes it.
 fn put_and_close<W: Write>(layout: &Layout, outlet: &mut Outlet<'_, W>) -> Result<u64, SinkFault>
     ensures counts { Counts (IsGiven W.contents) failures_of outlet.old (canonical_bytes (meaning_of layout.now)) result outlet.new }
     ensures all { OnOk result (IsSent outlet.new) }
-    ensures short { length (canonical_bytes (meaning_of layout.now)) ≤ 320 + 64 * 2 ^ 30 }
     ensures layout { IsLayout layout.now }
 {
     let count = put_canonical(layout, outlet)?;
@@ -47,11 +52,16 @@ fn put_and_close<W: Write>(layout: &Layout, outlet: &mut Outlet<'_, W>) -> Resul
 
 /// Writes the canonical bytes of a layout, and answers how many they are.
 ///
-/// A fault of the writer is `Why::Write`, and its place is the number of bytes that the writer took: those are the first
-/// of them. Where it is the number of all of them, the flush failed.
+/// They are a canonical form within the layout's limits, and mean the layout. A fault of the writer is `Why::Write`, and its
+/// place is the number of bytes that the writer took: those are the first of them. Where it is the number of all of them,
+/// the flush failed.
+#[tactic(auto, using(crate::proofs::LayoutForms::layout_form, crate::proofs::LayoutForms::layout_means, crate::proofs::LayoutForms::layout_short))]
 pub fn write_canonical<W: Write>(layout: &Layout, writer: &mut W) -> Result<u64, Refusal>
     ensures written { IfOk result (IsWritten W.contents writer.old (canonical_bytes (meaning_of layout.now)) writer.new) }
     ensures refused { IfErr result (IsCutOff W.contents writer.old (canonical_bytes (meaning_of layout.now)) writer.new) }
+    ensures form { CanonicalForm layout.now.limits layout.now.profile (canonical_bytes (meaning_of layout.now)) }
+    ensures means { Means (canonical_bytes (meaning_of layout.now)) (meaning_of layout.now) }
+    ensures short { length (canonical_bytes (meaning_of layout.now)) ≤ 320 + 64 * cells_weight (expanded layout.now.cells) }
     ensures layout { IsLayout layout.now }
 {
     let mut outlet = Outlet::new(writer);

@@ -3,6 +3,7 @@ pub mod Counting
 pub mod KeptForms
 pub mod LawProofs
 pub mod Order
+pub mod PlainLemmas
 pub mod SameLemmas
 pub mod Sealed
 pub mod SoundLemmas

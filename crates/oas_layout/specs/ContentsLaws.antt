@@ -44,3 +44,8 @@ module _ (e : Element) (n : ℕ) where
 pub cells_sum-push : (f : List ℕ × List Element → ℕ) (cs : List Cell) (name : List ℕ) → cells_sum f (expanded (cs ++ (name, []) ∷ [])) ≡ cells_sum f (expanded cs) + f (name, [])
 cells_sum-push f [] name = omega arith
 cells_sum-push f (x ∷ xs) name = omega (arith, cells_sum-push f xs name)
+
+-- so does a cell with elements
+pub cells_sum-append : (f : List ℕ × List Element → ℕ) (cs : List Cell) (name : List ℕ) (es : List (Element × ℕ)) → cells_sum f (expanded (cs ++ (name, es) ∷ [])) ≡ cells_sum f (expanded cs) + f (name, items es)
+cells_sum-append f [] name es = omega arith
+cells_sum-append f (x ∷ xs) name es = omega (arith, cells_sum-append f xs name es)

@@ -9,6 +9,7 @@ pub mod Grid
 pub mod Laws
 pub mod Limits
 pub mod Meaning
+pub mod Plain
 pub mod Same
 pub mod SameLaws
 pub mod Sound

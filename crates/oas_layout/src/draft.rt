@@ -9,11 +9,13 @@ ghost use Rattle.oas_layout.specs.Grid.{fits_grid};
 ghost use Rattle.oas_layout.specs.Same.{IsNormal};
 ghost use Rattle.oas_layout.specs.Meaning.{element_count};
 ghost use Rattle.oas_layout.specs.Contents.{expanded, nothing, with_cell, holding, added, cell_refusal, refusal, IsSealed};
+ghost use Rattle.oas_layout.specs.Plain.{plain_refusal, with_plain};
 
 use crate::bag::Bag;
 use crate::element::Element;
 use crate::layout::Layout;
 use crate::limits::Limits;
+use crate::plain::PlainElements;
 use crate::profile::Profile;
 use crate::sound::unit_fits;
 use indexmap::IndexMap;
@@ -79,11 +81,11 @@ impl Draft {
 
     /// Adds a cell with no elements, and answers how many cells stand before it. Such a place is what `add` takes.
     ///
-    /// It hands the name back, and the draft is as it was, where there is a cell of that name (`DuplicateCell`), where the
-    /// weight passes its limit (`TooHeavy`), or for want of memory (`Memory`).
+    /// It hands the name back, and the draft is as it was, for the first of these that holds: a cell of that name
+    /// (`DuplicateCell`), more weight than the limit (`TooHeavy`), want of memory (`Memory`).
     pub fn add_cell(&mut self, name: Name) -> Result<usize, (Why, Name)>
         ensures ok { IfOk result (λ i. (cell_refusal self.old name ≡ None) × (i ≡ length self.old.cells) × (self.new ≡ with_cell self.old name)) }
-        ensures why { IfErr result (λ e. (e.0 ≡ Memory) ⊎ (cell_refusal self.old name ≡ Some e.0)) }
+        ensures why { IfErr result (λ e. ((e.0 ≡ Memory) × (cell_refusal self.old name ≡ None)) ⊎ (cell_refusal self.old name ≡ Some e.0)) }
         ensures back { IfErr result (λ e. e.1 ≡ name) }
         ensures err { OnErr result (self.new ≡ self.old) }
     {
@@ -104,11 +106,43 @@ impl Draft {
         Ok(before)
     }
 
+    /// Adds a cell with these elements, and answers how many cells stand before it.
+    ///
+    /// It is refused, and the draft is as it was, for the first of these that holds: there is a cell of that name
+    /// (`DuplicateCell`), more elements or weight than the limits allow (`TooManyElements`, `TooHeavy`), want of memory
+    /// (`Memory`). The name and the elements are gone then.
+    pub fn add_plain(&mut self, name: Name, elements: PlainElements) -> Result<usize, Why>
+        ensures ok { IfOk result (λ i. (plain_refusal self.old name elements ≡ None) × (i ≡ length self.old.cells) × (self.new ≡ with_plain self.old name elements)) }
+        ensures why { IfErr result (λ why. ((why ≡ Memory) × (plain_refusal self.old name elements ≡ None)) ⊎ (plain_refusal self.old name elements ≡ Some why)) }
+        ensures err { OnErr result (self.new ≡ self.old) }
+    {
+        if self.cells.contains_key(&name) {
+            return Err(Why::DuplicateCell);
+        }
+        let PlainElements { bag, count, weight } = elements;
+        if count > self.limits.elements() - self.count {
+            return Err(Why::TooManyElements);
+        }
+        let own = name.as_bytes().len() as u128;
+        if 1 + own + weight > u128::from(self.limits.weight() - self.spelled) {
+            return Err(Why::TooHeavy);
+        }
+        let more = (1 + own + weight) as u64;
+        let before = self.cells();
+        if let Err(_) = self.cells.insert(name, bag) {
+            return Err(Why::Memory);
+        }
+        self.count += count;
+        self.weight += more;
+        self.spelled += more;
+        Ok(before)
+    }
+
     /// Adds an element to the cell at that place, or hands it back, as `add_many` does.
     pub fn add(&mut self, cell: usize, element: Element) -> Result<(), (Why, Element)>
         requires { cell < length self.old.cells }
         ensures ok { OnOk result ((refusal self.old element 1 ≡ None) × (self.new ≡ added self.old cell element 1)) }
-        ensures why { IfErr result (λ e. (e.0 ≡ Memory) ⊎ (refusal self.old element 1 ≡ Some e.0)) }
+        ensures why { IfErr result (λ e. ((e.0 ≡ Memory) × (refusal self.old element 1 ≡ None)) ⊎ (refusal self.old element 1 ≡ Some e.0)) }
         ensures back { IfErr result (λ e. e.1 ≡ element) }
         ensures err { OnErr result (self.new ≡ self.old) }
     {
@@ -129,7 +163,7 @@ impl Draft {
         requires cell { cell < length self.old.cells }
         requires some { 0 < times }
         ensures ok { OnOk result ((refusal self.old element times ≡ None) × (self.new ≡ added self.old cell element times)) }
-        ensures why { IfErr result (λ e. (e.0 ≡ Memory) ⊎ (refusal self.old element times ≡ Some e.0)) }
+        ensures why { IfErr result (λ e. ((e.0 ≡ Memory) × (refusal self.old element times ≡ None)) ⊎ (refusal self.old element times ≡ Some e.0)) }
         ensures back { IfErr result (λ e. e.1 ≡ element) }
         ensures err { OnErr result (self.new ≡ self.old) }
     {

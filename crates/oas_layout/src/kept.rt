@@ -14,11 +14,7 @@ use std::alloc::{AllocError, Global};
 impl Element {
     /// The form in which the profile keeps the element: a polygon in its least reading, under profile two as its
     /// rectangle if it goes round one. None where that is the element as it stands.
-    pub(crate) fn kept_form(
-        &self,
-        alloc: Global,
-        profile: Profile,
-    ) -> Result<Option<Element>, AllocError>
+    pub fn kept_form(&self, alloc: Global, profile: Profile) -> Result<Option<Element>, AllocError>
         requires { lacks_points self.now ≡ false }
         ensures { IfOk result (λ o. unwrap_or o self.now ≡ normal profile self.now) }
     {

@@ -12,6 +12,9 @@
 //!   `refusal` (specs/Contents.antt) say, or else for want of memory; a refusal changes nothing and hands back what was
 //!   given. What it holds afterwards is `with_cell` or `added` of what it held before. [`Limits`] are asked of what was
 //!   given: under profile two a rectangle that was given as a polygon weighs as that polygon.
+//! - [`PlainElements`] holds elements that every profile keeps as they stand, of a cell whose name need not be known yet, as
+//!   a layout does; [`Draft::add_plain`] takes them as a whole, and searches for the place of none of them (`with_plain`,
+//!   specs/Plain.antt).
 //! - A [`Layout`] gives its cells by ascending names, and of each its distinct elements strictly ascending, no two the
 //!   same, each in its kept form and with how often it is there (`IsBag`, specs/Bag.antt). Equal elements are held once,
 //!   so memory grows with distinct elements only. No call on a layout takes memory.
@@ -33,6 +36,7 @@ mod kinds;
 pub mod laws;
 mod layout;
 mod limits;
+mod plain;
 mod profile;
 mod sound;
 
@@ -41,6 +45,7 @@ pub use element::{Element, Turns};
 pub use elements::Elements;
 pub use layout::Layout;
 pub use limits::Limits;
+pub use plain::PlainElements;
 pub use profile::Profile;
 
 #[cfg(test)]

@@ -9,7 +9,7 @@ use oas_num::Fraction;
 
 impl Element {
     /// Its name and its string are of their classes, and its numbers of 64 bits.
-    pub(crate) fn fits(&self)
+    pub fn fits(&self)
         ensures { Fits self.now }
     {
         match self {

@@ -5,6 +5,7 @@ mod drafts;
 mod limits;
 mod memory;
 mod order;
+mod plain;
 
 use crate::{Draft, Element, Layout, Limits, Profile, Turns};
 use oas_num::{Fraction, Label, Name, SliceSource, Spelled};

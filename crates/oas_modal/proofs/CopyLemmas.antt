@@ -1,8 +1,6 @@
 -- the copies of a record that are held, one by one
 use Rattle.std.proofs.Common.{◌≡◌, ℕ, zero, suc, ◌+◌, ◌*◌, ◌<◌, ◌≤◌, List, [], ◌∷◌, ◌++◌, map, length, refl, sym, ap, ◌∙◌, subst, arith, Bool, true, false, append_assoc, length-append}
-use Rattle.std.specs.Prelude.{Option, None, Some, cond, unwrap_or, replicate, nat_lt, ◌^◌}
-use Rattle.std.specs.Map.{lookup}
-use Rattle.std.specs.BTreeMap.{is_at}
+use Rattle.std.specs.Prelude.{Option, None, Some, replicate, nat_lt, ◌^◌}
 use Rattle.std.proofs.lemmas.List.{length-replicate}
 use Rattle.std.proofs.lemmas.Nat.{mul-le}
 use Rattle.std.proofs.lemmas.Bool.Decides.{nat_tests}
@@ -21,7 +19,7 @@ use Rattle.oas_drawing.specs.declared.kinds.Kind.{Kind}
 use Rattle.oas_drawing.specs.Modal.{ModalState}
 use Rattle.oas_drawing.specs.Drawn.{drawn_cmp, weight_so_far}
 use Rattle.oas_drawing.specs.Drawing.{kind_of, repeats, drawn_if, copies_at, offset_if, number_if, offsets_of, drawn_by}
-use Rattle.oas_modal.specs.Held.{Held, with_drawn, times_drawn}
+use Rattle.oas_modal.specs.Held.{Held, with_drawn}
 use Rattle.oas_modal.specs.Standing.{put_all, drew, drawn_of}
 use Rattle.oas_modal.specs.Copying.{copies_by, first_copies}
 use Rattle.oas_modal.proofs.PlaceLemmas.{drawn_alike}
@@ -88,19 +86,9 @@ few_copies m kind repeated (suc n) =
     let n1 : n + 1 ≡ suc n = omega arith in
     omega (arith, ap (λ (k : ℕ). length (first_copies m kind repeated k)) n1, ap length (next_copy m kind repeated n), length-append (first_copies m kind repeated n) (option_to_list (drawn_by m kind (offset_if repeated m.repetition n))), at_most_one (drawn_by m kind (offset_if repeated m.repetition n)), few_copies m kind repeated n)
 
--- how often one thing is drawn is no more than how many there are
-times_few : (ps : List (Drawn × ℕ)) (d : Drawn) → times_drawn ps d ≤ length (items ps)
-times_few [] d = omega arith
-times_few (p ∷ ps) d =
-    elim (is_at (drawn_cmp d) p.0) as (λ b. unwrap_or (cond b (Some p.1) (lookup (is_at (drawn_cmp d)) ps)) 0 ≤ length (replicate p.1 p.0 ++ items ps)) [
-      | true ↦ omega (arith, length-append (replicate p.1 p.0) (items ps), length-replicate p.1 p.0)
-      | false ↦ omega (arith, length-append (replicate p.1 p.0) (items ps), times_few ps d)
-    ]
-
 -- there is room for one more
-pub room_next : (m : ModalState) (kind : Kind) (repeated : Bool) (n : ℕ) (d : Drawn) (before now : Held) → now ≡ drew before (first_copies m kind repeated n) → length (items before.1) ≤ 2 ^ 26 → n ≤ 2 ^ 26 → times_drawn now.1 d + 1 < 2 ^ 64
-room_next m kind repeated n d before now is room small =
-    omega (arith, times_few now.1 d, ap (λ (h : Held). length (items h.1)) is, length-put_all before.1 (first_copies m kind repeated n), few_copies m kind repeated n, room, small)
+pub room_next : (m : ModalState) (kind : Kind) (repeated : Bool) (n : ℕ) (before now : Held) → now ≡ drew before (first_copies m kind repeated n) → length (items before.1) ≤ 2 ^ 26 → n ≤ 2 ^ 26 → length (items now.1) + 1 < 2 ^ 64
+room_next m kind repeated n before now is room small = omega (arith, ap (λ (h : Held). length (items h.1)) is, length-put_all before.1 (first_copies m kind repeated n), few_copies m kind repeated n, room, small)
 
 -- and it lies within the grid
 pub fit_next : (m : ModalState) (kind : Kind) (repeated : Bool) (n : ℕ) → ((i : ℕ) → i < n → fault_of (drawn_by m kind (offset_if repeated m.repetition i)) ≡ None) → fault_of (drawn_by m kind (offset_if repeated m.repetition n)) ≡ None → (i : ℕ) → i < n + 1 → fault_of (drawn_by m kind (offset_if repeated m.repetition i)) ≡ None

@@ -165,6 +165,11 @@ module _ (m : ModalState) (kind : Kind) (repeated : Bool) where
       all_append IsFit (first_copies m kind repeated n) (option_to_list (drawn_by m kind (offset_if repeated m.repetition n))) (fit_copies points n (λ i lt. h i (omega arith)))
       (fit_one (drawn_by m kind (offset_if repeated m.repetition n)) (h n (omega arith)) ((drawn_alike m kind (offset_if repeated m.repetition n) still).1 ∙ points))))
 
+-- a copy that is drawn lies within the grid and has its points
+pub copy_fit : (m : ModalState) (kind : Kind) (repeated : Bool) (i : ℕ) (d : Drawn) → drawn_by m kind (offset_if repeated m.repetition i) ≡ Some d → fault_of (drawn_by m kind (offset_if repeated m.repetition i)) ≡ None → lacks_if (drawn_by m kind still) ≡ false → IsFit d
+copy_fit m kind repeated i d is fits points =
+    (subst (λ (o : Option Drawn). AllByRecursion IsFit (option_to_list o)) is (fit_one m kind repeated (drawn_by m kind (offset_if repeated m.repetition i)) fits ((drawn_alike m kind (offset_if repeated m.repetition i) still).1 ∙ points))).0
+
 -- ---- what is held
 
 fit_more : (ps : List (Drawn × ℕ)) (d : Drawn) → AllFit ps → IsFit d → AllFit (with_drawn ps d 1)

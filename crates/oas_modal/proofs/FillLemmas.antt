@@ -1,16 +1,19 @@
 -- A draft that is filled with cells.
 use Rattle.std.proofs.Common.{◌≡◌, ℕ, zero, suc, ◌+◌, ◌*◌, ◌<◌, ◌≤◌, List, [], ◌∷◌, ◌++◌, Bool, true, false, cond, Option, None, Some, is_some, unwrap_or, length, refl, sym, ◌∙◌, ap, subst, arith, append_assoc}
 use Rattle.std.specs.Prelude.{◌==◌, option_map}
-use Rattle.std.specs.List.{IsDistinct}
+use Rattle.std.specs.List.{AllByRecursion, IsDistinct}
 use Rattle.std.specs.List.Sorted.{IsStrictlySortedBy, IsPermutation}
-use Rattle.std.specs.Ordering.{nat_cmp}
+use Rattle.std.specs.Ordering.{nat_cmp, match_ordering, ordering_reverse}
+use Rattle.std.specs.declared.cmp.Ordering.{Ordering}
+use Rattle.std.specs.declared.cmp.Ordering.TheVariants.{Less}
 use Rattle.std.specs.Cmp.Lexicographic.{slice_cmp, pointwise, nat_list_eq_equiv, texts_ties}
 use Rattle.std.specs.Map.{lookup, keys_of}
 use Rattle.std.proofs.lemmas.Bool.Decides.{nat_tests}
 use Rattle.std.proofs.lemmas.Slice.Eq.{slice_eq-Decides}
 use Rattle.std.specs.Cmp.{unsigned_Decides}
 use Rattle.std.proofs.lemmas.Map.Views.{Contains-from_lookup, lookup-from_Contains}
-use Rattle.std.proofs.lemmas.Map.Keys.{IsDistinct-from_sorted, IsDistinct-IsPermutation}
+use Rattle.std.proofs.lemmas.Map.Keys.{IsDistinct-from_sorted, IsDistinct-IsPermutation, sorted_head, sorted_tail}
+use Rattle.std.proofs.lemmas.List.{append-nil}
 use Rattle.std.proofs.lemmas.List.Sorted.{IsPermutation-map, IsPermutation-sym, Contains-permutation}
 use Rattle.oas_num.specs.Ratio.{Ratio}
 use Rattle.oas_num.specs.declared.refusals.Why.{Why}
@@ -20,11 +23,14 @@ use Rattle.oas_layout.specs.declared.limits.Limits.{Limits}
 use Rattle.oas_layout.specs.declared.profile.Profile.{Profile}
 use Rattle.oas_layout.specs.Bag.{items, with_more}
 use Rattle.oas_layout.specs.BagLaws.{total, sum_by-items, adding}
+use Rattle.oas_layout.specs.Element.{element_cmp}
+use Rattle.oas_layout.specs.ElementLaws.{element_total}
 use Rattle.oas_layout.specs.Grid.{fits_grid}
-use Rattle.oas_layout.specs.Same.{same_element, normal}
+use Rattle.oas_layout.specs.Plain.{plain_refusal, with_plain, weight_with}
+use Rattle.oas_layout.specs.Same.{same_element, normal, IsNormal}
 use Rattle.oas_layout.specs.Weight.{weight_of, lacks_points}
 use Rattle.oas_layout.specs.Meaning.{elements_of, count_of, element_count, cells_weight, SameLayout}
-use Rattle.oas_layout.specs.Contents.{Cell, Contents, expanded, meaning_of, nothing, cells_with_more, has_cell, cell_refusal, refusal, IsSealed}
+use Rattle.oas_layout.specs.Contents.{Cell, Contents, expanded, meaning_of, nothing, with_cell, cells_with_more, has_cell, refusal, IsSealed}
 use Rattle.oas_modal.specs.Finish.{given, with_all}
 
 -- what a draft is
@@ -57,6 +63,47 @@ given-last unit limits profile cs name es (p ∷ ps) spelled =
     ∙ given-last unit limits profile cs name (with_more es (normal profile p.0) p.1) ps (spelled + p.1 * weight_of p.0)
     ∙ ap (λ (k : ℕ). state unit limits profile (cs ++ (name, kept profile (with_more es (normal profile p.0) p.1) ps) ∷ []) k) sum
 
+-- ---- elements in their kept forms that ascend, given to a new cell
+
+-- one above all others comes last
+last-with_more : (held : List (Element × ℕ)) (e : Element) (n : ℕ) → AllByRecursion (λ q. element_cmp q.0 e ≡ Less) held → with_more held e n ≡ held ++ (e, n) ∷ []
+last-with_more [] e n h = refl
+last-with_more (q ∷ qs) e n h =
+    ap (λ (r : Ordering). match_ordering r ((e, n) ∷ q ∷ qs) ((q.0, q.1 + n) ∷ qs) (q ∷ with_more qs e n)) (element_total.antisymm e q.0 ∙ ap ordering_reverse h.0)
+    ∙ ap (λ (xs : List (Element × ℕ)). q ∷ xs) (last-with_more qs e n h.1)
+
+-- all that is held stands before each of the others
+abbrev Below : List (Element × ℕ) → List (Element × ℕ) → Type 0
+Below held es = AllByRecursion (λ p. AllByRecursion (λ q. element_cmp q.0 p.0 ≡ Less) held) es
+
+below_last : (held : List (Element × ℕ)) (p : Element × ℕ) (e : Element) → AllByRecursion (λ q. element_cmp q.0 e ≡ Less) held → element_cmp p.0 e ≡ Less → AllByRecursion (λ q. element_cmp q.0 e ≡ Less) (held ++ p ∷ [])
+below_last [] p e h l = (l, tt)
+below_last (q ∷ qs) p e h l = (h.0, below_last qs p e h.1 l)
+
+below_more : (held : List (Element × ℕ)) (p : Element × ℕ) (es : List (Element × ℕ)) → Below held es → AllByRecursion (λ y. element_cmp p.0 y ≡ Less) (keys_of es) → Below (held ++ p ∷ []) es
+below_more held p [] a b = tt
+below_more held p (x ∷ xs) a b = (below_last held p x.0 a.0 b.0, below_more held p xs a.1 b.1)
+
+-- they are kept as they stand
+kept-ascending : (profile : Profile) (held es : List (Element × ℕ)) → AllByRecursion (λ p. IsNormal profile p.0) es → IsStrictlySortedBy element_cmp (keys_of es) → Below held es → kept profile held es ≡ held ++ es
+kept-ascending profile held [] norm s below = sym (append-nil held)
+kept-ascending profile held (p ∷ ps) norm s below =
+    ap (λ (e : Element). kept profile (with_more held e p.1) ps) norm.0
+    ∙ (ap (λ (xs : List (Element × ℕ)). kept profile xs ps) (last-with_more held p.0 p.1 below.0)
+    ∙ (kept-ascending profile (held ++ p ∷ []) ps norm.1 (sorted_tail element_cmp p.0 (keys_of ps) s) (below_more held p ps below.1 (sorted_head element_cmp p.0 (keys_of ps) s))
+    ∙ append_assoc held (p ∷ []) ps))
+
+below_none : (es : List (Element × ℕ)) → Below [] es
+below_none [] = tt
+below_none (p ∷ ps) = (tt, below_none ps)
+
+-- so a new cell that is given them one by one is the cell of them
+pub given-plain : (d : Contents) (name : List ℕ) (es : List (Element × ℕ)) → AllByRecursion (λ p. IsNormal d.profile p.0) es → IsStrictlySortedBy element_cmp (keys_of es) → given (with_cell d name) (length d.cells) es ≡ with_plain d name es
+given-plain d name es norm s =
+    let sum : (d.spelled + (1 + length name)) + total weight_of es ≡ d.spelled + weight_with name es = omega (arith, sum_by-items weight_of es) in
+    given-last d.unit d.limits d.profile d.cells name [] es (d.spelled + (1 + length name))
+    ∙ (λ i. state d.unit d.limits d.profile (d.cells ++ (name, kept-ascending d.profile [] es norm s (below_none es) i) ∷ []) (sum i))
+
 -- the cells in their kept forms
 abbrev kept_cells : Profile → List Cell → List Cell
 kept_cells profile [] = []
@@ -84,15 +131,15 @@ pub refused_many : (d : Contents) (e : Element) (n : ℕ) (why : Why) → refusa
 refused_many d e n why h points inside few = grind (arith, nat_tests)
 
 -- a cell of another name likewise
-pub refused_cell : (d : Contents) (name : List ℕ) (why : Why) → cell_refusal d name ≡ Some why → has_cell d.cells name ≡ false → (why ≡ TooHeavy) × (d.limits.weight < d.spelled + (1 + length name))
-refused_cell d name why h apart = grind (arith, nat_tests)
+pub refused_plain : (d : Contents) (name : List ℕ) (es : List (Element × ℕ)) (why : Why) → plain_refusal d name es ≡ Some why → has_cell d.cells name ≡ false → element_count (expanded d.cells) + length (items es) ≤ d.limits.elements → (why ≡ TooHeavy) × (d.limits.weight < d.spelled + weight_with name es)
+refused_plain d name es why h apart few = grind (arith, nat_tests)
 
 -- and what is taken is light enough
 pub taken_many : (d : Contents) (e : Element) (n : ℕ) → refusal d e n ≡ None → d.spelled + n * weight_of e ≤ d.limits.weight
 taken_many d e n h = grind (arith, nat_tests)
 
-pub taken_cell : (d : Contents) (name : List ℕ) → cell_refusal d name ≡ None → d.spelled + (1 + length name) ≤ d.limits.weight
-taken_cell d name h = grind (arith, nat_tests)
+pub taken_plain : (d : Contents) (name : List ℕ) (es : List (Element × ℕ)) → plain_refusal d name es ≡ None → d.spelled + weight_with name es ≤ d.limits.weight
+taken_plain d name es h = grind (arith, nat_tests)
 
 -- ---- what a filled draft means
 

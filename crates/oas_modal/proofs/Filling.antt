@@ -50,8 +50,8 @@ meant_inside names strings (TextBy number textlayer texttype x y) e h p = by (na
   by (Some name) h = let same : Text name textlayer texttype x y ≡ e = cc in subst (λ y. fits_grid y ≡ true) same p
 
 -- what is not taken is refused for want of memory, or for its weight
-pub one_refused : (names strings : List (ℕ × List ℕ)) (d : Contents) (x : Drawn) (e : Element) (n : ℕ) (why : Why) → element_by names strings x ≡ Some e → IsFit x → element_count (expanded d.cells) + n ≤ d.limits.elements → (why ≡ Memory) ⊎ (refusal d e n ≡ Some why) → (why ≡ Memory) ⊎ ((why ≡ TooHeavy) × (d.limits.weight < d.spelled + total weight_of (with_counted (element_by names strings x) n [])))
-one_refused names strings d x e n why is fit few (inl m) = inl m
+pub one_refused : (names strings : List (ℕ × List ℕ)) (d : Contents) (x : Drawn) (e : Element) (n : ℕ) (why : Why) → element_by names strings x ≡ Some e → IsFit x → element_count (expanded d.cells) + n ≤ d.limits.elements → ((why ≡ Memory) × (refusal d e n ≡ None)) ⊎ (refusal d e n ≡ Some why) → (why ≡ Memory) ⊎ ((why ≡ TooHeavy) × (d.limits.weight < d.spelled + total weight_of (with_counted (element_by names strings x) n [])))
+one_refused names strings d x e n why is fit few (inl m) = inl m.0
 one_refused names strings d x e n why is fit few (inr h) =
     let heavy = refused_many d e n why h (meant_points names strings x e is fit.points) (meant_inside names strings x e is fit.inside) few in
     let all : total weight_of (with_counted (element_by names strings x) n []) ≡ n * weight_of e + 0 = ap (λ o. total weight_of (with_counted o n [])) is in

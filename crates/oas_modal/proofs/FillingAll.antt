@@ -1,7 +1,7 @@
 -- A draft that is being filled with cells, cell by cell.
 use Rattle.std.proofs.Common.{◌≡◌, ℕ, ◌+◌, ◌<◌, ◌≤◌, ◌⊎◌, List, [], ◌∷◌, ◌++◌, Bool, true, false, ◌||◌, Option, None, Some, length, refl, sym, ◌∙◌, ap, subst, arith, inl, inr, length-append, append_assoc}
 use Rattle.std.specs.List.{AllByRecursion, list_any}
-use Rattle.std.specs.Prelude.{Result, Ok, Err, IfErr}
+use Rattle.std.specs.Prelude.{Result, Ok, Err, IfErr, OnOk}
 use Rattle.std.specs.Cmp.Lexicographic.{nat_list_eq_equiv}
 use Rattle.std.proofs.lemmas.Map.Made.{is_some-lookup}
 use Rattle.oas_num.specs.declared.refusals.Why.{Why}
@@ -9,18 +9,23 @@ use Rattle.oas_num.specs.declared.refusals.Why.TheVariants.{Memory, TooHeavy}
 use Rattle.oas_layout.specs.declared.element.Element.{Element}
 use Rattle.oas_layout.specs.Bag.{items}
 use Rattle.oas_layout.specs.BagLaws.{total, sum_by-items}
-use Rattle.oas_layout.specs.ContentsLaws.{length-items, cells_sum-push}
+use Rattle.oas_layout.specs.ContentsLaws.{length-items, cells_sum-push, cells_sum-append}
 use Rattle.oas_layout.specs.Weight.{weight_of}
 use Rattle.oas_layout.specs.Meaning.{element_count, cells_weight}
-use Rattle.oas_layout.specs.Contents.{Contents, names, expanded, with_cell, cell_refusal}
+use Rattle.oas_layout.specs.Contents.{Contents, names, expanded, with_cell, added}
+use Rattle.oas_layout.specs.declared.profile.Profile.{Profile}
+use Rattle.oas_layout.specs.Plain.{plain_refusal, with_plain, weight_with}
+use Rattle.oas_layout.specs.Same.{IsNormal}
 use Rattle.oas_drawing.specs.declared.drawn.Drawn.{Drawn}
 use Rattle.oas_modal.specs.Names.{same_string}
 use Rattle.oas_modal.specs.References.{cell_by}
-use Rattle.oas_modal.specs.Held.{Held}
+use Rattle.oas_drawing.specs.declared.drawn.Drawn.TheVariants.{Named}
+use Rattle.oas_modal.specs.Held.{Held, IsSplit, is_early, as_drawn}
 use Rattle.oas_modal.specs.Meaning.{has_twice}
 use Rattle.oas_modal.specs.Finish.{AllFit, counted_meant, with_counted_cell, held_meant, names_held, with_name_held, IsFresh, drawn_cells, drawn_total, given, with_all}
 use Rattle.oas_modal.proofs.MeaningLemmas.{counted_length}
-use Rattle.oas_modal.proofs.FillLemmas.{refused_cell, taken_cell}
+use Rattle.oas_modal.proofs.EarlyLemmas.{early_normal, both_count}
+use Rattle.oas_modal.proofs.FillLemmas.{given-plain, refused_plain, taken_plain}
 use Rattle.oas_modal.proofs.Filling.{given-limits, given-spelled, given-count, given-names, names-last}
 
 -- ---- names that stand once
@@ -82,45 +87,86 @@ module _ (o : Option (List ℕ)) (es : List (Element × ℕ)) (d : Contents) whe
 pub none_put : (o : Option (List ℕ)) (es : List (Element × ℕ)) (d : Contents) → o ≡ None → d ≡ grown o es d
 none_put o es d e = ap (λ (r : Option (List ℕ)). grown r es d) (sym e)
 
--- what a draft is ready for once it has a cell of a name
-pub record Begun (d mid : Contents) (place : ℕ) (ps : List (Drawn × ℕ)) (name : List ℕ) : Type 0 where
+-- ---- a cell that is held in two parts
+
+-- what is meant of both
+meant_split : (table strings : List (ℕ × List ℕ)) (es : List (Element × ℕ)) (ds : List (Drawn × ℕ)) → counted_meant table strings (as_drawn es ++ ds) ≡ es ++ counted_meant table strings ds
+meant_split table strings [] ds = refl
+meant_split table strings (p ∷ ps) ds = ap (λ (xs : List (Element × ℕ)). p ∷ xs) (meant_split table strings ps ds)
+
+given-append : (d : Contents) (i : ℕ) (es fs : List (Element × ℕ)) → given d i (es ++ fs) ≡ given (given d i es) i fs
+given-append d i [] fs = refl
+given-append d i (p ∷ ps) fs = given-append (added d i p.0 p.1) i ps fs
+
+total-append : (es fs : List (Element × ℕ)) → total weight_of (es ++ fs) ≡ total weight_of es + total weight_of fs
+total-append [] fs = omega arith
+total-append (p ∷ ps) fs = omega (arith, total-append ps fs)
+
+all_normal : (profile : Profile) (es : List (Element × ℕ)) → AllByRecursion (λ p. is_early (Named p.0) ≡ true) es → AllByRecursion (λ p. IsNormal profile p.0) es
+all_normal profile [] h = tt
+all_normal profile (p ∷ ps) h = (early_normal profile p.0 h.0, all_normal profile ps h.1)
+
+-- what a draft is ready for once it has the first part
+pub record Begun (mid : Contents) (place : ℕ) (ps : List (Drawn × ℕ)) : Type 0 where
   pub inside : place < length mid.cells
   pub few : element_count (expanded mid.cells) + length (items ps) ≤ mid.limits.elements
   pub light : mid.spelled ≤ mid.limits.weight
 
-pub begins : (d mid : Contents) (place : ℕ) (ps : List (Drawn × ℕ)) (name : List ℕ) → cell_refusal d name ≡ None → place ≡ length d.cells → mid ≡ with_cell d name → element_count (expanded d.cells) + length (items ps) ≤ d.limits.elements → Begun d mid place ps name
-begins d mid place ps name taken at is few =
-    let cells : length mid.cells ≡ length (d.cells ++ (name, []) ∷ []) = ap (λ (v : Contents). length v.cells) is in
-    let count : element_count (expanded mid.cells) ≡ element_count (expanded (d.cells ++ (name, []) ∷ [])) = ap (λ (v : Contents). element_count (expanded v.cells)) is in
-    let most : mid.limits.elements ≡ d.limits.elements = ap (λ (v : Contents). v.limits.elements) is in
-    let heaviest : mid.limits.weight ≡ d.limits.weight = ap (λ (v : Contents). v.limits.weight) is in
-    let spelled : mid.spelled ≡ d.spelled + (1 + length name) = ap (λ (v : Contents). v.spelled) is in
-    record {
-      inside = omega (arith, at, cells, length-append d.cells ((name, []) ∷ []));
-      few = omega (arith, count, cells_sum-push (λ c. length c.1) d.cells name, most, few);
-      light = omega (arith, taken_cell d name taken, spelled, heaviest);
-    }
+module _ (table strings : List (ℕ × List ℕ)) (d : Contents) (name : List ℕ) (o : Option (List ℕ)) (whole : List (Drawn × ℕ)) (es : List (Element × ℕ)) (ds : List (Drawn × ℕ)) (named : o ≡ Some name) (is : as_drawn es ++ ds ≡ whole) (split : IsSplit es ds) where
+  abbrev rest : List (Element × ℕ)
+  rest = counted_meant table strings ds
 
--- what it is once all was put
-pub put_is : (d mid new : Contents) (place : ℕ) (name : List ℕ) (o : Option (List ℕ)) (es : List (Element × ℕ)) → o ≡ Some name → place ≡ length d.cells → mid ≡ with_cell d name → new ≡ given mid place es → new ≡ grown o es d
-put_is d mid new place name o es e at is put =
-    put ∙ (λ i. given (is i) (at i) es) ∙ ap (λ (r : Option (List ℕ)). grown r es d) (sym e)
+  abbrev all : List (Element × ℕ)
+  all = counted_meant table strings whole
 
--- why putting a cell is refused
-pub cell_refused : (d : Contents) (name : List ℕ) (o : Option (List ℕ)) (es : List (Element × ℕ)) (why : Why) → o ≡ Some name → IsFresh d o → (why ≡ Memory) ⊎ (cell_refusal d name ≡ Some why) → (why ≡ Memory) ⊎ ((why ≡ TooHeavy) × (d.limits.weight < d.spelled + cells_weight (expanded (with_counted_cell o es []))))
-cell_refused d name o es why e fresh (inl m) = inl m
-cell_refused d name o es why e fresh (inr h) =
-    let heavy = refused_cell d name why h (subst (IsFresh d) e fresh) in
-    let all : cells_weight (expanded (with_counted_cell o es [])) ≡ cells_weight (expanded ((name, es) ∷ [])) = ap (λ (r : Option (List ℕ)). cells_weight (expanded (with_counted_cell r es []))) e in
-    inr (heavy.0, omega (arith, heavy.1, all))
+  meant : all ≡ es ++ rest
+  meant = ap (counted_meant table strings) (sym is) ∙ meant_split table strings es ds
 
-pub drawn_refused : (d mid : Contents) (name : List ℕ) (o : Option (List ℕ)) (es : List (Element × ℕ)) (why : Why) → o ≡ Some name → mid ≡ with_cell d name → (why ≡ Memory) ⊎ ((why ≡ TooHeavy) × (mid.limits.weight < mid.spelled + total weight_of es)) → (why ≡ Memory) ⊎ ((why ≡ TooHeavy) × (d.limits.weight < d.spelled + cells_weight (expanded (with_counted_cell o es []))))
-drawn_refused d mid name o es why e is (inl m) = inl m
-drawn_refused d mid name o es why e is (inr h) =
-    let heaviest : mid.limits.weight ≡ d.limits.weight = ap (λ (v : Contents). v.limits.weight) is in
-    let spelled : mid.spelled ≡ d.spelled + (1 + length name) = ap (λ (v : Contents). v.spelled) is in
-    let all : cells_weight (expanded (with_counted_cell o es [])) ≡ cells_weight (expanded ((name, es) ∷ [])) = ap (λ (r : Option (List ℕ)). cells_weight (expanded (with_counted_cell r es []))) e in
-    inr (h.0, omega (arith, h.1, heaviest, spelled, all, sum_by-items weight_of es))
+  count : length (items whole) ≡ length (items es) + length (items ds)
+  count = ap (λ (ps : List (Drawn × ℕ)). length (items ps)) (sym is) ∙ both_count es ds
+
+  weighs : cells_weight (expanded (with_counted_cell o all [])) ≡ weight_with name es + total weight_of rest
+  weighs =
+      let there : cells_weight (expanded (with_counted_cell o all [])) ≡ cells_weight (expanded ((name, all) ∷ [])) = ap (λ (r : Option (List ℕ)). cells_weight (expanded (with_counted_cell r all []))) named in
+      let parts : total weight_of all ≡ total weight_of (es ++ rest) = ap (total weight_of) meant in
+      omega (arith, there, parts, sum_by-items weight_of all, sum_by-items weight_of es, total-append es rest)
+
+  -- what it is once all was put
+  pub put_is : (mid new : Contents) (place : ℕ) → place ≡ length d.cells → mid ≡ with_plain d name es → new ≡ given mid place rest → new ≡ grown o all d
+  put_is mid new place at first then =
+      then
+      ∙ ((λ i. given (first i) (at i) rest)
+      ∙ (ap (λ (v : Contents). given v (length d.cells) rest) (sym (given-plain d name es (all_normal d.profile es split.first) split.tally.ascending))
+      ∙ (sym (given-append (with_cell d name) (length d.cells) es rest)
+      ∙ (ap (λ (xs : List (Element × ℕ)). given (with_cell d name) (length d.cells) xs) (sym meant) ∙ ap (λ (r : Option (List ℕ)). grown r all d) (sym named)))))
+
+  pub begins : (mid : Contents) (place : ℕ) → plain_refusal d name es ≡ None → place ≡ length d.cells → mid ≡ with_plain d name es → element_count (expanded d.cells) + length (items whole) ≤ d.limits.elements → Begun mid place ds
+  begins mid place taken at first few =
+      let cells : length mid.cells ≡ length (d.cells ++ (name, es) ∷ []) = ap (λ (v : Contents). length v.cells) first in
+      let many : element_count (expanded mid.cells) ≡ element_count (expanded (d.cells ++ (name, es) ∷ [])) = ap (λ (v : Contents). element_count (expanded v.cells)) first in
+      let most : mid.limits.elements ≡ d.limits.elements = ap (λ (v : Contents). v.limits.elements) first in
+      let heaviest : mid.limits.weight ≡ d.limits.weight = ap (λ (v : Contents). v.limits.weight) first in
+      let spelled : mid.spelled ≡ d.spelled + weight_with name es = ap (λ (v : Contents). v.spelled) first in
+      record {
+        inside = omega (arith, at, cells, length-append d.cells ((name, es) ∷ []));
+        few = omega (arith, many, cells_sum-append (λ c. length c.1) d.cells name es, most, few, count);
+        light = omega (arith, taken_plain d name es taken, spelled, heaviest);
+      }
+
+  -- why putting the first part is refused
+  pub plain_refused : (why : Why) → IsFresh d o → element_count (expanded d.cells) + length (items whole) ≤ d.limits.elements → ((why ≡ Memory) × (plain_refusal d name es ≡ None)) ⊎ (plain_refusal d name es ≡ Some why) → (why ≡ Memory) ⊎ ((why ≡ TooHeavy) × (d.limits.weight < d.spelled + cells_weight (expanded (with_counted_cell o all []))))
+  plain_refused why fresh few (inl m) = inl m.0
+  plain_refused why fresh few (inr h) =
+      let heavy = refused_plain d name es why h (subst (IsFresh d) named fresh) (omega (arith, few, count)) in
+      inr (heavy.0, omega (arith, heavy.1, weighs))
+
+  -- and why the rest is
+  pub rest_refused : (mid : Contents) (why : Why) → mid ≡ with_plain d name es → (why ≡ Memory) ⊎ ((why ≡ TooHeavy) × (mid.limits.weight < mid.spelled + total weight_of rest)) → (why ≡ Memory) ⊎ ((why ≡ TooHeavy) × (d.limits.weight < d.spelled + cells_weight (expanded (with_counted_cell o all []))))
+  rest_refused mid why first (inl m) = inl m
+  rest_refused mid why first (inr h) =
+      let heaviest : mid.limits.weight ≡ d.limits.weight = ap (λ (v : Contents). v.limits.weight) first in
+      let spelled : mid.spelled ≡ d.spelled + weight_with name es = ap (λ (v : Contents). v.spelled) first in
+      inr (h.0, omega (arith, h.1, heaviest, spelled, weighs))
 
 -- ---- all cells
 
@@ -190,3 +236,8 @@ all_room table strings initial d all rest h f = omega (arith, f.few)
 pub err_map : {T E : Type 0} {P Q : E → Type 0} → ((e : E) → P e → Q e) → (r : Result T E) → IfErr r P → IfErr r Q
 err_map f (Ok x) h = tt
 err_map f (Err e) h = f e h
+
+-- and of a success
+pub ok_map : {T E P Q : Type 0} → (P → Q) → (r : Result T E) → OnOk r P → OnOk r Q
+ok_map f (Ok x) h = f h
+ok_map f (Err e) h = tt

@@ -1,5 +1,6 @@
 -- What is held after more was drawn.
-use Rattle.std.proofs.Common.{◌≡◌, ℕ, ◌+◌, ◌*◌, ◌<◌, List, [], ◌∷◌, unwrap_or, cond, sym, ◌∙◌, ap, subst}
+use Rattle.std.proofs.Common.{◌≡◌, ℕ, ◌+◌, ◌*◌, ◌<◌, ◌≤◌, List, [], ◌∷◌, ◌++◌, true, false, Some, length, replicate, unwrap_or, cond, sym, ◌∙◌, ap, subst, arith, length-append}
+use Rattle.std.proofs.lemmas.List.{length-replicate}
 use Rattle.std.specs.Ordering.{match_ordering}
 use Rattle.std.specs.declared.cmp.Ordering.{Ordering}
 use Rattle.std.specs.declared.cmp.Ordering.TheVariants.{Less, Equal, Greater}
@@ -7,13 +8,13 @@ use Rattle.std.specs.List.{AllByRecursion}
 use Rattle.std.specs.List.Sorted.{IsStrictlySortedBy}
 use Rattle.std.specs.Map.{lookup, keys_of}
 use Rattle.std.specs.BTreeMap.{is_at, insert_entry}
-use Rattle.oas_record.specs.declared.references.CellRef.{CellRef}
+use Rattle.oas_layout.specs.declared.element.Element.{Element}
 use Rattle.oas_layout.specs.Bag.{items}
 use Rattle.oas_layout.specs.BagLaws.{sum_by-items, total-put_more, insert_entry-count, times}
 use Rattle.oas_drawing.specs.declared.drawn.Drawn.{Drawn}
 use Rattle.oas_drawing.specs.Drawn.{drawn_cmp}
 use Rattle.oas_drawing.specs.DrawnLaws.{derived_cmp, stated_cmp, drawn_total, exact_drawn}
-use Rattle.oas_modal.specs.Held.{Held, IsHeld, times_drawn, with_drawn, same_drawn, drawn_count, AddingDrawn}
+use Rattle.oas_modal.specs.Held.{IsHeld, IsSplit, is_early, times_drawn, with_drawn, same_drawn, drawn_count, AddingDrawn}
 
 -- the count that a look-up finds
 pub times_drawn-derived : (ds : List (Drawn × ℕ)) (d : Drawn) → unwrap_or (lookup (is_at (derived_cmp d)) ds) 0 ≡ times_drawn ds d
@@ -45,13 +46,26 @@ pub IsHeld-empty : (ds : List (Drawn × ℕ)) → ds ≡ [] → IsHeld ds
 unfolding IsStrictlySortedBy
 IsHeld-empty ds e = subst IsHeld (sym e) (record { ascending = tt; positive = tt })
 
--- what an insertion leaves, by the value before
-pub with_drawn-inserted : (v : Held) (cell : CellRef) (ds es : List (Drawn × ℕ)) (d : Drawn) (n : ℕ) → ◌≡◌ {A = Held} (cell, ds) v → IsHeld ds → es ≡ insert_entry derived_cmp ds d (unwrap_or (lookup (is_at (derived_cmp d)) ds) 0 + n) → ◌≡◌ {A = Held} (cell, es) (v.0, with_drawn v.1 d n)
-with_drawn-inserted v cell ds es d n view held is =
-    let there : es ≡ with_drawn ds d n =
+-- what an insertion leaves
+pub with_drawn-inserted : (ds es : List (Drawn × ℕ)) (d : Drawn) (n : ℕ) → IsHeld ds → es ≡ insert_entry derived_cmp ds d (unwrap_or (lookup (is_at (derived_cmp d)) ds) 0 + n) → es ≡ with_drawn ds d n
+with_drawn-inserted ds es d n held is =
     is ∙ ap (λ (k : ℕ). insert_entry derived_cmp ds d (k + n)) (times_drawn-derived ds d) ∙ ap (λ (R : Drawn → Drawn → Ordering). insert_entry R ds d (times_drawn ds d + n)) stated_cmp
-    ∙ insert_entry-count drawn_total ds d n held.ascending in
-    ap (λ (xs : List (Drawn × ℕ)). (cell, xs)) there ∙ ap (λ (u : Held). (u.0, with_drawn u.1 d n)) view
+    ∙ insert_entry-count drawn_total ds d n held.ascending
+
+-- nothing is held in either part
+pub IsSplit-empty : (es : List (Element × ℕ)) (ds : List (Drawn × ℕ)) → es ≡ [] → ds ≡ [] → IsSplit es ds
+unfolding IsStrictlySortedBy
+IsSplit-empty es ds e f =
+    subst (λ (xs : List (Element × ℕ)). IsSplit xs ds) (sym e) (record { tally = record { ascending = tt; positive = tt }; first = tt; held = IsHeld-empty ds f; late = subst (λ (xs : List (Drawn × ℕ)). AllByRecursion (λ p. is_early p.0 ≡ false) xs) (sym f) tt })
+
+-- how often one thing is drawn is no more than how many there are
+pub times_few : (ps : List (Drawn × ℕ)) (d : Drawn) → times_drawn ps d ≤ length (items ps)
+times_few [] d = omega arith
+times_few (p ∷ ps) d =
+    elim (is_at (drawn_cmp d) p.0) as (λ b. unwrap_or (cond b (Some p.1) (lookup (is_at (drawn_cmp d)) ps)) 0 ≤ length (replicate p.1 p.0 ++ items ps)) [
+      | true ↦ omega (arith, length-append (replicate p.1 p.0) (items ps), length-replicate p.1 p.0)
+      | false ↦ omega (arith, length-append (replicate p.1 p.0) (items ps), times_few ps d)
+    ]
 
 -- what more of one adds to each count
 pub adding_drawn : AddingDrawn

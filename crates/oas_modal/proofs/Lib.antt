@@ -1,4 +1,5 @@
 pub mod HeldLemmas
+pub mod EarlyLemmas
 pub mod NameLemmas
 pub mod ReferenceLemmas
 pub mod MeaningLemmas

@@ -1,12 +1,12 @@
 //! The copies of an element record, held one by one.
 
-ghost use Rattle.std.specs.Prelude.{◌≡◌, ◌⊎◌, ◌*◌, ◌<◌, ◌≤◌, ◌^◌, ℕ, length, None, OnOk, IfOk, IfErr};
+ghost use Rattle.std.specs.Prelude.{◌≡◌, ◌⊎◌, ◌*◌, ◌<◌, ◌≤◌, ◌^◌, ℕ, length, false, None, OnOk, IfOk, IfErr};
 ghost use Rattle.oas_num.specs.declared.refusals.Why.TheVariants.{Memory};
 ghost use Rattle.oas_shape.specs.Steps.{still};
 ghost use Rattle.oas_layout.specs.Bag.{items};
 ghost use Rattle.oas_drawing.specs.Drawn.{weight_so_far};
 ghost use Rattle.oas_drawing.specs.Drawing.{drawn_by, number_if, offset_if};
-ghost use Rattle.oas_drawing.specs.Reasons.{weight_if, fault_of};
+ghost use Rattle.oas_drawing.specs.Reasons.{weight_if, lacks_if, fault_of};
 ghost use Rattle.oas_modal.specs.Standing.{drew};
 ghost use Rattle.oas_modal.specs.Copying.{first_copies};
 
@@ -38,6 +38,7 @@ pub(crate) fn hold_copies(
     requires small { number ≤ 2 ^ 26 }
     requires light { number * weight_if (drawn_by modal.now kind still) ≤ 2 ^ 30 }
     requires room { length (items held.old.1) ≤ 2 ^ 26 }
+    requires points { lacks_if (drawn_by modal.now kind still) ≡ false }
     ensures weight { IfOk result (λ weight. weight ≡ number * weight_if (drawn_by modal.now kind still)) }
     ensures held { OnOk result (held.new ≡ drew held.old (first_copies modal.now kind repeated number)) }
     ensures fit { OnOk result ((i : ℕ) → i < number → fault_of (drawn_by modal.now kind (offset_if repeated modal.now.repetition i)) ≡ None) }

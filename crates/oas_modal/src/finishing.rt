@@ -77,7 +77,7 @@ fn is_unnamed(drawn: &Drawn, names: &NameTable<Name>, strings: &NameTable<Label>
 fn cell_lacks(cell: &HeldCell, names: &NameTable<Name>, strings: &NameTable<Label>) -> bool
     ensures { result ≡ cell_lacks names.now.named strings.now.named (cell.now.0, items cell.now.1) }
 {
-    cell_meant(names, &cell.cell).is_none() || any_unnamed(&cell.drawn, names, strings)
+    cell_meant(names, &cell.cell).is_none() || any_unnamed(&cell.others, names, strings)
 }
 
 /// Whether one of them is a number that has no name.
@@ -250,7 +250,7 @@ fn put_drawn(
     Ok(())
 }
 
-/// Adds a cell with all that is drawn in it.
+/// Adds a cell with all that is drawn in it. What stands first in the order goes as a whole.
 fn put_cell(
     alloc: Global,
     draft: &mut Draft,
@@ -266,15 +266,19 @@ fn put_cell(
     ensures light { OnOk result (draft.new.spelled ≤ draft.old.limits.weight) }
     ensures why { IfErr result (λ why. (why ≡ Memory) ⊎ ((why ≡ TooHeavy) × (draft.old.limits.weight < draft.old.spelled + cells_weight (expanded (with_counted_cell (cell_by names.now.named held.0) (counted_meant names.now.named strings.now.named held.1) []))))) }
 {
-    let HeldCell { cell, drawn } = held;
+    let HeldCell {
+        cell,
+        early,
+        others,
+    } = held;
     let Some(name) = name_meant(alloc, cell, names)? else {
         return Ok(());
     };
-    let place = match draft.add_cell(name) {
+    let place = match draft.add_plain(name, early) {
         Ok(place) => place,
-        Err((why, _)) => return Err(why),
+        Err(why) => return Err(why),
     };
-    put_drawn(alloc, draft, place, drawn, names, strings)
+    put_drawn(alloc, draft, place, others, names, strings)
 }
 
 /// Adds all cells.

@@ -1,32 +1,42 @@
 //! What the records of a CELL draw, each held once beside its count.
 
-ghost use Rattle.std.specs.Prelude.{◌≡◌, ◌+◌, ◌<◌, ◌^◌, [], unwrap_or, OnOk, OnErr, IfErr};
+ghost use Rattle.std.specs.Prelude.{◌≡◌, ◌+◌, ◌<◌, ◌^◌, [], true, false, length, unwrap_or, OnOk, OnErr, IfOk, IfErr};
 ghost use Rattle.std.specs.BTreeMap.{get, insert_entry, IsOrdered, IsUnchanged};
+ghost use Rattle.oas_layout.specs.Bag.{items};
+ghost use Rattle.oas_drawing.specs.declared.drawn.Drawn.TheVariants.{Named as OneNamed};
 ghost use Rattle.oas_drawing.specs.DrawnLaws.{derived_cmp};
-ghost use Rattle.oas_modal.specs.Held.{times_drawn, with_drawn};
+ghost use Rattle.oas_modal.specs.Held.{with_drawn, is_early};
+ghost use Rattle.oas_modal.specs.Finish.{IsFit};
 
 use oas_drawing::Drawn;
+use oas_layout::{Element, PlainElements};
 use oas_record::CellRef;
 use std::alloc::Global;
 use std::collections::BTreeMap;
 use std::marker::Model;
 
-/// A CELL, by its name or a number, and what its records draw, seen as the ascending list of it with counts. The map is
-/// ordered, so that no choice of elements makes it slow.
+/// A CELL, by its name or a number, and what its records draw, seen as the ascending list of it with counts.
+///
+/// Placements, texts and rectangles that have their names are held as the layout will hold them, and go to it as they are.
+/// What is named by number, and what may be kept in another form, waits in a map. Both are ordered, so that no choice of
+/// elements makes them slow.
 #[derive(Drop)]
 pub struct HeldCell {
     pub(crate) cell: CellRef,
-    pub(crate) drawn: BTreeMap<Drawn, u64>,
+    /// These stand before all others in the order.
+    pub(crate) early: PlainElements,
+    pub(crate) others: BTreeMap<Drawn, u64>,
 }
 
 impl Model for HeldCell {
-    ghost use Rattle.oas_modal.specs.Held.{Held, IsHeld};
+    ghost use Rattle.std.specs.Prelude.{◌++◌};
+    ghost use Rattle.oas_modal.specs.Held.{Held, as_drawn, IsSplit};
 
     ghost Value = { Held };
 
-    ghost view = { λ a. (a.cell, a.drawn.entries) };
+    ghost view = { λ a. (a.cell, as_drawn a.early ++ a.others.entries) };
 
-    ghost invariant = { λ a. IsHeld a.drawn.entries };
+    ghost invariant = { λ a. IsSplit a.early a.others.entries };
 }
 
 impl HeldCell {
@@ -36,22 +46,71 @@ impl HeldCell {
     {
         HeldCell {
             cell,
-            drawn: BTreeMap::new(alloc),
+            early: PlainElements::new(alloc),
+            others: BTreeMap::new(alloc),
         }
     }
 
-    /// Draws something so many times more, or hands it back where memory is refused.
+    /// Draws something that lies within the grid so many times more, or hands it back where memory is refused.
     pub fn add(&mut self, drawn: Drawn, times: u64) -> Result<(), Drawn>
         requires some { 0 < times }
-        requires room { times_drawn self.old.1 drawn + times < 2 ^ 64 }
+        requires fit { IsFit drawn }
+        requires room { length (items self.old.1) + times < 2 ^ 64 }
         ensures ok { OnOk result (self.new ≡ (self.old.0, with_drawn self.old.1 drawn times)) }
         ensures back { IfErr result (λ d. d ≡ drawn) }
         ensures err { OnErr result (self.new ≡ self.old) }
     {
-        if let Err(drawn) = count_up(&mut self.drawn, drawn, times) {
+        match early_element(drawn) {
+            Ok(element) => self.add_early(element, times),
+            Err(drawn) => self.add_other(drawn, times),
+        }
+    }
+
+    /// Draws an element that stands before all others in the order.
+    fn add_early(&mut self, element: Element, times: u64) -> Result<(), Drawn>
+        requires some { 0 < times }
+        requires early { is_early (OneNamed element) ≡ true }
+        requires fit { IsFit (OneNamed element) }
+        requires room { length (items self.old.1) + times < 2 ^ 64 }
+        ensures ok { OnOk result (self.new ≡ (self.old.0, with_drawn self.old.1 (OneNamed element) times)) }
+        ensures back { IfErr result (λ d. d ≡ OneNamed element) }
+        ensures err { OnErr result (self.new ≡ self.old) }
+    {
+        if let Err(element) = self.early.add(element, times) {
+            return Err(Drawn::Named(element));
+        }
+        Ok(())
+    }
+
+    /// Draws something else.
+    fn add_other(&mut self, drawn: Drawn, times: u64) -> Result<(), Drawn>
+        requires some { 0 < times }
+        requires late { is_early drawn ≡ false }
+        requires room { length (items self.old.1) + times < 2 ^ 64 }
+        ensures ok { OnOk result (self.new ≡ (self.old.0, with_drawn self.old.1 drawn times)) }
+        ensures back { IfErr result (λ d. d ≡ drawn) }
+        ensures err { OnErr result (self.new ≡ self.old) }
+    {
+        if let Err(drawn) = count_up(&mut self.others, drawn, times) {
             return Err(drawn);
         }
         Ok(())
+    }
+}
+
+/// The element, where it stands before all others in the order.
+fn early_element(drawn: Drawn) -> Result<Element, Drawn>
+    ensures early { IfOk result (λ e. (drawn ≡ OneNamed e) × (is_early drawn ≡ true)) }
+    ensures late { IfErr result (λ d. (d ≡ drawn) × (is_early drawn ≡ false)) }
+{
+    match drawn {
+        Drawn::Named(element) => match &element {
+            Element::Placement { .. } | Element::Text { .. } | Element::Rectangle { .. } => {
+                Ok(element)
+            }
+            _ => Err(Drawn::Named(element)),
+        },
+        by_number => Err(by_number),
     }
 }
 

@@ -4,7 +4,8 @@
 //! What this crate promises to the crates above it:
 //!
 //! - [`HeldCell`] holds a CELL's reference and what its records draw, equal things once beside their count: the ascending
-//!   list of both (specs/Held.antt). A refused growth changes nothing.
+//!   list of both (specs/Held.antt). Placements, texts and rectangles that have their names are held as the layout will hold
+//!   them, and aren't searched for again. A refused growth changes nothing.
 //! - A [`NameTable`] is the numbers that the name records of one class, CELLNAME or TEXTSTRING, give to strings. It refuses
 //!   a record exactly where, and by the first reason that, `table_reason` (specs/Names.antt) says, or else for want of
 //!   memory; a refusal changes nothing. What it holds afterwards is `with_name` of what it held before.

@@ -1,18 +1,15 @@
 -- Reading the numbers of a delta.
-use Rattle.std.proofs.Common.{ℕ, List, false}
+use Rattle.std.proofs.Common.{ℕ}
 use Rattle.oas_num.specs.declared.refusals.Why.{Why}
 use Rattle.oas_num.specs.Script.{Script}
 use Rattle.oas_num.specs.Grammar.{IsThere}
-use Rattle.oas_num.specs.Begun.{HasSome, Decides}
-use Rattle.oas_num.specs.BegunLaws.{HasSome-pair}
 use Rattle.oas_num.specs.Integers.{IsUnsigned}
-use Rattle.oas_num.specs.IntegerLaws.{OneFront-IsUnsigned, HasSome-IsUnsigned}
+use Rattle.oas_num.specs.IntegerLaws.{OneFront-IsUnsigned}
 use Rattle.oas_num.specs.Deltas.{SpellsDelta2, SpellsDelta3, SpellsGDelta, GDeltaTook, delta2_of, delta3_of, gdelta_of, has_second, IsNumbers}
-use Rattle.oas_num.specs.DeltaLaws.{Delta2-some, Delta3-some, GDelta-some, HasSome-second}
-use Rattle.oas_num.specs.Pieces.{ThereTook}
+use Rattle.oas_num.specs.DeltaLaws.{Delta2-some, Delta3-some, GDelta-some}
 use Rattle.oas_num.specs.Reading.{ReadsValue, FailsPiece, IntegerMay}
 use Rattle.oas_num.proofs.GrammarLemmas.{Midway, begins, seen, image_fails}
-use Rattle.oas_num.proofs.PieceLemmas.{first_fails, second_fails, there_fails_in, image_decides, pair_decides, there_decides}
+use Rattle.oas_num.proofs.PieceLemmas.{first_fails, second_fails, there_fails_in}
 
 pub starts_delta2 : (s : Script) → Midway SpellsDelta2 IsUnsigned delta2_of s s
 starts_delta2 s = seen SpellsDelta2 delta2_of IsUnsigned (λ v. v) s s (begins SpellsDelta2 Delta2-some s)
@@ -24,14 +21,6 @@ pub starts_gdelta : (s : Script) → Midway SpellsGDelta IsNumbers gdelta_of s s
 starts_gdelta s = seen SpellsGDelta gdelta_of IsNumbers (λ v. v) s s (begins SpellsGDelta GDelta-some s)
 
 -- ---- where a g-delta goes wrong
-
-HasSome-numbers : HasSome IsNumbers
-HasSome-numbers = HasSome-pair IsUnsigned (λ first. IsThere (has_second first) IsUnsigned) HasSome-IsUnsigned (HasSome-second HasSome-IsUnsigned.value)
-
--- in either number it is an integer that decided
-pub gdelta_decides : (why : Why) (bytes : List ℕ) → GDeltaTook why bytes → Decides false SpellsGDelta (IntegerMay why) bytes
-gdelta_decides why bytes took =
-    image_decides gdelta_of (pair_decides IntegerMay (λ first. ThereTook (has_second first) IntegerMay) IntegerMay why bytes HasSome-numbers (λ _ h. h) (λ first rest h. there_decides IsUnsigned IntegerMay why (has_second first) rest (HasSome-second first) h) took)
 
 pub first_number_fails : {old new : Script} {why : Why} → FailsPiece IsUnsigned IntegerMay old why new → FailsPiece SpellsGDelta GDeltaTook old why new
 first_number_fails f = image_fails gdelta_of (first_fails f)

@@ -212,21 +212,8 @@ module _ {V : Type 0} (A : V → List ℕ → Type 0) (count : ℕ) where
   pub listed_wants : {old now : Script} {vs : List V} → OneFront A → (l : Listed A old now vs) → length vs < count → Wants (IsCount A count) l.bytes A
   listed_wants {vs = vs} law l lt = record { wants = λ x p r rest s e. each_wants A law vs x l.bytes p r rest (omega (arith, s.len, lt)) l.each s.each e }
 
-  pub listed_fails : {piece : Bool} (may there : Why → List ℕ → Type 0) (old mid new : Script) (why : Why) (vs : List V) → OneFront A → HasSome A → ((last : List ℕ) → there why last → may why last) → length vs < count → Listed A old mid vs → FailsBy piece A there mid why new → Fails (IsCount A count) may old why new
-  listed_fails {piece} may there old mid new why vs law some allows lt l f =
-      Fails-after (IsCount A count) A may there old mid new why l.bytes allows l.takes
-      (listed_wants law l lt)
-      (λ a h. count_begun vs l.bytes a lt l.each (Before-begins piece A some a h))
-      f
-
   pub listed_all : (old new : Script) (vs : List V) → length vs ≡ count → Listed A old new vs → ReadsValue (IsCount A count) old vs new
   listed_all old new vs len l = record { bytes = l.bytes; spelled = record { len = len; each = l.each }; takes = l.takes }
-
-  -- an item was read for which there is no memory
-  pub listed_no_memory : (may : Why → List ℕ → Type 0) (old mid new : Script) (vs : List V) (v : V) → ((last : List ℕ) → A v last → may Memory last) → length vs < count → Listed A old mid vs → ReadsValue A mid v new → Fails (IsCount A count) may old Memory new
-  listed_no_memory may old mid new vs v allows lt l read =
-      let begun : Begins (IsCount A count) (l.bytes ++ []) = count_begun vs l.bytes [] lt l.each (record { value = v; rest = read.bytes; spelled = read.spelled }) in
-      no_memory (IsCount A count) may old new l.bytes read.bytes (subst (λ (c : List ℕ). Begins (IsCount A count) c) (append-nil l.bytes) begun) (allows read.bytes read.spelled) (Takes-then old mid new l.bytes read.bytes l.takes read.takes)
 
 -- The same, with what the facts show left out. First where what follows a field doesn't depend on its value.
 infixl 20 ◌▸◌
@@ -244,16 +231,6 @@ infixl 20 ◌▹◌
 pub ◌▹◌ : {U V W : Type 0} {whole : U → List ℕ → Type 0} {A : V → List ℕ → Type 0} {B : V → W → List ℕ → Type 0} {build : V × W → U} {old mid new : Script} {v : V}
     → Midway whole (IsPair A B) build old mid → OneFront A × HasSome (B v) × ReadsValue A mid v new → Midway whole (B v) (λ w. build (v, w)) old new
 ◌▹◌ {whole = whole} {A = A} {B = B} {build = build} {old = old} {mid = mid} {new = new} {v = v} m read = reads whole A B build old mid new v read.0 read.1 m read.2
-
-pub fails_key : {U V W : Type 0} {whole : U → List ℕ → Type 0} {A : V → List ℕ → Type 0} {B : V → W → List ℕ → Type 0} {build : V × W → U} {piece : Bool} {old mid new : Script} {may there : Why → List ℕ → Type 0} {why : Why}
-    → Midway whole (IsPair A B) build old mid → ((v : V) → HasSome (B v)) → ((why : Why) (last : List ℕ) → there why last → may why last) → FailsBy piece A there mid why new → Fails whole may old why new
-fails_key {whole = whole} {A = A} {B = B} {build = build} {old = old} {mid = mid} {new = new} {may = may} {there = there} {why = why} m somes allows f =
-    fails_some whole A B build may there old mid new why somes (allows why) m f
-
-pub fails_at_piece : {U V W : Type 0} {whole : U → List ℕ → Type 0} {A : V → List ℕ → Type 0} {B : V → W → List ℕ → Type 0} {build : V × W → U} {old mid new : Script} {may there : Why → List ℕ → Type 0} {why : Why}
-    → Midway whole (IsPair A B) build old mid → ((why : Why) (last : List ℕ) → there why last → may why last) → FailsPiece A there mid why new → Fails whole may old why new
-fails_at_piece {whole = whole} {A = A} {B = B} {build = build} {old = old} {mid = mid} {new = new} {may = may} {there = there} {why = why} m allows f =
-    fails_piece whole A B build may there old mid new why (allows why) m f
 
 pub fails_last : {U V : Type 0} {whole : U → List ℕ → Type 0} {A : V → List ℕ → Type 0} {build : V → U} {piece : Bool} {old mid new : Script} {may there : Why → List ℕ → Type 0} {why : Why}
     → Midway whole A build old mid → ((why : Why) (last : List ℕ) → there why last → may why last) → FailsBy piece A there mid why new → Fails whole may old why new

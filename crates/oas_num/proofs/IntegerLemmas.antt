@@ -40,16 +40,6 @@ open_wants front o = record {
       byte_first m.0 r rest m.2 m.3;
 }
 
--- where no byte came, none is left of an integer either
-pub unended_none : {last : List ℕ} → last ≡ [] → IsUnended last
-unended_none none = rw none (record { open_front = tt; few = omega arith })
-
-pub IntegerMay-byte : (why : Why) (last : List ℕ) → ByteMay why last → IntegerMay why last
-IntegerMay-byte Truncated last h = unended_none h
-IntegerMay-byte Read last h = unended_none h
-IntegerMay-byte InputTooLong last h = unended_none h
-IntegerMay-byte _ last h = absurd h
-
 none_came : (front bytes : List ℕ) → IsOpen front → length front < 10 → Decides true IsByte (λ last. last ≡ []) bytes → Decides true IsUnsigned IsUnended (front ++ bytes)
 none_came front bytes o few d =
     let none : bytes ≡ [] = d.joined ∙ (λ i. d.begun i ++ d.holds i) in

@@ -2,6 +2,7 @@ pub mod ReadLemmas
 pub mod IntegerLemmas
 pub mod GrammarLemmas
 pub mod PieceLemmas
+pub mod HalfwayLemmas
 pub mod WritingLemmas
 pub mod PuttingLemmas
 pub mod TextLemmas

@@ -1,18 +1,16 @@
 -- Reads of one piece, of values that are made of parts.
-use Rattle.std.proofs.Common.{◌≡◌, ℕ, ◌<◌, Bool, true, false, List, [], ◌++◌, length, None, Result, Ok, Err, inl, inr, refl, sym, ap, subst, ◌∙◌, append_assoc}
+use Rattle.std.proofs.Common.{◌≡◌, ℕ, ◌<◌, Bool, true, false, List, [], ◌++◌, length, None, inl, inr, refl, sym, ap, subst, ◌∙◌, append_assoc}
 use Rattle.std.proofs.lemmas.List.{append-nil}
 use Rattle.oas_num.specs.declared.refusals.Why.{Why}
 use Rattle.oas_num.specs.declared.refusals.Why.TheVariants.{Truncated, Read, InputTooLong, Memory}
 use Rattle.oas_num.specs.Script.{Script, Takes}
-use Rattle.oas_num.specs.Grammar.{OneFront, IsPair, IsImage, IsThere, IsCount}
+use Rattle.oas_num.specs.Grammar.{OneFront, IsPair, IsThere, IsCount}
 use Rattle.oas_num.specs.GrammarLaws.{after_same}
 use Rattle.oas_num.specs.Combinators.{IsKeyed}
-use Rattle.oas_num.specs.Begun.{HasSome, Begins, Decides}
-use Rattle.oas_num.specs.BegunLaws.{Begins-none}
 use Rattle.oas_num.specs.Pieces.{PairTook, ThereTook, CountTook}
-use Rattle.oas_num.specs.Reading.{ReadsValue, Fails, FailsPiece, Reads, ReadsPiece}
+use Rattle.oas_num.specs.Reading.{ReadsValue, FailsPiece}
 use Rattle.oas_num.proofs.ReadLemmas.{Takes-none, Takes-then, Wants, NoneFits-after, NoneWithin-after}
-use Rattle.oas_num.proofs.GrammarLemmas.{Listed, Wants-first, listed_wants, count_begun}
+use Rattle.oas_num.proofs.GrammarLemmas.{Listed, Wants-first, listed_wants}
 
 -- all bytes that were taken
 pub whole_piece : {V : Type 0} {A : V → List ℕ → Type 0} {took : Why → List ℕ → Type 0} {old new : Script} {why : Why} → (f : FailsPiece A took old why new) → took why f.bytes
@@ -20,23 +18,6 @@ whole_piece {took = took} {why = why} f =
     let r = f.reason in
     let e : f.bytes ≡ r.last = r.joined ∙ ap (λ (a : List ℕ). a ++ r.last) r.begun in
     subst (took why) (sym e) r.holds
-
--- where a condition of all bytes shows which of them decided
-pub from_piece : {V : Type 0} {A : V → List ℕ → Type 0} {may took : Why → List ℕ → Type 0} {old new : Script} {why : Why} → ((why : Why) (bytes : List ℕ) → took why bytes → Decides false A (may why) bytes) → FailsPiece A took old why new → Fails A may old why new
-from_piece {why = why} decides f = record {
-  bytes = f.bytes;
-  takes = f.takes;
-  reason = decides why f.bytes (whole_piece f);
-  format = f.format;
-  cut = f.cut;
-  truncated = f.truncated;
-  device = f.device;
-  too_long = f.too_long;
-}
-
-pub from_read : {V : Type 0} {A : V → List ℕ → Type 0} {may took : Why → List ℕ → Type 0} (old new : Script) → ((why : Why) (bytes : List ℕ) → took why bytes → Decides false A (may why) bytes) → (r : Result V Why) → ReadsPiece A took old r new → Reads A may old r new
-from_read old new decides (Ok v) read = read
-from_read old new decides (Err why) f = from_piece decides f
 
 -- ---- what fails in a part fails as a whole
 
@@ -115,75 +96,3 @@ module _ {V : Type 0} {A : V → List ℕ → Type 0} {count : ℕ} where
     device = λ is. absurd cc;
     too_long = λ is. absurd cc;
   }
-
--- ---- which bytes decided
-
--- all of them
-pub whole_decides : {V : Type 0} {A : V → List ℕ → Type 0} {P : List ℕ → Type 0} (bytes : List ℕ) → HasSome A → P bytes → Decides false A P bytes
-whole_decides {A = A} bytes some h = record { front = []; last = bytes; joined = refl; begun = Begins-none A some; holds = h }
-
--- behind some bytes
-pub behind_decides : {V W : Type 0} {whole : V → List ℕ → Type 0} {next : W → List ℕ → Type 0} {P Q : List ℕ → Type 0} (front bytes : List ℕ) → Decides false next P bytes → ((a : List ℕ) → Begins next a → Begins whole (front ++ a)) → ((last : List ℕ) → P last → Q last) → Decides false whole Q (front ++ bytes)
-behind_decides front bytes d begun allows = record {
-  front = front ++ d.front;
-  last = d.last;
-  joined = ap (λ (x : List ℕ). front ++ x) d.joined ∙ sym (append_assoc front d.front d.last);
-  begun = begun d.front d.begun;
-  holds = allows d.last d.holds;
-}
-
-pub image_decides : {U V : Type 0} (f : U → V) {A : U → List ℕ → Type 0} {P : List ℕ → Type 0} {bytes : List ℕ} → Decides false A P bytes → Decides false (IsImage f A) P bytes
-image_decides f d = record {
-  front = d.front;
-  last = d.last;
-  joined = d.joined;
-  begun = record { value = f d.begun.value; rest = d.begun.rest; spelled = record { from = d.begun.value; is = refl; spelled = d.begun.spelled } };
-  holds = d.holds;
-}
-
-module _ {V W : Type 0} {A : V → List ℕ → Type 0} {B : V → W → List ℕ → Type 0} where
-  second_begins : (v : V) (a : List ℕ) {b : List ℕ} → A v a → Begins (B v) b → Begins (IsPair A B) (a ++ b)
-  second_begins v a {b = b} first begun = record {
-    value = (v, begun.value);
-    rest = begun.rest;
-    spelled = record { front = a; back = b ++ begun.rest; first = first; second = begun.spelled; joined = append_assoc a b begun.rest };
-  }
-
-  pub pair_decides : (first : Why → List ℕ → Type 0) (second : V → Why → List ℕ → Type 0) (may : Why → List ℕ → Type 0) (why : Why) (bytes : List ℕ) → HasSome (IsPair A B) → ((bytes : List ℕ) → first why bytes → may why bytes) → ((v : V) (bytes : List ℕ) → second v why bytes → Decides false (B v) (may why) bytes) → PairTook A first second why bytes → Decides false (IsPair A B) (may why) bytes
-  pair_decides first second may why bytes some allows later took = elim took [
-    | inl h ↦ whole_decides bytes some (allows bytes h)
-    | inr b ↦
-        let d : Decides false (IsPair A B) (may why) (b.front ++ b.last) = behind_decides b.front b.last (later b.value b.last b.holds) (λ a h. second_begins b.value b.front b.spelled h) (λ _ h. h) in
-        subst (Decides false (IsPair A B) (may why)) (sym b.joined) d
-  ]
-
--- what is behind its key
-pub keyed_begins : {K V : Type 0} (key : V → K) {A : K → List ℕ → Type 0} {B : K → V → List ℕ → Type 0} {k : K} (a : List ℕ) {b : List ℕ} → ((v : V) (q : List ℕ) → B k v q → key v ≡ k) → A k a → Begins (B k) b → Begins (IsKeyed key A B) (a ++ b)
-keyed_begins key {A = A} {B = B} a {b = b} keys first begun =
-    let v = begun.value in
-    let back = b ++ begun.rest in
-    let same = sym (keys v back begun.spelled) in
-    record {
-      value = v;
-      rest = begun.rest;
-      spelled = record { front = a; back = back; first = subst (λ x. A x a) same first; second = subst (λ x. B x v back) same begun.spelled; joined = append_assoc a b begun.rest };
-    }
-
-pub there_may : (took : Why → List ℕ → Type 0) (why : Why) (here : Bool) (bytes : List ℕ) → ThereTook here took why bytes → took why bytes
-there_may took why true bytes h = h
-there_may took why false bytes h = absurd h
-
-pub there_decides : {V : Type 0} (A : V → List ℕ → Type 0) (took : Why → List ℕ → Type 0) (why : Why) (here : Bool) (bytes : List ℕ) → HasSome (IsThere here A) → ThereTook here took why bytes → Decides false (IsThere here A) (took why) bytes
-there_decides A took why true bytes some h = whole_decides bytes some h
-there_decides A took why false bytes some h = absurd h
-
-pub count_decides : {V : Type 0} {A : V → List ℕ → Type 0} {count : ℕ} (took : Why → List ℕ → Type 0) (why : Why) (bytes : List ℕ) → HasSome A → CountTook A count took why bytes → Decides false (IsCount A count) (took why) bytes
-count_decides {A = A} {count = count} took why bytes some b =
-    let begun : Begins (IsCount A count) (b.front ++ []) = count_begun A count b.value b.front [] b.holds.0 b.spelled (Begins-none A some) in
-    record {
-      front = b.front;
-      last = b.last;
-      joined = b.joined;
-      begun = subst (λ (c : List ℕ). Begins (IsCount A count) c) (append-nil b.front) begun;
-      holds = b.holds.1;
-    }

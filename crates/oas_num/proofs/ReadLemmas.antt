@@ -1,13 +1,11 @@
 -- One read after another.
-use Rattle.std.proofs.Common.{◌≡◌, ◌≢◌, ℕ, Bool, true, List, [], ◌++◌, Option, Some, None, IsTrue, inl, inr, refl, sym, ap, subst, ◌∙◌, append_assoc, arith}
-use Rattle.std.specs.Prelude.{◌⊎◌}
-use Rattle.std.proofs.lemmas.List.{length-append, append-nil}
+use Rattle.std.proofs.Common.{◌≡◌, ℕ, Bool, List, [], ◌++◌, Option, Some, None, refl, sym, ap, subst, ◌∙◌, append_assoc, arith}
+use Rattle.std.proofs.lemmas.List.{length-append}
 use Rattle.oas_num.specs.declared.refusals.Why.{Why}
-use Rattle.oas_num.specs.declared.refusals.Why.TheVariants.{Truncated, Read, InputTooLong, Memory}
 use Rattle.oas_num.specs.Script.{Script, Rest, Gave, Takes}
 use Rattle.oas_num.specs.Begun.{HasSome, Begins, Before}
 use Rattle.oas_num.specs.BegunLaws.{Before-begins}
-use Rattle.oas_num.specs.Reading.{is_format, is_cut, NoneFits, NoneWithin, IsCutOff, FailsBy, FailsPiece, Fails}
+use Rattle.oas_num.specs.Reading.{NoneFits, NoneWithin, FailsBy}
 
 Gave-none : (r : Option Rest) → Gave r [] r
 Gave-none None = tt
@@ -74,36 +72,3 @@ module _ {V W : Type 0} (spells : V → List ℕ → Type 0) (next : W → List 
 
     pub Before-after : (piece : Bool) → HasSome next → (a : List ℕ) → Before piece next a → Begins spells (front ++ a)
     Before-after piece some a before = Begins-after a (Before-begins piece next some a before)
-
--- where no spelling fits, none is a front
-pub within_none : {V : Type 0} {A : V → List ℕ → Type 0} {bytes : List ℕ} → NoneFits A bytes → NoneWithin A bytes
-within_none {bytes = bytes} none = record { none = λ v front rest spelled e. none.none v front rest [] spelled (e ∙ sym (append-nil bytes)) }
-
--- the bytes decided, or the input was cut off, but for want of memory
-kinds : (why : Why) → why ≢ Memory → IsTrue (is_format why) ⊎ IsTrue (is_cut why)
-kinds Truncated isnt = inr refl
-kinds Read isnt = inr refl
-kinds InputTooLong isnt = inr refl
-kinds Memory isnt = absurd (isnt refl)
-kinds _ isnt = inl refl
-
--- so a read that fails for want of anything else had no whole spelling
-pub none_whole : {V : Type 0} {piece : Bool} {A : V → List ℕ → Type 0} {may : Why → List ℕ → Type 0} {old new : Script} {why : Why} → ((last : List ℕ) → ¬ may Memory last) → (f : FailsBy piece A may old why new) → NoneWithin A f.bytes
-none_whole {may = may} {why = why} never f =
-    elim (kinds why (λ e. never f.reason.last (subst (λ (w : Why). may w f.reason.last) e f.reason.holds))) [ inl is ↦ within_none (f.format is) | inr is ↦ f.cut is ]
-
-pub fails_cut_off : {V : Type 0} {A : V → List ℕ → Type 0} {may : Why → List ℕ → Type 0} {old new : Script} {why : Why} → ((last : List ℕ) → ¬ may Memory last) → (f : Fails A may old why new) → IsCutOff A (may why) f.bytes
-fails_cut_off never f = record { reason = f.reason; none = none_whole never f }
-
--- what is of one piece begins by nothing
-pub piece_fails : {V : Type 0} {A : V → List ℕ → Type 0} {may : Why → List ℕ → Type 0} {old new : Script} {why : Why} → HasSome A → FailsPiece A may old why new → Fails A may old why new
-piece_fails {A = A} some f = record {
-  bytes = f.bytes;
-  takes = f.takes;
-  reason = let r = f.reason in record { front = r.front; last = r.last; joined = r.joined; begun = Before-begins true A some r.front r.begun; holds = r.holds };
-  format = f.format;
-  cut = f.cut;
-  truncated = f.truncated;
-  device = f.device;
-  too_long = f.too_long;
-}

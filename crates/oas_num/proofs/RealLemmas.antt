@@ -1,19 +1,16 @@
 -- The parts of a real, one after another.
-use Rattle.std.proofs.Common.{ℕ, ◌<◌, ◌≤◌, List, [], Option, false, arith}
+use Rattle.std.proofs.Common.{ℕ, ◌<◌, ◌≤◌, List, Option, arith}
 use Rattle.oas_num.specs.declared.refusals.Why.{Why}
 use Rattle.oas_num.specs.declared.refusals.Why.TheVariants.{Truncated, IntegerRange, FloatReal, RealType, Read, InputTooLong}
 use Rattle.oas_num.specs.Script.{Script}
 use Rattle.oas_num.specs.Grammar.{IsPair, IsSuch, IsThere}
-use Rattle.oas_num.specs.Begun.{HasSome, Decides}
-use Rattle.oas_num.specs.BegunLaws.{HasSome-pair}
 use Rattle.oas_num.specs.Integers.{IsUnsigned}
 use Rattle.oas_num.specs.IntegerLaws.{OneFront-IsUnsigned}
-use Rattle.oas_num.specs.Pieces.{ThereTook}
 use Rattle.oas_num.specs.Reals.{IsFraction, SpellsParts, SpellsReal, RealMay, PartsTook, RealTook, Parts, real_of, has_num, has_den}
-use Rattle.oas_num.specs.RealLaws.{OneFront-kind, OneFront-part, HasSome-kind, HasSome-part, HasSome-parts, HasSome-SpellsReal}
+use Rattle.oas_num.specs.RealLaws.{OneFront-kind, OneFront-part, HasSome-parts, HasSome-SpellsReal}
 use Rattle.oas_num.specs.Reading.{ReadsValue, FailsPiece, IntegerMay}
 use Rattle.oas_num.proofs.GrammarLemmas.{Midway, begins, seen, ◌▹◌, such_read, such_fails_by, refused, image_fails}
-use Rattle.oas_num.proofs.PieceLemmas.{first_fails, second_fails, there_fails_in, image_decides, pair_decides, there_may, there_decides, behind_decides}
+use Rattle.oas_num.proofs.PieceLemmas.{first_fails, second_fails, there_fails_in}
 
 RealMay-integer : (why : Why) (last : List ℕ) → IntegerMay why last → RealMay why last
 RealMay-integer Truncated last h = h
@@ -29,20 +26,6 @@ pub with_kind : (old new : Script) (kind : ℕ) → kind < 6 → ReadsValue IsUn
 with_kind old new kind lt read = starts old ▹ (OneFront-kind, HasSome-parts kind, such_read IsFraction IsUnsigned old new kind lt read)
 
 -- ---- where a real goes wrong
-
--- in a part it is an integer that decided
-parts_decides : (kind : ℕ) (why : Why) (bytes : List ℕ) → PartsTook kind why bytes → Decides false (SpellsParts kind) (IntegerMay why) bytes
-parts_decides kind why bytes took =
-    pair_decides (ThereTook (has_num kind) IntegerMay) (λ _. ThereTook (has_den kind) IntegerMay) IntegerMay why bytes (HasSome-parts kind)
-    (there_may IntegerMay why (has_num kind)) (λ _ rest h. there_decides IsUnsigned IntegerMay why (has_den kind) rest (HasSome-part (has_den kind)) h) took
-
-HasSome-fields : HasSome (IsPair (IsSuch IsFraction IsUnsigned) SpellsParts)
-HasSome-fields = HasSome-pair (IsSuch IsFraction IsUnsigned) SpellsParts HasSome-kind (HasSome-parts HasSome-kind.value)
-
--- and else the type, as a whole
-pub real_decides : (why : Why) (bytes : List ℕ) → RealTook why bytes → Decides false SpellsReal (RealMay why) bytes
-real_decides why bytes took =
-    image_decides real_of (pair_decides RealMay PartsTook RealMay why bytes HasSome-fields (λ _ h. h) (λ kind rest h. behind_decides [] rest (parts_decides kind why rest h) (λ _ b. b) (RealMay-integer why)) took)
 
 pub kind_fails : {old new : Script} {why : Why} → FailsPiece IsUnsigned IntegerMay old why new → FailsPiece SpellsReal RealTook old why new
 kind_fails {old = old} {new = new} {why = why} f = image_fails real_of (first_fails (such_fails_by IsFraction IsUnsigned RealMay IntegerMay old new why RealMay-integer f))

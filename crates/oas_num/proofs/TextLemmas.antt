@@ -1,39 +1,22 @@
 -- The parts of a string, one after another.
-use Rattle.std.proofs.Common.{◌≡◌, ◌≢◌, ℕ, ◌+◌, ◌<◌, ◌^◌, List, [], ◌∷◌, ◌++◌, length, Result, Ok, Err, inl, inr, refl, sym, ap, subst, ◌∙◌, false, arith}
-use Rattle.std.proofs.lemmas.List.{length_push, length-append}
+use Rattle.std.proofs.Common.{◌≡◌, ◌≢◌, ℕ, ◌+◌, ◌<◌, ◌^◌, List, [], ◌∷◌, ◌++◌, length, Result, Ok, Err, refl, sym, ap, ◌∙◌, arith}
+use Rattle.std.proofs.lemmas.List.{length_push}
 use Rattle.oas_num.specs.declared.refusals.Why.{Why}
-use Rattle.oas_num.specs.declared.refusals.Why.TheVariants.{Truncated, IntegerRange, EmptyName, StringByte, Read, InputTooLong, Memory}
+use Rattle.oas_num.specs.declared.refusals.Why.TheVariants.{Truncated, EmptyName, StringByte, Read, InputTooLong}
 use Rattle.oas_num.specs.Script.{Script}
 use Rattle.oas_num.specs.Grammar.{IsPair, IsSuch, IsByte}
 use Rattle.oas_num.specs.GrammarLaws.{OneFront-byte}
-use Rattle.oas_num.specs.BegunLaws.{HasSome-byte}
 use Rattle.oas_num.specs.declared.texts.TextClass.TheVariants as classes
 use Rattle.oas_num.specs.Integers.{IsUnsigned}
 use Rattle.oas_num.specs.IntegerLaws.{OneFront-IsUnsigned}
 use Rattle.oas_num.specs.Style.{Any}
 use Rattle.oas_num.specs.Texts.{IsNameByte, IsLabelByte, IsName, IsLabel, IsText, IsPositive, IsPassed, SpellsName, SpellsLabel, SpellsPadding, padding_of, padding_length}
-use Rattle.oas_num.specs.TextLaws.{OneFront-positive, text_of, HasSome-class, HasSome-name, HasSome-label, HasSome-padding, HasSome-text, HasSome-passed}
+use Rattle.oas_num.specs.TextLaws.{OneFront-positive, text_of, HasSome-name, HasSome-label, HasSome-padding, HasSome-text, HasSome-passed}
 use Rattle.oas_num.specs.Pieces.{CountTook}
-use Rattle.oas_num.specs.Reading.{ReadsPiece, ReadsValue, FailsPiece, ByteMay, IntegerMay, NameMay, LabelMay, ClassMay, TextMay, NameLengthMay, TextTook, NameTook, LabelTook, PaddingTook, IsInside, IsTextBegun}
-use Rattle.oas_num.specs.Begun.{Begins, Decides}
+use Rattle.oas_num.specs.Reading.{ReadsPiece, ReadsValue, FailsPiece, ByteMay, IntegerMay, ClassMay, TextMay, NameLengthMay, TextTook, NameTook, LabelTook, PaddingTook, IsInside}
 use Rattle.oas_num.proofs.GrammarLemmas.{Midway, begins, key_read, such_read, such_fails_by, refused, image_fails, is_read, Listed, listed_none, listed_more}
-use Rattle.oas_num.proofs.PieceLemmas.{first_fails, second_fails, keyed_fails, item_fails, whole_decides, behind_decides, image_decides, count_decides, keyed_begins}
-use Rattle.oas_num.proofs.IntegerLemmas.{IntegerMay-byte, unended_none}
+use Rattle.oas_num.proofs.PieceLemmas.{first_fails, second_fails, keyed_fails, item_fails}
 use Rattle.oas_num.specs.declared.texts.Padding.{Padding}
-
-pub NameMay-integer : (why : Why) (last : List ℕ) → IntegerMay why last → NameMay why last
-NameMay-integer Truncated last h = h
-NameMay-integer IntegerRange last h = h
-NameMay-integer Read last h = h
-NameMay-integer InputTooLong last h = h
-NameMay-integer _ last h = absurd h
-
-pub LabelMay-integer : (why : Why) (last : List ℕ) → IntegerMay why last → LabelMay why last
-LabelMay-integer Truncated last h = h
-LabelMay-integer IntegerRange last h = h
-LabelMay-integer Read last h = h
-LabelMay-integer InputTooLong last h = h
-LabelMay-integer _ last h = absurd h
 
 pub ClassMay-byte : (class : ℕ → Type 0) (why : Why) (last : List ℕ) → ByteMay why last → ClassMay class why last
 ClassMay-byte class Truncated last h = h
@@ -52,42 +35,14 @@ TextMay-class class _ last h = absurd h
 pub inside : {class : ℕ → Type 0} {byte : ℕ} (last : List ℕ) → IsSuch class IsByte byte last → IsInside class last
 inside {byte = byte} last h = (byte, h.spelled.only, h.holds)
 
--- a length, and bytes of which the last is one of the class
-text_begun : {next : List ℕ → List ℕ → Type 0} {class : ℕ → Type 0} (count : ℕ) (front bytes : List ℕ) → IsUnsigned count front → Decides false next (IsInside class) bytes → IsTextBegun (front ++ bytes)
-text_begun count front bytes h d =
-    let e : bytes ≡ d.front ++ d.holds.0 ∷ [] = d.joined ∙ ap (λ (x : List ℕ). d.front ++ x) d.holds.1 in
-    record { count = count; front = front; text = bytes; length_is = h; some = rw e (omega (arith, length-append d.front (d.holds.0 ∷ []))); joined = refl }
-
 -- ---- n-strings
 
 NameLengthMay-integer : (why : Why) (last : List ℕ) → IntegerMay why last → NameLengthMay why last
 NameLengthMay-integer EmptyName last h = absurd h
 NameLengthMay-integer why last h = h
 
-NameMay-length : (why : Why) (last : List ℕ) → NameLengthMay why last → NameMay why last
-NameMay-length EmptyName last h = h
-NameMay-length why last h = NameMay-integer why last h
-
--- which of its bytes decided, where the bytes of a name fail
-name_reason : (why : Why) (count : ℕ) (front bytes : List ℕ) → IsUnsigned count front → ((a : List ℕ) → Begins (IsText IsNameByte count) a → Begins SpellsName (front ++ a)) → Decides false (IsText IsNameByte count) (TextMay IsNameByte why) bytes → Decides false SpellsName (NameMay why) (front ++ bytes)
-name_reason Truncated count front bytes h begun d = behind_decides front bytes d begun (λ _ none. unended_none none)
-name_reason Read count front bytes h begun d = behind_decides front bytes d begun (λ _ none. unended_none none)
-name_reason InputTooLong count front bytes h begun d = behind_decides front bytes d begun (λ _ none. unended_none none)
-name_reason StringByte count front bytes h begun d = behind_decides front bytes d begun (λ _ outside. outside)
-name_reason Memory count front bytes h begun d = whole_decides (front ++ bytes) (HasSome-name Any) (text_begun count front bytes h d)
-name_reason _ count front bytes h begun d = absurd d.holds
-
 abbrev name_parts : ℕ × List ℕ → List ℕ → Type 0
 name_parts = IsPair (IsSuch IsPositive IsUnsigned) (λ count. IsText IsNameByte count)
-
-pub name_decides : (why : Why) (bytes : List ℕ) → NameTook why bytes → Decides false SpellsName (NameMay why) bytes
-name_decides why bytes took = elim took [
-  | inl h ↦ whole_decides bytes (HasSome-name Any) (NameMay-length why bytes h)
-  | inr b ↦
-      let begun = λ (a : List ℕ) (h : Begins (IsText IsNameByte b.value) a). keyed_begins length {A = IsSuch IsPositive IsUnsigned} {B = λ count. IsText IsNameByte count} b.front (λ v q text. text.len) b.spelled h in
-      let d : Decides false SpellsName (NameMay why) (b.front ++ b.last) = name_reason why b.value b.front b.last b.spelled.spelled begun (count_decides (TextMay IsNameByte) why b.last (HasSome-class classes.Name) b.holds) in
-      subst (Decides false SpellsName (NameMay why)) (sym b.joined) d
-]
 
 -- the length of a name fails
 pub name_length_fails : {old new : Script} {why : Why} → FailsPiece IsUnsigned IntegerMay old why new → FailsPiece SpellsName NameTook old why new
@@ -120,26 +75,8 @@ read_name some fits read = record { some = omega (arith, read.spelled.len); fits
 
 -- ---- a-strings
 
--- which of its bytes decided, where the bytes of a label fail
-label_reason : (why : Why) (count : ℕ) (front bytes : List ℕ) → IsUnsigned count front → ((a : List ℕ) → Begins (IsText IsLabelByte count) a → Begins SpellsLabel (front ++ a)) → Decides false (IsText IsLabelByte count) (TextMay IsLabelByte why) bytes → Decides false SpellsLabel (LabelMay why) (front ++ bytes)
-label_reason Truncated count front bytes h begun d = behind_decides front bytes d begun (λ _ none. unended_none none)
-label_reason Read count front bytes h begun d = behind_decides front bytes d begun (λ _ none. unended_none none)
-label_reason InputTooLong count front bytes h begun d = behind_decides front bytes d begun (λ _ none. unended_none none)
-label_reason StringByte count front bytes h begun d = behind_decides front bytes d begun (λ _ outside. outside)
-label_reason Memory count front bytes h begun d = whole_decides (front ++ bytes) (HasSome-label Any) (text_begun count front bytes h d)
-label_reason _ count front bytes h begun d = absurd d.holds
-
 abbrev label_parts : ℕ × List ℕ → List ℕ → Type 0
 label_parts = IsPair IsUnsigned (λ count. IsText IsLabelByte count)
-
-pub label_decides : (why : Why) (bytes : List ℕ) → LabelTook why bytes → Decides false SpellsLabel (LabelMay why) bytes
-label_decides why bytes took = elim took [
-  | inl h ↦ whole_decides bytes (HasSome-label Any) (LabelMay-integer why bytes h)
-  | inr b ↦
-      let begun = λ (a : List ℕ) (h : Begins (IsText IsLabelByte b.value) a). keyed_begins length {A = IsUnsigned} {B = λ count. IsText IsLabelByte count} b.front (λ v q text. text.len) b.spelled h in
-      let d : Decides false SpellsLabel (LabelMay why) (b.front ++ b.last) = label_reason why b.value b.front b.last b.spelled begun (count_decides (TextMay IsLabelByte) why b.last (HasSome-class classes.Label) b.holds) in
-      subst (Decides false SpellsLabel (LabelMay why)) (sym b.joined) d
-]
 
 -- the length of a label fails
 pub label_length_fails : {old new : Script} {why : Why} → FailsPiece IsUnsigned IntegerMay old why new → FailsPiece SpellsLabel LabelTook old why new
@@ -192,17 +129,6 @@ passed_all {old = old} {new = new} {count = count} is p = record {
 
 abbrev padding_parts : ℕ × Padding → List ℕ → Type 0
 padding_parts = IsPair IsUnsigned IsPassed
-
--- in the length it is an integer that decided, and behind it nothing more came
-pub padding_decides : (why : Why) (bytes : List ℕ) → PaddingTook why bytes → Decides false SpellsPadding (IntegerMay why) bytes
-padding_decides why bytes took = elim took [
-  | inl h ↦ whole_decides bytes HasSome-padding h
-  | inr b ↦
-      let begun = λ (a : List ℕ) (h : Begins (IsPassed b.value) a). keyed_begins padding_length {A = IsUnsigned} {B = IsPassed} b.front (λ v q passed. sym (ap padding_length passed.is) ∙ passed.spelled.len) b.spelled h in
-      let passed : Decides false (IsPassed b.value) (ByteMay why) b.last = image_decides padding_of (count_decides ByteMay why b.last HasSome-byte b.holds) in
-      let d : Decides false SpellsPadding (IntegerMay why) (b.front ++ b.last) = behind_decides b.front b.last passed begun (IntegerMay-byte why) in
-      subst (Decides false SpellsPadding (IntegerMay why)) (sym b.joined) d
-]
 
 pub padding_length_fails : {old new : Script} {why : Why} → FailsPiece IsUnsigned IntegerMay old why new → FailsPiece SpellsPadding PaddingTook old why new
 padding_length_fails {old = old} {new = new} {why = why} f =

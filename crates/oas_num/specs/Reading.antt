@@ -1,5 +1,5 @@
 -- What a read of a value does.
-use Rattle.std.specs.Prelude.{◌≡◌, ◌≢◌, ℕ, ◌<◌, Bool, true, false, List, [], ◌∷◌, ◌++◌, length, Result, Ok, Err, IsTrue, ◌⊎◌}
+use Rattle.std.specs.Prelude.{◌≡◌, ◌≢◌, ℕ, ◌<◌, Bool, true, false, List, [], ◌∷◌, ◌++◌, length, Result, Ok, Err, IsTrue}
 use Rattle.oas_num.specs.declared.refusals.Why.{Why}
 use Rattle.oas_num.specs.declared.refusals.Why.TheVariants.{Truncated, IntegerRange, StringByte, EmptyName, Read, InputTooLong, Memory}
 use Rattle.oas_num.specs.Script.{Script, Takes, IsAtEnd, HasFailed, IsTooLong}
@@ -24,7 +24,7 @@ is_cut Read = true
 is_cut InputTooLong = true
 is_cut _ = false
 
--- The tables below say of each reason what the bytes are that decided: those with which what was read ends.
+-- The tables below say of each reason what all bytes are that were read.
 
 -- the first bytes of an integer of which more follow, or none
 pub record IsUnended (last : List ℕ) : Type 0 where
@@ -80,38 +80,6 @@ TextMay class Memory last = IsInside class last
 TextMay class StringByte last = IsOutside class last
 TextMay class _ last = ⊥
 
--- a length, and at least one byte of the string, for which there is no memory
-pub record IsTextBegun (last : List ℕ) : Type 0 where
-  pub count : ℕ
-  pub front : List ℕ
-  pub text : List ℕ
-  pub length_is : IsUnsigned count front
-  pub some : 0 < length text
-  pub joined : last ≡ front ++ text
-
--- where a read of an n-string may fail
-abbrev pub NameMay : Why → List ℕ → Type 0
-NameMay Truncated last = IsUnended last
-NameMay Read last = IsUnended last
-NameMay InputTooLong last = IsUnended last
-NameMay Memory last = IsTextBegun last
-NameMay IntegerRange last = IsOutOfRange last
-NameMay EmptyName last = IsUnsigned 0 last
-NameMay StringByte last = IsOutside IsNameByte last
-NameMay _ last = ⊥
-
--- where a read of an a-string may fail
-abbrev pub LabelMay : Why → List ℕ → Type 0
-LabelMay Truncated last = IsUnended last
-LabelMay Read last = IsUnended last
-LabelMay InputTooLong last = IsUnended last
-LabelMay Memory last = IsTextBegun last
-LabelMay IntegerRange last = IsOutOfRange last
-LabelMay StringByte last = IsOutside IsLabelByte last
-LabelMay _ last = ⊥
-
--- The tables below say of each reason what all bytes are that were read.
-
 -- where a read of the length of an n-string may fail
 abbrev pub NameLengthMay : Why → List ℕ → Type 0
 NameLengthMay EmptyName bytes = IsUnsigned 0 bytes
@@ -133,14 +101,6 @@ LabelTook = PairTook IsUnsigned IntegerMay (TextTook IsLabelByte)
 abbrev pub PaddingTook : Why → List ℕ → Type 0
 PaddingTook = PairTook IsUnsigned IntegerMay (λ count. CountTook IsByte count ByteMay)
 
--- the bytes spell an item
-abbrev pub IsItem : {V : Type 0} → (V → List ℕ → Type 0) → List ℕ → Type 0
-IsItem {V} spells last = (v : V) × spells v last
-
--- where a read of a list may fail: memory is asked for only for an item that was read
-abbrev pub ListMay : {V : Type 0} → (V → List ℕ → Type 0) → (Why → List ℕ → Type 0) → Why → List ℕ → Type 0
-ListMay spells may why last = may why last ⊎ ((why ≡ Memory) × IsItem spells last)
-
 -- No spelling is a front of the bytes, however they go on.
 pub record NoneFits {V : Type 0} (spells : V → List ℕ → Type 0) (bytes : List ℕ) : Type 0 where
   pub none : (v : V) (front rest more : List ℕ) → spells v front → front ++ rest ≢ bytes ++ more
@@ -148,11 +108,6 @@ pub record NoneFits {V : Type 0} (spells : V → List ℕ → Type 0) (bytes : L
 -- No spelling is a front of the bytes.
 pub record NoneWithin {V : Type 0} (spells : V → List ℕ → Type 0) (bytes : List ℕ) : Type 0 where
   pub none : (v : V) (front rest : List ℕ) → spells v front → front ++ rest ≢ bytes
-
--- What was read of a value so far, which ends with bytes of which that holds, and of which no front spells one.
-pub record IsCutOff {V : Type 0} (spells : V → List ℕ → Type 0) (P : List ℕ → Type 0) (bytes : List ℕ) : Type 0 where
-  pub reason : Decides false spells P bytes
-  pub none : NoneWithin spells bytes
 
 -- A value was read: exactly a spelling of it was taken.
 pub record ReadsValue {V : Type 0} (spells : V → List ℕ → Type 0) (old : Script) (v : V) (new : Script) : Type 0 where
@@ -188,11 +143,6 @@ Reads spells may old (Err why) new = Fails spells may old why new
 abbrev pub ReadsPiece : {V : Type 0} → (V → List ℕ → Type 0) → (Why → List ℕ → Type 0) → Script → Result V Why → Script → Type 0
 ReadsPiece spells may old (Ok v) new = ReadsValue spells old v new
 ReadsPiece spells may old (Err why) new = FailsPiece spells may old why new
-
--- The same, of a value that is seen in another form, as a vector as its items.
-abbrev pub ReadsAs : {X V : Type 0} → (X → V) → (V → List ℕ → Type 0) → (Why → List ℕ → Type 0) → Script → Result X Why → Script → Type 0
-ReadsAs view spells may old (Ok x) new = ReadsValue spells old (view x) new
-ReadsAs view spells may old (Err why) new = Fails spells may old why new
 
 -- The same, of one piece.
 abbrev pub ReadsPieceAs : {X V : Type 0} → (X → V) → (V → List ℕ → Type 0) → (Why → List ℕ → Type 0) → Script → Result X Why → Script → Type 0

@@ -1,7 +1,7 @@
 ghost use Rattle.std.specs.Prelude.{◌≡◌, ◌<◌, ◌^◌, List, ℕ};
 ghost use Rattle.oas_num.specs.Deltas.{toward, delta2_of, delta3_of, gdelta_from};
 ghost use Rattle.oas_num.specs.Integers.{signed_of};
-ghost use Rattle.oas_num.specs.Reading.{Reads, ReadsPiece, IntegerMay};
+ghost use Rattle.oas_num.specs.Reading.{ReadsPiece, IntegerMay};
 
 use crate::integers::{read_signed, read_unsigned, read_unsigned_if};
 use crate::refusals::Why;
@@ -40,15 +40,14 @@ impl Spelled for Delta1 {
 
     ghost spells = { SpellsDelta1 };
 
-    ghost may = { IntegerMay };
+    ghost took = { IntegerMay };
 
     ghost one_front = { Delta1-one_front };
 
     ghost some = { Delta1-some };
 
     fn read<S: Source>(_alloc: Global, source: &mut S) -> Result<Delta1, Why>
-        ensures reads { Reads SpellsDelta1 IntegerMay (S.script source.old) result (S.script source.new) }
-        ensures took { ReadsPiece SpellsDelta1 IntegerMay (S.script source.old) result (S.script source.new) }
+        ensures { ReadsPiece SpellsDelta1 IntegerMay (S.script source.old) result (S.script source.new) }
     {
         Ok(Delta1(read_signed(source)?))
     }
@@ -60,15 +59,14 @@ impl Spelled for Delta2 {
 
     ghost spells = { SpellsDelta2 };
 
-    ghost may = { IntegerMay };
+    ghost took = { IntegerMay };
 
     ghost one_front = { Delta2-one_front };
 
     ghost some = { Delta2-some };
 
     fn read<S: Source>(_alloc: Global, source: &mut S) -> Result<Delta2, Why>
-        ensures reads { Reads SpellsDelta2 IntegerMay (S.script source.old) result (S.script source.new) }
-        ensures took { ReadsPiece SpellsDelta2 IntegerMay (S.script source.old) result (S.script source.new) }
+        ensures { ReadsPiece SpellsDelta2 IntegerMay (S.script source.old) result (S.script source.new) }
     {
         let coded = read_unsigned(source)?;
         Ok(delta2_from(coded))
@@ -81,15 +79,14 @@ impl Spelled for Delta3 {
 
     ghost spells = { SpellsDelta3 };
 
-    ghost may = { IntegerMay };
+    ghost took = { IntegerMay };
 
     ghost one_front = { Delta3-one_front };
 
     ghost some = { Delta3-some };
 
     fn read<S: Source>(_alloc: Global, source: &mut S) -> Result<Delta3, Why>
-        ensures reads { Reads SpellsDelta3 IntegerMay (S.script source.old) result (S.script source.new) }
-        ensures took { ReadsPiece SpellsDelta3 IntegerMay (S.script source.old) result (S.script source.new) }
+        ensures { ReadsPiece SpellsDelta3 IntegerMay (S.script source.old) result (S.script source.new) }
     {
         let coded = read_unsigned(source)?;
         Ok(delta3_from(coded))
@@ -102,15 +99,14 @@ impl Spelled for GDelta {
 
     ghost spells = { SpellsGDelta };
 
-    ghost may = { IntegerMay };
+    ghost took = { GDeltaTook };
 
     ghost one_front = { GDelta-one_front };
 
     ghost some = { GDelta-some };
 
     fn read<S: Source>(_alloc: Global, source: &mut S) -> Result<GDelta, Why>
-        ensures reads { Reads SpellsGDelta IntegerMay (S.script source.old) result (S.script source.new) }
-        ensures took { ReadsPiece SpellsGDelta GDeltaTook (S.script source.old) result (S.script source.new) }
+        ensures { ReadsPiece SpellsGDelta GDeltaTook (S.script source.old) result (S.script source.new) }
     {
         let first = read_unsigned(source)?;
         let second = read_unsigned_if(first % 2 == 1, source)?;

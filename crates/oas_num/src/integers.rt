@@ -1,7 +1,7 @@
 ghost use Rattle.std.specs.Prelude.{◌≡◌, List, ℕ};
 ghost use Rattle.oas_num.specs.Grammar.{IsThere};
 ghost use Rattle.oas_num.specs.Integers.{IsUnsigned, IsSigned};
-ghost use Rattle.oas_num.specs.Reading.{Reads, ReadsPiece, IntegerMay};
+ghost use Rattle.oas_num.specs.Reading.{ReadsPiece, IntegerMay};
 
 use crate::refusals::Why;
 use crate::spelling::{Spelled, next_byte};
@@ -80,15 +80,14 @@ impl Spelled for Unsigned {
 
     ghost spells = { SpellsUnsigned };
 
-    ghost may = { IntegerMay };
+    ghost took = { IntegerMay };
 
     ghost one_front = { Unsigned-one_front };
 
     ghost some = { Unsigned-some };
 
     fn read<S: Source>(_alloc: Global, source: &mut S) -> Result<Unsigned, Why>
-        ensures reads { Reads SpellsUnsigned IntegerMay (S.script source.old) result (S.script source.new) }
-        ensures took { ReadsPiece SpellsUnsigned IntegerMay (S.script source.old) result (S.script source.new) }
+        ensures { ReadsPiece SpellsUnsigned IntegerMay (S.script source.old) result (S.script source.new) }
     {
         Ok(Unsigned(read_unsigned(source)?))
     }
@@ -100,15 +99,14 @@ impl Spelled for Signed {
 
     ghost spells = { SpellsSigned };
 
-    ghost may = { IntegerMay };
+    ghost took = { IntegerMay };
 
     ghost one_front = { Signed-one_front };
 
     ghost some = { Signed-some };
 
     fn read<S: Source>(_alloc: Global, source: &mut S) -> Result<Signed, Why>
-        ensures reads { Reads SpellsSigned IntegerMay (S.script source.old) result (S.script source.new) }
-        ensures took { ReadsPiece SpellsSigned IntegerMay (S.script source.old) result (S.script source.new) }
+        ensures { ReadsPiece SpellsSigned IntegerMay (S.script source.old) result (S.script source.new) }
     {
         Ok(Signed(read_signed(source)?))
     }

@@ -3,13 +3,10 @@
 //! What this crate promises to the crates above it:
 //!
 //! - A read of a [`Spelled`] type takes exactly a spelling of the value that it answers. It refuses by a reason of format
-//!   only where no spelling is a front of the bytes that stand there, however they go on. Its bytes then end with those
-//!   that decided, which the type's table `may` allows for that reason, and those before them begin a spelling. The end of
-//!   the input is answered, too, only where what was read begins one, up to an integer that is cut off; and memory is
-//!   asked for only for what was read. The contract is `Reads` (specs/Reading.antt).
-//! - Each type of this crate is read as one piece besides: `ReadsPiece`, its clause `took`. The table of all bytes that were
-//!   read, `RealTook` and the like, says in which part of the spelling they go wrong: in the first, or the first is spelled
-//!   and then in the second (specs/Pieces.antt).
+//!   only where no spelling is a front of the bytes that stand there, however they go on. The type's table `took` says of
+//!   all bytes that were taken in which part of the spelling they go wrong, and for which reason: in the first, or the first
+//!   is spelled and then in the second (specs/Pieces.antt). The contract is `ReadsPiece` (specs/Reading.antt).
+//! - Memory is refused only at a byte or an item that was read, never behind a length or a count.
 //! - No spelling of a type begins another, and none spells two values: `OneFront` (specs/Grammar.antt), a law of the trait.
 //!   Each type has a spelling: `HasSome` (specs/Begun.antt), another.
 //! - The grammar of spellings is made of few parts (specs/Grammar.antt, specs/Combinators.antt), with three laws each:

@@ -20,21 +20,20 @@ pub struct Real {
 }
 
 impl Spelled for Real {
-    ghost use Rattle.oas_num.specs.Reading.{Reads, ReadsPiece};
+    ghost use Rattle.oas_num.specs.Reading.{ReadsPiece};
     ghost use Rattle.oas_num.specs.Reals.{SpellsReal, RealMay, RealTook};
     ghost use Rattle.oas_num.specs.RealLaws.{OneFront-SpellsReal, HasSome-SpellsReal};
 
     ghost spells = { SpellsReal };
 
-    ghost may = { RealMay };
+    ghost took = { RealTook };
 
     ghost one_front = { OneFront-SpellsReal };
 
     ghost some = { HasSome-SpellsReal };
 
     fn read<S: Source>(_alloc: Global, source: &mut S) -> Result<Real, Why>
-        ensures reads { Reads SpellsReal RealMay (S.script source.old) result (S.script source.new) }
-        ensures took { ReadsPiece SpellsReal RealTook (S.script source.old) result (S.script source.new) }
+        ensures { ReadsPiece SpellsReal RealTook (S.script source.old) result (S.script source.new) }
     {
         let kind = read_unsigned(source)?;
         if kind >= 8 {

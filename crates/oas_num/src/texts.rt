@@ -6,7 +6,7 @@ ghost use Rattle.std.specs.Cmp.Lexicographic.{slice_cmp, pointwise};
 ghost use Rattle.std.specs.Ordering.{nat_cmp, as_partial_cmp};
 ghost use Rattle.std.specs.Hash as fed;
 ghost use Rattle.oas_num.specs.Pieces.{CountTook};
-ghost use Rattle.oas_num.specs.Reading.{Reads, ReadsPiece, ReadsPieceAs, ByteMay, ClassMay, TextTook};
+ghost use Rattle.oas_num.specs.Reading.{ReadsPiece, ReadsPieceAs, ByteMay, ClassMay, TextTook};
 ghost use Rattle.oas_num.specs.Grammar.{IsSuch, IsByte};
 ghost use Rattle.oas_num.specs.Texts.{IsIn, IsText, IsName, IsLabel, IsPassed};
 
@@ -114,19 +114,18 @@ impl Spelled for Name {
     ghost use Rattle.oas_num.specs.Texts.{SpellsName};
     ghost use Rattle.oas_num.specs.Style.{Any};
     ghost use Rattle.oas_num.specs.TextLaws.{OneFront-name, HasSome-name};
-    ghost use Rattle.oas_num.specs.Reading.{NameMay, NameTook};
+    ghost use Rattle.oas_num.specs.Reading.{NameTook};
 
     ghost spells = { SpellsName };
 
-    ghost may = { NameMay };
+    ghost took = { NameTook };
 
     ghost one_front = { OneFront-name Any };
 
     ghost some = { HasSome-name Any };
 
     fn read<S: Source>(alloc: Global, source: &mut S) -> Result<Name, Why>
-        ensures reads { Reads SpellsName NameMay (S.script source.old) result (S.script source.new) }
-        ensures took { ReadsPiece SpellsName NameTook (S.script source.old) result (S.script source.new) }
+        ensures { ReadsPiece SpellsName NameTook (S.script source.old) result (S.script source.new) }
     {
         let length = read_unsigned(source)?;
         if length == 0 {
@@ -222,19 +221,18 @@ impl Spelled for Label {
     ghost use Rattle.oas_num.specs.Texts.{SpellsLabel};
     ghost use Rattle.oas_num.specs.Style.{Any};
     ghost use Rattle.oas_num.specs.TextLaws.{OneFront-label, HasSome-label};
-    ghost use Rattle.oas_num.specs.Reading.{LabelMay, LabelTook};
+    ghost use Rattle.oas_num.specs.Reading.{LabelTook};
 
     ghost spells = { SpellsLabel };
 
-    ghost may = { LabelMay };
+    ghost took = { LabelTook };
 
     ghost one_front = { OneFront-label Any };
 
     ghost some = { HasSome-label Any };
 
     fn read<S: Source>(alloc: Global, source: &mut S) -> Result<Label, Why>
-        ensures reads { Reads SpellsLabel LabelMay (S.script source.old) result (S.script source.new) }
-        ensures took { ReadsPiece SpellsLabel LabelTook (S.script source.old) result (S.script source.new) }
+        ensures { ReadsPiece SpellsLabel LabelTook (S.script source.old) result (S.script source.new) }
     {
         let length = read_unsigned(source)?;
         let bytes = read_text(alloc, TextClass::Label, length, source)?;
@@ -314,15 +312,14 @@ impl Spelled for Padding {
 
     ghost spells = { SpellsPadding };
 
-    ghost may = { IntegerMay };
+    ghost took = { PaddingTook };
 
     ghost one_front = { OneFront-padding };
 
     ghost some = { HasSome-padding };
 
     fn read<S: Source>(_alloc: Global, source: &mut S) -> Result<Padding, Why>
-        ensures reads { Reads SpellsPadding IntegerMay (S.script source.old) result (S.script source.new) }
-        ensures took { ReadsPiece SpellsPadding PaddingTook (S.script source.old) result (S.script source.new) }
+        ensures { ReadsPiece SpellsPadding PaddingTook (S.script source.old) result (S.script source.new) }
     {
         let length = read_unsigned(source)?;
         pass_over(length, source)

@@ -4,7 +4,7 @@ use Rattle.std.specs.Prelude.{◌==◌, ◌⊎◌}
 use Rattle.oas_num.specs.declared.refusals.Why.{Why}
 use Rattle.oas_num.specs.Script.{Script}
 use Rattle.oas_num.specs.Style.{Any}
-use Rattle.oas_num.specs.Reading.{ReadsValue, Fails}
+use Rattle.oas_num.specs.Reading.{ReadsValue, FailsPiece}
 use Rattle.oas_num.proofs.ReadLemmas.{Takes-none}
 use Rattle.oas_num.proofs.GrammarLemmas.{image_fails}
 use Rattle.oas_record.specs.declared.records.Record.{Record}
@@ -15,17 +15,17 @@ use Rattle.oas_record.specs.declared.rectangles.Rectangle.{Rectangle}
 use Rattle.oas_record.specs.declared.polygons.Polygon.{Polygon}
 use Rattle.oas_record.specs.declared.paths.Path.{Path}
 use Rattle.oas_record.specs.declared.circles.Circle.{Circle}
-use Rattle.oas_record.specs.References.{cell_in}
-use Rattle.oas_record.specs.NameRecords.{cell_name_in, text_string_in}
-use Rattle.oas_record.specs.Ends.{end_in}
-use Rattle.oas_record.specs.Placements.{quarters_in, degrees_in}
-use Rattle.oas_record.specs.Texts.{text_record_in}
-use Rattle.oas_record.specs.Rectangles.{rectangle_in}
-use Rattle.oas_record.specs.Polygons.{polygon_in}
-use Rattle.oas_record.specs.Paths.{path_in}
-use Rattle.oas_record.specs.Circles.{circle_in}
+use Rattle.oas_record.specs.References.{cell_in, CellTook}
+use Rattle.oas_record.specs.NameRecords.{cell_name_in, CellNameTook, text_string_in, TextStringTook}
+use Rattle.oas_record.specs.Ends.{end_in, EndTook}
+use Rattle.oas_record.specs.Placements.{quarters_in, QuarterTook, degrees_in, DegreeTook}
+use Rattle.oas_record.specs.Texts.{text_record_in, TextTook}
+use Rattle.oas_record.specs.Rectangles.{rectangle_in, RectangleTook}
+use Rattle.oas_record.specs.Polygons.{polygon_in, PolygonTook}
+use Rattle.oas_record.specs.Paths.{path_in, PathTook}
+use Rattle.oas_record.specs.Circles.{circle_in, CircleTook}
 use Rattle.oas_record.specs.Records.{pad, end, xy_absolute, xy_relative, cell_name, text_string, a_cell, placement, text, rectangle, polygon, path, circle, after_id}
-use Rattle.oas_record.specs.May.{FieldMay}
+use Rattle.oas_record.specs.Refusals.{AfterTook}
 use Rattle.oas_num.specs.Grammar.{IsImage}
 
 -- ---- no fields
@@ -47,43 +47,46 @@ kind_read : {U : Type 0} {A : U → List ℕ → Type 0} {old new : Script} {v :
 kind_read {v = v} of read = record { bytes = read.bytes; spelled = record { from = v; is = refl; spelled = read.spelled }; takes = read.takes }
 
 module _ {old new : Script} {why : Why} (in_end : Bool) (id : ℕ) where
-  pub fails_3 : id ≡ 3 → Fails (cell_name_in Any false) FieldMay old why new → Fails (after_id Any in_end id) FieldMay old why new
+  pub fails_2 : id ≡ 2 → FailsPiece (end_in Any in_end) (EndTook in_end) old why new → FailsPiece (after_id Any in_end id) (AfterTook in_end id) old why new
+  fails_2 is f = rw is (image_fails end f)
+
+  pub fails_3 : id ≡ 3 → FailsPiece (cell_name_in Any false) (CellNameTook false) old why new → FailsPiece (after_id Any in_end id) (AfterTook in_end id) old why new
   fails_3 is f = rw is (image_fails cell_name f)
 
-  pub fails_4 : id ≡ 4 → Fails (cell_name_in Any true) FieldMay old why new → Fails (after_id Any in_end id) FieldMay old why new
+  pub fails_4 : id ≡ 4 → FailsPiece (cell_name_in Any true) (CellNameTook true) old why new → FailsPiece (after_id Any in_end id) (AfterTook in_end id) old why new
   fails_4 is f = rw is (image_fails cell_name f)
 
-  pub fails_5 : id ≡ 5 → Fails (text_string_in Any false) FieldMay old why new → Fails (after_id Any in_end id) FieldMay old why new
+  pub fails_5 : id ≡ 5 → FailsPiece (text_string_in Any false) (TextStringTook false) old why new → FailsPiece (after_id Any in_end id) (AfterTook in_end id) old why new
   fails_5 is f = rw is (image_fails text_string f)
 
-  pub fails_6 : id ≡ 6 → Fails (text_string_in Any true) FieldMay old why new → Fails (after_id Any in_end id) FieldMay old why new
+  pub fails_6 : id ≡ 6 → FailsPiece (text_string_in Any true) (TextStringTook true) old why new → FailsPiece (after_id Any in_end id) (AfterTook in_end id) old why new
   fails_6 is f = rw is (image_fails text_string f)
 
-  pub fails_13 : id ≡ 13 → Fails (cell_in Any true) FieldMay old why new → Fails (after_id Any in_end id) FieldMay old why new
+  pub fails_13 : id ≡ 13 → FailsPiece (cell_in Any true) (CellTook true) old why new → FailsPiece (after_id Any in_end id) (AfterTook in_end id) old why new
   fails_13 is f = rw is (image_fails a_cell f)
 
-  pub fails_14 : id ≡ 14 → Fails (cell_in Any false) FieldMay old why new → Fails (after_id Any in_end id) FieldMay old why new
+  pub fails_14 : id ≡ 14 → FailsPiece (cell_in Any false) (CellTook false) old why new → FailsPiece (after_id Any in_end id) (AfterTook in_end id) old why new
   fails_14 is f = rw is (image_fails a_cell f)
 
-  pub fails_17 : id ≡ 17 → Fails (quarters_in Any) FieldMay old why new → Fails (after_id Any in_end id) FieldMay old why new
+  pub fails_17 : id ≡ 17 → FailsPiece (quarters_in Any) QuarterTook old why new → FailsPiece (after_id Any in_end id) (AfterTook in_end id) old why new
   fails_17 is f = rw is (image_fails placement f)
 
-  pub fails_18 : id ≡ 18 → Fails (degrees_in Any) FieldMay old why new → Fails (after_id Any in_end id) FieldMay old why new
+  pub fails_18 : id ≡ 18 → FailsPiece (degrees_in Any) DegreeTook old why new → FailsPiece (after_id Any in_end id) (AfterTook in_end id) old why new
   fails_18 is f = rw is (image_fails placement f)
 
-  pub fails_19 : id ≡ 19 → Fails (text_record_in Any) FieldMay old why new → Fails (after_id Any in_end id) FieldMay old why new
+  pub fails_19 : id ≡ 19 → FailsPiece (text_record_in Any) TextTook old why new → FailsPiece (after_id Any in_end id) (AfterTook in_end id) old why new
   fails_19 is f = rw is (image_fails text f)
 
-  pub fails_20 : id ≡ 20 → Fails (rectangle_in Any) FieldMay old why new → Fails (after_id Any in_end id) FieldMay old why new
+  pub fails_20 : id ≡ 20 → FailsPiece (rectangle_in Any) RectangleTook old why new → FailsPiece (after_id Any in_end id) (AfterTook in_end id) old why new
   fails_20 is f = rw is (image_fails rectangle f)
 
-  pub fails_21 : id ≡ 21 → Fails (polygon_in Any) FieldMay old why new → Fails (after_id Any in_end id) FieldMay old why new
+  pub fails_21 : id ≡ 21 → FailsPiece (polygon_in Any) PolygonTook old why new → FailsPiece (after_id Any in_end id) (AfterTook in_end id) old why new
   fails_21 is f = rw is (image_fails polygon f)
 
-  pub fails_22 : id ≡ 22 → Fails (path_in Any) FieldMay old why new → Fails (after_id Any in_end id) FieldMay old why new
+  pub fails_22 : id ≡ 22 → FailsPiece (path_in Any) PathTook old why new → FailsPiece (after_id Any in_end id) (AfterTook in_end id) old why new
   fails_22 is f = rw is (image_fails path f)
 
-  pub fails_27 : id ≡ 27 → Fails (circle_in Any) FieldMay old why new → Fails (after_id Any in_end id) FieldMay old why new
+  pub fails_27 : id ≡ 27 → FailsPiece (circle_in Any) CircleTook old why new → FailsPiece (after_id Any in_end id) (AfterTook in_end id) old why new
   fails_27 is f = rw is (image_fails circle f)
 
 module _ {old new : Script} (in_end : Bool) (id : ℕ) where
@@ -132,17 +135,17 @@ module _ {old new : Script} (in_end : Bool) (id : ℕ) where
 -- ---- two ids
 
 module _ {old new : Script} {why : Why} (in_end : Bool) (id : ℕ) where
-  pub cell_name_fails : (id ≡ 3) ⊎ (id ≡ 4) → Fails (cell_name_in Any (id == 4)) FieldMay old why new → Fails (after_id Any in_end id) FieldMay old why new
-  cell_name_fails (inl e) f = let test : (id == 4) ≡ false = rw e refl in fails_3 in_end id e (subst (λ t. Fails (cell_name_in Any t) FieldMay old why new) test f)
-  cell_name_fails (inr e) f = let test : (id == 4) ≡ true = rw e refl in fails_4 in_end id e (subst (λ t. Fails (cell_name_in Any t) FieldMay old why new) test f)
+  pub cell_name_fails : (id ≡ 3) ⊎ (id ≡ 4) → FailsPiece (cell_name_in Any (id == 4)) (CellNameTook (id == 4)) old why new → FailsPiece (after_id Any in_end id) (AfterTook in_end id) old why new
+  cell_name_fails (inl e) f = let test : (id == 4) ≡ false = rw e refl in fails_3 in_end id e (subst (λ t. FailsPiece (cell_name_in Any t) (CellNameTook t) old why new) test f)
+  cell_name_fails (inr e) f = let test : (id == 4) ≡ true = rw e refl in fails_4 in_end id e (subst (λ t. FailsPiece (cell_name_in Any t) (CellNameTook t) old why new) test f)
 
-  pub text_string_fails : (id ≡ 5) ⊎ (id ≡ 6) → Fails (text_string_in Any (id == 6)) FieldMay old why new → Fails (after_id Any in_end id) FieldMay old why new
-  text_string_fails (inl e) f = let test : (id == 6) ≡ false = rw e refl in fails_5 in_end id e (subst (λ t. Fails (text_string_in Any t) FieldMay old why new) test f)
-  text_string_fails (inr e) f = let test : (id == 6) ≡ true = rw e refl in fails_6 in_end id e (subst (λ t. Fails (text_string_in Any t) FieldMay old why new) test f)
+  pub text_string_fails : (id ≡ 5) ⊎ (id ≡ 6) → FailsPiece (text_string_in Any (id == 6)) (TextStringTook (id == 6)) old why new → FailsPiece (after_id Any in_end id) (AfterTook in_end id) old why new
+  text_string_fails (inl e) f = let test : (id == 6) ≡ false = rw e refl in fails_5 in_end id e (subst (λ t. FailsPiece (text_string_in Any t) (TextStringTook t) old why new) test f)
+  text_string_fails (inr e) f = let test : (id == 6) ≡ true = rw e refl in fails_6 in_end id e (subst (λ t. FailsPiece (text_string_in Any t) (TextStringTook t) old why new) test f)
 
-  pub cell_fails : (id ≡ 13) ⊎ (id ≡ 14) → Fails (cell_in Any (id == 13)) FieldMay old why new → Fails (after_id Any in_end id) FieldMay old why new
-  cell_fails (inl e) f = let test : (id == 13) ≡ true = rw e refl in fails_13 in_end id e (subst (λ t. Fails (cell_in Any t) FieldMay old why new) test f)
-  cell_fails (inr e) f = let test : (id == 13) ≡ false = rw e refl in fails_14 in_end id e (subst (λ t. Fails (cell_in Any t) FieldMay old why new) test f)
+  pub cell_fails : (id ≡ 13) ⊎ (id ≡ 14) → FailsPiece (cell_in Any (id == 13)) (CellTook (id == 13)) old why new → FailsPiece (after_id Any in_end id) (AfterTook in_end id) old why new
+  cell_fails (inl e) f = let test : (id == 13) ≡ true = rw e refl in fails_13 in_end id e (subst (λ t. FailsPiece (cell_in Any t) (CellTook t) old why new) test f)
+  cell_fails (inr e) f = let test : (id == 13) ≡ false = rw e refl in fails_14 in_end id e (subst (λ t. FailsPiece (cell_in Any t) (CellTook t) old why new) test f)
 
 module _ {old new : Script} (in_end : Bool) (id : ℕ) where
   pub cell_name_read : (v : List ℕ × Option ℕ) → (id ≡ 3) ⊎ (id ≡ 4) → ReadsValue (cell_name_in Any (id == 4)) old v new → ReadsValue (after_id Any in_end id) old (cell_name v) new

@@ -1,38 +1,40 @@
 -- Reading the front of a file.
 use Rattle.std.proofs.Common.{Bool, ◌≡◌, ◌≢◌, ℕ, ◌+◌, ◌*◌, ◌<◌, ◌≤◌, false, List, [], ◌∷◌, ◌++◌, length, get_or, Err, IsTrue, inl, inr, refl, sym, ap, subst, ◌∙◌, append_assoc, arith}
-use Rattle.std.specs.Prelude.{◌⊎◌, ◌==◌}
+use Rattle.std.specs.Prelude.{◌⊎◌}
 use Rattle.std.proofs.lemmas.List.{append-nil, append_cancel_left, length-append}
 use Rattle.std.proofs.lemmas.Nat.{mul-le}
 use Rattle.oas_num.specs.declared.refusals.Why.{Why}
-use Rattle.oas_num.specs.declared.refusals.Why.TheVariants.{Magic, Version, OffsetFlag, OutOfPlace, Memory, Unit as UnitIsRefused}
+use Rattle.oas_num.specs.declared.refusals.Why.TheVariants.{Magic, Truncated, Read, InputTooLong, Version, Unit as UnitIsRefused}
 use Rattle.oas_num.specs.declared.reals.Real.{Real}
 use Rattle.oas_num.specs.Script.{Script, Takes}
 use Rattle.oas_num.specs.Ratio.{Ratio}
-use Rattle.oas_num.specs.Grammar.{IsPair, IsSuch, IsByte}
+use Rattle.oas_num.specs.Grammar.{OneFront, IsPair, IsSuch, IsByte}
 use Rattle.oas_num.specs.Integers.{IsUnsigned}
-use Rattle.oas_num.specs.IntegerLaws.{OneFront-IsUnsigned}
 use Rattle.oas_num.specs.Style.{Any}
 use Rattle.oas_num.specs.Texts.{IsLabelByte, IsOf, IsText, label_in, SpellsLabel}
-use Rattle.oas_num.specs.TextLaws.{OneFront-label, OneFront-class, HasSome-label, HasSome-class}
+use Rattle.oas_num.specs.IntegerLaws.{OneFront-IsUnsigned}
+use Rattle.oas_num.specs.Pieces.{PairTook}
+use Rattle.oas_num.specs.TextLaws.{OneFront-label, OneFront-class}
 use Rattle.oas_num.specs.Reals.{real_in, RealTook}
 use Rattle.oas_num.specs.RealLaws.{OneFront-real}
-use Rattle.oas_num.specs.declared.texts.TextClass.TheVariants as classes
-use Rattle.oas_num.specs.Begun.{HasSome, Begins}
-use Rattle.oas_num.specs.BegunLaws.{Begins-none}
-use Rattle.oas_num.specs.Reading.{ReadsValue, Fails, FailsBy, FailsPiece, ByteMay, IntegerMay, ClassMay}
-use Rattle.oas_num.proofs.ReadLemmas.{Takes-none, Takes-then, Wants, NoneFits-after, NoneWithin-after, Fails-after, none_whole, fails_cut_off}
-use Rattle.oas_num.proofs.PieceLemmas.{whole_piece}
-use Rattle.oas_num.proofs.RealLemmas.{real_decides}
-use Rattle.oas_num.proofs.TextLemmas.{with_label_length}
-use Rattle.oas_num.proofs.GrammarLemmas.{Midway, begins, seen, ◌▸◌, fails_at_piece, fails_last, key_fails, such_read, such_fails_by, refused, Listed, listed_none, listed_more, listed_fails, listed_all}
+use Rattle.oas_num.specs.Begun.{Begins}
+use Rattle.oas_num.specs.Reading.{ReadsValue, Fails, FailsPiece, ByteMay, IntegerMay, ClassMay}
+use Rattle.oas_num.proofs.ReadLemmas.{Takes-none, Takes-then, Wants, Fails-after}
+use Rattle.oas_num.proofs.PieceLemmas.{fails_behind, first_fails, second_fails, keyed_fails, item_fails}
+use Rattle.oas_num.proofs.GrammarLemmas.{such_read, Listed, listed_none, listed_more, listed_all}
 use Rattle.oas_record.specs.declared.heads.Head.{Head}
 use Rattle.oas_record.specs.Ends.{IsNumber}
-use Rattle.oas_record.specs.Heads.{magic, IsMagic, MagicMay, IsPassedLabel, PassedMay, version, version_in, VersionMay, IsPositiveReal, IsUnit, SpellsUnit, unit_in, UnitMay, IsFlag, flag_in, offsets_in, start_parts, head_of, start_in, StartMay, head_in, ReadsHead}
-use Rattle.oas_record.specs.HeadLaws.{OneFront-start_id}
-use Rattle.oas_record.specs.SomeLaws.{HasSome-magic, HasSome-version, HasSome-unit, HasSome-start}
-use Rattle.oas_record.proofs.MayLemmas.{MagicMay-byte, PassedMay-class, PassedMay-integer, VersionMay-passed, StartMay-integer, UnitMay-real}
+use Rattle.oas_record.specs.Heads.{magic, IsMagic, MagicMay, IsPassedLabel, PassedTook, version, version_in, VersionTook, IsPositiveReal, IsUnit, SpellsUnit, UnitTook, IsFlag, flag_in, start_in, StartTook, head_in, ReadsHead}
+use Rattle.oas_record.specs.HeadLaws.{OneFront-start_id, OneFront-flag}
+use Rattle.oas_num.specs.BegunLaws.{Begins-none, HasSome-exactly}
 
 -- ---- the magic
+
+MagicMay-byte : (why : Why) (last : List ℕ) → ByteMay why last → MagicMay why last
+MagicMay-byte Truncated last h = h
+MagicMay-byte Read last h = h
+MagicMay-byte InputTooLong last h = h
+MagicMay-byte _ last h = absurd h
 
 -- so much of it was read
 pub record Matched (old now : Script) (count : ℕ) : Type 0 where
@@ -102,7 +104,7 @@ module _ (old mid new : Script) (count : ℕ) (lt : count < 13) (m : Matched old
       record {
         bytes = m.front ++ byte ∷ [];
         takes = Takes-then old mid new m.front (byte ∷ []) m.takes (rw only at read.takes);
-        reason = record { front = []; last = m.front ++ byte ∷ []; joined = refl; begun = Begins-none IsMagic HasSome-magic; holds = record { front = m.front; wanted = left.0; rest = left.1; byte = byte; is_magic = is; joined = refl; other = isnt } };
+        reason = record { front = []; last = m.front ++ byte ∷ []; joined = refl; begun = Begins-none IsMagic (HasSome-exactly magic); holds = record { front = m.front; wanted = left.0; rest = left.1; byte = byte; is_magic = is; joined = refl; other = isnt } };
         format = λ _. record {
           none = λ v p r more s e.
               let same : (left.0 ∷ left.1) ++ r ≡ (byte ∷ []) ++ more =
@@ -123,50 +125,35 @@ none_left front (w ∷ rest) is len = let l : 13 ≡ length (front ++ w ∷ rest
 pub magic_done : (old new : Script) (count : ℕ) (v : Unit {0}) → count ≡ 13 → Matched old new count → ReadsValue IsMagic old v new
 magic_done old new count v is m = record { bytes = m.front; spelled = none_left m.front m.rest m.is_magic (m.len ∙ is); takes = m.takes }
 
--- ---- what is read as one piece
-
--- a part of it decided
-pub as_whole : {U V : Type 0} {piece : Bool} {whole : U → List ℕ → Type 0} {A : V → List ℕ → Type 0} {may there : Why → List ℕ → Type 0} {old new : Script} {why : Why}
-    → HasSome whole → Wants whole [] A → (f : FailsBy piece A there old why new) → may why f.bytes → Fails whole may old why new
-as_whole {whole = whole} {A = A} some wants f holds = record {
-  bytes = f.bytes;
-  takes = f.takes;
-  reason = record { front = []; last = f.bytes; joined = refl; begun = Begins-none whole some; holds = holds };
-  format = λ is. NoneFits-after whole A [] f.bytes wants (f.format is);
-  cut = λ is. NoneWithin-after whole A [] f.bytes wants (f.cut is);
-  truncated = f.truncated;
-  device = f.device;
-  too_long = f.too_long;
-}
-
 -- ---- the version
 
+abbrev label_parts : ℕ × List ℕ → List ℕ → Type 0
+label_parts = IsPair IsUnsigned (λ count. IsText IsLabelByte count)
+
 -- the a-string fails
-label_fails : {old new : Script} {why : Why} → Fails SpellsLabel PassedMay old why new → Fails (version_in Any) VersionMay old why new
-label_fails {why = why} f =
-    as_whole HasSome-version (record { wants = λ v p r rest s e. (version, p, r, s, e) }) f (VersionMay-passed why f.bytes (fails_cut_off (λ _ h. h) f))
+label_fails : {old new : Script} {why : Why} → FailsPiece SpellsLabel (PairTook IsUnsigned IntegerMay PassedTook) old why new → FailsPiece (version_in Any) VersionTook old why new
+label_fails {old = old} f = fails_behind (version_in Any) SpellsLabel [] (λ _ h. inl h) (Takes-none old) (record { wants = λ v p r rest s e. (version, p, r, s, e) }) f
 
 -- its length fails
-pub version_length_fails : {old new : Script} {why : Why} → FailsPiece IsUnsigned IntegerMay old why new → Fails (version_in Any) VersionMay old why new
+pub version_length_fails : {old new : Script} {why : Why} → FailsPiece IsUnsigned IntegerMay old why new → FailsPiece (version_in Any) VersionTook old why new
 version_length_fails {old = old} {new = new} {why = why} f =
-    label_fails (key_fails SpellsLabel length IsUnsigned (λ count. IsText IsLabelByte count) (λ v. v) PassedMay IntegerMay old old new why PassedMay-integer (begins SpellsLabel (HasSome-label Any) old) f)
+    let g : FailsPiece label_parts (PairTook IsUnsigned IntegerMay PassedTook) old why new = first_fails f in
+    label_fails (keyed_fails length g)
 
--- the text that was passed fails
-text_fails : {old new : Script} {count : ℕ} {why : Why} → Fails (IsPassedLabel count) (ClassMay IsLabelByte) old why new → Fails (IsText IsLabelByte count) PassedMay old why new
-text_fails {old = old} {new = new} {count = count} {why = why} f =
-    Fails-after (IsText IsLabelByte count) (IsPassedLabel count) PassedMay (ClassMay IsLabelByte) old old new why [] (PassedMay-class why) (Takes-none old)
-    (record { wants = λ v p r rest s e. (tt, p, r, record { from = v; is = refl; spelled = s }, e) })
-    (λ a b. record { value = b.spelled.from; rest = b.rest; spelled = b.spelled.spelled }) f
+-- its bytes fail
+label_text_fails : {old mid new : Script} {n : ℕ} {why : Why} → ReadsValue IsUnsigned old n mid → FailsPiece (IsText IsLabelByte n) (PassedTook n) mid why new → FailsPiece (version_in Any) VersionTook old why new
+label_text_fails {old = old} {new = new} {why = why} read f =
+    let g : FailsPiece label_parts (PairTook IsUnsigned IntegerMay PassedTook) old why new = second_fails OneFront-IsUnsigned read f in
+    label_fails (keyed_fails length g)
 
 -- the bytes of a text of another length fail
-pub version_pass_fails : {old mid new : Script} {n : ℕ} {why : Why} → ReadsValue IsUnsigned old n mid → Fails (IsPassedLabel n) (ClassMay IsLabelByte) mid why new → Fails (version_in Any) VersionMay old why new
-version_pass_fails read f = label_fails (fails_last (with_label_length read) (λ _ _ h. h) (text_fails f))
+pub version_pass_fails : {old mid new : Script} {n : ℕ} {why : Why} → ReadsValue IsUnsigned old n mid → FailsPiece (IsPassedLabel n) (PassedTook n) mid why new → FailsPiece (version_in Any) VersionTook old why new
+version_pass_fails {mid = mid} {n = n} read f =
+    label_text_fails read (fails_behind (IsText IsLabelByte n) (IsPassedLabel n) [] (λ _ h. h) (Takes-none mid) (record { wants = λ v p r rest s e. (tt, p, r, record { from = v; is = refl; spelled = s }, e) }) f)
 
 -- a byte of a text of three bytes fails
-pub version_byte_fails : {old mid now new : Script} {n : ℕ} {why : Why} (text : List ℕ) → n ≡ 3 → ReadsValue IsUnsigned old n mid → Listed (IsSuch IsLabelByte IsByte) mid now text → length text < 3 → FailsPiece (IsSuch IsLabelByte IsByte) (ClassMay IsLabelByte) now why new → Fails (version_in Any) VersionMay old why new
-version_byte_fails {mid = mid} {now = now} {new = new} {n = n} {why = why} text three read listed lt f =
-    let g : Fails (IsText IsLabelByte n) PassedMay mid why new = listed_fails (IsSuch IsLabelByte IsByte) n PassedMay (ClassMay IsLabelByte) mid now new why text (OneFront-class IsLabelByte) (HasSome-class classes.Label) (PassedMay-class why) (omega (arith, lt, three)) listed f in
-    label_fails (fails_last (with_label_length read) (λ _ _ h. h) g)
+pub version_byte_fails : {old mid now new : Script} {n : ℕ} {why : Why} (text : List ℕ) → n ≡ 3 → ReadsValue IsUnsigned old n mid → Listed (IsSuch IsLabelByte IsByte) mid now text → length text < 3 → FailsPiece (IsSuch IsLabelByte IsByte) (ClassMay IsLabelByte) now why new → FailsPiece (version_in Any) VersionTook old why new
+version_byte_fails text three read listed lt f = label_text_fails read (item_fails (OneFront-class IsLabelByte) (λ _ h. h) (omega (arith, lt, three)) listed f)
 
 -- the text as a label
 as_label : {old mid new : Script} {n : ℕ} (text : List ℕ) → ReadsValue IsUnsigned old n mid → ReadsValue (IsText IsLabelByte n) mid text new → ReadsValue (label_in Any) old text new
@@ -179,13 +166,13 @@ as_label {old = old} {mid = mid} {new = new} {n = n} text read bytes =
     }
 
 -- another text was read
-pub version_wrong : {old mid new : Script} {n : ℕ} (text : List ℕ) → text ≢ version → ReadsValue IsUnsigned old n mid → ReadsValue (IsText IsLabelByte n) mid text new → Fails (version_in Any) VersionMay old Version new
+pub version_wrong : {old mid new : Script} {n : ℕ} (text : List ℕ) → text ≢ version → ReadsValue IsUnsigned old n mid → ReadsValue (IsText IsLabelByte n) mid text new → FailsPiece (version_in Any) VersionTook old Version new
 version_wrong {old = old} {new = new} text isnt read bytes =
     let label = as_label text read bytes in
     record {
       bytes = label.bytes;
       takes = label.takes;
-      reason = record { front = []; last = label.bytes; joined = refl; begun = Begins-none (version_in Any) HasSome-version; holds = (text, label.spelled, isnt) };
+      reason = record { front = []; last = label.bytes; joined = refl; begun = refl; holds = inr (text, label.spelled, (refl, isnt)) };
       format = λ _. record { none = λ v p r more s e. let one = (OneFront-label Any).one version text p label.bytes r more s label.spelled e in isnt (sym one.1) };
       cut = λ is. absurd cc;
       truncated = λ is. absurd cc;
@@ -193,7 +180,7 @@ version_wrong {old = old} {new = new} text isnt read bytes =
       too_long = λ is. absurd cc;
     }
 
-pub version_passed : {old mid new : Script} {n : ℕ} {v : Unit {0}} → n ≢ 3 → ReadsValue IsUnsigned old n mid → ReadsValue (IsPassedLabel n) mid v new → Fails (version_in Any) VersionMay old Version new
+pub version_passed : {old mid new : Script} {n : ℕ} {v : Unit {0}} → n ≢ 3 → ReadsValue IsUnsigned old n mid → ReadsValue (IsPassedLabel n) mid v new → FailsPiece (version_in Any) VersionTook old Version new
 version_passed {n = n} isnt read passed =
     let text = passed.spelled.from in
     version_wrong text (λ e. isnt (sym passed.spelled.spelled.len ∙ ap length e)) read (record { bytes = passed.bytes; spelled = passed.spelled.spelled; takes = passed.takes })
@@ -208,7 +195,7 @@ two {old = old} {mid1 = mid1} {new = new} {a = a} {b = b} p q = listed_more _ ol
 pub one : {old new : Script} {a : ℕ} → ReadsValue (IsSuch IsLabelByte IsByte) old a new → Listed (IsSuch IsLabelByte IsByte) old new (a ∷ [])
 one {old = old} {new = new} {a = a} p = listed_more _ old old new [] a (listed_none _ old) p
 
-pub version_other : {old mid new : Script} {n a b c : ℕ} → n ≡ 3 → ((a ≡ 0x31) → ⊥) ⊎ (((a ≡ 0x31) × ((b ≡ 0x2E) → ⊥)) ⊎ ((a ≡ 0x31) × (b ≡ 0x2E) × ((c ≡ 0x30) → ⊥))) → ReadsValue IsUnsigned old n mid → Listed (IsSuch IsLabelByte IsByte) mid new (a ∷ b ∷ c ∷ []) → Fails (version_in Any) VersionMay old Version new
+pub version_other : {old mid new : Script} {n a b c : ℕ} → n ≡ 3 → ((a ≡ 0x31) → ⊥) ⊎ (((a ≡ 0x31) × ((b ≡ 0x2E) → ⊥)) ⊎ ((a ≡ 0x31) × (b ≡ 0x2E) × ((c ≡ 0x30) → ⊥))) → ReadsValue IsUnsigned old n mid → Listed (IsSuch IsLabelByte IsByte) mid new (a ∷ b ∷ c ∷ []) → FailsPiece (version_in Any) VersionTook old Version new
 version_other {mid = mid} {new = new} {n = n} {a = a} {b = b} {c = c} is isnt read listed =
     version_wrong (a ∷ b ∷ c ∷ []) (λ e. let f : a ≡ 0x31 = cc in let g : b ≡ 0x2E = cc in let h : c ≡ 0x30 = cc in elim isnt [ inl m ↦ m f | inr m ↦ elim m [ inl k ↦ k.1 g | inr k ↦ k.2 h ] ]) read (listed_all (IsSuch IsLabelByte IsByte) n mid new (a ∷ b ∷ c ∷ []) (sym is) listed)
 
@@ -227,15 +214,14 @@ product_some a b n p q e = let m : 1 * 1 ≤ a * b = mul-le 1 1 a b p q in omega
 positive_unit : (r : Real) (unit : Ratio) → IsUnit r unit → IsPositiveReal r
 positive_unit r unit h = (h.positive, (product_some unit.num h.reduces.divisor r.num h.reduces.lowest.num_some h.reduces.some h.reduces.num_is, product_some unit.den h.reduces.divisor r.den h.reduces.lowest.den_some h.reduces.some h.reduces.den_is))
 
-pub unit_fails : {old new : Script} {why : Why} → FailsPiece (real_in Any) RealTook old why new → Fails SpellsUnit UnitMay old why new
-unit_fails {why = why} f =
-    as_whole HasSome-unit (record { wants = λ v p r rest s e. (s.real, p, r, s.spelled, e) }) f (UnitMay-real why f.bytes (whole_piece f, none_whole (λ last h. (real_decides Memory last h).holds) f))
+pub unit_fails : {old new : Script} {why : Why} → FailsPiece (real_in Any) RealTook old why new → FailsPiece SpellsUnit UnitTook old why new
+unit_fails {old = old} f = fails_behind SpellsUnit (real_in Any) [] (λ _ h. inl h) (Takes-none old) (record { wants = λ v p r rest s e. (s.real, p, r, s.spelled, e) }) f
 
-pub unit_refused : {old new : Script} (r : Real) → ¬ IsPositiveReal r → ReadsValue (real_in Any) old r new → Fails SpellsUnit UnitMay old UnitIsRefused new
+pub unit_refused : {old new : Script} (r : Real) → ¬ IsPositiveReal r → ReadsValue (real_in Any) old r new → FailsPiece SpellsUnit UnitTook old UnitIsRefused new
 unit_refused r isnt read = record {
   bytes = read.bytes;
   takes = read.takes;
-  reason = record { front = []; last = read.bytes; joined = refl; begun = Begins-none SpellsUnit HasSome-unit; holds = (r, read.spelled, isnt) };
+  reason = record { front = []; last = read.bytes; joined = refl; begun = refl; holds = inr (r, read.spelled, (refl, isnt)) };
   format = λ _. record { none = λ u p rest more s e. let one = (OneFront-real Any).one s.real r p read.bytes rest more s.spelled read.spelled e in isnt (subst IsPositiveReal one.1 (positive_unit s.real u s.is_unit)) };
   cut = λ is. absurd cc;
   truncated = λ is. absurd cc;
@@ -251,36 +237,21 @@ zero_isnt r is h = elim is [ inl e ↦ omega (arith, e, h.1.0) | inr e ↦ omega
 
 -- ---- START
 
-pub starts : (s : Script) → Midway (start_in Any) (start_parts Any) head_of s s
-starts s = seen (start_in Any) head_of (start_parts Any) (λ v. v) s s (begins (start_in Any) HasSome-start s)
+pub id_field : {old new : Script} {id : ℕ} → id ≡ 1 → ReadsValue IsUnsigned old id new → OneFront (IsSuch (IsNumber 1) IsUnsigned) × ReadsValue (IsSuch (IsNumber 1) IsUnsigned) old id new
+id_field {old = old} {new = new} {id = id} is read = (OneFront-start_id Any, such_read (IsNumber 1) IsUnsigned old new id is read)
 
-pub id_fails : {old new : Script} {why : Why} → FailsPiece IsUnsigned IntegerMay old why new → Fails (start_in Any) StartMay old why new
-id_fails {old = old} {new = new} {why = why} f = fails_at_piece (starts old) (λ _ _ h. h) (such_fails_by (IsNumber 1) IsUnsigned StartMay IntegerMay old new why StartMay-integer f)
+pub flag_field : {old new : Script} {flag : ℕ} → flag ≤ 1 → ReadsValue IsUnsigned old flag new → OneFront (flag_in Any) × ReadsValue (flag_in Any) old flag new
+flag_field {old = old} {new = new} {flag = flag} le read = (OneFront-flag Any, such_read IsFlag IsUnsigned old new flag (omega (arith, le)) read)
 
-pub id_refused : {old new : Script} {id : ℕ} → id ≢ 1 → ReadsValue IsUnsigned old id new → Fails (start_in Any) StartMay old (OutOfPlace id) new
-id_refused {old = old} {new = new} {id = id} isnt read =
-    fails_at_piece (starts old) (λ _ _ h. h) (refused (IsNumber 1) IsUnsigned StartMay old new (OutOfPlace id) id OneFront-IsUnsigned read isnt (read.spelled, isnt) (λ e. cc) (λ e. cc) (λ e. cc))
-
-pub with_id : {old new : Script} {id : ℕ} → id ≡ 1 → ReadsValue IsUnsigned old id new
-    → Midway (start_in Any) (IsPair (version_in Any) (λ _. IsPair (unit_in Any) (λ _. IsPair (flag_in Any) (λ flag. offsets_in Any (flag == 0))))) (λ f. head_of (id, f)) old new
-with_id {old = old} {new = new} {id = id} is read = starts old ▸ (OneFront-start_id Any, such_read (IsNumber 1) IsUnsigned old new id is read)
-
-pub flag_fails : {old new : Script} {why : Why} → FailsPiece IsUnsigned IntegerMay old why new → FailsPiece (flag_in Any) StartMay old why new
-flag_fails {old = old} {new = new} {why = why} f = such_fails_by IsFlag IsUnsigned StartMay IntegerMay old new why StartMay-integer f
-
-pub flag_refused : {old new : Script} {flag : ℕ} → 1 < flag → ReadsValue IsUnsigned old flag new → FailsPiece (flag_in Any) StartMay old OffsetFlag new
-flag_refused {old = old} {new = new} {flag = flag} large read =
-    refused IsFlag IsUnsigned StartMay old new OffsetFlag flag OneFront-IsUnsigned read (λ (lt : flag < 2). omega (arith, lt, large)) (flag, read.spelled, large) (λ e. cc) (λ e. cc) (λ e. cc)
-
-pub flag_read : {old new : Script} {flag : ℕ} → flag ≤ 1 → ReadsValue IsUnsigned old flag new → ReadsValue (flag_in Any) old flag new
-flag_read {old = old} {new = new} {flag = flag} le read = such_read IsFlag IsUnsigned old new flag (omega (arith, le)) read
+pub other_flag : {flag : ℕ} → 1 < flag → ¬ IsFlag flag
+other_flag large lt = omega (arith, lt, large)
 
 -- ---- the front
 
 pub magic_refused : {old new : Script} {why : Why} → Fails IsMagic MagicMay old why new → ReadsHead old (Err (record { at = 0; why = why })) new
 magic_refused f = inl (record { at = refl; fails = f })
 
-pub start_refused : {old mid new : Script} {why : Why} {v : Unit {0}} → ReadsValue IsMagic old v mid → Fails (start_in Any) StartMay mid why new → ReadsHead old (Err (record { at = 13; why = why })) new
+pub start_refused : {old mid new : Script} {why : Why} {v : Unit {0}} → ReadsValue IsMagic old v mid → FailsPiece (start_in Any) StartTook mid why new → ReadsHead old (Err (record { at = 13; why = why })) new
 start_refused {old = old} {mid = mid} {new = new} read f = inr (record { at = refl; mid = mid; takes = let e : read.bytes ≡ magic = read.spelled in rw e at read.takes; fails = f })
 
 pub front_read : {old mid new : Script} {head : Head} {v : Unit {0}} → ReadsValue IsMagic old v mid → ReadsValue (start_in Any) mid head new → ReadsValue (head_in Any) old head new

@@ -12,7 +12,7 @@ use Rattle.oas_record.specs.declared.references.CellRef.TheVariants as cell
 use Rattle.oas_record.specs.declared.placements.Turn.{Turn}
 use Rattle.oas_record.specs.declared.placements.Turn.TheVariants.{Quarters, Degrees}
 use Rattle.oas_record.specs.Records.{id_of, cell_name, text_string, a_cell, placement, text, rectangle, polygon, path, circle, after_id}
-use Rattle.oas_record.specs.May.{IsKnown, IsLeftOut}
+use Rattle.oas_record.specs.Refusals.{IsKnown, IsLeftOut}
 
 -- ---- the id of what was read
 
@@ -20,7 +20,7 @@ either_cases : {V : Type 0} (id n : ℕ) (A B : V → List ℕ → Type 0) (v : 
 either_cases id n A B v q true is h = inl (eqb-true id n is, h)
 either_cases id n A B v q false is h = inr h
 
-either_id : {V : Type 0} (id n : ℕ) (A B : V → List ℕ → Type 0) (v : V) (q : List ℕ) → IsEither (id == n) A B v q → ((id ≡ n) × A v q) ⊎ B v q
+pub either_id : {V : Type 0} (id n : ℕ) (A B : V → List ℕ → Type 0) (v : V) (q : List ℕ) → IsEither (id == n) A B v q → ((id ≡ n) × A v q) ⊎ B v q
 either_id id n A B v q h = either_cases id n A B v q (id == n) refl h
 
 cell_name_plain : (p : List ℕ × Option ℕ) (a : List ℕ) → IsThere false IsUnsigned p.1 a → id_of (cell_name p) ≡ 3

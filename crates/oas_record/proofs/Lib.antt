@@ -1,4 +1,4 @@
-pub mod MayLemmas
+pub mod InfoLemmas
 pub mod PassLemmas
 pub mod EndLemmas
 pub mod HeadLemmas
@@ -7,4 +7,7 @@ pub mod FieldLemmas
 pub mod ElementLemmas
 pub mod IdLemmas
 pub mod AfterLemmas
+pub mod SomeLemmas
 pub mod RecordLemmas
+pub mod ReasonLemmas
+pub mod NeverLemmas

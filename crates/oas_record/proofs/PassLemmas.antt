@@ -4,11 +4,12 @@ use Rattle.std.proofs.lemmas.List.{length_push}
 use Rattle.oas_num.specs.declared.refusals.Why.{Why}
 use Rattle.oas_num.specs.Script.{Script}
 use Rattle.oas_num.specs.Grammar.{OneFront, IsImage, IsCount}
-use Rattle.oas_num.specs.Begun.{HasSome}
-use Rattle.oas_num.specs.Reading.{ReadsValue, Fails, FailsPiece, IntegerMay}
-use Rattle.oas_num.proofs.ReadLemmas.{Takes-none, Fails-after}
-use Rattle.oas_num.proofs.GrammarLemmas.{image_fails, Listed, listed_none, listed_more, listed_fails}
-use Rattle.oas_record.specs.Ends.{nothing, offsets_if, IsOffsets}
+use Rattle.oas_num.specs.Pieces.{CountTook}
+use Rattle.oas_num.proofs.PieceLemmas.{fails_behind, item_fails}
+use Rattle.oas_num.specs.Reading.{ReadsValue, FailsPiece}
+use Rattle.oas_num.proofs.ReadLemmas.{Takes-none}
+use Rattle.oas_num.proofs.GrammarLemmas.{image_fails, Listed, listed_none, listed_more}
+use Rattle.oas_record.specs.Ends.{nothing, offsets_if, IsOffsets, OffsetsTook, OffsetsIfTook}
 
 -- so many were read, and not kept
 pub record Passed {V : Type 0} (A : V → List ℕ → Type 0) (old now : Script) (count : ℕ) : Type 0 where
@@ -27,9 +28,8 @@ module _ {V : Type 0} (A : V → List ℕ → Type 0) where
     len = length_push _ _ ∙ ap (λ n. n + 1) p.len;
   }
 
-  pub passed_fails : (may there : Why → List ℕ → Type 0) (old mid new : Script) (at count : ℕ) (why : Why) → OneFront A → HasSome A → ((why : Why) (last : List ℕ) → there why last → may why last) → at < count → Passed A old mid at → FailsPiece A there mid why new → Fails (IsImage nothing (IsCount A count)) may old why new
-  passed_fails may there old mid new at count why law some allows lt p f =
-      image_fails nothing (listed_fails A count may there old mid new why p.items law some (allows why) (omega (arith, p.len)) p.listed f)
+  pub passed_fails : {there : Why → List ℕ → Type 0} {old mid new : Script} {at count : ℕ} {why : Why} → OneFront A → at < count → Passed A old mid at → FailsPiece A there mid why new → FailsPiece (IsImage nothing (IsCount A count)) (CountTook A count there) old why new
+  passed_fails law lt p f = image_fails nothing (item_fails law (λ _ h. h) (omega (arith, p.len, lt)) p.listed f)
 
   pub passed_all : (old new : Script) (at count : ℕ) (v : Unit {0}) → at ≡ count → Passed A old new at → ReadsValue (IsImage nothing (IsCount A count)) old v new
   passed_all old new at count v is p = record {
@@ -39,11 +39,6 @@ module _ {V : Type 0} (A : V → List ℕ → Type 0) where
   }
 
 -- table-offsets that are there, and that aren't
-pub offsets_fail : {old new : Script} {why : Why} (there : Bool) → IsTrue there → Fails IsOffsets IntegerMay old why new → Fails (offsets_if there) IntegerMay old why new
-offsets_fail {old = old} {new = new} {why = why} true is f =
-    Fails-after (offsets_if true) IsOffsets IntegerMay IntegerMay old old new why [] (λ _ h. h) (Takes-none old) (record { wants = λ v p r rest s e. (v, p, r, s, e) }) (λ a b. record { value = b.value; rest = b.rest; spelled = b.spelled }) f
+pub offsets_fail : {old new : Script} {why : Why} (there : Bool) → IsTrue there → FailsPiece IsOffsets OffsetsTook old why new → FailsPiece (offsets_if there) (OffsetsIfTook there) old why new
+offsets_fail {old = old} true is f = fails_behind (offsets_if true) IsOffsets [] (λ _ h. h) (Takes-none old) (record { wants = λ v p r rest s e. (v, p, r, s, e) }) f
 offsets_fail false is f = absurd cc
-
-pub offsets_read : {old new : Script} {v : Unit {0}} (there : Bool) → IsTrue there → ReadsValue IsOffsets old v new → ReadsValue (offsets_if there) old v new
-offsets_read true is read = record { bytes = read.bytes; spelled = read.spelled; takes = read.takes }
-offsets_read false is read = absurd cc

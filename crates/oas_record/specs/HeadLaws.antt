@@ -14,9 +14,8 @@ use Rattle.oas_num.specs.StyleLaws.{OneFront-unsigned, OneSpelling-unsigned, IsW
 use Rattle.oas_num.specs.TextLaws.{OneFront-label, OneSpelling-label, IsWithin-label}
 use Rattle.oas_num.specs.RealLaws.{OneFront-real, OneSpelling-real, IsWithin-real}
 use Rattle.oas_record.specs.declared.heads.Head.{Head}
-use Rattle.oas_record.specs.Ends.{IsNumber, IsOffsets, offsets_if}
-use Rattle.oas_record.specs.EndLaws.{OneFront-offsets_if}
-use Rattle.oas_record.specs.InfoLaws.{OneSpelling-image_by}
+use Rattle.oas_record.specs.Ends.{IsNumber, IsOffsets, offsets_if, offsets_part}
+use Rattle.oas_record.specs.Kinds.{OneSpelling-image_by}
 use Rattle.oas_record.specs.Heads.{magic, IsMagic, version, version_in, SpellsUnit, unit_in, IsFlag, flag_in, twelve_zeros, offsets_in, StartParts, start_parts, head_of, start_in, head_after, head_in}
 
 -- ---- the version
@@ -87,7 +86,7 @@ abbrev with_flag : Style → ℕ × Unit {0} → List ℕ → Type 0
 with_flag style = IsPair (flag_in style) (λ flag. offsets_in style (flag == 0))
 
 OneFront-offsets_in : (style : Style) (there : Bool) → OneFront (offsets_in style there)
-OneFront-offsets_in Any there = OneFront-offsets_if there
+OneFront-offsets_in Any there = (offsets_part there).found.one
 OneFront-offsets_in Shortest there = OneFront-exactly twelve_zeros
 
 flags_within : (v : ℕ × Unit {0}) (a : List ℕ) → with_flag Shortest v a → with_flag Any v a

@@ -1,20 +1,21 @@
 -- How the front of a file is spelled: the magic and START (SEMI P39, START record).
-use Rattle.std.specs.Prelude.{◌≡◌, ◌≢◌, ℕ, ◌<◌, ◌≤◌, ◌==◌, Bool, false, List, [], ◌∷◌, ◌++◌, Result, Ok, Err, ◌⊎◌}
+use Rattle.std.specs.Prelude.{◌≡◌, ◌≢◌, ℕ, ◌<◌, ◌==◌, Bool, false, List, [], ◌∷◌, ◌++◌, Result, Ok, Err, ◌⊎◌}
 use Rattle.oas_num.specs.declared.refusals.Why.{Why}
-use Rattle.oas_num.specs.declared.refusals.Why.TheVariants.{Magic, Truncated, IntegerRange, StringByte, Unit as UnitIsRefused, Version, OffsetFlag, OutOfPlace, InputTooLong, Read}
+use Rattle.oas_num.specs.declared.refusals.Why.TheVariants.{Magic, Truncated, Unit as UnitIsRefused, Version, OffsetFlag, OutOfPlace, InputTooLong, Read}
 use Rattle.oas_num.specs.declared.refusals.Refusal.{Refusal}
 use Rattle.oas_num.specs.declared.reals.Real.{Real}
 use Rattle.oas_num.specs.Ratio.{Ratio, IsLowest, Reduces}
-use Rattle.oas_num.specs.Grammar.{IsPair, IsSuch, IsImage}
+use Rattle.oas_num.specs.Grammar.{IsPair, IsSuch, IsImage, IsByte}
 use Rattle.oas_num.specs.Combinators.{IsExactly}
 use Rattle.oas_num.specs.Integers.{IsUnsigned}
 use Rattle.oas_num.specs.Style.{Style, Any, Shortest, unsigned_in}
 use Rattle.oas_num.specs.Texts.{IsLabelByte, IsText, label_in}
 use Rattle.oas_num.specs.Reals.{real_in, RealTook}
-use Rattle.oas_num.specs.Reading.{IsUnended, IsOutOfRange, IntegerMay, ClassMay, NoneWithin, IsCutOff, ReadsValue, Fails}
+use Rattle.oas_num.specs.Pieces.{PairTook, CountTook, SuchTook, Unless}
+use Rattle.oas_num.specs.Reading.{IntegerMay, ClassMay, ReadsValue, Fails, FailsPiece}
 use Rattle.oas_num.specs.Script.{Script, Takes}
 use Rattle.oas_record.specs.declared.heads.Head.{Head}
-use Rattle.oas_record.specs.Ends.{nothing, IsNumber, offsets_if}
+use Rattle.oas_record.specs.Ends.{nothing, IsNumber, offsets_if, OffsetsIfTook}
 
 -- %SEMI-OASIS, CR, LF
 abbrev pub magic : List ℕ
@@ -110,8 +111,8 @@ pub record IsOffMagic (bytes : List ℕ) : Type 0 where
   pub joined : bytes ≡ front ++ byte ∷ []
   pub other : byte ≢ wanted
 
--- The tables below say of each reason what the bytes are that decided: those with which what was read ends. What was read
--- before them begins a spelling.
+-- Of the magic the table says of each reason what the bytes are that decided: those with which what was read ends. What was
+-- read before them begins the magic.
 
 -- where a read of the magic may fail
 abbrev pub MagicMay : Why → List ℕ → Type 0
@@ -121,32 +122,36 @@ MagicMay Read last = last ≡ []
 MagicMay InputTooLong last = last ≡ []
 MagicMay _ last = ⊥
 
--- where a read of an a-string that isn't kept may fail
-abbrev pub PassedMay : Why → List ℕ → Type 0
-PassedMay Truncated last = IsUnended last
-PassedMay Read last = IsUnended last
-PassedMay InputTooLong last = IsUnended last
-PassedMay IntegerRange last = IsOutOfRange last
-PassedMay StringByte last = ClassMay IsLabelByte StringByte last
-PassedMay _ last = ⊥
+-- The tables below say of each reason what all bytes are that were taken.
 
--- Where a read of the version may fail. It is read as one a-string, even where its length or a byte has shown already that
--- it isn't 1.0: what decided is all of it so far.
-abbrev pub VersionMay : Why → List ℕ → Type 0
-VersionMay Version last = (text : List ℕ) × label_in Any text last × (text ≢ version)
-VersionMay why last = IsCutOff (label_in Any) (PassedMay why) last
+-- where in them a read of so many bytes of an a-string that aren't kept may fail
+abbrev pub PassedTook : ℕ → Why → List ℕ → Type 0
+PassedTook count = CountTook (IsSuch IsLabelByte IsByte) count (ClassMay IsLabelByte)
 
--- Where a read of the unit may fail. It is read as one real, even where its type has shown already that it is negative:
--- what decided is all of it so far, of which no front is a whole real.
-abbrev pub UnitMay : Why → List ℕ → Type 0
-UnitMay UnitIsRefused last = (real : Real) × real_in Any real last × ¬ IsPositiveReal real
-UnitMay why last = RealTook why last × NoneWithin (real_in Any) last
+-- where in it a read of the version may fail: in the a-string that stands for it, or this is another
+abbrev pub IsVersion : List ℕ → Type 0
+IsVersion text = text ≡ version
 
--- where a read of START may fail: one of its integers, the version or the unit
-abbrev pub StartMay : Why → List ℕ → Type 0
-StartMay OffsetFlag last = (flag : ℕ) × IsUnsigned flag last × (2 ≤ flag)
-StartMay (OutOfPlace id) last = IsUnsigned id last × (id ≢ 1)
-StartMay why last = IntegerMay why last ⊎ (VersionMay why last ⊎ UnitMay why last)
+abbrev pub VersionTook : Why → List ℕ → Type 0
+VersionTook = SuchTook (label_in Any) (PairTook IsUnsigned IntegerMay PassedTook) (Unless IsVersion Version)
+
+-- where in it a read of the unit may fail: in the real, or this isn't positive
+abbrev pub UnitTook : Why → List ℕ → Type 0
+UnitTook = SuchTook (real_in Any) RealTook (Unless IsPositiveReal UnitIsRefused)
+
+-- where in it a read of START may fail, part by part: its id, the version, the unit, the flag, the table-offsets
+abbrev pub IsOtherId : ℕ → Why → Type 0
+IsOtherId id why = (why ≡ OutOfPlace id) × (id ≢ 1)
+
+abbrev pub StartRestTook : Why → List ℕ → Type 0
+StartRestTook =
+    PairTook (version_in Any) VersionTook (λ _.
+    PairTook (unit_in Any) UnitTook (λ _.
+    PairTook (flag_in Any) (SuchTook IsUnsigned IntegerMay (Unless IsFlag OffsetFlag)) (λ flag.
+    OffsetsIfTook (flag == 0))))
+
+abbrev pub StartTook : Why → List ℕ → Type 0
+StartTook = PairTook (IsSuch (IsNumber 1) IsUnsigned) (SuchTook IsUnsigned IntegerMay IsOtherId) (λ _. StartRestTook)
 
 -- the magic is refused, at 0
 pub record RefusesMagic (old : Script) (refusal : Refusal) (new : Script) : Type 0 where
@@ -158,7 +163,7 @@ pub record RefusesStart (old : Script) (refusal : Refusal) (new : Script) : Type
   pub at : refusal.at ≡ 13
   pub mid : Script
   pub takes : Takes old magic mid
-  pub fails : Fails (start_in Any) StartMay mid refusal.why new
+  pub fails : FailsPiece (start_in Any) StartTook mid refusal.why new
 
 -- What a read of the front of a file does.
 abbrev pub ReadsHead : Script → Result Head Refusal → Script → Type 0

@@ -2,6 +2,10 @@
 use Rattle.std.specs.Prelude.{ℕ, ◌==◌, Bool, not, bit_and, List}
 use Rattle.oas_num.specs.Grammar.{IsSuch, IsByte}
 use Rattle.oas_num.specs.Style.{Style, Any, Shortest}
+use Rattle.oas_num.specs.declared.refusals.Why.{Why}
+use Rattle.oas_num.specs.declared.refusals.Why.TheVariants.{InfoByte}
+use Rattle.oas_num.specs.Reading.{ByteMay}
+use Rattle.oas_num.specs.Pieces.{SuchTook, Unless}
 
 -- the bit of that weight is set
 abbrev pub has : ℕ → ℕ → Bool
@@ -12,7 +16,6 @@ abbrev pub info_in : (ℕ → Type 0) → (ℕ → Type 0) → Style → ℕ →
 info_in allowed canonical Any = IsSuch allowed IsByte
 info_in allowed canonical Shortest = IsSuch (λ info. allowed info × canonical info) IsByte
 
--- what has no canonical spelling
-abbrev pub only_any : {V : Type 0} → Style → (V → List ℕ → Type 0) → V → List ℕ → Type 0
-only_any Any spells v bytes = spells v bytes
-only_any Shortest spells v bytes = ⊥
+-- where a read of an info byte may fail
+abbrev pub InfoTook : (ℕ → Type 0) → Why → List ℕ → Type 0
+InfoTook allowed = SuchTook IsByte ByteMay (Unless allowed InfoByte)

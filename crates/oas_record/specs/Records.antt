@@ -1,7 +1,8 @@
 -- How records are spelled, and lists of them.
-use Rattle.std.specs.Prelude.{◌≡◌, ◌≢◌, ℕ, ◌==◌, Bool, true, false, List, [], length, Option, Some, None}
-use Rattle.oas_num.specs.Grammar.{IsPair, IsSuch, IsImage, IsEach}
-use Rattle.oas_num.specs.Combinators.{IsExactly, IsNever, IsEither, IsKeyed}
+use Rattle.std.proofs.Common.{◌≡◌, ◌≢◌, ℕ, Bool, true, false, List, [], length, Option, Some, None, refl}
+use Rattle.std.specs.Prelude.{◌==◌}
+use Rattle.oas_num.specs.Grammar.{IsPair, IsSuch, IsEach}
+use Rattle.oas_num.specs.Combinators.{IsKeyed}
 use Rattle.oas_num.specs.Style.{Style, unsigned_in}
 use Rattle.oas_record.specs.declared.records.Record.{Record}
 use Rattle.oas_record.specs.declared.records.Record.TheVariants as record_of
@@ -14,16 +15,16 @@ use Rattle.oas_record.specs.declared.rectangles.Rectangle.{Rectangle}
 use Rattle.oas_record.specs.declared.polygons.Polygon.{Polygon}
 use Rattle.oas_record.specs.declared.paths.Path.{Path}
 use Rattle.oas_record.specs.declared.circles.Circle.{Circle}
-use Rattle.oas_record.specs.Info.{only_any}
-use Rattle.oas_record.specs.References.{cell_in}
-use Rattle.oas_record.specs.NameRecords.{cell_name_in, text_string_in}
-use Rattle.oas_record.specs.Ends.{end_in}
-use Rattle.oas_record.specs.Placements.{quarters_in, degrees_in}
-use Rattle.oas_record.specs.Texts.{text_record_in}
-use Rattle.oas_record.specs.Rectangles.{rectangle_in}
-use Rattle.oas_record.specs.Polygons.{polygon_in}
-use Rattle.oas_record.specs.Paths.{path_in}
-use Rattle.oas_record.specs.Circles.{circle_in}
+use Rattle.oas_record.specs.Kinds.{Choice, exactly, image, image_any, by_number, no_other, chosen_in}
+use Rattle.oas_record.specs.References.{cell_kind}
+use Rattle.oas_record.specs.NameRecords.{cell_name_kind, text_string_kind}
+use Rattle.oas_record.specs.Ends.{end_kind}
+use Rattle.oas_record.specs.Placements.{quarters_kind, degrees_kind}
+use Rattle.oas_record.specs.Texts.{text_kind}
+use Rattle.oas_record.specs.Rectangles.{rectangle_kind}
+use Rattle.oas_record.specs.Polygons.{polygon_kind}
+use Rattle.oas_record.specs.Paths.{path_kind}
+use Rattle.oas_record.specs.Circles.{circle_kind}
 
 -- the id of a record
 abbrev pub id_of : Record → ℕ
@@ -89,27 +90,59 @@ path p = record_of.Path p
 abbrev pub circle : Circle → Record
 circle p = record_of.Circle p
 
+-- what a record of a kind holds
+abbrev a_cell_back : Record → CellRef
+a_cell_back (record_of.Cell v) = v
+a_cell_back _ = cell.Number 0
+
+abbrev placement_back : Record → Placement
+placement_back (record_of.Placement v) = v
+placement_back _ = record { cell = None; turn = Quarters 0; flip = false; spot = (record { x = None; y = None; repetition = None }) }
+
+abbrev text_back : Record → Text
+text_back (record_of.Text v) = v
+text_back _ = record { string = None; textlayer = None; texttype = None; spot = (record { x = None; y = None; repetition = None }) }
+
+abbrev rectangle_back : Record → Rectangle
+rectangle_back (record_of.Rectangle v) = v
+rectangle_back _ = record { square = false; layer = None; datatype = None; width = None; height = None; spot = (record { x = None; y = None; repetition = None }) }
+
+abbrev polygon_back : Record → Polygon
+polygon_back (record_of.Polygon v) = v
+polygon_back _ = record { layer = None; datatype = None; points = None; spot = (record { x = None; y = None; repetition = None }) }
+
+abbrev path_back : Record → Path
+path_back (record_of.Path v) = v
+path_back _ = record { layer = None; datatype = None; half_width = None; extensions = None; points = None; spot = (record { x = None; y = None; repetition = None }) }
+
+abbrev circle_back : Record → Circle
+circle_back (record_of.Circle v) = v
+circle_back _ = record { layer = None; datatype = None; radius = None; spot = (record { x = None; y = None; repetition = None }) }
+
 -- what follows an id
+abbrev pub after : Bool → ℕ → Choice Record
+after in_end id =
+    by_number (id == 0) (image_any pad (exactly []))
+    (by_number (id == 2) (image end (λ _. tt) (end_kind in_end) (λ u bytes p. refl))
+    (by_number (id == 3) (image_any cell_name (cell_name_kind false))
+    (by_number (id == 4) (image_any cell_name (cell_name_kind true))
+    (by_number (id == 5) (image_any text_string (text_string_kind false))
+    (by_number (id == 6) (image_any text_string (text_string_kind true))
+    (by_number (id == 13) (image_any a_cell (cell_kind true))
+    (by_number (id == 14) (image a_cell a_cell_back (cell_kind false) (λ u bytes p. refl))
+    (by_number (id == 15) (image_any xy_absolute (exactly []))
+    (by_number (id == 16) (image_any xy_relative (exactly []))
+    (by_number (id == 17) (image placement placement_back quarters_kind (λ u bytes p. refl))
+    (by_number (id == 18) (image placement placement_back degrees_kind (λ u bytes p. refl))
+    (by_number (id == 19) (image text text_back text_kind (λ u bytes p. refl))
+    (by_number (id == 20) (image rectangle rectangle_back rectangle_kind (λ u bytes p. refl))
+    (by_number (id == 21) (image polygon polygon_back polygon_kind (λ u bytes p. refl))
+    (by_number (id == 22) (image path path_back path_kind (λ u bytes p. refl))
+    (by_number (id == 27) (image circle circle_back circle_kind (λ u bytes p. refl))
+    no_other))))))))))))))))
+
 abbrev pub after_id : Style → Bool → ℕ → Record → List ℕ → Type 0
-after_id style in_end id =
-    IsEither (id == 0) (only_any style (IsImage pad (IsExactly [])))
-    (IsEither (id == 2) (IsImage end (end_in style in_end))
-    (IsEither (id == 3) (only_any style (IsImage cell_name (cell_name_in style false)))
-    (IsEither (id == 4) (only_any style (IsImage cell_name (cell_name_in style true)))
-    (IsEither (id == 5) (only_any style (IsImage text_string (text_string_in style false)))
-    (IsEither (id == 6) (only_any style (IsImage text_string (text_string_in style true)))
-    (IsEither (id == 13) (only_any style (IsImage a_cell (cell_in style true)))
-    (IsEither (id == 14) (IsImage a_cell (cell_in style false))
-    (IsEither (id == 15) (only_any style (IsImage xy_absolute (IsExactly [])))
-    (IsEither (id == 16) (only_any style (IsImage xy_relative (IsExactly [])))
-    (IsEither (id == 17) (IsImage placement (quarters_in style))
-    (IsEither (id == 18) (IsImage placement (degrees_in style))
-    (IsEither (id == 19) (IsImage text (text_record_in style))
-    (IsEither (id == 20) (IsImage rectangle (rectangle_in style))
-    (IsEither (id == 21) (IsImage polygon (polygon_in style))
-    (IsEither (id == 22) (IsImage path (path_in style))
-    (IsEither (id == 27) (IsImage circle (circle_in style))
-    IsNever))))))))))))))))
+after_id style in_end id = chosen_in style (after in_end id)
 
 -- an id, and what follows it
 abbrev pub parts_in : Style → Bool → Record → List ℕ → Type 0

@@ -1,8 +1,7 @@
 ghost use Rattle.std.specs.Prelude.{◌↔◌, IsTrue};
-ghost use Rattle.oas_num.specs.Reading.{Reads};
+ghost use Rattle.oas_num.specs.Reading.{ReadsPiece};
 ghost use Rattle.oas_num.specs.Style.{Any};
-ghost use Rattle.oas_record.specs.Circles.{IsCircleInfo, circle_in};
-ghost use Rattle.oas_record.specs.May.{FieldMay};
+ghost use Rattle.oas_record.specs.Circles.{IsCircleInfo, circle_in, CircleTook};
 
 use crate::spots::{Spot, read_layers, read_spot};
 use oas_num::{Source, Why, next_byte, read_unsigned_if};
@@ -29,7 +28,7 @@ fn is_circle_info(info: u8) -> bool
 impl Circle {
     /// What follows the id.
     pub(crate) fn read<S: Source>(alloc: Global, source: &mut S) -> Result<Circle, Why>
-        ensures { Reads (circle_in Any) FieldMay (S.script source.old) result (S.script source.new) }
+        ensures { ReadsPiece (circle_in Any) CircleTook (S.script source.old) result (S.script source.new) }
     {
         let info = next_byte(source)?;
         if !is_circle_info(info) {

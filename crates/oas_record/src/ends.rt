@@ -1,8 +1,6 @@
-ghost use Rattle.oas_num.specs.Reading.{Reads};
+ghost use Rattle.oas_num.specs.Reading.{ReadsPiece};
 ghost use Rattle.oas_num.specs.Style.{Any};
-ghost use Rattle.oas_record.specs.Ends.{end_in, offsets_if};
-ghost use Rattle.oas_num.specs.Reading.{IntegerMay};
-ghost use Rattle.oas_record.specs.May.{EndMay};
+ghost use Rattle.oas_record.specs.Ends.{end_in, EndTook, offsets_if, OffsetsIfTook};
 
 use crate::passing::pass_offsets;
 use oas_num::{Padding, Source, Spelled, Why, read_unsigned};
@@ -10,7 +8,7 @@ use std::alloc::Global;
 
 /// Table-offsets, where they are there.
 pub(crate) fn pass_offsets_if<S: Source>(there: bool, source: &mut S) -> Result<(), Why>
-    ensures { Reads (offsets_if there) IntegerMay (S.script source.old) result (S.script source.new) }
+    ensures { ReadsPiece (offsets_if there) (OffsetsIfTook there) (S.script source.old) result (S.script source.new) }
 {
     if there {
         pass_offsets(source)?;
@@ -21,7 +19,7 @@ pub(crate) fn pass_offsets_if<S: Source>(there: bool, source: &mut S) -> Result<
 /// What follows END's id (SEMI P39, END record): table-offsets where START says so, padding, and validation-scheme 0. That
 /// END is 256 bytes, its id included, is for the caller to see.
 pub(crate) fn read_end<S: Source>(alloc: Global, in_end: bool, source: &mut S) -> Result<(), Why>
-    ensures { Reads (end_in Any in_end) EndMay (S.script source.old) result (S.script source.new) }
+    ensures { ReadsPiece (end_in Any in_end) (EndTook in_end) (S.script source.old) result (S.script source.new) }
 {
     pass_offsets_if(in_end, source)?;
     Padding::read(alloc, source)?;

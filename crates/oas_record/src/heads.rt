@@ -1,6 +1,6 @@
-ghost use Rattle.oas_num.specs.Reading.{Reads};
+ghost use Rattle.oas_num.specs.Reading.{Reads, ReadsPiece};
 ghost use Rattle.oas_num.specs.Style.{Any};
-ghost use Rattle.oas_record.specs.Heads.{IsMagic, MagicMay, version_in, VersionMay, unit_in, UnitMay, start_in, StartMay, ReadsHead};
+ghost use Rattle.oas_record.specs.Heads.{IsMagic, MagicMay, version_in, VersionTook, unit_in, UnitTook, start_in, StartTook, ReadsHead};
 
 use crate::ends::pass_offsets_if;
 use crate::passing::pass_label;
@@ -41,7 +41,7 @@ fn read_magic<S: Source>(source: &mut S) -> Result<(), Why>
 
 /// The version, an a-string that has to be `1.0`. It is compared as it is read, so no memory is taken.
 fn read_version<S: Source>(source: &mut S) -> Result<(), Why>
-    ensures { Reads (version_in Any) VersionMay (S.script source.old) result (S.script source.new) }
+    ensures { ReadsPiece (version_in Any) VersionTook (S.script source.old) result (S.script source.new) }
 {
     let length = read_unsigned(source)?;
     if length != 3 {
@@ -59,7 +59,7 @@ fn read_version<S: Source>(source: &mut S) -> Result<(), Why>
 
 /// The unit, a positive real, in lowest terms.
 fn read_unit<S: Source>(alloc: Global, source: &mut S) -> Result<Fraction, Why>
-    ensures { Reads (unit_in Any) UnitMay (S.script source.old) result (S.script source.new) }
+    ensures { ReadsPiece (unit_in Any) UnitTook (S.script source.old) result (S.script source.new) }
 {
     let real = Real::read(alloc, source)?;
     if real.negative {
@@ -73,7 +73,7 @@ fn read_unit<S: Source>(alloc: Global, source: &mut S) -> Result<Fraction, Why>
 
 /// START (SEMI P39, START record): its id, the version, the unit, the offset-flag, and table-offsets where the flag is 0.
 fn read_start<S: Source>(alloc: Global, source: &mut S) -> Result<Head, Why>
-    ensures { Reads (start_in Any) StartMay (S.script source.old) result (S.script source.new) }
+    ensures { ReadsPiece (start_in Any) StartTook (S.script source.old) result (S.script source.new) }
 {
     let id = read_unsigned(source)?;
     if id != 1 {

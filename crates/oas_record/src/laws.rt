@@ -1,12 +1,16 @@
 //! The laws of the grammar: each function's contract is one, and its body is empty.
-ghost use Rattle.std.specs.Prelude.{◌≡◌, Bool, List, ℕ};
+ghost use Rattle.std.specs.Prelude.{◌≡◌, ◌≢◌, ◌++◌, ◌∷◌, [], Bool, List, ℕ};
 ghost use Rattle.oas_num.specs.Grammar.{OneFront};
 ghost use Rattle.oas_num.specs.Begun.{HasSome};
 ghost use Rattle.oas_num.specs.Combinators.{OneSpelling, IsWithin};
 ghost use Rattle.oas_num.specs.Style.{Style, Any, Shortest};
-ghost use Rattle.oas_record.specs.Heads.{head_in};
-ghost use Rattle.oas_record.specs.Records.{after_id, record_in, records_in};
-ghost use Rattle.oas_record.specs.May.{IsKnown};
+ghost use Rattle.oas_num.specs.Integers.{IsUnsigned};
+ghost use Rattle.oas_num.specs.declared.refusals.Why.{Why};
+ghost use Rattle.oas_num.specs.declared.refusals.Why.TheVariants as why;
+ghost use Rattle.oas_record.specs.Circles.{IsCircleInfo};
+ghost use Rattle.oas_record.specs.Heads.{head_in, StartTook};
+ghost use Rattle.oas_record.specs.Records.{record_in, records_in};
+ghost use Rattle.oas_record.specs.Refusals.{HasRecord, IsKnown, IsRefusedId, RecordTook};
 ghost use Rattle.oas_record.specs.declared.records.Record.{Record};
 
 /// The front of a file. In the shortest style the unit is in lowest terms, the flag and the table-offsets are zeros (own
@@ -19,12 +23,13 @@ pub fn heads()
 {}
 
 /// Records: none begins another. In the shortest style there are CELL by name, elements with all their fields and no
-/// repetition, and END with zeros in its padding (own rule). After each id of the profile some fields may stand.
+/// repetition, and END with zeros in its padding (own rule). Of each id of the profile there is a record, and END
+/// is 256 bytes wherever the table-offsets stand.
 pub fn records()
     ensures front { (style : Style) (in_end : Bool) → OneFront (record_in style in_end) }
     ensures one { (in_end : Bool) → OneSpelling (record_in Shortest in_end) }
     ensures within { (in_end : Bool) → IsWithin (record_in Shortest in_end) (record_in Any in_end) }
-    ensures some { (in_end : Bool) (id : ℕ) → IsKnown id → HasSome (after_id Any in_end id) }
+    ensures some { (in_end : Bool) (id : ℕ) → IsKnown id → HasRecord in_end id }
 {}
 
 /// What follows START: records and END. No such bytes begin others, and in the shortest style a list has one spelling.
@@ -37,4 +42,12 @@ pub fn lists()
 /// One byte list has at most one list of records.
 pub fn one_list()
     ensures { (style : Style) (in_end : Bool) (rs ss : List Record) (r s : Record) (bytes : List ℕ) → records_in style in_end (rs, r) bytes → records_in style in_end (ss, s) bytes → (rs ≡ ss) × (r ≡ s) }
+{}
+
+/// Bytes leave one reason: a first id that isn't START's, an id that no record has, and an info byte that its kind
+/// doesn't allow are refused as such.
+pub fn reasons()
+    ensures first { (id : ℕ) (bytes : List ℕ) (reason : Why) → IsUnsigned id bytes → id ≢ 1 → StartTook reason bytes → reason ≡ why.OutOfPlace id }
+    ensures ids { (in_end : Bool) (id : ℕ) (bytes : List ℕ) (reason : Why) → IsUnsigned id bytes → ¬ IsKnown id → RecordTook in_end reason bytes → IsRefusedId id reason }
+    ensures circles { (in_end : Bool) (id : List ℕ) (info : ℕ) (reason : Why) → IsUnsigned 27 id → ¬ IsCircleInfo info → RecordTook in_end reason (id ++ info ∷ []) → reason ≡ why.InfoByte }
 {}

@@ -3,12 +3,13 @@
 //! What this crate promises to the crates above it:
 //!
 //! - [`read_head`] takes exactly a spelling of the front of a file: the magic and START. The contract is `ReadsHead`
-//!   (specs/Heads.antt): a refusal has place 0 for the magic, and 13 for START, with its reason and the reason's condition on
-//!   the bytes that decided.
+//!   (specs/Heads.antt): a refusal has place 0 for the magic, and 13 for START. For START all bytes that were taken are told
+//!   part by part (`StartTook`): what stands before the part that goes wrong is whole, and that part has its own table.
 //! - [`Record::read`] takes exactly a spelling of the record that it answers, or refuses at the record's first byte. The
-//!   contract is `ReadsAt` (specs/May.antt) over `record_in` (specs/Records.antt) and the table `RecordMay`: by a reason of
-//!   format only where no record's spelling is a front of the bytes that stand there, and each reason with its condition on
-//!   the bytes that decided. What was read before those begins a record.
+//!   contract is `ReadsAt` (specs/May.antt) over `record_in` (specs/Records.antt) and the table `RecordTook`, of all bytes that
+//!   were taken: the id goes wrong, or an id stands and what follows this id does, by its info byte and field by field. By a
+//!   reason of format only where no record's spelling is a front of the bytes that stand there.
+//! - Of an id that no record has, and of a circle's info byte, the tables leave one reason ([`laws::reasons`]).
 //! - One byte list has at most one list of records, and no record's spelling begins another's ([`laws`]).
 //! - The grammar is written over a `Style`: any spelling that the standard has, or the canonical one, in which each record
 //!   has one. A canonical record gives all its fields, and no repetition.

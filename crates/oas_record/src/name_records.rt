@@ -1,7 +1,6 @@
-ghost use Rattle.oas_num.specs.Reading.{Reads};
+ghost use Rattle.oas_num.specs.Reading.{ReadsPiece};
 ghost use Rattle.oas_num.specs.Style.{Any};
-ghost use Rattle.oas_record.specs.NameRecords.{cell_name_in, text_string_in};
-ghost use Rattle.oas_record.specs.May.{FieldMay};
+ghost use Rattle.oas_record.specs.NameRecords.{cell_name_in, CellNameTook, text_string_in, TextStringTook};
 
 use oas_num::{Label, Name, Source, Spelled, Why, read_unsigned_if};
 use std::alloc::Global;
@@ -12,7 +11,7 @@ pub(crate) fn read_cell_name<S: Source>(
     numbered: bool,
     source: &mut S,
 ) -> Result<(Name, Option<u64>), Why>
-    ensures { Reads (cell_name_in Any numbered) FieldMay (S.script source.old) result (S.script source.new) }
+    ensures { ReadsPiece (cell_name_in Any numbered) (CellNameTook numbered) (S.script source.old) result (S.script source.new) }
 {
     let name = Name::read(alloc, source)?;
     let number = read_unsigned_if(numbered, source)?;
@@ -25,7 +24,7 @@ pub(crate) fn read_text_string<S: Source>(
     numbered: bool,
     source: &mut S,
 ) -> Result<(Label, Option<u64>), Why>
-    ensures { Reads (text_string_in Any numbered) FieldMay (S.script source.old) result (S.script source.new) }
+    ensures { ReadsPiece (text_string_in Any numbered) (TextStringTook numbered) (S.script source.old) result (S.script source.new) }
 {
     let label = Label::read(alloc, source)?;
     let number = read_unsigned_if(numbered, source)?;

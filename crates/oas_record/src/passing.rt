@@ -1,13 +1,12 @@
-ghost use Rattle.oas_num.specs.Reading.{Reads, IntegerMay, ClassMay};
-ghost use Rattle.oas_record.specs.Ends.{IsOffsets};
-ghost use Rattle.oas_record.specs.Heads.{IsPassedLabel};
-ghost use Rattle.oas_num.specs.Texts.{IsLabelByte};
+ghost use Rattle.oas_num.specs.Reading.{ReadsPiece};
+ghost use Rattle.oas_record.specs.Ends.{IsOffsets, OffsetsTook};
+ghost use Rattle.oas_record.specs.Heads.{IsPassedLabel, PassedTook};
 
 use oas_num::{Source, TextClass, Why, next_within, read_unsigned};
 
 /// Table-offsets (SEMI P39, START and END records): six pairs of a flag and an offset. They are read and not used (own rule).
 pub(crate) fn pass_offsets<S: Source>(source: &mut S) -> Result<(), Why>
-    ensures { Reads IsOffsets IntegerMay (S.script source.old) result (S.script source.new) }
+    ensures { ReadsPiece IsOffsets OffsetsTook (S.script source.old) result (S.script source.new) }
 {
     for _ in 0..12u8 {
         read_unsigned(source)?;
@@ -17,7 +16,7 @@ pub(crate) fn pass_offsets<S: Source>(source: &mut S) -> Result<(), Why>
 
 /// So many bytes of an a-string, which are not kept.
 pub(crate) fn pass_label<S: Source>(count: u64, source: &mut S) -> Result<(), Why>
-    ensures { Reads (IsPassedLabel count) (ClassMay IsLabelByte) (S.script source.old) result (S.script source.new) }
+    ensures { ReadsPiece (IsPassedLabel count) (PassedTook count) (S.script source.old) result (S.script source.new) }
 {
     for _ in 0..count {
         next_within(TextClass::Label, source)?;

@@ -1,9 +1,9 @@
 ghost use Rattle.std.specs.Prelude.{◌≡◌};
 ghost use Rattle.oas_num.specs.Grammar.{IsThere};
-ghost use Rattle.oas_num.specs.Reading.{Reads};
+ghost use Rattle.oas_num.specs.Reading.{ReadsPiece};
+ghost use Rattle.oas_num.specs.Pieces.{ThereTook};
 ghost use Rattle.oas_num.specs.Style.{Any};
-ghost use Rattle.oas_record.specs.Paths.{extension_of, extensions_in, path_in};
-ghost use Rattle.oas_record.specs.May.{FieldMay};
+ghost use Rattle.oas_record.specs.Paths.{extension_of, extensions_in, ExtensionsTook, path_in, PathTook};
 
 use crate::polygons::read_points_if;
 use crate::spots::{Spot, read_layers, read_spot};
@@ -50,7 +50,7 @@ pub struct Extensions {
 impl Extensions {
     /// The extension-scheme, `0000SSEE`, and the numbers that it asks for, the start's before the end's.
     fn read<S: Source>(source: &mut S) -> Result<Extensions, Why>
-        ensures { Reads (extensions_in Any) FieldMay (S.script source.old) result (S.script source.new) }
+        ensures { ReadsPiece (extensions_in Any) ExtensionsTook (S.script source.old) result (S.script source.new) }
     {
         let scheme = read_unsigned(source)?;
         if scheme >= 16 {
@@ -67,7 +67,7 @@ impl Extensions {
 
 /// Both extensions, where they are given.
 fn read_extensions_if<S: Source>(there: bool, source: &mut S) -> Result<Option<Extensions>, Why>
-    ensures { Reads (IsThere there (extensions_in Any)) FieldMay (S.script source.old) result (S.script source.new) }
+    ensures { ReadsPiece (IsThere there (extensions_in Any)) (ThereTook there ExtensionsTook) (S.script source.old) result (S.script source.new) }
 {
     if there {
         Ok(Some(Extensions::read(source)?))
@@ -92,7 +92,7 @@ pub struct Path {
 impl Path {
     /// What follows the id.
     pub(crate) fn read<S: Source>(alloc: Global, source: &mut S) -> Result<Path, Why>
-        ensures { Reads (path_in Any) FieldMay (S.script source.old) result (S.script source.new) }
+        ensures { ReadsPiece (path_in Any) PathTook (S.script source.old) result (S.script source.new) }
     {
         let info = next_byte(source)?;
         let layers = read_layers(info, source)?;

@@ -1,7 +1,6 @@
-ghost use Rattle.oas_num.specs.Reading.{Reads};
+ghost use Rattle.oas_num.specs.Reading.{ReadsPiece};
 ghost use Rattle.oas_num.specs.Style.{Any};
-ghost use Rattle.oas_record.specs.Placements.{quarters_in, degrees_in};
-ghost use Rattle.oas_record.specs.May.{FieldMay};
+ghost use Rattle.oas_record.specs.Placements.{quarters_in, QuarterTook, degrees_in, DegreeTook};
 
 use crate::references::{CellRef, read_cell_if};
 use crate::spots::{Spot, read_spot};
@@ -35,7 +34,7 @@ pub struct Placement {
 impl Placement {
     /// What follows the id 17.
     pub(crate) fn read_quarters<S: Source>(alloc: Global, source: &mut S) -> Result<Placement, Why>
-        ensures { Reads (quarters_in Any) FieldMay (S.script source.old) result (S.script source.new) }
+        ensures { ReadsPiece (quarters_in Any) QuarterTook (S.script source.old) result (S.script source.new) }
     {
         let info = next_byte(source)?;
         let cell = read_cell_if(alloc, info & 128 != 0, info & 64 != 0, source)?;
@@ -50,7 +49,7 @@ impl Placement {
 
     /// What follows the id 18.
     pub(crate) fn read_degrees<S: Source>(alloc: Global, source: &mut S) -> Result<Placement, Why>
-        ensures { Reads (degrees_in Any) FieldMay (S.script source.old) result (S.script source.new) }
+        ensures { ReadsPiece (degrees_in Any) DegreeTook (S.script source.old) result (S.script source.new) }
     {
         let info = next_byte(source)?;
         let cell = read_cell_if(alloc, info & 128 != 0, info & 64 != 0, source)?;

@@ -1,9 +1,9 @@
 ghost use Rattle.std.specs.Prelude.{◌↔◌, IsTrue};
 ghost use Rattle.oas_num.specs.Grammar.{IsThere};
-ghost use Rattle.oas_num.specs.Reading.{Reads};
+ghost use Rattle.oas_num.specs.Reading.{ReadsPiece};
 ghost use Rattle.oas_num.specs.Style.{Any};
-ghost use Rattle.oas_record.specs.Polygons.{IsPolygonInfo, polygon_in};
-ghost use Rattle.oas_record.specs.May.{FieldMay};
+ghost use Rattle.oas_record.specs.Fields.{PointsTook};
+ghost use Rattle.oas_record.specs.Polygons.{IsPolygonInfo, polygon_in, PolygonTook};
 ghost use Rattle.oas_shape.specs.PointLists.{point_list_in};
 
 use crate::spots::{Spot, read_layers, read_spot};
@@ -28,7 +28,7 @@ pub(crate) fn read_points_if<S: Source>(
     list_use: ListUse,
     source: &mut S,
 ) -> Result<Option<PointList>, Why>
-    ensures { Reads (IsThere there (point_list_in Any list_use)) FieldMay (S.script source.old) result (S.script source.new) }
+    ensures { ReadsPiece (IsThere there (point_list_in Any list_use)) (PointsTook there list_use) (S.script source.old) result (S.script source.new) }
 {
     if there {
         Ok(Some(PointList::read(alloc, source, list_use)?))
@@ -47,7 +47,7 @@ fn is_polygon_info(info: u8) -> bool
 impl Polygon {
     /// What follows the id.
     pub(crate) fn read<S: Source>(alloc: Global, source: &mut S) -> Result<Polygon, Why>
-        ensures { Reads (polygon_in Any) FieldMay (S.script source.old) result (S.script source.new) }
+        ensures { ReadsPiece (polygon_in Any) PolygonTook (S.script source.old) result (S.script source.new) }
     {
         let info = next_byte(source)?;
         if !is_polygon_info(info) {

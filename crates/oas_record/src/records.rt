@@ -1,7 +1,7 @@
 ghost use Rattle.std.specs.Prelude.{◌≡◌, ◌≢◌, ◌<◌, ◌≤◌, ℕ, Bool};
-ghost use Rattle.oas_num.specs.Reading.{Reads};
+ghost use Rattle.oas_num.specs.Reading.{ReadsPiece};
 ghost use Rattle.oas_num.specs.Style.{Any};
-ghost use Rattle.oas_record.specs.May.{FieldMay, RecordMay, ReadsAt, IsKnown, RefusesId};
+ghost use Rattle.oas_record.specs.Refusals.{AfterTook, RecordTook, ReadsAt, IsKnown, RefusesId};
 
 use crate::circles::Circle;
 use crate::ends::read_end;
@@ -80,7 +80,7 @@ impl Record {
         source: &mut S,
         flag_in_end: bool,
     ) -> Result<Record, Refusal>
-        ensures { ReadsAt (record_in Any flag_in_end) (RecordMay flag_in_end) (S.script source.old) result (S.script source.new) }
+        ensures { ReadsAt (record_in Any flag_in_end) (RecordTook flag_in_end) (S.script source.old) result (S.script source.new) }
     {
         let at = source.at();
         match Record::read_whole(alloc, flag_in_end, source) {
@@ -98,7 +98,7 @@ impl Record {
 
     /// A record: an id, and what follows it. END has to be 256 bytes, its id included.
     fn read_whole<S: Source>(alloc: Global, in_end: bool, source: &mut S) -> Result<Record, Why>
-        ensures { Reads (record_in Any in_end) (RecordMay in_end) (S.script source.old) result (S.script source.new) }
+        ensures { ReadsPiece (record_in Any in_end) (RecordTook in_end) (S.script source.old) result (S.script source.new) }
     {
         let start = source.at();
         let id = read_unsigned(source)?;
@@ -125,7 +125,7 @@ impl Record {
         requires known { IsKnown id }
         requires inner { id ≢ 2 }
         requires below { id ≤ 16 }
-        ensures { (in_end : Bool) → Reads (after_id Any in_end id) FieldMay (S.script source.old) result (S.script source.new) }
+        ensures { (in_end : Bool) → ReadsPiece (after_id Any in_end id) (AfterTook in_end id) (S.script source.old) result (S.script source.new) }
     {
         if id == 0 {
             return Ok(Record::Pad);
@@ -152,7 +152,7 @@ impl Record {
     fn read_element<S: Source>(alloc: Global, id: u64, source: &mut S) -> Result<Record, Why>
         requires known { IsKnown id }
         requires above { 16 < id }
-        ensures { (in_end : Bool) → Reads (after_id Any in_end id) FieldMay (S.script source.old) result (S.script source.new) }
+        ensures { (in_end : Bool) → ReadsPiece (after_id Any in_end id) (AfterTook in_end id) (S.script source.old) result (S.script source.new) }
     {
         if id == 17 {
             let quarters = Placement::read_quarters(alloc, source)?;

@@ -1,8 +1,7 @@
 ghost use Rattle.std.specs.Prelude.{◌↔◌, IsTrue};
-ghost use Rattle.oas_num.specs.Reading.{Reads};
+ghost use Rattle.oas_num.specs.Reading.{ReadsPiece};
 ghost use Rattle.oas_num.specs.Style.{Any};
-ghost use Rattle.oas_record.specs.Rectangles.{IsRectangleInfo, rectangle_in};
-ghost use Rattle.oas_record.specs.May.{FieldMay};
+ghost use Rattle.oas_record.specs.Rectangles.{IsRectangleInfo, rectangle_in, RectangleTook};
 
 use crate::spots::{Spot, read_layers, read_spot};
 use oas_num::{Source, Why, next_byte, read_unsigned_if};
@@ -33,7 +32,7 @@ fn is_rectangle_info(info: u8) -> bool
 impl Rectangle {
     /// What follows the id.
     pub(crate) fn read<S: Source>(alloc: Global, source: &mut S) -> Result<Rectangle, Why>
-        ensures { Reads (rectangle_in Any) FieldMay (S.script source.old) result (S.script source.new) }
+        ensures { ReadsPiece (rectangle_in Any) RectangleTook (S.script source.old) result (S.script source.new) }
     {
         let info = next_byte(source)?;
         if !is_rectangle_info(info) {

@@ -1,8 +1,8 @@
 ghost use Rattle.oas_num.specs.Grammar.{IsThere};
-ghost use Rattle.oas_num.specs.Reading.{Reads};
+ghost use Rattle.oas_num.specs.Reading.{ReadsPiece};
+ghost use Rattle.oas_num.specs.Pieces.{ThereTook};
 ghost use Rattle.oas_num.specs.Style.{Any};
-ghost use Rattle.oas_record.specs.References.{cell_in, text_in};
-ghost use Rattle.oas_record.specs.May.{FieldMay};
+ghost use Rattle.oas_record.specs.References.{cell_in, CellTook, text_in, TextRefTook};
 
 use oas_num::{Label, Name, Source, Spelled, Why, read_unsigned};
 use std::alloc::Global;
@@ -27,7 +27,7 @@ pub(crate) fn read_cell<S: Source>(
     numbered: bool,
     source: &mut S,
 ) -> Result<CellRef, Why>
-    ensures { Reads (cell_in Any numbered) FieldMay (S.script source.old) result (S.script source.new) }
+    ensures { ReadsPiece (cell_in Any numbered) (CellTook numbered) (S.script source.old) result (S.script source.new) }
 {
     if numbered {
         Ok(CellRef::Number(read_unsigned(source)?))
@@ -43,7 +43,7 @@ pub(crate) fn read_cell_if<S: Source>(
     numbered: bool,
     source: &mut S,
 ) -> Result<Option<CellRef>, Why>
-    ensures { Reads (IsThere there (cell_in Any numbered)) FieldMay (S.script source.old) result (S.script source.new) }
+    ensures { ReadsPiece (IsThere there (cell_in Any numbered)) (ThereTook there (CellTook numbered)) (S.script source.old) result (S.script source.new) }
 {
     if there {
         Ok(Some(read_cell(alloc, numbered, source)?))
@@ -54,7 +54,7 @@ pub(crate) fn read_cell_if<S: Source>(
 
 /// A text string: a number or the string.
 fn read_text<S: Source>(alloc: Global, numbered: bool, source: &mut S) -> Result<TextRef, Why>
-    ensures { Reads (text_in Any numbered) FieldMay (S.script source.old) result (S.script source.new) }
+    ensures { ReadsPiece (text_in Any numbered) (TextRefTook numbered) (S.script source.old) result (S.script source.new) }
 {
     if numbered {
         Ok(TextRef::Number(read_unsigned(source)?))
@@ -70,7 +70,7 @@ pub(crate) fn read_text_if<S: Source>(
     numbered: bool,
     source: &mut S,
 ) -> Result<Option<TextRef>, Why>
-    ensures { Reads (IsThere there (text_in Any numbered)) FieldMay (S.script source.old) result (S.script source.new) }
+    ensures { ReadsPiece (IsThere there (text_in Any numbered)) (ThereTook there (TextRefTook numbered)) (S.script source.old) result (S.script source.new) }
 {
     if there {
         Ok(Some(read_text(alloc, numbered, source)?))

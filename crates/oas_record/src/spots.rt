@@ -1,8 +1,7 @@
 ghost use Rattle.oas_num.specs.Grammar.{IsThere};
-ghost use Rattle.oas_num.specs.Reading.{Reads};
+ghost use Rattle.oas_num.specs.Reading.{ReadsPiece};
 ghost use Rattle.oas_num.specs.Style.{Any};
-ghost use Rattle.oas_record.specs.Fields.{layers_in, spot_in};
-ghost use Rattle.oas_record.specs.May.{FieldMay};
+ghost use Rattle.oas_record.specs.Fields.{layers_in, LayersTook, RepetitionTook, spot_in, SpotTook};
 ghost use Rattle.oas_shape.specs.Repetitions.{rep_field_in};
 
 use oas_num::{Source, Why, read_signed_if, read_unsigned_if};
@@ -26,7 +25,7 @@ pub(crate) fn read_layers<S: Source>(
     info: u8,
     source: &mut S,
 ) -> Result<(Option<u64>, Option<u64>), Why>
-    ensures { Reads (layers_in Any info) FieldMay (S.script source.old) result (S.script source.new) }
+    ensures { ReadsPiece (layers_in Any info) (LayersTook info) (S.script source.old) result (S.script source.new) }
 {
     let layer = read_unsigned_if(info & 1 != 0, source)?;
     let datatype = read_unsigned_if(info & 2 != 0, source)?;
@@ -39,7 +38,7 @@ fn read_repetition_if<S: Source>(
     there: bool,
     source: &mut S,
 ) -> Result<Option<RepField>, Why>
-    ensures { Reads (IsThere there (rep_field_in Any)) FieldMay (S.script source.old) result (S.script source.new) }
+    ensures { ReadsPiece (IsThere there (rep_field_in Any)) (RepetitionTook there) (S.script source.old) result (S.script source.new) }
 {
     if there {
         Ok(Some(RepField::read(alloc, source)?))
@@ -56,7 +55,7 @@ pub(crate) fn read_spot<S: Source>(
     repetition: bool,
     source: &mut S,
 ) -> Result<Spot, Why>
-    ensures { Reads (spot_in Any x y repetition) FieldMay (S.script source.old) result (S.script source.new) }
+    ensures { ReadsPiece (spot_in Any x y repetition) (SpotTook x y repetition) (S.script source.old) result (S.script source.new) }
 {
     let x = read_signed_if(x, source)?;
     let y = read_signed_if(y, source)?;

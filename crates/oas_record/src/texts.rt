@@ -1,8 +1,7 @@
 ghost use Rattle.std.specs.Prelude.{◌↔◌, IsTrue};
-ghost use Rattle.oas_num.specs.Reading.{Reads};
+ghost use Rattle.oas_num.specs.Reading.{ReadsPiece};
 ghost use Rattle.oas_num.specs.Style.{Any};
-ghost use Rattle.oas_record.specs.Texts.{IsTextInfo, text_record_in};
-ghost use Rattle.oas_record.specs.May.{FieldMay};
+ghost use Rattle.oas_record.specs.Texts.{IsTextInfo, text_record_in, TextTook};
 
 use crate::references::{TextRef, read_text_if};
 use crate::spots::{Spot, read_layers, read_spot};
@@ -29,7 +28,7 @@ fn is_text_info(info: u8) -> bool
 impl Text {
     /// What follows the id.
     pub(crate) fn read<S: Source>(alloc: Global, source: &mut S) -> Result<Text, Why>
-        ensures { Reads (text_record_in Any) FieldMay (S.script source.old) result (S.script source.new) }
+        ensures { ReadsPiece (text_record_in Any) TextTook (S.script source.old) result (S.script source.new) }
     {
         let info = next_byte(source)?;
         if !is_text_info(info) {

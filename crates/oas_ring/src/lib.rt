@@ -14,7 +14,7 @@
 //!   for any [`RingView`] in at most seven comparisons a point, and a comparison is all that it sees of the
 //!   points; [`CountedRing`] is such a view of a slice.
 //! - [`same_ring`] answers true exactly where one list is a rotation of the other or of its reverse
-//!   (`SameRing`), in time that is linear in the length.
+//!   (`SameRing`), and takes no memory.
 //! - [`as_box`] answers the corners exactly of the rings that go round a rectangle with positive sides.
 //! - [`laws`] says, over the definitions alone, that being the same ring is an equivalence, that each ring has
 //!   exactly one least reading, and that two rings are the same exactly if their least readings are equal.

@@ -1,24 +1,26 @@
 -- Adding up displacements as they are read.
-use Rattle.std.proofs.Common.{◌≡◌, ◌≢◌, ℕ, zero, suc, ℤ, pos, ◌+◌, ◌-◌, ◌^◌, ◌<◌, List, [], ◌∷◌, ◌++◌, map, length, refl, sym, ap, subst, ◌∙◌, append_assoc, arith}
+use Rattle.std.proofs.Common.{◌≡◌, ◌≢◌, ℕ, zero, suc, ℤ, pos, ◌+◌, ◌-◌, ◌^◌, ◌<◌, List, [], ◌∷◌, ◌++◌, map, length, refl, sym, ap, subst, ◌∙◌, append_assoc, inr, arith}
 use Rattle.std.specs.Prelude.{◌+ℤ◌, ◌*ℤ◌}
 use Rattle.std.specs.List.{AllByRecursion}
 use Rattle.std.proofs.lemmas.Int.{ints}
 use lib.IntN.{zero-*ℤ, suc_ℤ-*ℤ}
 use Rattle.std.proofs.lemmas.List.{length_push}
 use Rattle.oas_num.specs.declared.refusals.Why.{Why}
-use Rattle.oas_num.specs.declared.refusals.Why.TheVariants.{Truncated, IntegerRange, CoordinateRange, Read, InputTooLong, Memory}
+use Rattle.oas_num.specs.declared.refusals.Why.TheVariants.{CoordinateRange, Memory}
 use Rattle.oas_num.specs.declared.deltas.GDelta.{GDelta}
 use Rattle.oas_num.specs.Deltas.{step}
 use Rattle.oas_num.specs.Script.{Script}
 use Rattle.oas_num.specs.Grammar.{IsImage, IsCount, IsSuch}
-use Rattle.oas_num.specs.Reading.{ReadsValue, Fails, FailsPiece, IntegerMay}
-use Rattle.oas_num.proofs.ReadLemmas.{Wants, fails_cut_off}
-use Rattle.oas_num.proofs.GrammarLemmas.{Listed, listed_none, listed_more, listed_all, such_read, such_fails, refused}
+use Rattle.oas_num.specs.Pieces.{SuchTook}
+use Rattle.oas_num.specs.Reading.{ReadsValue, FailsPiece}
+use Rattle.oas_num.proofs.ReadLemmas.{Wants}
+use Rattle.oas_num.proofs.GrammarLemmas.{Listed, listed_none, listed_more, listed_all, such_read}
 use Rattle.oas_num.proofs.PieceLemmas.{fails_behind}
+use Rattle.oas_num.proofs.HalfwayLemmas.{such_took, such_refused}
 use Rattle.oas_shape.specs.declared.offsets.Along.{Along}
 use Rattle.oas_shape.specs.Steps.{still, added, times, sums_after, IsNear, IsPartialSum}
 use Rattle.oas_shape.specs.Offsets.{offsets_by}
-use Rattle.oas_shape.specs.Repetitions.{displacement_in, IsOffsets, StepMay, AreOffsetsSoFar}
+use Rattle.oas_shape.specs.Repetitions.{displacement_in, IsOffsets, DisplacementTook, RefusesNext, OffsetsTook}
 use Rattle.oas_shape.specs.RepetitionLaws.{OneFront-displacement, still_is, still_near}
 use Rattle.oas_shape.proofs.SumLemmas.{all_more, at_middle, at_front}
 use Rattle.oas_shape.proofs.ReadingLemmas.{image_read, next_item, no_memory_piece}
@@ -61,26 +63,6 @@ times_plus (suc g) a b =
 -- the grid times a sum
 pub times-added : (grid : ℕ) (d e : GDelta) → times grid (added d e) ≡ added (times grid d) (times grid e)
 times-added grid d e = (λ i. step (times_plus grid d.dx e.dx i) (times_plus grid d.dy e.dy i))
-
--- why a displacement couldn't be read
-step_reason : (along : Along) (grid : ℕ) (ds : List GDelta) (old new : Script) (why : Why) → (f : Fails (displacement_in along) IntegerMay old why new) → StepMay along grid ds why f.bytes
-step_reason along grid ds old new Truncated f = fails_cut_off (λ _ h. h) f
-step_reason along grid ds old new Read f = fails_cut_off (λ _ h. h) f
-step_reason along grid ds old new InputTooLong f = fails_cut_off (λ _ h. h) f
-step_reason along grid ds old new IntegerRange f = fails_cut_off (λ _ h. h) f
-step_reason along grid ds old new _ f = absurd f.reason.holds
-
-step_fails : (along : Along) (grid : ℕ) (ds : List GDelta) {old new : Script} {why : Why} → Fails (displacement_in along) IntegerMay old why new → FailsPiece (displacement_in along) (StepMay along grid ds) old why new
-step_fails along grid ds {old = old} {new = new} {why = why} f = record {
-  bytes = f.bytes;
-  takes = f.takes;
-  reason = record { front = []; last = f.bytes; joined = refl; begun = refl; holds = step_reason along grid ds old new why f };
-  format = f.format;
-  cut = f.cut;
-  truncated = f.truncated;
-  device = f.device;
-  too_long = f.too_long;
-}
 
 -- these offsets were read, the last of which is that
 pub record Summed (along : Along) (grid : ℕ) (old now : Script) (offsets : List GDelta) (last : GDelta) (count : ℕ) : Type 0 where
@@ -155,30 +137,33 @@ module _ {along : Along} {grid : ℕ} {old mid : Script} {offsets : List GDelta}
         (next.0, next.2, next.3, record { holds = one_past next.0 next.1 near; spelled = next.4 }, next.5);
   }
 
+  -- where the next displacement goes wrong
+  abbrev NextTook : Why → List ℕ → Type 0
+  NextTook = SuchTook (displacement_in along) (DisplacementTook along) (RefusesNext grid s.displacements)
+
   -- what fails after these displacements
-  next_fails : {new : Script} {why : Why} (all : ℕ) → count < all → FailsPiece (IsSuch IsNext (displacement_in along)) (StepMay along grid s.displacements) mid why new → FailsPiece (IsOffsets along grid all) (AreOffsetsSoFar along grid all) old why new
+  next_fails : {new : Script} {why : Why} (all : ℕ) → count < all → FailsPiece (IsSuch IsNext (displacement_in along)) NextTook mid why new → FailsPiece (IsOffsets along grid all) (OffsetsTook along grid all) old why new
   next_fails all lt f =
       fails_behind (IsOffsets along grid all) (IsSuch IsNext (displacement_in along)) s.listed.bytes
-      (λ bytes h. record { displacements = s.displacements; front = s.listed.bytes; last = bytes; spelled = s.listed.each; fewer = omega (arith, s.len, lt); near = subst (AllByRecursion IsPartialSum) s.are s.within; holds = h; joined = refl })
+      (λ bytes h. record { value = s.displacements; front = s.listed.bytes; last = bytes; spelled = s.listed.each; holds = (omega (arith, s.len, lt), subst (AllByRecursion IsPartialSum) s.are s.within, h); joined = refl })
       s.listed.takes (next_wanted all lt) f
 
   -- a displacement couldn't be read
-  pub summed_fails : {new : Script} {why : Why} (all : ℕ) → count < all → Fails (displacement_in along) IntegerMay mid why new → FailsPiece (IsOffsets along grid all) (AreOffsetsSoFar along grid all) old why new
-  summed_fails {new = new} {why = why} all lt f = next_fails all lt (such_fails IsNext (displacement_in along) (StepMay along grid s.displacements) mid new why (step_fails along grid s.displacements f))
+  pub summed_fails : {new : Script} {why : Why} (all : ℕ) → count < all → FailsPiece (displacement_in along) (DisplacementTook along) mid why new → FailsPiece (IsOffsets along grid all) (OffsetsTook along grid all) old why new
+  summed_fails all lt f = next_fails all lt (such_took {refuses = RefusesNext grid s.displacements} f)
 
   -- a sum is past the limit
-  pub summed_past : {new : Script} {d : GDelta} (all : ℕ) → count < all → ReadsValue (displacement_in along) mid d new → ¬ IsPartialSum (added last (times grid d)) → FailsPiece (IsOffsets along grid all) (AreOffsetsSoFar along grid all) old CoordinateRange new
-  summed_past {new = new} {d = d} all lt read past =
-      next_fails all lt
-      (refused IsNext (displacement_in along) (StepMay along grid s.displacements) mid new CoordinateRange d (OneFront-displacement along) read past
-      (d, read.spelled, λ near. past (at_middle IsPartialSum offsets (added last (times grid d)) [] (subst (AllByRecursion IsPartialSum) (offsets_more d) near))) (λ e. cc) (λ e. cc) (λ e. cc))
+  pub summed_past : {new : Script} {d : GDelta} (all : ℕ) → count < all → ReadsValue (displacement_in along) mid d new → ¬ IsPartialSum (added last (times grid d)) → FailsPiece (IsOffsets along grid all) (OffsetsTook along grid all) old CoordinateRange new
+  summed_past {d = d} all lt read past =
+      let reason : RefusesNext grid s.displacements d CoordinateRange = λ near. past (at_middle IsPartialSum offsets (added last (times grid d)) [] (subst (AllByRecursion IsPartialSum) (offsets_more d) near)) in
+      next_fails all lt (such_refused {took = DisplacementTook along} {refuses = RefusesNext grid s.displacements} (OneFront-displacement along) refl past reason read)
 
   -- there was no memory
-  pub summed_no_memory : {new : Script} {d : GDelta} (all : ℕ) → count < all → ReadsValue (displacement_in along) mid d new → IsPartialSum (added last (times grid d)) → FailsPiece (IsOffsets along grid all) (AreOffsetsSoFar along grid all) old Memory new
+  pub summed_no_memory : {new : Script} {d : GDelta} (all : ℕ) → count < all → ReadsValue (displacement_in along) mid d new → IsPartialSum (added last (times grid d)) → FailsPiece (IsOffsets along grid all) (OffsetsTook along grid all) old Memory new
   summed_no_memory {new = new} {d = d} all lt read near =
       next_fails all lt
-      (no_memory_piece (IsSuch IsNext (displacement_in along)) (StepMay along grid s.displacements) mid new read.bytes
-      (d, read.spelled, subst (AllByRecursion IsPartialSum) (sym (offsets_more d)) (all_more IsPartialSum offsets (added last (times grid d)) s.within near)) read.takes)
+      (no_memory_piece (IsSuch IsNext (displacement_in along)) NextTook mid new read.bytes
+      (inr (d, read.spelled, subst (AllByRecursion IsPartialSum) (sym (offsets_more d)) (all_more IsPartialSum offsets (added last (times grid d)) s.within near))) read.takes)
 
 -- these were read, and so many more are to be read before the last one
 pub record Summing (along : Along) (grid : ℕ) (old now : Script) (offsets : List GDelta) (last : GDelta) (left more : ℕ) : Type 0 where

@@ -1,7 +1,7 @@
 -- How point lists are spelled (SEMI P39, Point lists).
-use Rattle.std.specs.Prelude.{◌≡◌, ℕ, pos, ◌<◌, ◌≤◌, ◌==◌, if◌then◌else◌, Bool, true, false, not, List, [], ◌∷◌, ◌++◌, length, ◌⊎◌}
+use Rattle.std.specs.Prelude.{◌≡◌, ℕ, pos, ◌<◌, ◌==◌, if◌then◌else◌, Bool, true, false, not, List, [], ◌∷◌, length}
 use Rattle.oas_num.specs.declared.refusals.Why.{Why}
-use Rattle.oas_num.specs.declared.refusals.Why.TheVariants.{Truncated, IntegerRange, ListKind, PointCount, Read, InputTooLong, Memory}
+use Rattle.oas_num.specs.declared.refusals.Why.TheVariants.{ListKind, PointCount}
 use Rattle.oas_num.specs.declared.deltas.Delta1.{Delta1}
 use Rattle.oas_num.specs.declared.deltas.Delta2.{Delta2}
 use Rattle.oas_num.specs.declared.deltas.Delta3.{Delta3}
@@ -10,9 +10,9 @@ use Rattle.oas_num.specs.Grammar.{IsPair, IsSuch, IsImage, IsCount}
 use Rattle.oas_num.specs.Combinators.{IsEither}
 use Rattle.oas_num.specs.Integers.{IsUnsigned}
 use Rattle.oas_num.specs.Style.{Style, Any, Shortest, unsigned_in}
-use Rattle.oas_num.specs.Deltas.{SpellsDelta1, SpellsDelta2, SpellsDelta3, SpellsGDelta, gdelta_in, step}
-use Rattle.oas_num.specs.Begun.{Decides}
-use Rattle.oas_num.specs.Reading.{IsUnended, IsOutOfRange, IntegerMay}
+use Rattle.oas_num.specs.Deltas.{SpellsDelta1, SpellsDelta2, SpellsDelta3, SpellsGDelta, GDeltaTook, gdelta_in, step}
+use Rattle.oas_num.specs.Pieces.{PairTook, SuchTook, Unless, ListTook}
+use Rattle.oas_num.specs.Reading.{IntegerMay}
 use Rattle.oas_shape.specs.declared.list_use.ListUse.{ListUse}
 use Rattle.oas_shape.specs.declared.list_use.ListUse.TheVariants.{Polygon, Path}
 use Rattle.oas_shape.specs.declared.point_list.Closing.{Closing}
@@ -88,35 +88,21 @@ abbrev pub point_list_in : Style → ListUse → Polyline → List ℕ → Type 
 point_list_in Any purpose = IsPointList purpose
 point_list_in Shortest purpose = IsPlainList purpose
 
--- ---- where a read may fail: last are the bytes with which what was read ends
+-- ---- where in it a read may fail
 
--- a delta of a list of that type
-abbrev pub IsDelta : ℕ → List ℕ → Type 0
-IsDelta kind last = (d : GDelta) × deltas_in kind 1 (d ∷ []) last
+-- Of so many deltas of a list of that type: in one of them, or one was read for which there is no memory.
+abbrev pub DeltasTook : ℕ → ℕ → Why → List ℕ → Type 0
+DeltasTook kind count =
+    IsEither (kind == 0) (ListTook SpellsDelta1 count IntegerMay)
+    (IsEither (kind == 1) (ListTook SpellsDelta1 count IntegerMay)
+    (IsEither (kind == 2) (ListTook (IsImage step2 SpellsDelta2) count IntegerMay)
+    (IsEither (kind == 3) (ListTook (IsImage step3 SpellsDelta3) count IntegerMay)
+    (ListTook (IsImage stepg SpellsGDelta) count GDeltaTook))))
 
--- a read of the deltas
-abbrev pub DeltasMay : ℕ → Why → List ℕ → Type 0
-DeltasMay kind why last = IntegerMay why last ⊎ ((why ≡ Memory) × IsDelta kind last)
+-- in the count, or it doesn't fit the type that was read, or in the deltas
+abbrev pub AfterKindTook : ListUse → ℕ → Why → List ℕ → Type 0
+AfterKindTook purpose kind = PairTook (IsSuch (IsFitting purpose kind) IsUnsigned) (SuchTook IsUnsigned IntegerMay (Unless (IsFitting purpose kind) PointCount)) (DeltasTook kind)
 
--- a type, a count that fits, and deltas, of which the last is there as a whole
-pub record IsListBegun (purpose : ListUse) (bytes : List ℕ) : Type 0 where
-  pub kind : ℕ
-  pub count : ℕ
-  pub first : List ℕ
-  pub second : List ℕ
-  pub deltas : List ℕ
-  pub kind_is : IsSuch IsListKind IsUnsigned kind first
-  pub count_is : IsSuch (IsFitting purpose kind) IsUnsigned count second
-  pub read : Decides false (deltas_in kind count) (IsDelta kind) deltas
-  pub joined : bytes ≡ first ++ (second ++ deltas)
-
--- A read of a point list. Want of memory comes only after a delta, so a count reserves nothing.
-abbrev pub PointListMay : ListUse → Why → List ℕ → Type 0
-PointListMay purpose Truncated last = IsUnended last
-PointListMay purpose Read last = IsUnended last
-PointListMay purpose InputTooLong last = IsUnended last
-PointListMay purpose IntegerRange last = IsOutOfRange last
-PointListMay purpose ListKind last = (kind : ℕ) × IsUnsigned kind last × (6 ≤ kind)
-PointListMay purpose PointCount last = (kind : ℕ) × (count : ℕ) × IsUnsigned count last × (kind < 6) × ¬ IsFitting purpose kind count
-PointListMay purpose Memory last = IsListBegun purpose last
-PointListMay purpose _ last = ⊥
+-- in the type, or there is no such type, or in what follows it
+abbrev pub PointListTook : ListUse → Why → List ℕ → Type 0
+PointListTook purpose = PairTook (IsSuch IsListKind IsUnsigned) (SuchTook IsUnsigned IntegerMay (Unless IsListKind ListKind)) (AfterKindTook purpose)

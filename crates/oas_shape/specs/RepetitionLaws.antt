@@ -1,7 +1,8 @@
 -- The laws of repetition fields: no spelling begins another; the shortest style has none.
-use Rattle.std.proofs.Common.{◌≡◌, ℕ, zero, suc, pos, Bool, true, false, None, List, [], ◌∷◌, ◌++◌, length, map, ◌+◌, refl, sym, ap, subst, arith}
+use Rattle.std.proofs.Common.{◌≡◌, ℕ, zero, suc, pos, Bool, true, false, None, List, [], ◌∷◌, ◌++◌, length, map, ◌+◌, refl, sym, ap, subst, ◌∙◌, arith}
 use Rattle.std.specs.Prelude.{◌==◌, ◌*ℤ◌}
 use Rattle.std.proofs.lemmas.Int.{ints}
+use Rattle.std.proofs.lemmas.List.{length-map}
 use lib.IntN.{*ℤ-zero}
 use Rattle.std.specs.List.{AllByRecursion}
 use Rattle.oas_num.specs.Begun.{HasSome}
@@ -20,7 +21,8 @@ use Rattle.oas_shape.specs.declared.offsets.Along.{Along}
 use Rattle.oas_shape.specs.declared.offsets.Along.TheVariants.{X, Y, Free}
 use Rattle.oas_shape.specs.declared.repetitions.RepField.TheVariants.{New}
 use Rattle.oas_num.specs.Deltas.{step}
-use Rattle.oas_shape.specs.Steps.{IsPartialSum, still, times, sums_after}
+use Rattle.oas_shape.specs.Steps.{IsPartialSum, added, still, times, sums_after}
+use Rattle.oas_shape.specs.OffsetLists.{AreOffsets}
 use Rattle.oas_shape.specs.Offsets.{offsets_by}
 use Rattle.oas_shape.specs.Repetitions.{IsRepetitionKind, AreTwo, matrix_of, IsMatrix, columns_of, IsColumns, rows_of, IsRows, lattice_of, IsLattice, line_of, IsLine, x_space, y_space, displacement_in, IsOffsets, grid_of, listed_of, after_dim, IsListed, repetition_by, again, field_by, field_of, rep_field_in}
 
@@ -210,3 +212,29 @@ pub HasSome-rep_field : HasSome (rep_field_in Any)
 HasSome-rep_field =
     HasSome-image field_of (IsPair (IsSuch IsRepetitionKind IsUnsigned) field_by)
     (HasSome-pair (IsSuch IsRepetitionKind IsUnsigned) field_by HasSome-kind (HasSome-field HasSome-kind.value))
+
+-- ---- what is listed
+
+sums-length : (before : GDelta) (ds : List GDelta) → length (sums_after before ds) ≡ length ds
+sums-length before [] = refl
+sums-length before (d ∷ ds) = ap suc (sums-length (added before d) ds)
+
+offsets-length : (grid : ℕ) (ds : List GDelta) → length (offsets_by grid ds) ≡ length ds + 1
+offsets-length grid ds = let e = length-map (sums_after still ds) (times grid) in let f = sums-length still ds in omega (arith, e, f)
+
+-- one offset more than displacements
+pub offsets_len : (along : Along) (grid count : ℕ) (offsets : List GDelta) (bytes : List ℕ) → IsOffsets along grid count offsets bytes → length offsets ≡ count + 1
+offsets_len along grid count offsets bytes p =
+    let s = p.spelled in
+    let e = ap (λ (xs : List GDelta). length xs) s.is in
+    omega (arith, e, offsets-length grid s.from, s.spelled.len)
+
+-- the first is that of the element itself
+pub offsets_are : (along : Along) (grid more : ℕ) (offsets : List GDelta) (bytes : List ℕ) → IsOffsets along grid (more + 1) offsets bytes → AreOffsets offsets
+offsets_are along grid more offsets bytes p =
+    let s = p.spelled in
+    record {
+      two = omega (arith, offsets_len along grid (more + 1) offsets bytes p);
+      rest = map (times grid) (sums_after still s.from);
+      first = sym s.is ∙ ap (λ (d : GDelta). d ∷ map (times grid) (sums_after still s.from)) (still_is grid);
+    }

@@ -1,16 +1,16 @@
 -- How repetitions are spelled (SEMI P39, Repetitions).
-use Rattle.std.specs.Prelude.{◌≡◌, ℕ, pos, ◌+◌, ◌<◌, ◌≤◌, ◌==◌, if◌then◌else◌, Bool, true, false, List, [], ◌∷◌, ◌++◌, length, Option, Some, None, ◌⊎◌}
+use Rattle.std.specs.Prelude.{ℕ, pos, ◌+◌, ◌<◌, ◌==◌, Bool, true, false, List, [], ◌∷◌, ◌++◌, length, Option, Some, None}
 use Rattle.std.specs.List.{AllByRecursion}
 use Rattle.oas_num.specs.declared.refusals.Why.{Why}
-use Rattle.oas_num.specs.declared.refusals.Why.TheVariants.{Truncated, IntegerRange, RepetitionKind, CoordinateRange, Read, InputTooLong, Memory}
+use Rattle.oas_num.specs.declared.refusals.Why.TheVariants.{RepetitionKind, CoordinateRange, Memory}
 use Rattle.oas_num.specs.declared.deltas.GDelta.{GDelta}
 use Rattle.oas_num.specs.Grammar.{IsPair, IsSuch, IsImage, IsThere, IsCount, IsEach}
 use Rattle.oas_num.specs.Combinators.{IsEither, IsExactly, IsNever}
 use Rattle.oas_num.specs.Integers.{IsUnsigned}
 use Rattle.oas_num.specs.Style.{Style, Any, Shortest}
-use Rattle.oas_num.specs.Deltas.{SpellsGDelta, step}
-use Rattle.oas_num.specs.Begun.{Decides}
-use Rattle.oas_num.specs.Reading.{IsUnended, IsOutOfRange, IntegerMay, IsCutOff}
+use Rattle.oas_num.specs.Deltas.{SpellsGDelta, GDeltaTook, step}
+use Rattle.oas_num.specs.Pieces.{IsBehind, PairTook, ThereTook, SuchTook, Unless}
+use Rattle.oas_num.specs.Reading.{IntegerMay}
 use Rattle.oas_shape.specs.declared.offsets.Along.{Along}
 use Rattle.oas_shape.specs.declared.offsets.Along.TheVariants.{X, Y, Free}
 use Rattle.oas_shape.specs.declared.repetitions.Repetition.{Repetition}
@@ -123,80 +123,65 @@ abbrev pub rep_field_in : Style → RepField → List ℕ → Type 0
 rep_field_in Any = IsImage field_of (IsPair (IsSuch IsRepetitionKind IsUnsigned) field_by)
 rep_field_in Shortest = IsNever
 
--- ---- where a read may fail: last are the bytes with which what was read ends
+-- ---- where in it a read may fail
 
--- the types that list their displacements: which way these go, and whether there is a grid
-abbrev pub listing_of : ℕ → Option (Along × Bool)
-listing_of kind =
-    if kind == 4 then Some (X, false) else
-    (if kind == 5 then Some (X, true) else
-    (if kind == 6 then Some (Y, false) else
-    (if kind == 7 then Some (Y, true) else
-    (if kind == 10 then Some (Free, false) else
-    (if kind == 11 then Some (Free, true) else None)))))
+-- two numbers: in the first, or in the second
+abbrev pub TwoTook : Why → List ℕ → Type 0
+TwoTook = PairTook IsUnsigned IntegerMay (λ _. IntegerMay)
 
--- What follows such displacements, where a list is refused. A displacement is taken as a whole, as the first number of a
--- g-delta may have taken a sum past the limit already.
-abbrev pub StepMay : Along → ℕ → List GDelta → Why → List ℕ → Type 0
-StepMay along grid displacements Truncated last = IsCutOff (displacement_in along) IsUnended last
-StepMay along grid displacements Read last = IsCutOff (displacement_in along) IsUnended last
-StepMay along grid displacements InputTooLong last = IsCutOff (displacement_in along) IsUnended last
-StepMay along grid displacements IntegerRange last = IsCutOff (displacement_in along) IsOutOfRange last
-StepMay along grid displacements CoordinateRange last = (d : GDelta) × displacement_in along d last × ¬ AllByRecursion IsPartialSum (offsets_by grid (displacements ++ d ∷ []))
-StepMay along grid displacements Memory last = (d : GDelta) × displacement_in along d last × AllByRecursion IsPartialSum (offsets_by grid (displacements ++ d ∷ []))
-StepMay along grid displacements _ last = ⊥
+abbrev pub MatrixTook : Why → List ℕ → Type 0
+MatrixTook = PairTook AreTwo TwoTook (λ _. TwoTook)
 
--- displacements so far, fewer than the list has, of which no sum is past the limit, and what follows them
-pub record AreOffsetsSoFar (along : Along) (grid count : ℕ) (why : Why) (bytes : List ℕ) : Type 0 where
-  pub displacements : List GDelta
-  pub front : List ℕ
-  pub last : List ℕ
-  pub spelled : IsEach (displacement_in along) displacements front
-  pub fewer : length displacements < count
-  pub near : AllByRecursion IsPartialSum (offsets_by grid displacements)
-  pub holds : StepMay along grid displacements why last
-  pub joined : bytes ≡ front ++ last
+abbrev pub LatticeTook : Why → List ℕ → Type 0
+LatticeTook = PairTook AreTwo TwoTook (λ _. PairTook SpellsGDelta GDeltaTook (λ _. GDeltaTook))
 
--- a dimension, a grid where there is one, and the displacements so far
-pub record IsListedSoFar (along : Along) (has_grid : Bool) (why : Why) (bytes : List ℕ) : Type 0 where
-  pub dim : ℕ
-  pub grid : Option ℕ
-  pub front : List ℕ
-  pub last : List ℕ
-  pub fields : IsPair IsUnsigned (λ _. IsThere has_grid IsUnsigned) (dim, grid) front
-  pub holds : AreOffsetsSoFar along (grid_of grid) (dim + 1) why last
-  pub joined : bytes ≡ front ++ last
+abbrev pub LineTook : Why → List ℕ → Type 0
+LineTook = PairTook IsUnsigned IntegerMay (λ _. GDeltaTook)
 
--- these fields, of a type that has them
-pub record AreFieldsSoFar (kind : ℕ) (why : Why) (bytes : List ℕ) : Type 0 where
-  pub along : Along
-  pub has_grid : Bool
-  pub lists : listing_of kind ≡ Some (along, has_grid)
-  pub listed : IsListedSoFar along has_grid why bytes
+abbrev pub DisplacementTook : Along → Why → List ℕ → Type 0
+DisplacementTook X = IntegerMay
+DisplacementTook Y = IntegerMay
+DisplacementTook Free = GDeltaTook
 
--- the same with the type before them
-pub record IsListSoFar (why : Why) (bytes : List ℕ) : Type 0 where
-  pub kind : ℕ
-  pub front : List ℕ
-  pub last : List ℕ
-  pub first : IsUnsigned kind front
-  pub fields : AreFieldsSoFar kind why last
-  pub joined : bytes ≡ front ++ last
+-- Why a displacement is refused that was read after those: with it a sum is past the limit; where none is, there is no
+-- memory for it. It is taken as a whole, as the first number of a g-delta may have taken a sum past the limit already.
+abbrev pub RefusesNext : ℕ → List GDelta → GDelta → Why → Type 0
+RefusesNext grid before d CoordinateRange = ¬ AllByRecursion IsPartialSum (offsets_by grid (before ++ d ∷ []))
+RefusesNext grid before d Memory = AllByRecursion IsPartialSum (offsets_by grid (before ++ d ∷ []))
+RefusesNext grid before d _ = ⊥
 
--- an integer is refused, or the list of displacements, and these are all bytes that were taken
+-- so many displacements: fewer are spelled, of which no sum is past the limit, and then in the next
+abbrev pub OffsetsTook : Along → ℕ → ℕ → Why → List ℕ → Type 0
+OffsetsTook along grid count why bytes =
+    IsBehind (IsEach (displacement_in along))
+    (λ before last. (length before < count) × AllByRecursion IsPartialSum (offsets_by grid before) × SuchTook (displacement_in along) (DisplacementTook along) (RefusesNext grid before) why last) bytes
+
+abbrev pub AfterDimTook : Along → Bool → ℕ → Why → List ℕ → Type 0
+AfterDimTook along has_grid dim = PairTook (IsThere has_grid IsUnsigned) (ThereTook has_grid IntegerMay) (λ grid. OffsetsTook along (grid_of grid) (dim + 1))
+
+-- in the dimension, in the grid where there is one, or in the displacements
 abbrev pub ListedTook : Along → Bool → Why → List ℕ → Type 0
-ListedTook along has_grid why bytes = Decides false (IsListed along has_grid) (IntegerMay why) bytes ⊎ IsListedSoFar along has_grid why bytes
+ListedTook along has_grid = PairTook IsUnsigned IntegerMay (AfterDimTook along has_grid)
 
-abbrev pub FieldsTook : ℕ → Why → List ℕ → Type 0
-FieldsTook kind why bytes = Decides false (repetition_by kind) (IntegerMay why) bytes ⊎ AreFieldsSoFar kind why bytes
+-- the fields of types 1 to 11, one after another
+abbrev pub RepetitionTook : ℕ → Why → List ℕ → Type 0
+RepetitionTook kind =
+    IsEither (kind == 1) MatrixTook
+    (IsEither (kind == 2) TwoTook
+    (IsEither (kind == 3) TwoTook
+    (IsEither (kind == 4) (ListedTook X false)
+    (IsEither (kind == 5) (ListedTook X true)
+    (IsEither (kind == 6) (ListedTook Y false)
+    (IsEither (kind == 7) (ListedTook Y true)
+    (IsEither (kind == 8) LatticeTook
+    (IsEither (kind == 9) LineTook
+    (IsEither (kind == 10) (ListedTook Free false)
+    (ListedTook Free true))))))))))
 
--- A read of a repetition field. Want of memory comes only after a displacement, so a count reserves nothing.
-abbrev pub RepFieldMay : Why → List ℕ → Type 0
-RepFieldMay Truncated last = IsUnended last ⊎ IsListSoFar Truncated last
-RepFieldMay Read last = IsUnended last ⊎ IsListSoFar Read last
-RepFieldMay InputTooLong last = IsUnended last ⊎ IsListSoFar InputTooLong last
-RepFieldMay IntegerRange last = IsOutOfRange last ⊎ IsListSoFar IntegerRange last
-RepFieldMay RepetitionKind last = (kind : ℕ) × IsUnsigned kind last × (12 ≤ kind)
-RepFieldMay CoordinateRange last = IsListSoFar CoordinateRange last
-RepFieldMay Memory last = IsListSoFar Memory last
-RepFieldMay _ last = ⊥
+-- type 0 has no field that could go wrong
+abbrev pub FieldTook : ℕ → Why → List ℕ → Type 0
+FieldTook kind = IsEither (kind == 0) IsNever (RepetitionTook kind)
+
+-- in the type, or there is no such type, or in its fields
+abbrev pub RepFieldTook : Why → List ℕ → Type 0
+RepFieldTook = PairTook (IsSuch IsRepetitionKind IsUnsigned) (SuchTook IsUnsigned IntegerMay (Unless IsRepetitionKind RepetitionKind)) FieldTook

@@ -1,11 +1,15 @@
 //! The laws of point lists and repetitions: each function's contract is one, and its body is empty.
+ghost use Rattle.std.specs.Prelude.{◌≡◌, ◌+◌, ℕ, Bool, Option, List, length};
+ghost use Rattle.oas_num.specs.declared.deltas.GDelta.{GDelta};
 ghost use Rattle.oas_num.specs.Begun.{HasSome};
 ghost use Rattle.oas_num.specs.Grammar.{OneFront};
 ghost use Rattle.oas_num.specs.Combinators.{OneSpelling, IsWithin};
 ghost use Rattle.oas_num.specs.Style.{Style, Any, Shortest};
 ghost use Rattle.oas_shape.specs.declared.list_use.ListUse.{ListUse};
 ghost use Rattle.oas_shape.specs.PointLists.{point_list_in};
-ghost use Rattle.oas_shape.specs.Repetitions.{rep_field_in};
+ghost use Rattle.oas_shape.specs.declared.offsets.Along.{Along};
+ghost use Rattle.oas_shape.specs.OffsetLists.{AreOffsets};
+ghost use Rattle.oas_shape.specs.Repetitions.{rep_field_in, after_dim};
 
 /// Point lists. In the shortest style one is of type 4, with g-deltas in their shortest spelling (own rule).
 pub fn point_lists()
@@ -21,4 +25,11 @@ pub fn rep_fields()
     ensures one { OneSpelling (rep_field_in Shortest) }
     ensures within { IsWithin (rep_field_in Shortest) (rep_field_in Any) }
     ensures some { HasSome (rep_field_in Any) }
+{}
+
+/// The types of repetition that list their displacements (4 to 7, 10 and 11): a dimension of d stands for d + 2 offsets, of
+/// which the first is (0, 0).
+pub fn listed_offsets()
+    ensures count { (along : Along) (has_grid : Bool) (dim : ℕ) (grid : Option ℕ) (offsets : List GDelta) (bytes : List ℕ) → after_dim along has_grid dim (grid, offsets) bytes → length offsets ≡ dim + 2 }
+    ensures first { (along : Along) (has_grid : Bool) (dim : ℕ) (grid : Option ℕ) (offsets : List GDelta) (bytes : List ℕ) → after_dim along has_grid dim (grid, offsets) bytes → AreOffsets offsets }
 {}

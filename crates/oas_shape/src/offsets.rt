@@ -1,37 +1,22 @@
 //! Where the copies of a repetition stand.
-ghost use Rattle.std.specs.Prelude.{◌≡◌, ◌+ℤ◌, ◌*ℤ◌, ◌+◌, ◌*◌, ◌/◌, ◌%◌, ◌^◌, ◌<◌, ℕ, pos, IfOk, SomeIff};
+ghost use Rattle.std.specs.Prelude.{◌≡◌, ◌+ℤ◌, ◌*ℤ◌, ◌+◌, ◌*◌, ◌/◌, ◌%◌, ◌^◌, ◌<◌, ℕ, pos, SomeIff};
 ghost use Rattle.oas_num.specs.Deltas.{step};
-ghost use Rattle.oas_num.specs.Reading.{ReadsAs, ReadsPiece, IntegerMay};
+ghost use Rattle.oas_num.specs.Reading.{ReadsPieceAs, ReadsPiece};
 ghost use Rattle.oas_shape.specs.Steps.{IsNear, IsPartialSum, added, times};
 ghost use Rattle.oas_shape.specs.Offsets.{count_of, offset_of};
-ghost use Rattle.oas_shape.specs.Repetitions.{displacement_in, x_space, y_space, IsOffsets, AreOffsetsSoFar};
+ghost use Rattle.oas_shape.specs.Repetitions.{displacement_in, x_space, y_space, IsOffsets, OffsetsTook, DisplacementTook};
 
 use crate::displacements::Displacement;
+use crate::offset_list::OffsetList;
 use crate::repetitions::Repetition;
 use oas_num::{GDelta, Source, Spelled, Why, read_unsigned};
-use std::alloc::{AllocError, Global};
-use std::marker::Model;
+use std::alloc::Global;
 
 /// How far a partial sum of displacements may be from 0 (own rule).
 const FURTHEST_SUM: i128 = 4611686018427387904;
 
 /// No two numbers of 64 bits are further apart.
 const FURTHEST_STEP: i128 = 18446744073709551616;
-
-/// The offsets of copies that a repetition lists, of which contracts see the list. The first is (0, 0).
-#[derive(Debug, Drop)]
-pub struct OffsetList {
-    pub(crate) items: Vec<GDelta>,
-}
-
-impl Model for OffsetList {
-    ghost use Rattle.std.specs.Prelude.{List};
-    ghost use Rattle.oas_num.specs.declared.deltas.GDelta.{GDelta};
-
-    ghost Value = { List GDelta };
-
-    ghost view = { λ list. list.items.items };
-}
 
 /// Which way a displacement of a list goes: a space along an axis, or a g-delta any way.
 #[derive(Clone, Copy, Debug, PartialEq, Eq)]
@@ -52,7 +37,7 @@ impl OffsetList {
         more: u64,
         source: &mut S,
     ) -> Result<OffsetList, Why>
-        ensures { ReadsPiece (IsOffsets along grid (more + 1)) (AreOffsetsSoFar along grid (more + 1)) (S.script source.old) result (S.script source.new) }
+        ensures { ReadsPiece (IsOffsets along grid (more + 1)) (OffsetsTook along grid (more + 1)) (S.script source.old) result (S.script source.new) }
     {
         let mut items = Vec::new(alloc);
         let mut last = GDelta { dx: 0, dy: 0 };
@@ -71,15 +56,6 @@ impl OffsetList {
             left -= 1;
         }
     }
-
-    /// An equal list in memory of its own.
-    pub(crate) fn try_clone(&self, alloc: Global) -> Result<OffsetList, AllocError>
-        ensures { IfOk result (λ copy. copy ≡ self.now) }
-    {
-        Ok(OffsetList {
-            items: self.items.as_slice().to_vec(alloc)?,
-        })
-    }
 }
 
 /// Reads one displacement of a list.
@@ -88,7 +64,7 @@ fn read_displacement<S: Source>(
     along: Along,
     source: &mut S,
 ) -> Result<Displacement, Why>
-    ensures { ReadsAs (λ by. step by.x by.y) (displacement_in along) IntegerMay (S.script source.old) result (S.script source.new) }
+    ensures { ReadsPieceAs (λ by. step by.x by.y) (displacement_in along) (DisplacementTook along) (S.script source.old) result (S.script source.new) }
 {
     match along {
         Along::X => {

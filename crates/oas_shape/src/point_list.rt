@@ -1,9 +1,9 @@
 //! Point lists as they are read.
 ghost use Rattle.std.specs.Prelude.{◌≡◌, IfOk, length};
-ghost use Rattle.oas_num.specs.Reading.{Reads};
+ghost use Rattle.oas_num.specs.Reading.{ReadsPiece};
 ghost use Rattle.oas_num.specs.Style.{Any};
 ghost use Rattle.oas_ring.specs.declared.point.Point.{Point};
-ghost use Rattle.oas_shape.specs.PointLists.{point_list_in, PointListMay, closing_of};
+ghost use Rattle.oas_shape.specs.PointLists.{point_list_in, PointListTook, closing_of};
 ghost use Rattle.oas_shape.specs.Polylines.{vertices_of, left_out_count};
 
 use crate::list_use::ListUse;
@@ -77,7 +77,7 @@ impl PointList {
         source: &mut S,
         list_use: ListUse,
     ) -> Result<PointList, Why>
-        ensures { Reads (point_list_in Any list_use) (PointListMay list_use) (S.script source.old) result (S.script source.new) }
+        ensures { ReadsPiece (point_list_in Any list_use) (PointListTook list_use) (S.script source.old) result (S.script source.new) }
     {
         let kind = read_unsigned(source)?;
         if kind > LAST_KIND {

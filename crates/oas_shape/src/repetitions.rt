@@ -1,11 +1,12 @@
 //! Repetitions as they are read.
 ghost use Rattle.std.specs.Prelude.{◌≡◌, ◌<◌, IfOk, IfErr};
-ghost use Rattle.oas_num.specs.Reading.{Reads, ReadsPiece, IntegerMay};
+ghost use Rattle.oas_num.specs.Reading.{ReadsPiece};
 ghost use Rattle.oas_num.specs.Style.{Any};
 ghost use Rattle.oas_shape.specs.Offsets.{HasList};
-ghost use Rattle.oas_shape.specs.Repetitions.{rep_field_in, RepFieldMay, FieldsTook, ListedTook, repetition_by, AreTwo, IsMatrix, IsColumns, IsRows, IsLattice, IsLine, IsListed, grid_of};
+ghost use Rattle.oas_shape.specs.Repetitions.{rep_field_in, RepFieldTook, RepetitionTook, ListedTook, MatrixTook, LatticeTook, LineTook, TwoTook, repetition_by, AreTwo, IsMatrix, IsColumns, IsRows, IsLattice, IsLine, IsListed, grid_of};
 
-use crate::offsets::{Along, OffsetList};
+use crate::offset_list::OffsetList;
+use crate::offsets::Along;
 use oas_num::{GDelta, Source, Spelled, Why, read_unsigned, read_unsigned_if};
 use std::alloc::{AllocError, Global};
 
@@ -102,7 +103,7 @@ impl RepField {
     /// sum of displacements, times the grid, is past -2^62 .. 2^62 (own rule); by what reading a number is refused by; and
     /// by `Memory`. The count reserves no memory.
     pub fn read<S: Source>(alloc: Global, source: &mut S) -> Result<RepField, Why>
-        ensures { Reads (rep_field_in Any) RepFieldMay (S.script source.old) result (S.script source.new) }
+        ensures { ReadsPiece (rep_field_in Any) RepFieldTook (S.script source.old) result (S.script source.new) }
     {
         let kind = read_unsigned(source)?;
         if kind > LAST_KIND {
@@ -120,7 +121,7 @@ impl RepField {
 fn read_repetition<S: Source>(alloc: Global, kind: u64, source: &mut S) -> Result<Repetition, Why>
     requires known { kind < 12 }
     requires fields { 0 < kind }
-    ensures { ReadsPiece (repetition_by kind) (FieldsTook kind) (S.script source.old) result (S.script source.new) }
+    ensures { ReadsPiece (repetition_by kind) (RepetitionTook kind) (S.script source.old) result (S.script source.new) }
 {
     match kind {
         1 => read_matrix(source),
@@ -138,7 +139,7 @@ fn read_repetition<S: Source>(alloc: Global, kind: u64, source: &mut S) -> Resul
 }
 
 fn read_matrix<S: Source>(source: &mut S) -> Result<Repetition, Why>
-    ensures { Reads IsMatrix IntegerMay (S.script source.old) result (S.script source.new) }
+    ensures { ReadsPiece IsMatrix MatrixTook (S.script source.old) result (S.script source.new) }
 {
     let (x_dim, y_dim) = read_two(source)?;
     let (x_space, y_space) = read_two(source)?;
@@ -151,21 +152,21 @@ fn read_matrix<S: Source>(source: &mut S) -> Result<Repetition, Why>
 }
 
 fn read_columns<S: Source>(source: &mut S) -> Result<Repetition, Why>
-    ensures { Reads IsColumns IntegerMay (S.script source.old) result (S.script source.new) }
+    ensures { ReadsPiece IsColumns TwoTook (S.script source.old) result (S.script source.new) }
 {
     let (dim, space) = read_two(source)?;
     Ok(Repetition::Columns { dim, space })
 }
 
 fn read_rows<S: Source>(source: &mut S) -> Result<Repetition, Why>
-    ensures { Reads IsRows IntegerMay (S.script source.old) result (S.script source.new) }
+    ensures { ReadsPiece IsRows TwoTook (S.script source.old) result (S.script source.new) }
 {
     let (dim, space) = read_two(source)?;
     Ok(Repetition::Rows { dim, space })
 }
 
 fn read_lattice<S: Source>(alloc: Global, source: &mut S) -> Result<Repetition, Why>
-    ensures { Reads IsLattice IntegerMay (S.script source.old) result (S.script source.new) }
+    ensures { ReadsPiece IsLattice LatticeTook (S.script source.old) result (S.script source.new) }
 {
     let (n_dim, m_dim) = read_two(source)?;
     let n = GDelta::read(alloc, source)?;
@@ -174,7 +175,7 @@ fn read_lattice<S: Source>(alloc: Global, source: &mut S) -> Result<Repetition, 
 }
 
 fn read_line<S: Source>(alloc: Global, source: &mut S) -> Result<Repetition, Why>
-    ensures { Reads IsLine IntegerMay (S.script source.old) result (S.script source.new) }
+    ensures { ReadsPiece IsLine LineTook (S.script source.old) result (S.script source.new) }
 {
     let dim = read_unsigned(source)?;
     let by = GDelta::read(alloc, source)?;
@@ -208,7 +209,7 @@ fn grid_or_one(grid: Option<u64>) -> u64
 
 /// Reads two numbers.
 fn read_two<S: Source>(source: &mut S) -> Result<(u64, u64), Why>
-    ensures { Reads AreTwo IntegerMay (S.script source.old) result (S.script source.new) }
+    ensures { ReadsPiece AreTwo TwoTook (S.script source.old) result (S.script source.new) }
 {
     let first = read_unsigned(source)?;
     let second = read_unsigned(source)?;

@@ -2,9 +2,10 @@
 ghost use Rattle.std.specs.Prelude.{◌≡◌, ◌<◌, ◌+ℤ◌, pos, if◌then◌else◌};
 ghost use Rattle.oas_num.specs.Grammar.{IsCount, IsImage};
 ghost use Rattle.oas_num.specs.Deltas.{SpellsDelta1, step};
-ghost use Rattle.oas_num.specs.Reading.{ReadsAs, ListMay, IntegerMay};
+ghost use Rattle.oas_num.specs.Pieces.{ListTook};
+ghost use Rattle.oas_num.specs.Reading.{ReadsPieceAs, IntegerMay};
 ghost use Rattle.oas_num.specs.declared.deltas.GDelta.{GDelta};
-ghost use Rattle.oas_shape.specs.PointLists.{deltas_in, alternating, step2, step3, stepg, DeltasMay};
+ghost use Rattle.oas_shape.specs.PointLists.{deltas_in, alternating, step2, step3, stepg, DeltasTook};
 
 use oas_num::{Delta1, Delta2, Delta3, GDelta, Source, Spelled, Why};
 use std::alloc::Global;
@@ -55,7 +56,7 @@ pub(crate) fn read_deltas<S: Source>(
     count: u64,
     source: &mut S,
 ) -> Result<Vec<GDelta>, Why>
-    ensures { ReadsAs (λ steps. steps.items) (deltas_in kind count) (DeltasMay kind) (S.script source.old) result (S.script source.new) }
+    ensures { ReadsPieceAs (λ steps. steps.items) (deltas_in kind count) (DeltasTook kind count) (S.script source.old) result (S.script source.new) }
 {
     match kind {
         0 => read_alternating(alloc, true, count, source),
@@ -72,7 +73,7 @@ fn read_steps<D: Step, S: Source>(
     count: u64,
     source: &mut S,
 ) -> Result<Vec<GDelta>, Why>
-    ensures { ReadsAs (λ steps. steps.items) (IsCount (IsImage D.step_of D.spells) count) (ListMay (IsImage D.step_of D.spells) D.may) (S.script source.old) result (S.script source.new) }
+    ensures { ReadsPieceAs (λ steps. steps.items) (IsCount (IsImage D.step_of D.spells) count) (ListTook (IsImage D.step_of D.spells) count D.took) (S.script source.old) result (S.script source.new) }
 {
     let mut steps = Vec::new(alloc);
     for _ in 0..count {
@@ -89,7 +90,7 @@ fn read_alternating<S: Source>(
     count: u64,
     source: &mut S,
 ) -> Result<Vec<GDelta>, Why>
-    ensures { ReadsAs (λ turns. turns.items) (IsImage (alternating x_first) (IsCount SpellsDelta1 count)) (ListMay SpellsDelta1 IntegerMay) (S.script source.old) result (S.script source.new) }
+    ensures { ReadsPieceAs (λ turns. turns.items) (IsImage (alternating x_first) (IsCount SpellsDelta1 count)) (ListTook SpellsDelta1 count IntegerMay) (S.script source.old) result (S.script source.new) }
 {
     let mut turns = Vec::new(alloc);
     let mut along_x = x_first;

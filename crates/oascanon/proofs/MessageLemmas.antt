@@ -8,7 +8,10 @@ use Rattle.oas_num.specs.OutletLaws.{given_since, takes_front, stays}
 use Rattle.oas_num.specs.Outlets.{Opens, IsGiven, failures_of}
 use Rattle.oas_num.specs.Writing.{Writes}
 use Rattle.oas_num.proofs.WritingLemmas.{Puts-none}
-use Rattle.oascanon.specs.Lines.{refusal_line}
+use Rattle.oas_canon.specs.declared.rekeying.Rekeyed.{Rekeyed}
+use Rattle.oas_canon.specs.declared.rekeying.Rekeyed.TheVariants.{Done, NotProfile1}
+use Rattle.oascanon.specs.Lines.{refusal_line, not_profile_1_line}
+use Rattle.oascanon.specs.Rekeying.{rekey_said, EndsRekeying}
 use Rattle.oascanon.specs.Runs.{said, Tells, Ends, AppendsFront}
 
 none_front : (a b : List ℕ) → [] ≡ a ++ b → a ≡ []
@@ -34,6 +37,12 @@ module _ {W : Type 0} (contents : W → Option (List ℕ)) (writer : MutBor W) w
   pub ended : {T : Type 0} (o now : Outlet W) (name : List ℕ) (answer : Result T Refusal) → Opens writer o → Ends (IsGiven contents) failures_of name o answer now → GivenFront o (said name answer) now
   ended o now name (Ok value) opens same = rw same (told o o [] opens (inl (Puts-none (IsGiven contents) failures_of o)))
   ended o now name (Err refusal) opens tells = told o now (refusal_line name (number_of refusal.why) refusal.at) opens tells
+
+  -- the same of a run that was to re-key
+  pub rekey_ended : (o now : Outlet W) (name : List ℕ) (answer : Result Rekeyed Refusal) → Opens writer o → EndsRekeying (IsGiven contents) failures_of name o answer now → GivenFront o (rekey_said name answer) now
+  rekey_ended o now name (Ok (Done n)) opens same = ended o now name (Ok n) opens same
+  rekey_ended o now name (Ok NotProfile1) opens tells = told o now (not_profile_1_line name) opens tells
+  rekey_ended o now name (Err refusal) opens tells = told o now (refusal_line name (number_of refusal.why) refusal.at) opens tells
 
   -- and then it was closed
   pub closed : (o mid now : Outlet W) (line : List ℕ) (r : Result Unit SinkFault) → GivenFront o line mid → Writes (IsGiven contents) failures_of mid [] r now → GivenFront o line now

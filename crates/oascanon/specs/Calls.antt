@@ -7,8 +7,11 @@ use Rattle.oas_layout.specs.declared.limits.Limits.{Limits}
 use Rattle.oas_file.specs.Deciding.{IsReasoned}
 use Rattle.oas_file.specs.Reading.{IsRefused, IsPlaced, Refuses}
 use Rattle.oas_canon.specs.declared.profile.TheConstants.{PROFILE}
+use Rattle.oas_canon.specs.declared.rekeying.Rekeyed.{Rekeyed}
+use Rattle.oas_canon.specs.declared.rekeying.Rekeyed.TheVariants.{NotProfile1}
 use Rattle.oas_canon.specs.declared.sameness.Which.{Which}
 use Rattle.oas_canon.specs.declared.sameness.Which.TheVariants.{First, Second}
+use Rattle.oas_canon.specs.Rekeying.{Rekeys, IsRekeyedInPart, StaysSo}
 use Rattle.oas_canon.specs.Run.{IsTaken, IsDone, IsCut, IsJudged, IsKeyed, IsCompared, Exactly, ExactlyBoth}
 
 -- `canonicalize`: all was read, and the canonical file of it was written; or it is refused, at an offset and for a reason that the bytes taken decide, and nothing was written; or the writer failed, and took a front of the canonical file. And it is refused exactly where it isn't accepted.
@@ -43,3 +46,15 @@ pub record Compares {T : Type 0} (script : T → Script) (limits : Limits) (old 
   pub first : IfErr found (λ e. e.0 ≡ First → Refuses limits old e.1 new × (after ≡ before))
   pub second : IfErr found (λ e. e.0 ≡ Second → ((bytes : List ℕ) × IsTaken limits old bytes new) × Refuses limits (script before) e.1 (script after))
   pub exactly : ExactlyBoth limits old new (script before) (script after) found
+
+-- `rekey`: all was read, which is canonical by profile one, and its canonical file by profile two was written, as it stands where it was that already; or it isn't canonical by profile one, and nothing was written; or it is refused, as above, and nothing was written; or the writer failed, and took a front of the canonical file by profile two. And it is refused exactly where it isn't accepted.
+pub record RekeysFile {W : Type 0} (contents : W → Option (List ℕ)) (limits : Limits) (old : Script) (before : W) (answer : Result Rekeyed Refusal) (new : Script) (after : W) : Type 0 where
+  pub rekeyed : IfOk answer (λ rekeyed. Rekeys limits old new (contents before) (contents after) rekeyed)
+  pub again : IfOk answer (λ rekeyed. StaysSo limits old.rest (contents before) (contents after) rekeyed)
+  pub unwritten : IfOk answer (λ rekeyed. rekeyed ≡ NotProfile1 → after ≡ before)
+  pub refused : IfErr answer (λ refusal. (refusal.why ≡ Write) ⊎ IsRefused limits old refusal.why new)
+  pub placed : IfErr answer (λ refusal. (refusal.why ≡ Write) ⊎ IsPlaced limits old refusal new)
+  pub decided : IfErr answer (λ refusal. (refusal.why ≡ Write) ⊎ ((refusal.why ≡ Memory) ⊎ IsReasoned limits old refusal new))
+  pub nothing : IfErr answer (λ refusal. (refusal.why ≡ Write) ⊎ (after ≡ before))
+  pub cut : IfErr answer (λ refusal. refusal.why ≡ Write → IsRekeyedInPart limits old new (contents before) (contents after) refusal.at)
+  pub exactly : Exactly limits old answer new

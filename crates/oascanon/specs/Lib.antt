@@ -3,3 +3,4 @@ pub mod Calls
 pub mod Runs
 pub mod Opening
 pub mod Creating
+pub mod Rekeying

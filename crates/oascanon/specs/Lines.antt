@@ -33,3 +33,7 @@ key_line digest = line_of (encode_lower digest)
 -- NAME: refused N at OFFSET, and the line's end
 abbrev pub refusal_line : List ℕ → ℕ → ℕ → List ℕ
 refusal_line name number at = name ++ (codes ": refused " ++ (decimal number ++ (codes " at " ++ (decimal at ++ 10 ∷ []))))
+
+-- NAME: not profile 1 canonical, and the line's end
+abbrev pub not_profile_1_line : List ℕ → List ℕ
+not_profile_1_line name = name ++ codes ": not profile 1 canonical\n"

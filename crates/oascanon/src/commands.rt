@@ -17,11 +17,16 @@ const AFTER_HELP: &str = "Status:
   0  done; for `check` canonical, for `same` the same layout
   1  refused (one line on standard error: NAME: refused REASON at OFFSET), or can't be opened
   2  the command line isn't understood
-  3  for `check` not canonical, for `same` different layouts
+  3  for `check` not canonical, for `same` different layouts, for `rekey` not canonical
+     by profile 1 (one line on standard error: NAME: not profile 1 canonical)
 
 Limits:
   2^24 elements, a weight of 2^28, 2^36 bytes of input
-  with --large: 2^26 elements, a weight of 2^30, 2^38 bytes of input";
+  with --large: 2^26 elements, a weight of 2^30, 2^38 bytes of input
+
+Profiles:
+  a polygon that goes round a rectangle is that rectangle by profile 2, by which each
+  command answers, and was a polygon by profile 1; `rekey` leads from the one to the other";
 
 /// What a command line asks for.
 #[derive(Clone, Copy, Debug, PartialEq, Eq)]
@@ -50,6 +55,10 @@ pub enum Task<'a> {
     },
     Key {
         input: Option<&'a str>,
+    },
+    Rekey {
+        old: &'a str,
+        new: &'a str,
     },
 }
 
@@ -116,6 +125,10 @@ fn task_of<'a>(name: &str, found: &ArgMatches<'a>) -> Option<Task<'a>> {
         }),
         "show" => Some(Task::Show { input }),
         "key" => Some(Task::Key { input }),
+        "rekey" => Some(Task::Rekey {
+            old: found.get_str("OLD")?,
+            new: found.get_str("NEW")?,
+        }),
         _ => None,
     }
 }
@@ -137,13 +150,14 @@ fn oascanon<'a>(alloc: Global) -> Result<Command<'a>, Error> {
         Command::new(alloc, "oascanon")
             .about("The canonical form of OASIS mask layouts (SEMI P39)")
             .after_help(AFTER_HELP)
-            .version("0.1.0")
+            .version("0.2.0")
             .subcommand_required(true)
             .subcommand(canon(alloc)?)?
             .subcommand(check)?
             .subcommand(same(alloc)?)?
             .subcommand(show)?
-            .subcommand(key)?,
+            .subcommand(key)?
+            .subcommand(rekey(alloc)?)?,
     )
 }
 
@@ -161,6 +175,18 @@ fn same<'a>(alloc: Global) -> Result<Command<'a>, Error> {
     let a = Arg::new(alloc, "A").required(true).help("An OASIS file");
     let b = Arg::new(alloc, "B").required(true).help("Another");
     Ok(command_of(alloc, "same", about)?.arg(a)?.arg(b)?)
+}
+
+/// `rekey OLD NEW`
+fn rekey<'a>(alloc: Global) -> Result<Command<'a>, Error> {
+    let about = "Writes the canonical form by profile 2 of a file that is canonical by profile 1";
+    let old = Arg::new(alloc, "OLD").required(true);
+    let new = Arg::new(alloc, "NEW").required(true);
+    Ok(
+        command_of(alloc, "rekey", about)?
+            .arg(old.help("An OASIS file that is canonical by profile 1"))?
+            .arg(new.help("The file to write, created or replaced once OLD was read whole"))?,
+    )
 }
 
 /// A command with `[IN]`.

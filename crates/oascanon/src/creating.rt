@@ -1,18 +1,59 @@
-//! Outputs: standard output, or a file that is created at its first byte.
+//! Outputs: standard output, or a file that is created, or replaced, from its first byte on.
 ghost use Rattle.std.specs.Prelude.{◌≡◌, ◌<◌, true, false, IfOk};
 ghost use Rattle.oascanon.specs.Creating.{is_created, IsOutput};
 
+use crate::replacing::Replacement;
 use std::fs::File;
-use std::io;
 use std::io::{Stdout, Write};
+use std::{fs, io};
 
-/// A file that is created, or replaced whole, when the first byte is written to it. Where nothing is written nothing is
-/// created, and what stands under its name stays as it is.
+/// Where the bytes of a new file go.
+#[derive(Drop)]
+enum Destination<'a> {
+    /// Under its name: a file that wasn't there, or a device or a pipe, which is written as it is.
+    InPlace(File),
+    /// Beside the file that stands under its name, until all are written.
+    Beside(Replacement<'a>),
+}
+
+impl<'a> Destination<'a> {
+    /// Where the bytes for this name go, as what stands there wants it.
+    fn open(rt: &'a HostRuntime, path: &str) -> io::Result<Destination<'a>> {
+        match fs::metadata(rt, path) {
+            Ok(old) if old.is_file() => Ok(Destination::Beside(Replacement::new(
+                rt,
+                path,
+                old.permissions(),
+            )?)),
+            _ => Ok(Destination::InPlace(File::create(rt, path)?)),
+        }
+    }
+}
+
+impl Write for Destination<'_> {
+    fn write(&mut self, buf: &[u8]) -> io::Result<usize> {
+        match self {
+            Destination::InPlace(file) => file.write(buf),
+            Destination::Beside(replacement) => replacement.write(buf),
+        }
+    }
+
+    fn flush(&mut self) -> io::Result<()> {
+        match self {
+            Destination::InPlace(file) => file.flush(),
+            Destination::Beside(replacement) => replacement.flush(),
+        }
+    }
+}
+
+/// A file that is created when the first byte is written to it. Where nothing is written nothing is created, and what
+/// stands under its name stays as it is. A regular file that stands there is replaced by the flush after the last byte,
+/// and stays as it is where that is never reached.
 #[derive(Drop)]
 pub struct NewFile<'a> {
     rt: &'a HostRuntime,
     path: &'a str,
-    file: Option<File>,
+    file: Option<Destination<'a>>,
 }
 
 impl<'a> NewFile<'a> {
@@ -48,7 +89,7 @@ impl Write for NewFile<'_> {
         match &mut self.file {
             Some(file) => file.write(buf),
             None => {
-                let mut file = File::create(self.rt, self.path)?;
+                let mut file = Destination::open(self.rt, self.path)?;
                 let count = file.write(buf);
                 self.file = Some(file);
                 count

@@ -14,11 +14,15 @@
 //!   was written, or the writer failed after a front of it that is as long as the refusal says, and where nothing was found
 //!   nothing was written (`Delivers`). The status is 0, of a `check` and a `same` whose answer is no it is 3, and after a
 //!   refusal 1; the error output as above, in `same` under the name of the refused file.
+//! - [`runs::run_rekey`] answers status 0 where `oas_canon::rekey` re-keyed, 3 where it answered that the file isn't
+//!   canonical by profile one, and 1 where it refused, and hands on all that the contract of that call says
+//!   (`RekeysFile`); what the error output took is a front of the line of that answer (`rekey_said`, specs/Rekeying.antt).
 //! - [`runs::canon_telling`] and the like are the same over a sink for that line, whose contract counts failures: the line
-//!   was put, unless the sink failed (`Ends`).
+//!   was put, unless the sink failed (`Ends`, `EndsRekeying`).
 //! - [`lines::write_line`] writes a line to an output, or a front of it (`IsWritten`, `IsCutOff`).
 //! - [`messages::put_refusal`] puts the line `NAME: refused N at OFFSET` (`refusal_line`, specs/Lines.antt), and
-//!   [`opening::put_unopened`] the line `NAME: cannot be opened` (`unopened_line`, specs/Opening.antt).
+//!   [`opening::put_unopened`] the line `NAME: cannot be opened` (`unopened_line`, specs/Opening.antt). The line of a file
+//!   that isn't canonical by profile one is `NAME: not profile 1 canonical` (`not_profile_1_line`).
 //! - [`creating::NewFile`] creates nothing as long as no byte is written to it (`is_created`, specs/Creating.antt).
 //!
 //! Not under a contract: which words `clap` understands, and that `main` hands each run what it opened.
@@ -29,6 +33,7 @@ mod creating;
 mod lines;
 mod messages;
 mod opening;
+mod replacing;
 mod runs;
 #[cfg(test)]
 mod tests;
@@ -38,7 +43,7 @@ use creating::Output;
 use oas_canon::Limits;
 use oas_num::{ReaderSource, Refusal, Why};
 use opening::{Input, name_of, run_unopened};
-use runs::{run_canon, run_check, run_key, run_refused, run_same, run_show};
+use runs::{run_canon, run_check, run_key, run_refused, run_rekey, run_same, run_show};
 use std::process::ExitCode;
 
 fn main(rt: HostRuntime) -> ExitCode {
@@ -61,6 +66,7 @@ fn answer(rt: &HostRuntime, request: Request<'_>) -> u8 {
         Task::Same { first, second } => same(rt, first, second, limits),
         Task::Show { input } => show(rt, input, limits),
         Task::Key { input } => key(rt, input, limits),
+        Task::Rekey { old, new } => rekey(rt, old, new, limits),
     };
     match ended {
         Ok(status) => status,
@@ -145,4 +151,12 @@ fn key(rt: &HostRuntime, input: Option<&str>, limits: Limits) -> Result<u8, u8> 
     let (mut out, mut err) = (rt.stdout(), rt.stderr());
     let name = name_of(input);
     Ok(run_key(rt.alloc(), name, &mut from, &mut out, &mut err, limits))
+}
+
+/// `rekey OLD NEW`
+fn rekey(rt: &HostRuntime, old: &str, new: &str, limits: Limits) -> Result<u8, u8> {
+    let mut from = source_of(rt, Some(old), limits)?;
+    let mut out = Output::new(rt, Some(new));
+    let mut err = rt.stderr();
+    Ok(run_rekey(rt.alloc(), old, &mut from, &mut out, &mut err, limits))
 }

@@ -4,6 +4,7 @@ mod canon;
 mod check;
 mod ends;
 mod key;
+mod rekey;
 mod same;
 mod show;
 
@@ -11,5 +12,6 @@ pub use canon::{canon_telling, run_canon};
 pub use check::{check_telling, run_check};
 pub use ends::run_refused;
 pub use key::{key_telling, run_key};
+pub use rekey::{rekey_telling, run_rekey};
 pub use same::{run_same, same_telling};
 pub use show::{run_show, show_telling};

@@ -1,5 +1,5 @@
 //! The elements of a record, by the modal variables after it.
-ghost use Rattle.std.specs.Prelude.{◌≡◌, ◌<◌, ◌^◌, ◌+ℤ◌, ◌⊎◌, true, false, None, Some, IfOk, IfErr, SomeIff};
+ghost use Rattle.std.specs.Prelude.{◌≡◌, ◌<◌, ◌^◌, ◌+ℤ◌, ◌⊎◌, true, false, is_none, None, Some, IfOk, IfErr, SomeIff};
 ghost use Rattle.oas_num.specs.declared.refusals.Why.TheVariants.{Memory, CoordinateRange};
 ghost use Rattle.oas_num.specs.Deltas.{step};
 ghost use Rattle.std.specs.List.{list_all};
@@ -7,7 +7,7 @@ ghost use Rattle.oas_shape.specs.Polylines.{vertices_of};
 ghost use Rattle.oas_layout.specs.Grid.{is_coordinate, is_grid_point};
 ghost use Rattle.oas_drawing.specs.Drawn.{drawn_fits};
 ghost use Rattle.oas_drawing.specs.Drawing.{placement_at, text_at, rectangle_at, polygon_at, path_at, circle_at, point_from, number_if, offset_if, drawn_by};
-ghost use Rattle.oas_drawing.specs.Reasons.{fault_of};
+ghost use Rattle.oas_drawing.specs.Reasons.{fault_of, MayWant};
 
 use super::ModalVariables;
 use crate::drawn::Drawn;
@@ -93,7 +93,7 @@ impl ModalVariables {
         by: (i128, i128),
     ) -> Result<Drawn, Why>
         ensures ok { IfOk result (λ d. placement_at self.now.cell turns flip (point_from self.now.placement (step by.0 by.1)) ≡ Some d) }
-        ensures err { IfErr result (λ why. (why ≡ Memory) ⊎ (fault_of (placement_at self.now.cell turns flip (point_from self.now.placement (step by.0 by.1))) ≡ Some why)) }
+        ensures err { IfErr result (λ why. ((why ≡ Memory) × (fault_of (placement_at self.now.cell turns flip (point_from self.now.placement (step by.0 by.1))) ≡ None)) ⊎ (fault_of (placement_at self.now.cell turns flip (point_from self.now.placement (step by.0 by.1))) ≡ Some why)) }
     {
         let Some(cell) = &self.cell else {
             return Err(Why::ModalUndefined);
@@ -123,7 +123,7 @@ impl ModalVariables {
     /// A text, moved by an offset.
     fn text_by(&self, alloc: Global, by: (i128, i128)) -> Result<Drawn, Why>
         ensures ok { IfOk result (λ d. text_at self.now.string self.now.textlayer self.now.texttype (point_from self.now.text (step by.0 by.1)) ≡ Some d) }
-        ensures err { IfErr result (λ why. (why ≡ Memory) ⊎ (fault_of (text_at self.now.string self.now.textlayer self.now.texttype (point_from self.now.text (step by.0 by.1))) ≡ Some why)) }
+        ensures err { IfErr result (λ why. ((why ≡ Memory) × (fault_of (text_at self.now.string self.now.textlayer self.now.texttype (point_from self.now.text (step by.0 by.1))) ≡ None)) ⊎ (fault_of (text_at self.now.string self.now.textlayer self.now.texttype (point_from self.now.text (step by.0 by.1))) ≡ Some why)) }
     {
         let (Some(string), Some(textlayer), Some(texttype)) = (
             &self.string,
@@ -181,7 +181,7 @@ impl ModalVariables {
     /// A polygon, moved by an offset.
     fn polygon_by(&self, alloc: Global, by: (i128, i128)) -> Result<Drawn, Why>
         ensures ok { IfOk result (λ d. polygon_at self.now.layer self.now.datatype self.now.polygon_points (point_from self.now.geometry (step by.0 by.1)) ≡ Some d) }
-        ensures err { IfErr result (λ why. (why ≡ Memory) ⊎ (fault_of (polygon_at self.now.layer self.now.datatype self.now.polygon_points (point_from self.now.geometry (step by.0 by.1))) ≡ Some why)) }
+        ensures err { IfErr result (λ why. ((why ≡ Memory) × (is_none (polygon_at self.now.layer self.now.datatype self.now.polygon_points (point_from self.now.geometry (step by.0 by.1))) ≡ false)) ⊎ (fault_of (polygon_at self.now.layer self.now.datatype self.now.polygon_points (point_from self.now.geometry (step by.0 by.1))) ≡ Some why)) }
     {
         let (Some(layer), Some(datatype), Some(points)) = (
             self.layer,
@@ -201,7 +201,7 @@ impl ModalVariables {
     /// A path, moved by an offset.
     fn path_by(&self, alloc: Global, by: (i128, i128)) -> Result<Drawn, Why>
         ensures ok { IfOk result (λ d. path_at self.now.layer self.now.datatype self.now.half_width self.now.start self.now.end self.now.path_points (point_from self.now.geometry (step by.0 by.1)) ≡ Some d) }
-        ensures err { IfErr result (λ why. (why ≡ Memory) ⊎ (fault_of (path_at self.now.layer self.now.datatype self.now.half_width self.now.start self.now.end self.now.path_points (point_from self.now.geometry (step by.0 by.1))) ≡ Some why)) }
+        ensures err { IfErr result (λ why. ((why ≡ Memory) × (is_none (path_at self.now.layer self.now.datatype self.now.half_width self.now.start self.now.end self.now.path_points (point_from self.now.geometry (step by.0 by.1))) ≡ false)) ⊎ (fault_of (path_at self.now.layer self.now.datatype self.now.half_width self.now.start self.now.end self.now.path_points (point_from self.now.geometry (step by.0 by.1))) ≡ Some why)) }
     {
         let (Some(layer), Some(datatype), Some(half_width)) = (
             self.layer,
@@ -262,7 +262,7 @@ impl ModalVariables {
     /// The element of a kind, moved by an offset, in the grid or not.
     fn drawn_by(&self, alloc: Global, kind: Kind, by: (i128, i128)) -> Result<Drawn, Why>
         ensures ok { IfOk result (λ d. drawn_by self.now kind (step by.0 by.1) ≡ Some d) }
-        ensures err { IfErr result (λ why. (why ≡ Memory) ⊎ (fault_of (drawn_by self.now kind (step by.0 by.1)) ≡ Some why)) }
+        ensures err { IfErr result (λ why. ((why ≡ Memory) × MayWant kind (drawn_by self.now kind (step by.0 by.1))) ⊎ (fault_of (drawn_by self.now kind (step by.0 by.1)) ≡ Some why)) }
     {
         match kind {
             Kind::Placement { turn, flip } => self.placement_by(alloc, turned(turn), flip, by),
@@ -275,13 +275,16 @@ impl ModalVariables {
     }
 
     /// Copy `i` of an element record, from copy 0 on. It is refused by `ModalUndefined` and `CoordinateRange`, in this order, or
-    /// by `Memory`.
+    /// by `Memory`: a placement or a text only where it isn't refused otherwise, a polygon or a path as soon as its variables
+    /// are defined, since its vertices are looked at as they are made.
+    #[tactic(auto, using(crate::proofs::Grids::never_memory))]
     pub fn copy(&self, alloc: Global, kind: Kind, repeated: bool, i: u64) -> Result<Drawn, Why>
         requires below { i < number_if repeated self.now.repetition }
         requires small { i < 2 ^ 32 }
         ensures ok { IfOk result (λ d. drawn_by self.now kind (offset_if repeated self.now.repetition i) ≡ Some d) }
         ensures fits { IfOk result (λ d. fault_of (drawn_by self.now kind (offset_if repeated self.now.repetition i)) ≡ None) }
         ensures err { IfErr result (λ why. (why ≡ Memory) ⊎ (fault_of (drawn_by self.now kind (offset_if repeated self.now.repetition i)) ≡ Some why)) }
+        ensures memory { IfErr result (λ why. why ≡ Memory → MayWant kind (drawn_by self.now kind (offset_if repeated self.now.repetition i))) }
     {
         let drawn = self.drawn_by(alloc, kind, self.offset(repeated, i))?;
         if fits(&drawn) {

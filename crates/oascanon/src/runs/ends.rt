@@ -16,7 +16,7 @@ pub(super) const DONE: u8 = 0;
 const REFUSED: u8 = 1;
 
 /// The status of a run whose answer is no.
-const NO: u8 = 3;
+pub(super) const NO: u8 = 3;
 
 /// The status of a run whose answer is yes or no.
 pub(super) fn status_of_verdict(yes: bool) -> u8

@@ -3,7 +3,7 @@
 
 use super::devices::{Full, Writer};
 use super::rows::bytes_of;
-use crate::runs::{run_canon, run_check, run_key, run_same, run_show};
+use crate::runs::{run_canon, run_check, run_key, run_rekey, run_same, run_show};
 use oas_canon::Limits;
 use oas_num::{INPUT_MAX, SliceSource};
 use std::alloc::{AllocError, Global};
@@ -22,6 +22,10 @@ listing-of-no-cell | show | HEAD TAIL | 0 | unit 1000/1;
 two-strings | same | HEAD CELL 135B02486903000000 TAIL & HEAD CELL 135B02486F03000000 TAIL | 3 | different;
 a-circle-once-and-twice | same | HEAD CELL 1B3B0100050000 TAIL & HEAD CELL 1B3B0100050000 1B3B0100050000 TAIL | 3 | different;
 two-spellings | same | HEAD CELL RECT TAIL & HEAD 0D00 RECT 030141 TAIL | 0 | same;
+a-box-is-not-canonical | check | HEAD CELL 153B010004030128290001290000 TAIL | 3 | not canonical;
+key-of-a-box | key | HEAD CELL 153B010004030128290001290000 TAIL | 0 | faa9cb7d21110cae5bde5660c1b56c7b0b00a54880eacf1bfeba45a6cc348d77;
+listing-of-a-box | show | HEAD CELL 153B010004030128290001290000 TAIL | 0 | unit 1000/1;cell A;rectangle 1 0 10 20 0 0;
+a-box-and-its-rectangle | same | HEAD CELL 153B0100000214280000 TAIL & HEAD CELL RECT TAIL | 0 | same;
 ";
 
 /// The same of files that are refused, with the line of the refusal.
@@ -78,6 +82,14 @@ impl<'a> Run<'a> {
         })
     }
 
+    /// The run of `rekey` on a file that is canonical by profile one, with this canonical file by profile two.
+    pub fn of_rekey(alloc: Global, old: &str, new: &str) -> Result<Run<'static>, Fail> {
+        let mut run = Run::of_canon(alloc, old, new)?;
+        run.name = "rekey";
+        run.command = "rekey";
+        Ok(run)
+    }
+
     /// Runs the command, and answers its status.
     pub fn run(&self, alloc: Global, out: &mut Writer, err: &mut Writer) -> u8 {
         let limits = Limits::standard();
@@ -88,6 +100,7 @@ impl<'a> Run<'a> {
             "check" => run_check(alloc, "first", &mut from, out, err, limits),
             "key" => run_key(alloc, "first", &mut from, out, err, limits),
             "show" => run_show(alloc, "first", &mut from, out, err, limits),
+            "rekey" => run_rekey(alloc, "first", &mut from, out, err, limits),
             _ => run_same(
                 alloc, "first", &mut from, "second", &mut other, out, err, limits,
             ),
@@ -166,16 +179,21 @@ fn expect_fault(rt: &impl Abort, alloc: Global, run: &Run<'_>, out: Writer) -> R
     Ok(())
 }
 
+/// The same for writers that fail after each number of bytes, and at the flush.
+pub fn expect_faults(rt: &impl Abort, alloc: Global, run: &Run<'_>) -> Result<(), Fail> {
+    for room in 0..run.answer.len() {
+        expect_fault(rt, alloc, run, writer(alloc, room)?)?;
+    }
+    let mut unflushed = writer(alloc, usize::MAX)?;
+    unflushed.flush_fails = true;
+    expect_fault(rt, alloc, run, unflushed)
+}
+
 #[test]
 fn writers_that_fail(rt: HostRuntime) -> Result<(), Fail> {
     let alloc = rt.alloc();
     for run in &answering(alloc)? {
-        for room in 0..run.answer.len() {
-            expect_fault(&rt, alloc, run, writer(alloc, room)?)?;
-        }
-        let mut unflushed = writer(alloc, usize::MAX)?;
-        unflushed.flush_fails = true;
-        expect_fault(&rt, alloc, run, unflushed)?;
+        expect_faults(&rt, alloc, run)?;
     }
     Ok(())
 }

@@ -3,6 +3,7 @@
 use super::rows::{RECTANGLE, bytes_of};
 use crate::creating::{NewFile, Output};
 use crate::opening::{Input, name_of, run_unopened};
+use crate::replacing::Replacement;
 use crate::runs::run_canon;
 use oas_canon::Limits;
 use oas_num::{INPUT_MAX, ReaderSource, SliceSource};
@@ -57,8 +58,35 @@ fn file_that_is_created_at_its_first_byte(rt: HostRuntime) -> Result<(), Fail> {
     again.flush()?;
     expect_file(&rt, rt.alloc(), "new", "abcde".as_bytes())?;
     again.write_all("f".as_bytes())?;
+    expect_file(&rt, rt.alloc(), "new", "abcde".as_bytes())?;
+    again.flush()?;
     expect_file(&rt, rt.alloc(), "new", "f".as_bytes())?;
+    again.write_all("g".as_bytes())?;
+    again.flush()?;
+    expect_file(&rt, rt.alloc(), "new", "fg".as_bytes())?;
     Ok(fs::remove_file(&rt, "new")?)
+}
+
+#[test]
+fn replacement_that_is_never_flushed(rt: HostRuntime) -> Result<(), Fail> {
+    fs::write(&rt, "old", "abc".as_bytes())?;
+    let permissions = fs::metadata(&rt, "old")?.permissions();
+    let mut new = Replacement::new(&rt, "old", permissions)?;
+    new.write_all("d".as_bytes())?;
+    expect_file(&rt, rt.alloc(), "old", "abc".as_bytes())?;
+    expect_file(&rt, rt.alloc(), ".old.oascanon-0", "d".as_bytes())?;
+    // Where a run left its file, the next name is taken.
+    let mut other = Replacement::new(&rt, "old", fs::metadata(&rt, "old")?.permissions())?;
+    other.write_all("e".as_bytes())?;
+    other.flush()?;
+    expect_file(&rt, rt.alloc(), "old", "e".as_bytes())?;
+    fs::remove_file(&rt, ".old.oascanon-0")?;
+    assert!(rt; new.flush().is_err());
+    assert!(rt; new.write("f".as_bytes()).is_err());
+    assert!(rt; new.flush().is_err());
+    expect_file(&rt, rt.alloc(), "old", "e".as_bytes())?;
+    assert!(rt; Replacement::new(&rt, "none", fs::metadata(&rt, "old")?.permissions()).is_err());
+    Ok(fs::remove_file(&rt, "old")?)
 }
 
 #[test]

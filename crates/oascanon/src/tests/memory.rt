@@ -61,7 +61,7 @@ fn is_refused(
 }
 
 /// Runs a command with a little more memory each time.
-fn expect_growths(rt: &impl Abort, alloc: Global, run: &Run<'_>) -> Result<(), Fail> {
+pub fn expect_growths(rt: &impl Abort, alloc: Global, run: &Run<'_>) -> Result<(), Fail> {
     let mut out = writer(alloc, usize::MAX)?;
     let mut err = writer(alloc, usize::MAX)?;
     let mut held: Vec<Vec<u8>> = Vec::with_capacity(alloc, 300000)?;

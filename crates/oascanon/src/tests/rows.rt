@@ -53,17 +53,17 @@ pub fn bytes_of(alloc: Global, pieces: &str) -> Result<Vec<u8>, Fail> {
     Ok(bytes)
 }
 
-/// Runs `canon` on the bytes, under a limit, and asserts what comes of it: a refusal, as `NUMBER at OFFSET`, with no output,
-/// or the output.
-pub fn expect(
+/// Runs `canon` on the bytes of a source, under limits, and asserts what comes of it: a refusal, as `NUMBER at OFFSET`, with
+/// no output, or the output.
+fn expect(
     rt: &impl Abort,
     alloc: Global,
     name: &str,
-    input: &[u8],
-    limit: u64,
+    limits: Limits,
+    from: SliceSource<'_>,
     wanted: Result<&[u8], &str>,
 ) -> Result<(), Fail> {
-    let mut from = SliceSource::new(input, limit);
+    let mut from = from;
     let mut out: Vec<u8> = Vec::new(alloc);
     let mut err: Vec<u8> = Vec::new(alloc);
     let status = run_canon(
@@ -72,7 +72,7 @@ pub fn expect(
         &mut from,
         &mut out,
         &mut err,
-        Limits::standard(),
+        limits,
     );
     match wanted {
         Ok(bytes) => {
@@ -90,8 +90,13 @@ pub fn expect(
     Ok(())
 }
 
-/// Asserts what one row says.
-fn expect_row(rt: &impl Abort, alloc: Global, row: &str) -> Result<(), Fail> {
+/// A source that is read to its end.
+fn whole<'a>(input: &'a [u8]) -> SliceSource<'a> {
+    SliceSource::new(input, INPUT_MAX)
+}
+
+/// Asserts what one row says, under limits.
+pub fn expect_row(rt: &impl Abort, alloc: Global, limits: Limits, row: &str) -> Result<(), Fail> {
     let (name, rest) = row.split_once(" | ").ok_or("a row has a file")?;
     let (file, answer) = rest.split_once(" | ").ok_or("a row has an answer")?;
     let file = bytes_of(alloc, file)?;
@@ -99,15 +104,15 @@ fn expect_row(rt: &impl Abort, alloc: Global, row: &str) -> Result<(), Fail> {
     if let Some((number, at)) = answer.split_once('@') {
         let refusal = format!(in alloc; "{number} at {at}")?;
         let wanted = Err(refusal.as_str());
-        return expect(rt, alloc, name, input, INPUT_MAX, wanted);
+        return expect(rt, alloc, name, limits, whole(input), wanted);
     }
     if answer == "same" {
-        return expect(rt, alloc, name, input, INPUT_MAX, Ok(input));
+        return expect(rt, alloc, name, limits, whole(input), Ok(input));
     }
     let canonical = bytes_of(alloc, answer)?;
     let output = canonical.as_slice();
-    expect(rt, alloc, name, input, INPUT_MAX, Ok(output))?;
-    expect(rt, alloc, name, output, INPUT_MAX, Ok(output))
+    expect(rt, alloc, name, limits, whole(input), Ok(output))?;
+    expect(rt, alloc, name, limits, whole(output), Ok(output))
 }
 
 #[test]
@@ -115,11 +120,11 @@ fn each_row(rt: HostRuntime) -> Result<(), Fail> {
     let mut count = 0u64;
     for row in ROWS.lines() {
         if !row.starts_with('#') {
-            expect_row(&rt, rt.alloc(), row)?;
+            expect_row(&rt, rt.alloc(), Limits::standard(), row)?;
             count = count.saturating_add(1);
         }
     }
-    assert_eq!(rt; count, 188);
+    assert_eq!(rt; count, 199);
     Ok(())
 }
 
@@ -149,12 +154,24 @@ fn each_prefix(rt: HostRuntime) -> Result<(), Fail> {
             &rt,
             alloc,
             "a prefix",
-            front,
-            INPUT_MAX,
+            Limits::standard(),
+            whole(front),
             Err(refusal.as_str()),
         )?;
     }
     Ok(())
+}
+
+/// Asserts what comes of bytes whose source gives no more than a limit.
+fn expect_limit(
+    rt: &impl Abort,
+    alloc: Global,
+    input: &[u8],
+    limit: u64,
+    wanted: Result<&[u8], &str>,
+) -> Result<(), Fail> {
+    let from = SliceSource::new(input, limit);
+    expect(rt, alloc, "a limit", Limits::standard(), from, wanted)
 }
 
 #[test]
@@ -169,16 +186,9 @@ fn each_limit(rt: HostRuntime) -> Result<(), Fail> {
         let at = record_at(limit);
         let refusal = format!(in alloc; "31 at {at}")?;
         let wanted = Err(refusal.as_str());
-        expect(&rt, alloc, "a limit", file, limit as u64, wanted)?;
+        expect_limit(&rt, alloc, file, limit as u64, wanted)?;
     }
-    expect(&rt, alloc, "the limit", file, 301, Ok(file))?;
-    expect(&rt, alloc, "one byte more", longer, 301, Err("31 at 301"))?;
-    expect(
-        &rt,
-        alloc,
-        "and a limit more",
-        longer,
-        302,
-        Err("30 at 301"),
-    )
+    expect_limit(&rt, alloc, file, 301, Ok(file))?;
+    expect_limit(&rt, alloc, longer, 301, Err("31 at 301"))?;
+    expect_limit(&rt, alloc, longer, 302, Err("30 at 301"))
 }

@@ -103,7 +103,11 @@ fn words_of_the_others(rt: HostRuntime) -> Result<(), Fail> {
     let (first, second) = ("a", "b");
     let same = Task::Same { first, second };
     expect_task(&rt, alloc, "oascanon same a b", false, same)?;
-    expect_task(&rt, alloc, "oascanon same a --large b", true, same)
+    expect_task(&rt, alloc, "oascanon same a --large b", true, same)?;
+    let (old, new) = ("a", "b");
+    let rekey = Task::Rekey { old, new };
+    expect_task(&rt, alloc, "oascanon rekey a b", false, rekey)?;
+    expect_task(&rt, alloc, "oascanon rekey --large a b", true, rekey)
 }
 
 #[test]
@@ -119,6 +123,9 @@ fn words_that_are_refused(rt: HostRuntime) -> Result<(), Fail> {
         "oascanon same",
         "oascanon same a",
         "oascanon same a b c",
+        "oascanon rekey",
+        "oascanon rekey a",
+        "oascanon rekey a b c",
         "oascanon show a b",
         "oascanon key a b",
         "oascanon canon --small",
@@ -142,6 +149,7 @@ fn words_that_ask_for_help(rt: HostRuntime) -> Result<(), Fail> {
         "oascanon help canon",
         "oascanon canon --help",
         "oascanon same --help",
+        "oascanon rekey --help",
     ] {
         expect_end(&rt, alloc, line, 0)?;
     }

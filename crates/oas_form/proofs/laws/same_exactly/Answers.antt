@@ -1,5 +1,6 @@
+use Rattle.oas_form.proofs.Existence as existence
 use Rattle.oas_form.proofs.Forms as law
 use Rattle.oas_form.proofs.laws.same_exactly.Goals as goal
 
 pub returns : goal.returns
-returns c = law.same_exactly
+returns c = record { exactly = existence.same_exactly; equal = law.forms_equal }

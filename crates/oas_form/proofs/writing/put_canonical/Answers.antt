@@ -3,7 +3,6 @@ use Rattle.std.proofs.lemmas.Result.{err_from_is_err_and}
 use Rattle.oas_num.specs.Ratio.{Ratio}
 use Rattle.oas_form.specs.Bytes.{canonical_bytes}
 use Rattle.oas_form.proofs.PuttingLemmas.{first, first_fails, fails_at, last_fails, ends, ◌▸◌}
-use Rattle.oas_form.proofs.ElementPutting.{layout_short}
 use Rattle.oas_form.proofs.writing.put_canonical.Goals as goal
 
 unit_is : (u v : Ratio) (num den : ℕ) → num ≡ u.num → den ≡ u.den → u ≡ v → record { num = num; den = den } ≡ v
@@ -16,18 +15,12 @@ returns-in_err-head-clause-counts g c =
     let unit = unit_is c.unit-unit.result c.args.layout.now.unit c.num.result c.den.result c.num.ensures.value c.den.ensures.value c.unit-unit.ensures in
     rw p.1 (first_fails _ (rw unit at c.in_err-head.ensures.counts))
 
-pub returns-in_err-head-clause-short : goal.returns-in_err-head-clause-short
-returns-in_err-head-clause-short g c = layout_short c.args.layout.now c.cells-cells.ensures.layout
-
 pub returns-in_err-body-clause-counts : goal.returns-in_err-body-clause-counts
 unfolding canonical_bytes
 returns-in_err-body-clause-counts g c =
     let p = err_from_is_err_and c.from_residual-in_err-body.result c.from_residual-in_err-body.ensures.1 in
     let unit = unit_is c.unit-unit.result c.args.layout.now.unit c.num.result c.den.result c.num.ensures.value c.den.ensures.value c.unit-unit.ensures in
     rw p.1 (fails_at _ (first _ (rw unit at c.in_ok-head.ensures.counts)) c.in_err-body.ensures.counts)
-
-pub returns-in_err-body-clause-short : goal.returns-in_err-body-clause-short
-returns-in_err-body-clause-short g c = layout_short c.args.layout.now c.cells-cells.ensures.layout
 
 pub returns-in_err-end-clause-counts : goal.returns-in_err-end-clause-counts
 unfolding canonical_bytes
@@ -36,14 +29,8 @@ returns-in_err-end-clause-counts g c =
     let unit = unit_is c.unit-unit.result c.args.layout.now.unit c.num.result c.den.result c.num.ensures.value c.den.ensures.value c.unit-unit.ensures in
     rw p.1 (last_fails (first _ (rw unit at c.in_ok-head.ensures.counts) ▸ c.in_ok-body.ensures.counts) c.in_err-end.ensures.counts)
 
-pub returns-in_err-end-clause-short : goal.returns-in_err-end-clause-short
-returns-in_err-end-clause-short g c = layout_short c.args.layout.now c.cells-cells.ensures.layout
-
 pub returns-clause-counts : goal.returns-clause-counts
 unfolding canonical_bytes
 returns-clause-counts g c =
     let unit = unit_is c.unit-unit.result c.args.layout.now.unit c.num.result c.den.result c.num.ensures.value c.den.ensures.value c.unit-unit.ensures in
     ends (first _ (rw unit at c.in_ok-head.ensures.counts) ▸ c.in_ok-body.ensures.counts) c.in_ok-end.ensures.counts
-
-pub returns-clause-short : goal.returns-clause-short
-returns-clause-short g c = layout_short c.args.layout.now c.cells-cells.ensures.layout

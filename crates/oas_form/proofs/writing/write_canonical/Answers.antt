@@ -1,7 +1,5 @@
-use Rattle.std.proofs.Common.{◌^◌, ◌<◌, length, arith}
 use Rattle.oas_num.specs.WrittenLaws.{took_all, cut_off}
-use Rattle.oas_layout.specs.Contents.{meaning_of}
-use Rattle.oas_form.specs.Bytes.{canonical_bytes}
+use Rattle.oas_form.proofs.LayoutForms.{layout_counted}
 use Rattle.oas_form.proofs.writing.write_canonical.Goals as goal
 
 pub returns-in-Ok-clause-written : goal.returns-in-Ok-clause-written
@@ -11,5 +9,4 @@ returns-in-Ok-clause-written g c =
 
 pub returns-in-Err-clause-refused : goal.returns-in-Err-clause-refused
 returns-in-Err-clause-refused g c =
-    let short : length (canonical_bytes (meaning_of c.args.layout.now)) < 2 ^ 64 = omega (arith, c.in-Err.ensures.short) in
-    cut_off g.W.Write.contents c.new-outlet.ensures c.in-Err.ensures.counts c.writer-in-Err-1.given.1 c.taken.ensures short
+    cut_off g.W.Write.contents c.new-outlet.ensures c.in-Err.ensures.counts c.writer-in-Err-1.given.1 c.taken.ensures (layout_counted c.args.layout.now c.in-Err.ensures.layout)

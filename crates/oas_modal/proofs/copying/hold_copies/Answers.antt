@@ -1,10 +1,14 @@
 use Rattle.std.proofs.Common.{arith, ap, ◌∙◌, ◌+◌}
 use Rattle.oas_modal.proofs.CopyLemmas.{held_next, room_next, fit_next, weight_next, weight_room}
+use Rattle.oas_modal.proofs.DrawLemmas.{copy_fit}
 use Rattle.oas_modal.proofs.copying.hold_copies.Goals as goal
 
 pub add-requires-clause-room : goal.add-requires-clause-room
 add-requires-clause-room c =
-    room_next c.args.modal.now c.args.kind c.args.repeated c.loop-i.i c.in_ok-drawn.drawn c.args.held.now c.loop-i.held c.loop-i.invariant.held c.requires.room (omega (arith, c.loop-i-test.true, c.requires.small))
+    room_next c.args.modal.now c.args.kind c.args.repeated c.loop-i.i c.args.held.now c.loop-i.held c.loop-i.invariant.held c.requires.room (omega (arith, c.loop-i-test.true, c.requires.small))
+
+pub add-requires-clause-fit : goal.add-requires-clause-fit
+add-requires-clause-fit c = copy_fit c.args.modal.now c.args.kind c.args.repeated c.loop-i.i c.in_ok-drawn.drawn c.in_ok-drawn.ensures.ok c.in_ok-drawn.ensures.fits c.requires.points
 
 pub loop-i-preserved : goal.loop-i-preserved
 loop-i-preserved c = record {

@@ -3,8 +3,11 @@
 //! The heap is filled up and given back a small piece at a time, so that the table meets every state of want in its turn.
 //! Where the heap cannot be filled, as under a checker of addresses, no call is refused, and the answers are the same.
 
+ghost use Rattle.oas_modal.specs.Finish.{IsFit};
+
 use crate::{HeldCell, NameTable};
 use oas_drawing::Drawn;
+use oas_layout::Element;
 use oas_num::Why;
 use oas_record::CellRef;
 use std::alloc::{AllocError, Global};
@@ -89,43 +92,59 @@ fn names_without_memory(rt: HostRuntime) -> Result<(), Fail> {
     Ok(())
 }
 
-/// A text whose string has this number.
-fn text(number: u64) -> Drawn {
-    Drawn::TextBy {
-        number,
-        textlayer: 1,
-        texttype: 2,
-        x: -3,
-        y: 4,
+/// A text whose string has this number, or, where that is odd, a rectangle of that layer.
+fn drawing(number: u64) -> Drawn
+    ensures { IsFit result }
+{
+    if number % 2 == 0 {
+        Drawn::TextBy {
+            number,
+            textlayer: 1,
+            texttype: 2,
+            x: -3,
+            y: 4,
+        }
+    } else {
+        Drawn::Named(Element::Rectangle {
+            layer: number,
+            datatype: 0,
+            width: 10,
+            height: 20,
+            x: -3,
+            y: 4,
+        })
     }
 }
 
-/// Draws a text in a new cell, and gives back a piece of memory after each refusal. How many there were.
-fn insist_on_text(rt: &impl Abort, alloc: Global, number: u64, held: &mut Vec<Vec<u8>>) -> u32 {
-    let mut drawn = text(number);
+/// Draws it in a new cell, and gives back a piece of memory after each refusal. How many there were.
+fn insist_on_drawing(rt: &impl Abort, alloc: Global, number: u64, held: &mut Vec<Vec<u8>>) -> u32 {
     for refused in 0..4000u32 {
         let mut cell = HeldCell::new(alloc, CellRef::Number(number));
-        match cell.add(drawn, 5) {
+        match cell.add(drawing(number), 5) {
             Ok(()) => return refused,
             Err(back) => {
-                assert!(rt; back == text(number));
-                drawn = back;
+                assert!(rt; back == drawing(number));
             }
         }
         let _ = held.pop();
     }
-    assert!(rt; false, "a text is never drawn");
+    assert!(rt; false, "it is never drawn");
     0
 }
 
-#[test]
-fn drawn_without_memory(rt: HostRuntime) -> Result<(), Fail> {
-    let alloc = rt.alloc();
+/// Draws it where there is no memory at first.
+fn draw_without_memory(rt: &impl Abort, alloc: Global, number: u64) -> Result<(), Fail> {
     let mut held = take_all(alloc)?;
     let is_full = Vec::<u8>::with_capacity(alloc, 64).is_err();
-    let refused = insist_on_text(&rt, alloc, 7, &mut held);
+    let refused = insist_on_drawing(rt, alloc, number, &mut held);
     held.clear();
     drop(held);
     assert!(rt; !is_full || refused > 0);
     Ok(())
+}
+
+#[test]
+fn drawn_without_memory(rt: HostRuntime) -> Result<(), Fail> {
+    draw_without_memory(&rt, rt.alloc(), 7)?;
+    draw_without_memory(&rt, rt.alloc(), 8)
 }

@@ -1,42 +1,43 @@
+use Rattle.std.proofs.Common.{refl}
 use Rattle.std.proofs.lemmas.Result.{err_from_is_err_and}
 use Rattle.oas_num.specs.Style.{Any}
-use Rattle.oas_num.proofs.GrammarLemmas.{◌▸◌, ◌▹◌, fails_at, fails_at_piece, fails_last, is_read}
-use Rattle.oas_record.specs.HeadLaws.{OneFront-version, OneFront-unit, OneFront-flag}
-use Rattle.oas_record.specs.SomeLaws.{HasSome-offsets_if}
-use Rattle.oas_record.proofs.MayLemmas.{StartMay-integer, StartMay-version, StartMay-unit}
-use Rattle.oas_record.proofs.HeadLemmas.{id_fails, id_refused, with_id, flag_fails, flag_refused, flag_read}
+use Rattle.oas_num.specs.IntegerLaws.{OneFront-IsUnsigned}
+use Rattle.oas_record.specs.Heads.{StartTook}
+use Rattle.oas_record.specs.HeadLaws.{OneFront-version, OneFront-unit}
+use Rattle.oas_num.proofs.HalfwayLemmas.{◌▸◌, at_image, fails_at, fails_last, is_read, such_took, such_refused}
+use Rattle.oas_record.proofs.HeadLemmas.{id_field, flag_field, other_flag}
 use Rattle.oas_record.proofs.heads.read_start.Goals as goal
 
 pub returns-in_err-id : goal.returns-in_err-id
 returns-in_err-id g c =
     let p = err_from_is_err_and c.from_residual.result c.from_residual.ensures.1 in
-    rw (p.1, p.2) (id_fails c.in_err-id.ensures)
+    rw (p.1, p.2) (fails_at (at_image _) (such_took c.in_err-id.ensures))
 
 pub returns-then-id-ne1 : goal.returns-then-id-ne1
-returns-then-id-ne1 g c = id_refused c.if-id-ne1.true c.in_ok-id.ensures
+returns-then-id-ne1 g c = fails_at (at_image _) (such_refused OneFront-IsUnsigned refl c.if-id-ne1.true (refl, c.if-id-ne1.true) c.in_ok-id.ensures)
 
 pub returns-in_err-read_version : goal.returns-in_err-read_version
 returns-in_err-read_version g c =
     let p = err_from_is_err_and c.from_residual-in_err-read_version.result c.from_residual-in_err-read_version.ensures.1 in
-    rw (p.1, p.2) (fails_at (with_id c.if-id-ne1.false c.in_ok-id.ensures) StartMay-version c.in_err-read_version.ensures)
+    rw (p.1, p.2) (fails_at (at_image _ ▸ id_field c.if-id-ne1.false c.in_ok-id.ensures) c.in_err-read_version.ensures)
 
 pub returns-in_err-unit : goal.returns-in_err-unit
 returns-in_err-unit g c =
     let p = err_from_is_err_and c.from_residual-in_err-unit.result c.from_residual-in_err-unit.ensures.1 in
-    rw (p.1, p.2) (fails_at (with_id c.if-id-ne1.false c.in_ok-id.ensures ▸ (OneFront-version Any, c.in_ok-read_version.ensures)) StartMay-unit c.in_err-unit.ensures)
+    rw (p.1, p.2) (fails_at (at_image _ ▸ id_field c.if-id-ne1.false c.in_ok-id.ensures ▸ (OneFront-version Any, c.in_ok-read_version.ensures)) c.in_err-unit.ensures)
 
 pub returns-in_err-flag : goal.returns-in_err-flag
 returns-in_err-flag g c =
     let p = err_from_is_err_and c.from_residual-in_err-flag.result c.from_residual-in_err-flag.ensures.1 in
-    rw (p.1, p.2) (fails_at_piece (with_id c.if-id-ne1.false c.in_ok-id.ensures ▸ (OneFront-version Any, c.in_ok-read_version.ensures) ▸ (OneFront-unit Any, c.in_ok-unit.ensures)) (λ _ _ h. h) (flag_fails c.in_err-flag.ensures))
+    rw (p.1, p.2) (fails_at (at_image _ ▸ id_field c.if-id-ne1.false c.in_ok-id.ensures ▸ (OneFront-version Any, c.in_ok-read_version.ensures) ▸ (OneFront-unit Any, c.in_ok-unit.ensures)) (such_took c.in_err-flag.ensures))
 
 pub returns-then-flag-gt1 : goal.returns-then-flag-gt1
-returns-then-flag-gt1 g c = fails_at_piece (with_id c.if-id-ne1.false c.in_ok-id.ensures ▸ (OneFront-version Any, c.in_ok-read_version.ensures) ▸ (OneFront-unit Any, c.in_ok-unit.ensures)) (λ _ _ h. h) (flag_refused c.if-flag-gt1.true c.in_ok-flag.ensures)
+returns-then-flag-gt1 g c = fails_at (at_image _ ▸ id_field c.if-id-ne1.false c.in_ok-id.ensures ▸ (OneFront-version Any, c.in_ok-read_version.ensures) ▸ (OneFront-unit Any, c.in_ok-unit.ensures)) (such_refused OneFront-IsUnsigned refl (other_flag c.if-flag-gt1.true) (refl, other_flag c.if-flag-gt1.true) c.in_ok-flag.ensures)
 
 pub returns-in_err-pass_offsets_if : goal.returns-in_err-pass_offsets_if
 returns-in_err-pass_offsets_if g c =
     let p = err_from_is_err_and c.from_residual-in_err-pass_offsets_if.result c.from_residual-in_err-pass_offsets_if.ensures.1 in
-    rw (p.1, p.2) (fails_last (with_id c.if-id-ne1.false c.in_ok-id.ensures ▸ (OneFront-version Any, c.in_ok-read_version.ensures) ▸ (OneFront-unit Any, c.in_ok-unit.ensures) ▹ (OneFront-flag Any, HasSome-offsets_if _, flag_read c.if-flag-gt1.false c.in_ok-flag.ensures)) StartMay-integer c.in_err-pass_offsets_if.ensures)
+    rw (p.1, p.2) (fails_last (at_image _ ▸ id_field c.if-id-ne1.false c.in_ok-id.ensures ▸ (OneFront-version Any, c.in_ok-read_version.ensures) ▸ (OneFront-unit Any, c.in_ok-unit.ensures) ▸ flag_field c.if-flag-gt1.false c.in_ok-flag.ensures) c.in_err-pass_offsets_if.ensures)
 
 pub returns : goal.returns
-returns g c = is_read (with_id c.if-id-ne1.false c.in_ok-id.ensures ▸ (OneFront-version Any, c.in_ok-read_version.ensures) ▸ (OneFront-unit Any, c.in_ok-unit.ensures) ▹ (OneFront-flag Any, HasSome-offsets_if _, flag_read c.if-flag-gt1.false c.in_ok-flag.ensures)) c.in_ok-pass_offsets_if.ensures
+returns g c = is_read (at_image {took = StartTook} _ ▸ id_field c.if-id-ne1.false c.in_ok-id.ensures ▸ (OneFront-version Any, c.in_ok-read_version.ensures) ▸ (OneFront-unit Any, c.in_ok-unit.ensures) ▸ flag_field c.if-flag-gt1.false c.in_ok-flag.ensures) c.in_ok-pass_offsets_if.ensures

@@ -1,5 +1,5 @@
 use Rattle.oas_record.specs.HeadLaws.{OneFront-head, OneSpelling-head, IsWithin-head}
-use Rattle.oas_record.specs.SomeLaws.{HasSome-head}
+use Rattle.oas_record.proofs.SomeLemmas.{HasSome-head}
 use Rattle.oas_record.proofs.laws.heads.Goals as goal
 
 pub returns : goal.returns

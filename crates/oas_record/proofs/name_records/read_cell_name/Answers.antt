@@ -1,20 +1,19 @@
 use Rattle.std.proofs.lemmas.Result.{err_from_is_err_and}
 use Rattle.oas_num.specs.Style.{Any}
 use Rattle.oas_num.specs.TextLaws.{OneFront-name}
-use Rattle.oas_num.proofs.GrammarLemmas.{◌▸◌, begins, fails_at, fails_last, is_read}
-use Rattle.oas_record.specs.SomeLaws.{HasSome-cell_name}
-use Rattle.oas_record.proofs.MayLemmas.{FieldMay-integer, FieldMay-name}
+use Rattle.oas_record.specs.NameRecords.{CellNameTook}
+use Rattle.oas_num.proofs.HalfwayLemmas.{◌▸◌, at_start, fails_at, fails_last, is_read, number_took}
 use Rattle.oas_record.proofs.name_records.read_cell_name.Goals as goal
 
 pub returns-in_err-name : goal.returns-in_err-name
 returns-in_err-name g c =
     let p = err_from_is_err_and c.from_residual.result c.from_residual.ensures.1 in
-    rw (p.1, p.2) (fails_at (begins _ (HasSome-cell_name _) _) FieldMay-name c.in_err-name.ensures.reads)
+    rw (p.1, p.2) (fails_at (at_start _) c.in_err-name.ensures)
 
 pub returns-in_err-number : goal.returns-in_err-number
 returns-in_err-number g c =
     let p = err_from_is_err_and c.from_residual-in_err-number.result c.from_residual-in_err-number.ensures.1 in
-    rw (p.1, p.2) (fails_last (begins _ (HasSome-cell_name _) _ ▸ (OneFront-name Any, c.in_ok-name.ensures.reads)) FieldMay-integer c.in_err-number.ensures)
+    rw (p.1, p.2) (fails_last (at_start _ ▸ (OneFront-name Any, c.in_ok-name.ensures)) (number_took _ c.in_err-number.ensures))
 
 pub returns : goal.returns
-returns g c = is_read (begins _ (HasSome-cell_name _) _ ▸ (OneFront-name Any, c.in_ok-name.ensures.reads)) c.in_ok-number.ensures
+returns g c = is_read (at_start {took = CellNameTook c.args.numbered} _ ▸ (OneFront-name Any, c.in_ok-name.ensures)) c.in_ok-number.ensures

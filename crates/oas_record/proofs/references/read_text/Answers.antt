@@ -10,4 +10,4 @@ returns-in_err-read_unsigned g c =
 pub returns-in_err-read : goal.returns-in_err-read
 returns-in_err-read g c =
     let p = err_from_is_err_and c.from_residual-in_err-read.result c.from_residual-in_err-read.ensures.1 in
-    rw (p.1, p.2) (text_label_fails _ c.if-numbered.false c.in_err-read.ensures.reads)
+    rw (p.1, p.2) (text_label_fails _ c.if-numbered.false c.in_err-read.ensures)

@@ -1,10 +1,8 @@
 use Rattle.std.proofs.lemmas.Result.{err_from_is_err_and}
-use Rattle.oas_num.proofs.GrammarLemmas.{there_fails}
-use Rattle.oas_record.proofs.ElementLemmas.{widened}
-use Rattle.oas_record.proofs.MayLemmas.{FieldMay-repetition}
+use Rattle.oas_num.proofs.HalfwayLemmas.{there_took}
 use Rattle.oas_record.proofs.spots.read_repetition_if.Goals as goal
 
 pub returns-in_err-read : goal.returns-in_err-read
 returns-in_err-read g c =
     let p = err_from_is_err_and c.from_residual.result c.from_residual.ensures.1 in
-    rw (p.1, p.2) (there_fails _ c.if-there.true (widened FieldMay-repetition c.in_err-read.ensures))
+    rw (p.1, p.2) (there_took _ c.if-there.true c.in_err-read.ensures)

@@ -1,18 +1,18 @@
 use Rattle.std.proofs.lemmas.Result.{err_from_is_err_and}
-use Rattle.oas_num.proofs.GrammarLemmas.{◌▸◌, fails_at, fails_last, is_read}
+use Rattle.oas_shape.specs.Repetitions.{MatrixTook}
 use Rattle.oas_shape.specs.RepetitionLaws.{OneFront-two}
-use Rattle.oas_shape.proofs.RepetitionLemmas.{starts_matrix}
+use Rattle.oas_num.proofs.HalfwayLemmas.{at_image, ◌▸◌, fails_at, fails_last, is_read}
 use Rattle.oas_shape.proofs.repetitions.read_matrix.Goals as goal
 
 pub returns-in_err-x_dim : goal.returns-in_err-x_dim
 returns-in_err-x_dim g c =
     let p = err_from_is_err_and c.from_residual.result c.from_residual.ensures.1 in
-    rw (p.1, p.2) (fails_at (starts_matrix _) (λ _ _ h. h) c.in_err-x_dim.ensures)
+    rw (p.1, p.2) (fails_at (at_image _) c.in_err-x_dim.ensures)
 
 pub returns-in_err-x_space : goal.returns-in_err-x_space
 returns-in_err-x_space g c =
     let p = err_from_is_err_and c.from_residual-in_err-x_space.result c.from_residual-in_err-x_space.ensures.1 in
-    rw (p.1, p.2) (fails_last (starts_matrix _ ▸ (OneFront-two, c.in_ok-x_dim.ensures)) (λ _ _ h. h) c.in_err-x_space.ensures)
+    rw (p.1, p.2) (fails_last (at_image _ ▸ (OneFront-two, c.in_ok-x_dim.ensures)) c.in_err-x_space.ensures)
 
 pub returns : goal.returns
-returns g c = is_read (starts_matrix _ ▸ (OneFront-two, c.in_ok-x_dim.ensures)) c.in_ok-x_space.ensures
+returns g c = is_read (at_image {took = MatrixTook} _ ▸ (OneFront-two, c.in_ok-x_dim.ensures)) c.in_ok-x_space.ensures

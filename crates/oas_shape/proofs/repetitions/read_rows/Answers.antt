@@ -1,13 +1,13 @@
 use Rattle.std.proofs.lemmas.Result.{err_from_is_err_and}
-use Rattle.oas_num.proofs.GrammarLemmas.{image_fails}
 use Rattle.oas_shape.specs.Repetitions.{AreTwo, rows_of}
+use Rattle.oas_num.proofs.HalfwayLemmas.{image_took}
 use Rattle.oas_shape.proofs.ReadingLemmas.{image_read}
 use Rattle.oas_shape.proofs.repetitions.read_rows.Goals as goal
 
 pub returns-in_err-dim : goal.returns-in_err-dim
 returns-in_err-dim g c =
     let p = err_from_is_err_and c.from_residual.result c.from_residual.ensures.1 in
-    rw (p.1, p.2) (image_fails rows_of c.in_err-dim.ensures)
+    rw (p.1, p.2) (image_took {f = rows_of} c.in_err-dim.ensures)
 
 pub returns : goal.returns
 returns g c = image_read rows_of AreTwo c.in_ok-dim.ensures

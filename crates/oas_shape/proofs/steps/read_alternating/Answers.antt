@@ -9,15 +9,15 @@ loop-init g c = rw c.new-turns.ensures.items (alternated_none _ _)
 pub returns-in_err-delta : goal.returns-in_err-delta
 returns-in_err-delta g c =
     let p = err_from_is_err_and c.from_residual.result c.from_residual.ensures.1 in
-    rw (p.1, p.2) (alternated_fails c.loop.invariant _ (omega arith) c.in_err-delta.ensures.reads)
+    rw (p.1, p.2) (alternated_fails c.loop.invariant _ (omega arith) c.in_err-delta.ensures)
 
 pub returns-in_err-push : goal.returns-in_err-push
 returns-in_err-push g c =
     let p = err_from_is_err_and c.from_residual-in_err-push.result c.from_residual-in_err-push.ensures.1 in
-    rw (p.1, p.2) (alternated_no_memory c.loop.invariant _ (omega arith) c.in_ok-delta.ensures.reads)
+    rw (p.1, p.2) (alternated_no_memory c.loop.invariant _ (omega arith) c.in_ok-delta.ensures)
 
 pub loop-preserved : goal.loop-preserved
-loop-preserved g c = rw c.in_ok-push.ensures.items (alternated_more c.loop.invariant c.in_ok-delta.ensures.reads c.along.ensures)
+loop-preserved g c = rw c.in_ok-push.ensures.items (alternated_more c.loop.invariant c.in_ok-delta.ensures c.along.ensures)
 
 pub returns : goal.returns
 returns g c = alternated_all c.loop.invariant _ (omega arith)

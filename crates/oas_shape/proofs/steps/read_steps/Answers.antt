@@ -1,21 +1,22 @@
 use Rattle.std.proofs.Common.{◌+◌, ◌∙◌, ap, arith, inl, inr, refl}
 use Rattle.std.proofs.lemmas.Result.{err_from_is_err_and}
 use Rattle.std.proofs.lemmas.List.{length_push}
-use Rattle.oas_num.specs.BegunLaws.{HasSome-image}
 use Rattle.oas_num.specs.GrammarLaws.{OneFront-image}
-use Rattle.oas_num.proofs.GrammarLemmas.{listed_more, listed_fails, listed_no_memory, image_fails}
+use Rattle.oas_num.proofs.GrammarLemmas.{listed_more}
+use Rattle.oas_num.proofs.PieceLemmas.{item_fails, item_unkept}
+use Rattle.oas_num.proofs.HalfwayLemmas.{image_took}
 use Rattle.oas_shape.proofs.ReadingLemmas.{image_read}
 use Rattle.oas_shape.proofs.steps.read_steps.Goals as goal
 
 pub returns-in_err-delta : goal.returns-in_err-delta
 returns-in_err-delta g c =
     let p = err_from_is_err_and c.from_residual.result c.from_residual.ensures.1 in
-    rw (p.1, p.2) (listed_fails _ _ _ _ _ _ _ _ _ (OneFront-image _ _ g.met.D.Spelled.one_front) (HasSome-image _ _ g.met.D.Spelled.some) (λ _ h. inl h) (omega arith) c.loop.invariant.listed (image_fails _ c.in_err-delta.ensures))
+    rw (p.1, p.2) (item_fails (OneFront-image _ _ g.met.D.Spelled.one_front) (λ _ h. inl h) (omega arith) c.loop.invariant.listed (image_took c.in_err-delta.ensures))
 
 pub returns-in_err-push : goal.returns-in_err-push
 returns-in_err-push g c =
     let p = err_from_is_err_and c.from_residual-in_err-push.result c.from_residual-in_err-push.ensures.1 in
-    rw (p.1, p.2) (listed_no_memory _ _ _ _ _ _ _ _ (λ _ h. inr (refl, (_, h))) (omega (arith, c.loop.invariant.len)) c.loop.invariant.listed (image_read _ _ c.in_ok-delta.ensures))
+    rw (p.1, p.2) (item_unkept (λ _ h. inr (_, h, refl)) (omega (arith, c.loop.invariant.len)) c.loop.invariant.listed (image_read _ _ c.in_ok-delta.ensures))
 
 pub loop-preserved : goal.loop-preserved
 loop-preserved g c =

@@ -1,7 +1,5 @@
 use Rattle.std.proofs.lemmas.Result.{err_from_is_err_and}
 use Rattle.oas_num.specs.Deltas.{delta3_of}
-use Rattle.oas_num.specs.DeltaLaws.{Delta3-some}
-use Rattle.oas_num.proofs.ReadLemmas.{piece_fails}
 use Rattle.oas_num.proofs.GrammarLemmas.{image_fails, is_read}
 use Rattle.oas_num.proofs.DeltaLemmas.{starts_delta3}
 use Rattle.oas_num.proofs.deltas.Delta3Spelled.read.Goals as goal
@@ -10,9 +8,9 @@ pub returns-in_err-coded : goal.returns-in_err-coded
 returns-in_err-coded g c =
     let p = err_from_is_err_and c.from_residual.result c.from_residual.ensures.1 in
     let f = image_fails delta3_of c.in_err-coded.ensures in
-    rw (p.1, p.2) (record { reads = piece_fails Delta3-some f; took = f })
+    rw (p.1, p.2) f
 
 pub returns : goal.returns
 returns g c =
     let read = is_read (starts_delta3 _) c.in_ok-coded.ensures in
-    rw c.delta3_from.ensures (record { reads = read; took = read })
+    rw c.delta3_from.ensures read

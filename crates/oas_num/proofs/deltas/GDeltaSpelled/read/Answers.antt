@@ -2,23 +2,22 @@ use Rattle.std.proofs.lemmas.Result.{err_from_is_err_and}
 use Rattle.oas_num.specs.IntegerLaws.{OneFront-IsUnsigned}
 use Rattle.oas_num.specs.DeltaLaws.{HasSome-second}
 use Rattle.oas_num.proofs.GrammarLemmas.{◌▹◌, is_read}
-use Rattle.oas_num.proofs.PieceLemmas.{from_piece}
-use Rattle.oas_num.proofs.DeltaLemmas.{starts_gdelta, gdelta_decides, first_number_fails, second_number_fails}
+use Rattle.oas_num.proofs.DeltaLemmas.{starts_gdelta, first_number_fails, second_number_fails}
 use Rattle.oas_num.proofs.deltas.GDeltaSpelled.read.Goals as goal
 
 pub returns-in_err-first : goal.returns-in_err-first
 returns-in_err-first g c =
     let p = err_from_is_err_and c.from_residual.result c.from_residual.ensures.1 in
     let f = first_number_fails c.in_err-first.ensures in
-    rw (p.1, p.2) (record { reads = from_piece gdelta_decides f; took = f })
+    rw (p.1, p.2) f
 
 pub returns-in_err-second : goal.returns-in_err-second
 returns-in_err-second g c =
     let p = err_from_is_err_and c.from_residual-in_err-second.result c.from_residual-in_err-second.ensures.1 in
     let f = second_number_fails c.in_ok-first.ensures c.in_err-second.ensures in
-    rw (p.1, p.2) (record { reads = from_piece gdelta_decides f; took = f })
+    rw (p.1, p.2) f
 
 pub returns : goal.returns
 returns g c =
     let read = is_read (starts_gdelta _ ▹ (OneFront-IsUnsigned, HasSome-second _, c.in_ok-first.ensures)) c.in_ok-second.ensures in
-    rw c.step_from.ensures (record { reads = read; took = read })
+    rw c.step_from.ensures read

@@ -1,7 +1,5 @@
 use Rattle.std.proofs.lemmas.Result.{err_from_is_err_and}
 use Rattle.oas_num.specs.Integers.{IsSigned}
-use Rattle.oas_num.specs.IntegerLaws.{Signed-some}
-use Rattle.oas_num.proofs.ReadLemmas.{piece_fails}
 use Rattle.oas_num.proofs.GrammarLemmas.{wrapped_fails}
 use Rattle.oas_num.specs.declared.integers.Signed.{Signed}
 use Rattle.oas_num.proofs.integers.SignedSpelled.read.Goals as goal
@@ -10,4 +8,4 @@ pub returns-in_err-read_signed : goal.returns-in_err-read_signed
 returns-in_err-read_signed g c =
     let p = err_from_is_err_and c.from_residual.result c.from_residual.ensures.1 in
     let f = wrapped_fails {A = IsSigned} (λ (u : Signed). u.0) c.in_err-read_signed.ensures in
-    rw (p.1, p.2) (record { reads = piece_fails Signed-some f; took = f })
+    rw (p.1, p.2) f

@@ -1,0 +1,58 @@
+//! Keys an OASIS file through a reader of its own, which counts what it hands on, and prints the key and the count.
+#![tactic(auto)]
+
+use oas_canon::{Limits, ReaderSource, Refusal, Why, key};
+use std::io;
+use std::io::{Read, Stdin};
+use std::process::ExitCode;
+
+/// Standard input, with how many bytes it gave.
+#[derive(Drop)]
+struct Counting<'a> {
+    input: Stdin,
+    given: &'a mut u64,
+}
+
+impl Read for Counting<'_> {
+    fn read(&mut self, buf: &mut [u8]) -> io::Result<usize> {
+        let count = self.input.read(buf)?;
+        *self.given = self.given.saturating_add(count as u64);
+        Ok(count)
+    }
+}
+
+/// The key of what standard input gives, and how many bytes that were.
+fn keyed(rt: &HostRuntime) -> Result<([u8; 32], u64), Refusal> {
+    let mut given = 0;
+    let alloc = rt.alloc();
+    let limits = Limits::standard();
+    let reader = Counting {
+        input: rt.stdin(),
+        given: &mut given,
+    };
+    let Ok(mut source) = ReaderSource::new(alloc, reader, limits.input()) else {
+        return Err(Refusal {
+            at: 0,
+            why: Why::Memory,
+        });
+    };
+    let digest = key(alloc, &mut source, limits)?;
+    drop(source);
+    Ok((digest, given))
+}
+
+fn main(rt: HostRuntime) -> ExitCode {
+    match keyed(&rt) {
+        Ok((digest, given)) => {
+            for byte in digest {
+                let _ = print!(rt; "{byte:02x}");
+            }
+            let _ = println!(rt; " of {given} bytes");
+            ExitCode::SUCCESS
+        }
+        Err(refusal) => {
+            let _ = eprintln!(rt; "refused {} at {}", refusal.why.number(), refusal.at);
+            ExitCode::FAILURE
+        }
+    }
+}

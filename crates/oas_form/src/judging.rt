@@ -1,0 +1,135 @@
+//! Judges a file record by record, with no layout kept.
+ghost use Rattle.std.specs.Prelude.{◌≡◌, ◌≤◌, ◌^◌, length, true, false, [], IsTrue, ◌↔◌};
+ghost use Rattle.oas_record.specs.declared.records.Record.TheVariants.{Cell};
+ghost use Rattle.oas_record.specs.declared.references.CellRef.TheVariants.{Name as ByName};
+ghost use Rattle.oas_layout.specs.declared.profile.Profile.{Profile};
+ghost use Rattle.oas_layout.specs.Sound.{IsSound};
+ghost use Rattle.oas_layout.specs.Grid.{fits_grid};
+ghost use Rattle.oas_layout.specs.Weight.{weight_of, lacks_points};
+ghost use Rattle.oas_form.specs.Bytes.{opening_bytes, element_bytes};
+ghost use Rattle.oas_form.specs.Judging.{IsAbove, IsNotBelow, Stands, GoesOn, GoesOnDrawing, GoesOnRefusing};
+
+use crate::cells::put_opening;
+use crate::comparing::Comparer;
+use crate::elements::put_element;
+use oas_layout::Element;
+use oas_num::Name;
+
+#[cfg(test)]
+mod tests;
+
+/// Whether a name is above that of the cell before it.
+fn is_above(before: &Option<Name>, name: &Name) -> bool
+    ensures { IsTrue result ↔ IsAbove before.now name.now }
+{
+    match before {
+        None => true,
+        Some(before) => before < name,
+    }
+}
+
+/// Whether an element isn't below the one before it.
+fn is_not_below(before: &Option<Element>, element: &Element) -> bool
+    ensures { IsTrue result ↔ IsNotBelow before.now element.now }
+{
+    match before {
+        None => true,
+        Some(before) => !before.cmp(element).is_gt(),
+    }
+}
+
+/// Whether these are the canonical bytes of an element.
+fn is_spelled(element: &Element, bytes: &[u8]) -> bool
+    requires sound { IsSound element.now }
+    requires light { weight_of element.now ≤ 2 ^ 30 }
+    ensures { IsTrue result ↔ (element_bytes element.now ≡ bytes.now) }
+{
+    let mut comparer = Comparer::new(bytes);
+    let _ = put_element(&mut comparer, element);
+    comparer.is_done()
+}
+
+/// Whether these are the canonical bytes of a CELL.
+fn is_opening(name: &Name, bytes: &[u8]) -> bool
+    requires { length name.now ≤ 2 ^ 30 }
+    ensures { IsTrue result ↔ (opening_bytes name.now ≡ bytes.now) }
+{
+    let mut comparer = Comparer::new(bytes);
+    let _ = put_opening(&mut comparer, name.as_bytes());
+    comparer.is_done()
+}
+
+/// What is kept of a file while it is judged: whether it can be canonical so far, the name of the open cell, and the latest
+/// element in it.
+#[derive(Drop)]
+pub struct FormJudge {
+    holds: bool,
+    name: Option<Name>,
+    element: Option<Element>,
+}
+
+impl FormJudge {
+    /// A judge of no records.
+    pub fn new() -> FormJudge
+        ensures { (profile : Profile) → Stands profile result [] }
+    {
+        FormJudge {
+            holds: true,
+            name: None,
+            element: None,
+        }
+    }
+
+    /// Whether all records so far were as in a canonical file.
+    pub fn holds(&self) -> bool
+        ensures { result ≡ self.now.holds }
+    {
+        self.holds
+    }
+
+    /// Judges a CELL by its name, of which these are the bytes that were read.
+    pub fn open(&mut self, name: Name, bytes: &[u8])
+        requires { length name ≤ 2 ^ 30 }
+        ensures { GoesOn self.old (Cell (ByName name), bytes.now) self.new }
+    {
+        self.holds = self.may_open(&name, bytes);
+        self.name = Some(name);
+        self.element = None;
+    }
+
+    /// Judges a record that draws one element, of which this is the kept form and these the bytes that were read.
+    pub fn draw(&mut self, element: Element, bytes: &[u8])
+        requires points { lacks_points element ≡ false }
+        requires inside { fits_grid element ≡ true }
+        requires light { weight_of element ≤ 2 ^ 30 }
+        ensures { GoesOnDrawing self.old element bytes.now self.new }
+    {
+        element.fits();
+        self.holds = self.may_draw(&element, bytes);
+        self.element = Some(element);
+    }
+
+    /// Judges a record that no canonical file has there.
+    pub fn refuse(&mut self)
+        ensures { GoesOnRefusing self.old self.new }
+    {
+        self.holds = false;
+    }
+
+    /// Whether a canonical file may have this CELL next, of which these are the bytes.
+    fn may_open(&self, name: &Name, bytes: &[u8]) -> bool
+        requires { length name.now ≤ 2 ^ 30 }
+        ensures { IsTrue result ↔ (IsTrue self.now.holds × (opening_bytes name.now ≡ bytes.now) × IsAbove self.now.name name.now) }
+    {
+        self.holds && is_opening(name, bytes) && is_above(&self.name, name)
+    }
+
+    /// Whether a canonical file may have this element next, of which these are the bytes.
+    fn may_draw(&self, element: &Element, bytes: &[u8]) -> bool
+        requires sound { IsSound element.now }
+        requires light { weight_of element.now ≤ 2 ^ 30 }
+        ensures { IsTrue result ↔ (IsTrue self.now.holds × (element_bytes element.now ≡ bytes.now) × IsNotBelow self.now.element element.now) }
+    {
+        self.holds && is_spelled(element, bytes) && is_not_below(&self.element, element)
+    }
+}

@@ -1,0 +1,41 @@
+"""What the commands answer, from the bytes of their files."""
+
+import hashlib
+
+from canonical import canonical, listing
+from layout import STANDARD, read
+from reading import Refused
+
+
+def answer(command, files, profile=2, limits=STANDARD):
+    """Status, output and error output of a command on files, each a name and its bytes. What `rekey` writes is its output."""
+    layouts = []
+    for name, data in files:
+        try:
+            layouts.append(read(data, profile, limits))
+        except Refused as refusal:
+            return 1, b"", f"{name}: {refusal}\n".encode()
+    if command == "rekey":
+        return rekeyed(*files[0], limits)
+    return *said(command, files[0][1], layouts), b""
+
+
+def said(command, data, layouts):
+    """Status and output of a command on layouts, of which the first is that of the bytes."""
+    out = canonical(layouts[0])
+    if command == "canon":
+        return 0, out
+    if command == "show":
+        return 0, listing(layouts[0])
+    if command == "key":
+        return 0, hashlib.sha256(out).hexdigest().encode() + b"\n"
+    if command == "check":
+        return (0, b"canonical\n") if out == data else (3, b"not canonical\n")
+    return (0, b"same\n") if layouts[0] == layouts[1] else (3, b"different\n")
+
+
+def rekeyed(name, data, limits):
+    """The canonical file by profile two, of a file that is canonical by profile one."""
+    if canonical(read(data, 1, limits)) != data:
+        return 3, b"", f"{name}: not profile 1 canonical\n".encode()
+    return 0, canonical(read(data, 2, limits)), b""
