@@ -3,7 +3,7 @@
 PREFIX ?= /usr/local
 JOBS ?= 2
 
-.PHONY: all install install-built dist test test-large test-reference test-readings test-command test-workflows test-klayout bench clean
+.PHONY: all install install-built dist test test-large test-reference test-readings test-inflate test-command test-workflows test-klayout bench clean
 
 # The program: proves every crate that it stands on, builds it, and leaves it as ./oascanon.
 all:
@@ -36,6 +36,11 @@ test-reference: all
 test-readings:
 	tests/reference/readings
 
+# Random deflated streams, inflated by the proved crate and by zlib.
+test-inflate:
+	cd crates/inflate_bench && rt run --jobs $(JOBS) </dev/null >/dev/null
+	tests/inflate
+
 # The packages: a tar.gz, a .deb and SHA256SUMS in dist/, tried in clean folders.
 dist: all
 	tests/dist/run
@@ -60,6 +65,8 @@ bench: all
 	bench/run
 	cd crates/layout_bench && rt run --jobs $(JOBS) </dev/null >/dev/null
 	bench/layouts
+	cd crates/inflate_bench && rt run --jobs $(JOBS) </dev/null >/dev/null
+	bench/inflate
 	bench/canon ./oascanon
 
 clean:
