@@ -52,7 +52,13 @@ fn print(rt: &HostRuntime, layout: &Layout) -> io::Result<()> {
     for i in 0..layout.cells() {
         let name = layout.cell_name(i).as_bytes();
         let counts = Counts::of(layout.elements(i));
-        println!(rt; "{}: {} placements, {} texts, {} shapes", name.escape_ascii(), counts.placements, counts.texts, counts.shapes)?;
+        println!(rt;
+            "{}: {} placements, {} texts, {} shapes",
+            name.escape_ascii(),
+            counts.placements,
+            counts.texts,
+            counts.shapes
+        )?;
     }
     Ok(())
 }
