@@ -14,21 +14,33 @@ fn name(alloc: Global, spelled: &[u8]) -> Option<Name> {
     Name::read(alloc, &mut source).ok()
 }
 
+/// The cell PAD as it stands at this place.
+fn placed(alloc: Global, x: i64) -> Option<Element> {
+    Some(Element::Placement {
+        cell: name(alloc, b"\x03PAD")?,
+        x,
+        y: 0,
+        turns: Turns::T0,
+        flip: false,
+    })
+}
+
+/// Adds an element to a cell, which `add` asks to be there.
+fn put(draft: &mut Draft, cell: usize, element: Element) -> Option<()> {
+    if cell >= draft.cells() {
+        return None;
+    }
+    draft.add(cell, element).ok()
+}
+
 /// Two cells: one with a rectangle, which stands three times in the other.
 fn build(alloc: Global) -> Option<Layout> {
     let unit = Fraction::reduced(1000, 1)?;
     let mut draft = Draft::new(alloc, unit, Limits::standard(), PROFILE).ok()?;
     let top = draft.add_cell(name(alloc, b"\x03TOP")?).ok()?;
-    for step in 0..3 {
-        let placement = Element::Placement {
-            cell: name(alloc, b"\x03PAD")?,
-            x: 100 * step,
-            y: 0,
-            turns: Turns::T0,
-            flip: false,
-        };
-        draft.add(top, placement).ok()?;
-    }
+    put(&mut draft, top, placed(alloc, 0)?)?;
+    put(&mut draft, top, placed(alloc, 100)?)?;
+    put(&mut draft, top, placed(alloc, 200)?)?;
     let pad = draft.add_cell(name(alloc, b"\x03PAD")?).ok()?;
     let rectangle = Element::Rectangle {
         layer: 1,
@@ -38,7 +50,7 @@ fn build(alloc: Global) -> Option<Layout> {
         x: 0,
         y: 0,
     };
-    draft.add(pad, rectangle).ok()?;
+    put(&mut draft, pad, rectangle)?;
     draft.seal().ok()
 }
 

@@ -21,14 +21,13 @@ impl Read for Counting<'_> {
     }
 }
 
-/// The key of what standard input gives, and how many bytes that were.
-fn keyed(rt: &HostRuntime) -> Result<([u8; 32], u64), Refusal> {
-    let mut given = 0;
+/// The key of what standard input gives. How many bytes that are is counted in `given`.
+fn keyed(rt: &HostRuntime, given: &mut u64) -> Result<[u8; 32], Refusal> {
     let alloc = rt.alloc();
     let limits = Limits::standard();
     let reader = Counting {
         input: rt.stdin(),
-        given: &mut given,
+        given,
     };
     let Ok(mut source) = ReaderSource::new(alloc, reader, limits.input()) else {
         return Err(Refusal {
@@ -36,14 +35,13 @@ fn keyed(rt: &HostRuntime) -> Result<([u8; 32], u64), Refusal> {
             why: Why::Memory,
         });
     };
-    let digest = key(alloc, &mut source, limits)?;
-    drop(source);
-    Ok((digest, given))
+    key(alloc, &mut source, limits)
 }
 
 fn main(rt: HostRuntime) -> ExitCode {
-    match keyed(&rt) {
-        Ok((digest, given)) => {
+    let mut given = 0;
+    match keyed(&rt, &mut given) {
+        Ok(digest) => {
             for byte in digest {
                 let _ = print!(rt; "{byte:02x}");
             }
