@@ -3,7 +3,7 @@
 PREFIX ?= /usr/local
 JOBS ?= 2
 
-.PHONY: all install install-built dist test test-large test-reference test-readings test-inflate test-command test-workflows test-klayout bench clean
+.PHONY: all install install-built dist test test-large test-reference test-readings test-reading test-inflate test-command test-workflows test-klayout bench clean
 
 # The program: proves every crate that it stands on, builds it, and leaves it as ./oascanon.
 all:
@@ -35,6 +35,10 @@ test-reference: all
 # Each rule of that program changed in turn: some row of the gate must tell the difference.
 test-readings:
 	tests/reference/readings
+
+# The definitions on which the promise rests, as docs/READING.md lists and counts them.
+test-reading:
+	tests/reading/run
 
 # Random deflated streams, inflated by the proved crate and by zlib.
 test-inflate:
