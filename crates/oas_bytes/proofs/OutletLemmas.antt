@@ -6,7 +6,7 @@ use Rattle.oas_bytes.specs.declared.outlets.Outlet.{Outlet}
 use Rattle.oas_bytes.specs.declared.sinks.SinkFault.{SinkFault}
 use Rattle.oas_bytes.specs.Writing.{Puts, PutsFront, Writes}
 use Rattle.oas_bytes.specs.Outlets.{unsent, failures_of, IsGiven}
-use Rattle.oas_bytes.specs.OutletLaws.{Appends-then, Appends-kept}
+use Rattle.oas_bytes.specs.Laws.OutletLaws.{Appends-then, Appends-kept}
 use Rattle.oas_bytes.proofs.WritingLemmas.{Puts-then}
 
 -- a full window is the only one of an outlet that has failed

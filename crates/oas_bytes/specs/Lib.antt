@@ -2,4 +2,4 @@ pub mod Script
 pub mod Readers
 pub mod Writing
 pub mod Outlets
-pub mod OutletLaws
+pub mod Laws

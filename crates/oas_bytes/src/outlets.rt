@@ -1,4 +1,4 @@
-ghost use Rattle.std.specs.Prelude.{◌≡◌, true, false, length, [], ◌∷◌, OnOk};
+ghost use Rattle.std.specs.Prelude.{◌≡◌, ◌≤◌, ◌-◌, ◌^◌, true, false, length, [], ◌∷◌, OnOk};
 
 use crate::flushing::FlushRecord;
 use crate::sinks::{Sink, SinkFault};
@@ -20,6 +20,7 @@ pub struct Outlet<'a, W> {
     writer: &'a mut W,
     window: Window,
     taken: u64,
+    ghost within: { taken ≤ 2 ^ 64 - 1 },
     flush_record: FlushRecord,
     // After a fault the window is full, so that `put` has one test to make.
     failed: bool,
@@ -116,12 +117,15 @@ impl<'a, W: Write> Outlet<'a, W> {
 }
 
 impl<'a, W: Write> Sink for Outlet<'a, W> {
+    ghost use Rattle.oas_bytes.specs.Laws.OutletLaws.{IsGiven-none};
     ghost use Rattle.oas_bytes.specs.Outlets.{IsGiven, Answers, failures_of};
     ghost use Rattle.oas_bytes.specs.Writing.{Writes};
 
     ghost given = { IsGiven W.contents };
 
     ghost failures = { failures_of };
+
+    ghost none_given = { IsGiven-none W.contents };
 
     #[inline]
     fn put(&mut self, byte: u8) -> Result<(), SinkFault>

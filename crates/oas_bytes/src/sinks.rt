@@ -1,4 +1,5 @@
-ghost use Rattle.std.specs.Prelude.{◌≡◌, List, ℕ, [], ◌∷◌, ◌+◌, min, ◌-◌, ◌^◌, length};
+ghost use Rattle.std.specs.Prelude.{◌≡◌, List, ℕ, [], ◌∷◌, ◌+◌, ◌≤◌, min, ◌-◌, ◌^◌, length};
+ghost use Rattle.std.proofs.Common.{arith};
 ghost use Rattle.oas_bytes.specs.Writing.{Writes};
 
 use thiserror::Error;
@@ -35,12 +36,16 @@ pub trait Sink {
         }
         Ok(())
     }
+
+    /// What nothing was put to was given nothing.
+    ghost none_given: { (s : Self) → given s [] s };
 }
 
 /// Counts the bytes that it is given. At `u64::MAX` it stays there.
 #[derive(Clone, Copy, Debug)]
 pub struct Counter {
     count: u64,
+    ghost within: { count ≤ 2 ^ 64 - 1 },
 }
 
 impl Counter {
@@ -63,6 +68,8 @@ impl Sink for Counter {
     ghost given = { λ s bytes t. t.count ≡ min (s.count + length bytes) (2 ^ 64 - 1) };
 
     ghost failures = { λ _. 0 };
+
+    ghost none_given = { λ s. omega (arith, s.within) };
 
     fn put(&mut self, _byte: u8) -> Result<(), SinkFault> {
         self.count = self.count.saturating_add(1);

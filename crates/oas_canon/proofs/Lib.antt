@@ -1,4 +1,4 @@
 mod KeptLemmas
 mod RekeyLemmas
-mod SinkLemmas
+mod HashingLemmas
 mod Whole

@@ -16,7 +16,7 @@ use Rattle.oas_file.specs.Acceptance.{Accepted}
 use Rattle.oas_file.specs.Reading.{IsRead, IsRefused, IsPlaced, ReadsLayout}
 use Rattle.oas_form.specs.Bytes.{canonical_bytes}
 use Rattle.oas_form.specs.Canonical.{CanonicalForm, IsCanonicalOf}
-use Rattle.oas_form.specs.FormLaws.{form_is_accepted}
+use Rattle.oas_form.specs.Laws.FormLaws.{form_is_accepted}
 use Rattle.oas_form.proofs.Forms.{canonical_again}
 use Rattle.oas_form.proofs.Rekeying.{within}
 use Rattle.oas_canon.specs.declared.rekeying.Rekeyed.{Rekeyed}

@@ -1,7 +1,7 @@
 pub mod Run
 pub mod Keeping
 pub mod KeptScripts
-pub mod Comparing
 pub mod Hashing
 pub mod Kept
 pub mod Rekeying
+pub mod Laws

@@ -1,17 +1,14 @@
 //! Whether a file is canonical as it stands.
-ghost use Rattle.std.specs.Prelude.{◌≡◌, ◌⊎◌, IsTrue, ◌↔◌, IfOk, IfErr};
+ghost use Rattle.std.specs.Prelude.{◌≡◌, ◌⊎◌, IfOk, IfErr};
 ghost use Rattle.oas_num.specs.declared.refusals.Why.TheVariants.{Memory as NoMemory};
-ghost use Rattle.oas_layout.specs.Contents.{meaning_of, IsLayout};
 ghost use Rattle.oas_file.specs.Deciding.{IsReasoned};
 ghost use Rattle.oas_file.specs.Reading.{IsRefused, IsPlaced};
-ghost use Rattle.oas_form.specs.Bytes.{canonical_bytes};
 ghost use Rattle.oas_canon.specs.Run.{IsJudged, Exactly};
 
-use crate::comparing::Comparer;
 use crate::keeping::read_kept;
 use crate::profile::PROFILE;
-use oas_form::put_canonical;
-use oas_layout::{Layout, Limits};
+use oas_form::has_canonical_bytes;
+use oas_layout::Limits;
 use oas_num::{Refusal, Source};
 use std::alloc::Global;
 
@@ -28,15 +25,5 @@ pub fn is_canonical<S: Source>(alloc: Global, from: &mut S, limits: Limits) -> R
     ensures exactly { Exactly limits (S.script from.old) result (S.script from.new) }
 {
     let (layout, kept) = read_kept(alloc, from, limits, PROFILE)?;
-    Ok(is_spelled(&layout, &kept))
-}
-
-/// Whether these are the canonical bytes of a layout.
-pub(crate) fn is_spelled(layout: &Layout, bytes: &[u8]) -> bool
-    ensures spelled { IsTrue result ↔ (canonical_bytes (meaning_of layout.now) ≡ bytes.now) }
-    ensures layout { IsLayout layout.now }
-{
-    let mut comparer = Comparer::new(bytes);
-    let _ = put_canonical(layout, &mut comparer);
-    comparer.is_done()
+    Ok(has_canonical_bytes(&layout, &kept))
 }

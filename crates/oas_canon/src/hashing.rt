@@ -64,10 +64,13 @@ impl Hasher {
 
 impl Sink for Hasher {
     ghost use Rattle.oas_canon.specs.Hashing.{Hashes};
+    ghost use Rattle.oas_canon.specs.Laws.HashingLaws.{Hashes-none};
 
     ghost given = { Hashes };
 
     ghost failures = { λ _. 0 };
+
+    ghost none_given = { Hashes-none };
 
     #[inline]
     fn put(&mut self, byte: u8) -> Result<(), SinkFault> {

@@ -33,7 +33,6 @@
 
 mod canonical;
 mod checking;
-mod comparing;
 mod hashing;
 mod keeping;
 mod keys;

@@ -13,10 +13,9 @@ ghost use Rattle.oas_canon.specs.Kept.{RefusesKept};
 ghost use Rattle.oas_canon.specs.Rekeying.{Rekeys, IsRekeyedInPart, IsOther, StaysSo};
 ghost use Rattle.oas_canon.specs.Run.{IsTaken, Exactly};
 
-use crate::checking::is_spelled;
 use crate::keeping::read_kept;
 use oas_file::read_layout;
-use oas_form::write_canonical;
+use oas_form::{has_canonical_bytes, write_canonical};
 use oas_layout::{Layout, Limits, Profile};
 use oas_num::{Refusal, SliceSource, Source};
 use std::alloc::Global;
@@ -73,7 +72,7 @@ fn take_own<S: Source>(
     ensures refused { IfErr result (λ refusal. RefusesKept limits (S.script from.old) refusal (S.script from.new)) }
 {
     let (layout, kept) = read_kept(alloc, from, limits, Profile::One)?;
-    if is_spelled(&layout, &kept) {
+    if has_canonical_bytes(&layout, &kept) {
         Ok(Some(kept))
     } else {
         Ok(None)

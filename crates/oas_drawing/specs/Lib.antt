@@ -4,7 +4,7 @@ pub mod Positions
 pub mod Modal
 pub mod Latest
 pub mod Drawn
-pub mod DrawnLaws
 pub mod Turns
 pub mod Drawing
 pub mod Reasons
+pub mod Laws

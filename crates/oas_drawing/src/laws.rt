@@ -17,7 +17,7 @@ ghost use Rattle.std.specs.Cmp.{IsTotalOrder};
 ghost use Rattle.std.specs.declared.cmp.Ordering.TheVariants.{Equal};
 ghost use Rattle.oas_drawing.specs.declared.drawn.Drawn.{Drawn};
 ghost use Rattle.oas_drawing.specs.Drawn.{drawn_cmp};
-ghost use Rattle.oas_drawing.specs.DrawnLaws.{derived_cmp};
+ghost use Rattle.oas_drawing.specs.Laws.DrawnLaws.{derived_cmp};
 
 /// One more record changes the modal variables by what it gives alone. The records are listed oldest first.
 pub fn one_more_record()

@@ -4,7 +4,7 @@ use Rattle.std.proofs.lemmas.List.{append-nil, length-append}
 use Rattle.oas_num.specs.declared.refusals.Why.{Why}
 use Rattle.oas_num.specs.declared.refusals.Why.TheVariants.{TrailingBytes, Read, InputTooLong, Memory}
 use Rattle.oas_num.specs.declared.refusals.Refusal.{Refusal}
-use Rattle.oas_num.specs.GrammarLaws.{after_same}
+use Rattle.oas_num.specs.Laws.GrammarLaws.{after_same}
 use Rattle.oas_num.specs.Ratio.{Ratio}
 use Rattle.oas_num.specs.Reading.{ReadsValue}
 use Rattle.oas_num.specs.Script.{Script, Takes, IsAtEnd}
@@ -21,7 +21,7 @@ use Rattle.oas_layout.specs.Contents.{Contents, meaning_of}
 use Rattle.oas_layout.specs.Meaning.{Meaning, SameLayout}
 use Rattle.oas_modal.specs.Stands.{ReaderState, StandsFor, records_mean, end_refusal}
 use Rattle.oas_file.specs.Files.{Parts, FileOf, FrontOf}
-use Rattle.oas_file.specs.FileLaws.{OneFront-file}
+use Rattle.oas_file.specs.Laws.FileLaws.{OneFront-file}
 use Rattle.oas_file.specs.Acceptance.{Allowed}
 use Rattle.oas_file.specs.Deciding.{TheTail, TheWhole, EndingMay, IsReasoned}
 use Rattle.oas_file.specs.Gathering.{HasBegun, HasAll, MissesEnd}

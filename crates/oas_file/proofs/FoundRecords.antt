@@ -6,7 +6,7 @@ use Rattle.std.proofs.Math.Nat.{mod-lt}
 use Rattle.std.proofs.lemmas.Bool.{cases_lt}
 use Rattle.std.proofs.lemmas.Nat.Gcd.{IsGcd-from_zero, IsGcd-from_mod}
 use Rattle.oas_num.specs.Ratio.{Ratio}
-use Rattle.oas_num.specs.RatioLaws.{quotients}
+use Rattle.oas_num.specs.Laws.RatioLaws.{quotients}
 use Rattle.oas_num.specs.Style.{Any}
 use Rattle.oas_num.specs.Texts.{label_in}
 use Rattle.oas_num.specs.Reals.{SpellsReal}
@@ -14,9 +14,9 @@ use Rattle.oas_record.specs.declared.records.Record.{Record}
 use Rattle.oas_record.specs.declared.records.Record.TheVariants.{End}
 use Rattle.oas_record.specs.Ends.{IsNumber, offsets_part}
 use Rattle.oas_record.specs.Records.{id_of, after, parts_in, record_in}
-use Rattle.oas_record.specs.RecordLaws.{OneFront-record}
+use Rattle.oas_record.specs.Laws.RecordLaws.{OneFront-record}
 use Rattle.oas_record.specs.Heads.{IsPositiveReal, version, version_in, SpellsUnit, IsFlag, head_of, start_in}
-use Rattle.oas_record.specs.HeadLaws.{OneFront-version, OneFront-SpellsUnit}
+use Rattle.oas_record.specs.Laws.HeadLaws.{OneFront-version, OneFront-SpellsUnit}
 use Rattle.oas_record.specs.Found.{NoneStands, Settled, settled_number, settled_both, Stands, IsFound, only, found_such, found_image, found_pair, found_keyed}
 use Rattle.oas_record.specs.FoundParts.{settled_below, found_unsigned, found_label, found_real}
 

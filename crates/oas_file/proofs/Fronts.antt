@@ -2,16 +2,16 @@
 use Rattle.std.proofs.Common.{◌≡◌, ℕ, Bool, List, [], ◌∷◌, ◌++◌, None, reverse, refl, sym, ap, subst, ◌∙◌, append_assoc}
 use Rattle.std.proofs.lemmas.List.{append-nil, append_cancel_left, reverse-append}
 use Rattle.oas_num.specs.Grammar.{IsEach}
-use Rattle.oas_num.specs.GrammarLaws.{after_same}
+use Rattle.oas_num.specs.Laws.GrammarLaws.{after_same}
 use Rattle.oas_num.specs.Style.{Any}
 use Rattle.oas_num.proofs.ReadLemmas.{Wants}
 use Rattle.oas_record.specs.declared.heads.Head.{Head}
 use Rattle.oas_record.specs.declared.records.Record.{Record}
 use Rattle.oas_record.specs.declared.records.Record.TheVariants.{End}
 use Rattle.oas_record.specs.Heads.{magic, IsMagic, start_in, head_in}
-use Rattle.oas_record.specs.HeadLaws.{OneFront-head}
+use Rattle.oas_record.specs.Laws.HeadLaws.{OneFront-head}
 use Rattle.oas_record.specs.Records.{record_in}
-use Rattle.oas_record.specs.RecordLaws.{OneFront-record, OneFront-inner}
+use Rattle.oas_record.specs.Laws.RecordLaws.{OneFront-record, OneFront-inner}
 use Rattle.oas_layout.specs.declared.limits.Limits.{Limits}
 use Rattle.oas_modal.specs.Stands as stands
 use Rattle.oas_modal.specs.Stands.{refusal}

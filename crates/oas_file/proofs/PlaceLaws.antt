@@ -1,14 +1,14 @@
 -- A file is refused at one place at most, and at none where it is accepted.
 use Rattle.std.proofs.Common.{◌≡◌, ℕ, ◌+◌, List, [], ◌∷◌, ◌++◌, length, sym, ap, subst, ◌∙◌, append_assoc, arith}
 use Rattle.std.proofs.lemmas.List.{append-nil, append_cancel_left, length-append}
-use Rattle.oas_num.specs.GrammarLaws.{after_same}
+use Rattle.oas_num.specs.Laws.GrammarLaws.{after_same}
 use Rattle.oas_num.specs.Style.{Any}
 use Rattle.oas_record.specs.declared.heads.Head.{Head}
 use Rattle.oas_record.specs.declared.records.Record.{Record}
 use Rattle.oas_record.specs.declared.records.Record.TheVariants.{End}
 use Rattle.oas_record.specs.Heads.{magic}
 use Rattle.oas_record.specs.Records.{record_in}
-use Rattle.oas_record.specs.RecordLaws.{OneFront-record}
+use Rattle.oas_record.specs.Laws.RecordLaws.{OneFront-record}
 use Rattle.oas_layout.specs.declared.limits.Limits.{Limits}
 use Rattle.oas_file.specs.Files.{FrontOf}
 use Rattle.oas_file.specs.Acceptance.{Allowed, IsWhole, Accepted}

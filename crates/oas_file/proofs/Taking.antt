@@ -11,7 +11,7 @@ use Rattle.oas_record.specs.declared.heads.Head.{Head}
 use Rattle.oas_record.specs.declared.records.Record.{Record}
 use Rattle.oas_record.specs.declared.records.Record.TheVariants.{End}
 use Rattle.oas_record.specs.Records.{record_in}
-use Rattle.oas_record.specs.RecordLaws.{OneFront-record}
+use Rattle.oas_record.specs.Laws.RecordLaws.{OneFront-record}
 use Rattle.oas_record.specs.Refusals.{RecordTook}
 use Rattle.oas_layout.specs.declared.limits.Limits.{Limits}
 use Rattle.oas_modal.specs.Stands.{ReaderState, StandsFor, refusal as refusal_of}

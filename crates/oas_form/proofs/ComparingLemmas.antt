@@ -6,6 +6,7 @@ use Rattle.oas_num.specs.Writing.{PutsFront}
 use Rattle.oas_form.specs.Putting.{Counts}
 use Rattle.oas_form.specs.declared.comparing.Comparer.{Comparer}
 use Rattle.oas_form.specs.Comparing.{Compares}
+use Rattle.oas_form.specs.Laws.ComparingLaws.{Compares-none}
 
 -- a byte that isn't the next one left
 pub differs : (old : Comparer) (byte : ℕ) → old.differs ≡ false → ((more : List ℕ) → old.rest.now ≢ byte ∷ more) → PutsFront Compares (λ c. if c.differs then 1 else 0) old (byte ∷ []) (record { rest = old.rest; differs = true })
@@ -25,9 +26,6 @@ differs old byte works none = record {
 
 -- ---- all bytes
 
-none_compared : (c : Comparer) → Compares c [] c
-none_compared c = record { same = λ e. (e, refl); other = λ e. inl e }
-
 has_failed : (b : Bool) → 0 < (if b then 1 else 0) → b ≡ true
 has_failed true h = refl
 has_failed false h = absurd (omega arith)
@@ -39,7 +37,7 @@ true_or_false false = inr refl
 -- it was given just the bytes that it was made of, exactly if it is done
 pub spelled : (start end : Comparer) (bytes all : List ℕ) (r : Result ℕ SinkFault) (done : Bool) → start.rest.now ≡ bytes → start.differs ≡ false → Counts Compares (λ c. if c.differs then 1 else 0) start all r end → (IsTrue done ↔ ((end.differs ≡ false) × (end.rest.now ≡ []))) → IsTrue done ↔ (all ≡ bytes)
 spelled start end bytes all (Ok n) done rest works p h =
-    let k : Compares start all end = p.puts.after start [] (none_compared start) in (
+    let k : Compares start all end = p.puts.after start [] (Compares-none start) in (
       λ t. let e = h.0 t in let s = k.same e.0 in sym (append-nil all) ∙ (λ i. all ++ sym e.1 i) ∙ sym s.1 ∙ rest,
       λ e. h.1 (by_cases k e (true_or_false end.differs)),
     ) where
@@ -50,7 +48,7 @@ spelled start end bytes all (Ok n) done rest works p h =
         other (inr none) = none [] (rest ∙ sym e ∙ sym (append-nil all))
       by_cases k e (inr d) = (d, append_cancel_left all end.rest.now [] (sym (k.same d).1 ∙ rest ∙ sym e ∙ sym (append-nil all)))
 spelled start end bytes all (Err fault) done rest works p h =
-    let k : Compares start p.front end = p.puts.after start [] (none_compared start) in
+    let k : Compares start p.front end = p.puts.after start [] (Compares-none start) in
     let d : end.differs ≡ true = has_failed end.differs p.failed in
     (λ t. let e = (h.0 t).0 in absurd cc, λ e. absurd (other k e (k.other d))) where
       other : Compares start p.front end → all ≡ bytes → (start.differs ≡ true) ⊎ ((more : List ℕ) → start.rest.now ≢ p.front ++ more) → ⊥

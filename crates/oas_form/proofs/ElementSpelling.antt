@@ -7,11 +7,11 @@ use Rattle.std.proofs.lemmas.Int.{ints}
 use Rattle.std.proofs.lemmas.List.{append-nil}
 use Rattle.oas_num.specs.Grammar.{IsPair, IsSuch, IsThere, IsEach, IsByte}
 use Rattle.oas_num.specs.Style.{Shortest, IsShortest, unsigned_in}
-use Rattle.oas_num.specs.StyleLaws.{shortest-IsShortest}
+use Rattle.oas_num.specs.Laws.StyleLaws.{shortest-IsShortest}
 use Rattle.oas_num.specs.Texts.{IsNameByte, IsLabelByte, IsOf, IsName, IsLabel, name_in, label_in}
 use Rattle.oas_num.specs.Writing.{shortest, shortest_signed, shortest_gdelta}
 use Rattle.oas_num.specs.Deltas.{gdelta_in, step}
-use Rattle.oas_num.specs.DeltaLaws.{shortest_gdelta-spells}
+use Rattle.oas_num.specs.Laws.DeltaLaws.{shortest_gdelta-spells}
 use Rattle.oas_num.proofs.WritingLemmas.{shortest_signed-IsShortestSigned}
 use Rattle.oas_ring.specs.declared.point.Point.{Point}
 use Rattle.oas_shape.specs.declared.list_use.ListUse.{ListUse}

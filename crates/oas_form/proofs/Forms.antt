@@ -10,7 +10,7 @@ use Rattle.oas_layout.specs.Meaning.{Meaning, SameLayout}
 use Rattle.oas_layout.proofs.LawProofs.{reflexive, symmetric, transitive}
 use Rattle.oas_modal.specs.Stands.{records_mean}
 use Rattle.oas_file.specs.Files.{FileIn}
-use Rattle.oas_file.specs.FileLaws.{one_reading, one_spelling, means_one}
+use Rattle.oas_file.specs.Laws.FileLaws.{one_reading, one_spelling, means_one}
 use Rattle.oas_file.specs.Acceptance.{Allowed, IsWhole, Means}
 use Rattle.oas_form.specs.Records.{records_of}
 use Rattle.oas_form.specs.RecordMeaning.{HavePoints}

@@ -20,15 +20,15 @@ use Rattle.oas_layout.specs.Meaning.{Meaning, SameLayout, cells_weight}
 use Rattle.oas_drawing.specs.Reasons.{first_of}
 use Rattle.oas_modal.specs.Meaning.{has_twice}
 use Rattle.oas_modal.specs.Stands.{records_mean}
-use Rattle.oas_file.specs.FileLaws.{one_reading, means_one}
-use Rattle.oas_file.specs.FileLaws as file
+use Rattle.oas_file.specs.Laws.FileLaws.{one_reading, means_one}
+use Rattle.oas_file.specs.Laws.FileLaws as file
 use Rattle.oas_file.specs.Acceptance.{Accepted, IsWhole, Means}
 use Rattle.oas_form.specs.Records.{Cells, records_of}
 use Rattle.oas_form.specs.RecordMeaning.{HavePoints, FitGrid}
 use Rattle.oas_form.specs.Bytes.{canonical_bytes}
 use Rattle.oas_form.specs.Spelling.{IsSpellable, HasPoint}
 use Rattle.oas_form.specs.Canonical.{CanonicalForm}
-use Rattle.oas_form.specs.FormLaws.{form_is_accepted}
+use Rattle.oas_form.specs.Laws.FormLaws.{form_is_accepted}
 use Rattle.oas_form.specs.Layouts.{FormIsBytes, FormIsItsBytes, CanonicalWeight, FormLength}
 use Rattle.oas_form.proofs.FieldsFit.{unit_fits, cells_fit}
 use Rattle.oas_form.proofs.Forms.{plain_head, shaped}

@@ -10,13 +10,13 @@ use Rattle.oas_record.specs.declared.records.Record.TheVariants as record_of
 use Rattle.oas_record.specs.declared.references.CellRef.TheVariants as cell
 use Rattle.oas_record.specs.Heads.{head_in}
 use Rattle.oas_record.specs.Records.{record_in, IsInner}
-use Rattle.oas_record.specs.RecordLaws.{OneFront-record, IsWithin-record}
+use Rattle.oas_record.specs.Laws.RecordLaws.{OneFront-record, IsWithin-record}
 use Rattle.oas_layout.specs.declared.element.Element.{Element}
 use Rattle.oas_layout.specs.declared.element.Element.TheVariants.{Placement, Text, Rectangle, Polygon, Path, Circle}
 use Rattle.oas_layout.specs.declared.limits.Limits.{Limits}
 use Rattle.oas_layout.specs.declared.profile.Profile.{Profile}
 use Rattle.oas_layout.specs.Same.{normal, IsNormal}
-use Rattle.oas_layout.specs.SameLaws.{weight_of-normal-le}
+use Rattle.oas_layout.specs.Laws.SameLaws.{weight_of-normal-le}
 use Rattle.oas_layout.specs.Sound.{IsSound, IsUnit}
 use Rattle.oas_layout.specs.Weight.{weight_of, lacks_points}
 use Rattle.oas_layout.specs.Meaning.{Meaning}
@@ -26,7 +26,7 @@ use Rattle.oas_drawing.specs.Drawing.{elements_at}
 use Rattle.oas_modal.specs.Stands as stands
 use Rattle.oas_modal.specs.Stands.{records_mean}
 use Rattle.oas_file.specs.Acceptance.{Allowed, Accepted}
-use Rattle.oas_file.specs.FileLaws.{one_reading, means_one}
+use Rattle.oas_file.specs.Laws.FileLaws.{one_reading, means_one}
 use Rattle.oas_form.specs.Bytes.{element_bytes, canonical_bytes}
 use Rattle.oas_form.specs.Canonical.{IsOrdered, CanonicalForm}
 use Rattle.oas_form.specs.Records.{element_record}

@@ -16,16 +16,16 @@ use Rattle.oas_record.specs.declared.records.Record.{Record}
 use Rattle.oas_record.specs.declared.records.Record.TheVariants as record_of
 use Rattle.oas_record.specs.declared.references.CellRef.TheVariants as cell
 use Rattle.oas_record.specs.Heads.{head_in}
-use Rattle.oas_record.specs.HeadLaws.{OneFront-head, OneSpelling-head, IsWithin-head}
+use Rattle.oas_record.specs.Laws.HeadLaws.{OneFront-head, OneSpelling-head, IsWithin-head}
 use Rattle.oas_record.specs.Records.{record_in, IsInner}
-use Rattle.oas_record.specs.RecordLaws.{OneFront-record, OneSpelling-record, IsWithin-record}
+use Rattle.oas_record.specs.Laws.RecordLaws.{OneFront-record, OneSpelling-record, IsWithin-record}
 use Rattle.oas_layout.specs.declared.element.Element.{Element}
 use Rattle.oas_layout.specs.declared.element.Element.TheVariants.{Placement, Text, Rectangle, Polygon, Path, Circle}
 use Rattle.oas_layout.specs.declared.limits.Limits.{Limits}
 use Rattle.oas_layout.specs.declared.profile.Profile.{Profile}
 use Rattle.oas_layout.specs.Ascending.{Ascends}
 use Rattle.oas_layout.specs.Element.{element_cmp}
-use Rattle.oas_layout.specs.ElementLaws.{element_total}
+use Rattle.oas_layout.specs.Laws.LayoutLaws.ElementLaws.{element_total}
 use Rattle.oas_layout.specs.Same.{IsNormal}
 use Rattle.oas_layout.specs.Weight.{lacks_points}
 use Rattle.oas_layout.proofs.Sealed.{name_cmp}
@@ -34,7 +34,7 @@ use Rattle.oas_drawing.specs.Drawing.{elements_at}
 use Rattle.oas_modal.specs.Stands.{records_mean}
 use Rattle.oas_file.specs.Acceptance.{Allowed, IsWhole, Accepted}
 use Rattle.oas_file.specs.Files.{FileIn}
-use Rattle.oas_file.specs.FileLaws.{one_reading}
+use Rattle.oas_file.specs.Laws.FileLaws.{one_reading}
 use Rattle.oas_form.specs.Bytes.{string_bytes, element_bytes, head_bytes, end_bytes}
 use Rattle.oas_form.specs.Canonical.{IsOrdered, CanonicalForm}
 use Rattle.oas_form.specs.Records.{Cells, element_record, records_of}

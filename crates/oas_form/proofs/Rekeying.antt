@@ -5,22 +5,22 @@ use Rattle.std.specs.Ordering.{eq_by_cmp}
 use Rattle.std.proofs.lemmas.List.Sums.{sum_by-cons}
 use Rattle.oas_num.specs.Style.{Shortest}
 use Rattle.oas_ring.specs.Readings.{least_of}
-use Rattle.oas_ring.specs.ReadingsLaws.{least_of-IsLeastReadingOf, least_of-least_of}
-use Rattle.oas_ring.specs.RectanglesLaws.{box_of-alike}
-use Rattle.oas_ring.specs.RingsLaws.{same_ring_back}
+use Rattle.oas_ring.specs.Laws.ReadingsLaws.{least_of-IsLeastReadingOf, least_of-least_of}
+use Rattle.oas_ring.specs.Laws.RectanglesLaws.{box_of-alike}
+use Rattle.oas_ring.specs.Laws.RingsLaws.{same_ring_back}
 use Rattle.oas_layout.specs.declared.profile.Profile.TheVariants.{One, Two}
 use Rattle.oas_layout.specs.declared.element.Element.{Element}
 use Rattle.oas_layout.specs.declared.element.Element.TheVariants.{Polygon}
 use Rattle.oas_layout.specs.Element.{element_cmp}
-use Rattle.oas_layout.specs.ElementLaws.{exact_elements}
+use Rattle.oas_layout.specs.Laws.LayoutLaws.ElementLaws.{exact_elements}
 use Rattle.oas_layout.specs.Bag.{items, with_more}
-use Rattle.oas_layout.specs.BagLaws.{total, sum_by-items, total-put_more}
+use Rattle.oas_layout.specs.Laws.LayoutLaws.BagLaws.{total, sum_by-items, total-put_more}
 use Rattle.oas_layout.specs.Same.{same_element, normal_polygon, normal, IsNormal}
-use Rattle.oas_layout.specs.SameLaws.{same_element-is, normal-least, normal-polygon}
+use Rattle.oas_layout.specs.Laws.SameLaws.{same_element-is, normal-least, normal-polygon}
 use Rattle.oas_layout.specs.Meaning.{Meaning, SameLayout, count_of, elements_of}
 use Rattle.oas_layout.proofs.LawProofs.{equal, reflexive, symmetric, transitive}
 use Rattle.oas_modal.specs.Stands.{records_mean}
-use Rattle.oas_file.specs.FileLaws.{file_of, means_one}
+use Rattle.oas_file.specs.Laws.FileLaws.{file_of, means_one}
 use Rattle.oas_file.specs.Acceptance.{Means}
 use Rattle.oas_form.specs.Records.{Cells}
 use Rattle.oas_form.specs.Rekeying.{SameByTwo, OneThenTwo, TwoIsOne, FormIsItsOwn}

@@ -8,7 +8,7 @@ use Rattle.std.proofs.lemmas.List.Sums.{sum_by-cons}
 use Rattle.oas_num.specs.declared.reals.Real.{Real}
 use Rattle.oas_num.specs.Grammar.{IsPair, IsSuch, IsEach}
 use Rattle.oas_num.specs.Style.{Shortest, IsShortest}
-use Rattle.oas_num.specs.StyleLaws.{shortest-IsShortest}
+use Rattle.oas_num.specs.Laws.StyleLaws.{shortest-IsShortest}
 use Rattle.oas_num.specs.Texts.{IsName, IsLabelByte}
 use Rattle.oas_num.specs.Reals.{ShortestParts}
 use Rattle.oas_num.specs.Ratio.{Ratio}

@@ -13,7 +13,7 @@ use Rattle.oas_layout.specs.Sound.{IsSound}
 use Rattle.oas_layout.specs.Meaning.{Meaning, element_count, cells_weight}
 use Rattle.oas_layout.specs.Contents.{Cell, Contents, IsCell, IsLayout, AllSound, expanded, meaning_of}
 use Rattle.oas_modal.specs.Stands.{records_mean}
-use Rattle.oas_file.specs.FileLaws.{file_of}
+use Rattle.oas_file.specs.Laws.FileLaws.{file_of}
 use Rattle.oas_file.specs.Acceptance.{Means}
 use Rattle.oas_form.specs.Records.{Cells, records_of}
 use Rattle.oas_form.specs.RecordMeaning.{HavePoints, FitGrid}

@@ -2,10 +2,10 @@ pub mod Records
 pub mod RecordMeaning
 pub mod Canonical
 pub mod Bytes
-pub mod FormLaws
 pub mod Putting
 pub mod Layouts
 pub mod Spelling
 pub mod Rekeying
 pub mod Judging
 pub mod Comparing
+pub mod Laws

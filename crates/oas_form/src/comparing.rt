@@ -32,10 +32,13 @@ impl<'a> Comparer<'a> {
 
 impl Sink for Comparer<'_> {
     ghost use Rattle.oas_form.specs.Comparing.{Compares};
+    ghost use Rattle.oas_form.specs.Laws.ComparingLaws.{Compares-none};
 
     ghost given = { Compares };
 
     ghost failures = { λ c. if c.differs then 1 else 0 };
+
+    ghost none_given = { Compares-none };
 
     fn put(&mut self, byte: u8) -> Result<(), SinkFault> {
         if self.differs {

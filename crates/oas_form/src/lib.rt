@@ -10,6 +10,7 @@
 //!   them was put (`Counts`, specs/Putting.antt). [`write_canonical`] has a writer take exactly these bytes; its only refusal
 //!   is `Why::Write`, after a front of them that is as long as its place says (`IsWritten`, `IsCutOff`, oas_num's
 //!   specs/Written.antt). Of both it is said that these bytes are a canonical form and mean the layout. Neither takes memory.
+//!   [`has_canonical_bytes`] says whether bytes are these.
 //! - [`laws`] joins the three, over the definitions alone. Each accepted file has a canonical form, and it is the same under
 //!   all limits that accept the file; what is accepted under limits is accepted under larger ones. One layout has one
 //!   canonical form; it is what is written of each layout that is the same; it is accepted, and its own canonical form; two
@@ -29,6 +30,7 @@ mod frames;
 pub mod judge_laws;
 mod judging;
 pub mod laws;
+mod matching;
 pub mod meaning_laws;
 mod parts;
 mod point_lists;
@@ -36,4 +38,5 @@ pub mod spelling_laws;
 mod writing;
 
 pub use judging::FormJudge;
+pub use matching::has_canonical_bytes;
 pub use writing::{put_canonical, write_canonical};

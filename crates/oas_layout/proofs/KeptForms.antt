@@ -9,9 +9,9 @@ use Rattle.oas_layout.specs.declared.profile.Profile.TheVariants.{One}
 use Rattle.oas_layout.specs.declared.element.Element.{Element}
 use Rattle.oas_layout.specs.declared.element.Element.TheVariants.{Polygon}
 use Rattle.oas_ring.specs.Readings.{least_of}
-use Rattle.oas_ring.specs.ReadingsLaws.{least_of-is}
+use Rattle.oas_ring.specs.Laws.ReadingsLaws.{least_of-is}
 use Rattle.oas_layout.specs.Same.{drawn_box, normal_polygon, normal, IsNormal}
-use Rattle.oas_layout.specs.SameLaws.{normal-normal, weight_of-normal, weight_of-normal-le}
+use Rattle.oas_layout.specs.Laws.SameLaws.{normal-normal, weight_of-normal, weight_of-normal-le}
 use Rattle.oas_layout.specs.Weight.{weight_of, lacks_points}
 use Rattle.oas_layout.specs.Grid.{fits_grid}
 use Rattle.oas_layout.proofs.SoundLemmas.{lacks_points-normal, fits_grid-normal}

@@ -7,11 +7,11 @@ use Rattle.std.proofs.lemmas.List.Folds.{list_all-append}
 use Rattle.oas_ring.specs.declared.point.Point.{Point}
 use Rattle.oas_ring.specs.declared.rectangles.Corners.{Corners}
 use Rattle.oas_ring.specs.Rings.{SameRing, IsRotation}
-use Rattle.oas_ring.specs.RingsLaws.{parts_of_rotation}
+use Rattle.oas_ring.specs.Laws.RingsLaws.{parts_of_rotation}
 use Rattle.oas_ring.specs.Readings.{least_of}
-use Rattle.oas_ring.specs.ReadingsLaws.{least_of-IsLeastReadingOf, length-least_of}
+use Rattle.oas_ring.specs.Laws.ReadingsLaws.{least_of-IsLeastReadingOf, length-least_of}
 use Rattle.oas_ring.specs.Rectangles.{IsBox, corners_of}
-use Rattle.oas_ring.specs.RectanglesLaws.{box_of-box}
+use Rattle.oas_ring.specs.Laws.RectanglesLaws.{box_of-box}
 use Rattle.oas_layout.specs.declared.profile.Profile.{Profile}
 use Rattle.oas_layout.specs.declared.profile.Profile.TheVariants.{One, Two}
 use Rattle.oas_layout.specs.declared.element.Element.{Element}
@@ -19,7 +19,7 @@ use Rattle.oas_layout.specs.declared.element.Element.TheVariants.{Polygon}
 use Rattle.oas_layout.specs.Weight.{lacks_points}
 use Rattle.oas_layout.specs.Grid.{is_coordinate, is_grid_point, fits_grid}
 use Rattle.oas_layout.specs.Same.{drawn_box, rectangle_of, normal_polygon, normal}
-use Rattle.oas_layout.specs.SameLaws.{corners_back}
+use Rattle.oas_layout.specs.Laws.SameLaws.{corners_back}
 
 -- tests may change places
 and_turned : (a b : Bool) → (a && b) ≡ (b && a)

@@ -1,16 +1,12 @@
 pub mod Ascending
 pub mod Bag
-pub mod BagLaws
 pub mod Contents
-pub mod ContentsLaws
 pub mod Element
-pub mod ElementLaws
 pub mod Grid
-pub mod Laws
 pub mod Limits
 pub mod Meaning
 pub mod Plain
 pub mod Same
-pub mod SameLaws
 pub mod Sound
 pub mod Weight
+pub mod Laws

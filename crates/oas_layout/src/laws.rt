@@ -6,9 +6,9 @@ ghost use Rattle.std.specs.declared.cmp.Ordering.TheVariants.{Equal};
 ghost use Rattle.oas_layout.specs.declared.element.Element.{Element};
 ghost use Rattle.oas_layout.specs.declared.element.Turns.{Turns};
 ghost use Rattle.oas_layout.specs.Element.{element_cmp};
-ghost use Rattle.oas_layout.specs.ElementLaws.{derived_cmp, derived_eq, derived_turns_cmp, turns_cmp};
+ghost use Rattle.oas_layout.specs.Laws.LayoutLaws.ElementLaws.{derived_cmp, derived_eq, derived_turns_cmp, turns_cmp};
 ghost use Rattle.oas_layout.specs.declared.profile.Profile.{Profile};
-ghost use Rattle.oas_layout.specs.Laws.{TestsSame, KeptIsSame, SameIfKeptEqual, KeptIsKept, KeptPolygons, AddingCounts, HeldApart, HeldCounts, EqualCounts, IsReflexive, IsSymmetric, IsTransitive};
+ghost use Rattle.oas_layout.specs.Laws.LayoutLaws.{TestsSame, KeptIsSame, SameIfKeptEqual, KeptIsKept, KeptPolygons, AddingCounts, HeldApart, HeldCounts, EqualCounts, IsReflexive, IsSymmetric, IsTransitive};
 
 /// Elements are compared as `element_cmp` says, which is a total order in which no two tie, and `==` says that they are
 /// equal. Quarter turns are compared by their numbers.

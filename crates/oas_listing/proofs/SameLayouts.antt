@@ -3,7 +3,7 @@ use Rattle.std.proofs.Common.{◌≡◌}
 use Rattle.oas_layout.specs.Contents.{expanded}
 use Rattle.oas_layout.proofs.SameLemmas.{cells_from_same}
 use Rattle.oas_listing.specs.Listing.{listing}
-use Rattle.oas_listing.specs.Laws.{OneListing}
+use Rattle.oas_listing.specs.Laws.ListingLaws.{OneListing}
 
 pub one_listing : OneListing
 one_listing l k p q alike s =

@@ -13,7 +13,7 @@ use Rattle.oas_drawing.specs.Reasons.{first_of}
 use Rattle.oas_modal.specs.declared.names.Form.{Form}
 use Rattle.oas_modal.specs.declared.names.Form.TheVariants.{Implicit, Explicit}
 use Rattle.oas_modal.specs.Names.{same_string, form_given, form_after, form_of, counted, next_after, next_number, named_after, named, name_of, is_mixed, is_other, naming_reason, reason_given, name_reason, AllowedNames, Table, no_names, table_reason, with_name, NamesStand}
-use Rattle.oas_modal.specs.NameLaws.{GivesName, HasForm, other_form, FormIsOfEach, StringIsGiven, NoStringIsGiven, MixedWhere, TwiceWhere}
+use Rattle.oas_modal.specs.Laws.NameLaws.{GivesName, HasForm, other_form, FormIsOfEach, StringIsGiven, NoStringIsGiven, MixedWhere, TwiceWhere}
 
 -- ---- one entry more
 

@@ -8,7 +8,7 @@ use Rattle.oas_record.specs.declared.references.TextRef.{TextRef}
 use Rattle.oas_record.specs.declared.references.TextRef.TheVariants as text
 use Rattle.oas_modal.specs.Names.{Table, NamesStand, cell_names, text_strings, named, name_of}
 use Rattle.oas_modal.specs.References.{cell_by, string_by, cell_used, string_used, is_unknown, uses_unknown, lacks_name, IsUsed}
-use Rattle.oas_modal.specs.NameLaws.{UsesUnknown}
+use Rattle.oas_modal.specs.Laws.NameLaws.{UsesUnknown}
 use Rattle.oas_modal.proofs.NameLemmas.{no_string_is_given}
 
 pub same_cell_by : (names names' : List (ℕ × List ℕ)) (cell : CellRef) → ((q : ℕ) → name_of names q ≡ name_of names' q) → cell_by names cell ≡ cell_by names' cell

@@ -1,5 +1,4 @@
 pub mod Held
-pub mod NameLaws
 pub mod Names
 pub mod References
 pub mod Meaning
@@ -9,3 +8,4 @@ pub mod Standing
 pub mod Stands
 pub mod Parts
 pub mod Copying
+pub mod Laws

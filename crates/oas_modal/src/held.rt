@@ -4,7 +4,7 @@ ghost use Rattle.std.specs.Prelude.{◌≡◌, ◌+◌, ◌<◌, ◌^◌, [], tr
 ghost use Rattle.std.specs.BTreeMap.{get, insert_entry, IsOrdered, IsUnchanged};
 ghost use Rattle.oas_layout.specs.Bag.{items};
 ghost use Rattle.oas_drawing.specs.declared.drawn.Drawn.TheVariants.{Named as OneNamed};
-ghost use Rattle.oas_drawing.specs.DrawnLaws.{derived_cmp};
+ghost use Rattle.oas_drawing.specs.Laws.DrawnLaws.{derived_cmp};
 ghost use Rattle.oas_modal.specs.Held.{with_drawn, is_early};
 ghost use Rattle.oas_modal.specs.Finish.{IsFit};
 

@@ -8,7 +8,7 @@ ghost use Rattle.oas_record.specs.declared.references.CellRef.{CellRef};
 ghost use Rattle.oas_record.specs.declared.references.TextRef.{TextRef};
 ghost use Rattle.oas_modal.specs.Names.{Table, NamesStand, no_names, cell_names, text_strings, named, same_string};
 ghost use Rattle.oas_modal.specs.References.{cell_by, string_by, cell_used, string_used, uses_unknown, lacks_name};
-ghost use Rattle.oas_modal.specs.NameLaws.{RefusesAsRecords, StandsForMore, FormIsOfEach, StringIsGiven, NoStringIsGiven, MixedWhere, TwiceWhere, AllowedFront, NamesStay, UsesUnknown};
+ghost use Rattle.oas_modal.specs.Laws.NameLaws.{RefusesAsRecords, StandsForMore, FormIsOfEach, StringIsGiven, NoStringIsGiven, MixedWhere, TwiceWhere, AllowedFront, NamesStay, UsesUnknown};
 
 use oas_num::{Label, Name};
 

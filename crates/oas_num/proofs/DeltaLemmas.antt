@@ -4,9 +4,9 @@ use Rattle.oas_num.specs.declared.refusals.Why.{Why}
 use Rattle.oas_num.specs.Script.{Script}
 use Rattle.oas_num.specs.Grammar.{IsThere}
 use Rattle.oas_num.specs.Integers.{IsUnsigned}
-use Rattle.oas_num.specs.IntegerLaws.{OneFront-IsUnsigned}
+use Rattle.oas_num.specs.Laws.IntegerLaws.{OneFront-IsUnsigned}
 use Rattle.oas_num.specs.Deltas.{SpellsDelta2, SpellsDelta3, SpellsGDelta, GDeltaTook, delta2_of, delta3_of, gdelta_of, has_second, IsNumbers}
-use Rattle.oas_num.specs.DeltaLaws.{Delta2-some, Delta3-some, GDelta-some}
+use Rattle.oas_num.specs.Laws.DeltaLaws.{Delta2-some, Delta3-some, GDelta-some}
 use Rattle.oas_num.specs.Reading.{ReadsValue, FailsPiece, IntegerMay}
 use Rattle.oas_num.proofs.GrammarLemmas.{Midway, begins, seen, image_fails}
 use Rattle.oas_num.proofs.PieceLemmas.{first_fails, second_fails, there_fails_in}

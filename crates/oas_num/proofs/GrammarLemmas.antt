@@ -5,10 +5,10 @@ use Rattle.oas_num.specs.declared.refusals.Why.{Why}
 use Rattle.oas_num.specs.declared.refusals.Why.TheVariants.{Truncated, Read, InputTooLong, Memory}
 use Rattle.oas_num.specs.Script.{Script, Takes}
 use Rattle.oas_num.specs.Grammar.{OneFront, IsPair, IsSuch, IsImage, IsThere, IsEach, IsCount}
-use Rattle.oas_num.specs.GrammarLaws.{after_same}
+use Rattle.oas_num.specs.Laws.GrammarLaws.{after_same}
 use Rattle.oas_num.specs.Combinators.{IsKeyed}
 use Rattle.oas_num.specs.Begun.{HasSome, Begins, Before}
-use Rattle.oas_num.specs.BegunLaws.{HasSome-first, HasSome-second_of, HasSome-count, Before-begins, Before-as}
+use Rattle.oas_num.specs.Laws.BegunLaws.{HasSome-first, HasSome-second_of, HasSome-count, Before-begins, Before-as}
 use Rattle.oas_num.specs.Reading.{ReadsValue, FailsBy, Fails, FailsPiece, is_cut}
 use Rattle.oas_num.proofs.ReadLemmas.{Takes-none, Takes-then, Wants, Fails-after, Begins-after, Before-after}
 

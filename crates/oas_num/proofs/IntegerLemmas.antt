@@ -7,7 +7,7 @@ use Rattle.oas_num.specs.declared.refusals.Why.{Why}
 use Rattle.oas_num.specs.declared.refusals.Why.TheVariants.{Truncated, IntegerRange, Read, InputTooLong}
 use Rattle.oas_num.specs.Script.{Script, Takes}
 use Rattle.oas_num.specs.Integers.{IsOpen, IsClosed, IsUnsigned, value_of}
-use Rattle.oas_num.specs.IntegerLaws.{open_front}
+use Rattle.oas_num.specs.Laws.IntegerLaws.{open_front}
 use Rattle.oas_num.specs.Grammar.{IsByte}
 use Rattle.oas_num.specs.Begun.{Decides}
 use Rattle.oas_num.specs.Reading.{ReadsValue, FailsPiece, ByteMay, IntegerMay, IsUnended}

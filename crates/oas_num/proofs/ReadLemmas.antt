@@ -4,7 +4,7 @@ use Rattle.std.proofs.lemmas.List.{length-append}
 use Rattle.oas_num.specs.declared.refusals.Why.{Why}
 use Rattle.oas_num.specs.Script.{Script, Rest, Gave, Takes}
 use Rattle.oas_num.specs.Begun.{HasSome, Begins, Before}
-use Rattle.oas_num.specs.BegunLaws.{Before-begins}
+use Rattle.oas_num.specs.Laws.BegunLaws.{Before-begins}
 use Rattle.oas_num.specs.Reading.{NoneFits, NoneWithin, FailsBy}
 
 Gave-none : (r : Option Rest) → Gave r [] r

@@ -5,9 +5,9 @@ use Rattle.oas_num.specs.declared.refusals.Why.TheVariants.{Truncated, IntegerRa
 use Rattle.oas_num.specs.Script.{Script}
 use Rattle.oas_num.specs.Grammar.{IsPair, IsSuch, IsThere}
 use Rattle.oas_num.specs.Integers.{IsUnsigned}
-use Rattle.oas_num.specs.IntegerLaws.{OneFront-IsUnsigned}
+use Rattle.oas_num.specs.Laws.IntegerLaws.{OneFront-IsUnsigned}
 use Rattle.oas_num.specs.Reals.{IsFraction, SpellsParts, SpellsReal, RealMay, PartsTook, RealTook, Parts, real_of, has_num, has_den}
-use Rattle.oas_num.specs.RealLaws.{OneFront-kind, OneFront-part, HasSome-parts, HasSome-SpellsReal}
+use Rattle.oas_num.specs.Laws.RealLaws.{OneFront-kind, OneFront-part, HasSome-parts, HasSome-SpellsReal}
 use Rattle.oas_num.specs.Reading.{ReadsValue, FailsPiece, IntegerMay}
 use Rattle.oas_num.proofs.GrammarLemmas.{Midway, begins, seen, ◌▹◌, such_read, such_fails_by, refused, image_fails}
 use Rattle.oas_num.proofs.PieceLemmas.{first_fails, second_fails, there_fails_in}

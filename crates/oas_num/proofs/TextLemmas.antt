@@ -5,13 +5,13 @@ use Rattle.oas_num.specs.declared.refusals.Why.{Why}
 use Rattle.oas_num.specs.declared.refusals.Why.TheVariants.{Truncated, EmptyName, StringByte, Read, InputTooLong}
 use Rattle.oas_num.specs.Script.{Script}
 use Rattle.oas_num.specs.Grammar.{IsPair, IsSuch, IsByte}
-use Rattle.oas_num.specs.GrammarLaws.{OneFront-byte}
+use Rattle.oas_num.specs.Laws.GrammarLaws.{OneFront-byte}
 use Rattle.oas_num.specs.declared.texts.TextClass.TheVariants as classes
 use Rattle.oas_num.specs.Integers.{IsUnsigned}
-use Rattle.oas_num.specs.IntegerLaws.{OneFront-IsUnsigned}
+use Rattle.oas_num.specs.Laws.IntegerLaws.{OneFront-IsUnsigned}
 use Rattle.oas_num.specs.Style.{Any}
 use Rattle.oas_num.specs.Texts.{IsNameByte, IsLabelByte, IsName, IsLabel, IsText, IsPositive, IsPassed, SpellsName, SpellsLabel, SpellsPadding, padding_of, padding_length}
-use Rattle.oas_num.specs.TextLaws.{OneFront-positive, text_of, HasSome-name, HasSome-label, HasSome-padding, HasSome-text, HasSome-passed}
+use Rattle.oas_num.specs.Laws.TextLaws.{OneFront-positive, text_of, HasSome-name, HasSome-label, HasSome-padding, HasSome-text, HasSome-passed}
 use Rattle.oas_num.specs.Pieces.{CountTook}
 use Rattle.oas_num.specs.Reading.{ReadsPiece, ReadsValue, FailsPiece, ByteMay, IntegerMay, ClassMay, TextMay, NameLengthMay, TextTook, NameTook, LabelTook, PaddingTook, IsInside}
 use Rattle.oas_num.proofs.GrammarLemmas.{Midway, begins, key_read, such_read, such_fails_by, refused, image_fails, is_read, Listed, listed_none, listed_more}

@@ -36,7 +36,7 @@ pub struct GDelta {
 
 impl Spelled for Delta1 {
     ghost use Rattle.oas_num.specs.Deltas.{SpellsDelta1};
-    ghost use Rattle.oas_num.specs.DeltaLaws.{Delta1-one_front, Delta1-some};
+    ghost use Rattle.oas_num.specs.Laws.DeltaLaws.{Delta1-one_front, Delta1-some};
 
     ghost spells = { SpellsDelta1 };
 
@@ -55,7 +55,7 @@ impl Spelled for Delta1 {
 
 impl Spelled for Delta2 {
     ghost use Rattle.oas_num.specs.Deltas.{SpellsDelta2};
-    ghost use Rattle.oas_num.specs.DeltaLaws.{Delta2-one_front, Delta2-some};
+    ghost use Rattle.oas_num.specs.Laws.DeltaLaws.{Delta2-one_front, Delta2-some};
 
     ghost spells = { SpellsDelta2 };
 
@@ -75,7 +75,7 @@ impl Spelled for Delta2 {
 
 impl Spelled for Delta3 {
     ghost use Rattle.oas_num.specs.Deltas.{SpellsDelta3};
-    ghost use Rattle.oas_num.specs.DeltaLaws.{Delta3-one_front, Delta3-some};
+    ghost use Rattle.oas_num.specs.Laws.DeltaLaws.{Delta3-one_front, Delta3-some};
 
     ghost spells = { SpellsDelta3 };
 
@@ -95,7 +95,7 @@ impl Spelled for Delta3 {
 
 impl Spelled for GDelta {
     ghost use Rattle.oas_num.specs.Deltas.{SpellsGDelta, GDeltaTook};
-    ghost use Rattle.oas_num.specs.DeltaLaws.{GDelta-one_front, GDelta-some};
+    ghost use Rattle.oas_num.specs.Laws.DeltaLaws.{GDelta-one_front, GDelta-some};
 
     ghost spells = { SpellsGDelta };
 

@@ -76,7 +76,7 @@ pub fn read_signed_if<S: Source>(there: bool, source: &mut S) -> Result<Option<i
 
 impl Spelled for Unsigned {
     ghost use Rattle.oas_num.specs.Integers.{SpellsUnsigned};
-    ghost use Rattle.oas_num.specs.IntegerLaws.{Unsigned-one_front, Unsigned-some};
+    ghost use Rattle.oas_num.specs.Laws.IntegerLaws.{Unsigned-one_front, Unsigned-some};
 
     ghost spells = { SpellsUnsigned };
 
@@ -95,7 +95,7 @@ impl Spelled for Unsigned {
 
 impl Spelled for Signed {
     ghost use Rattle.oas_num.specs.Integers.{SpellsSigned};
-    ghost use Rattle.oas_num.specs.IntegerLaws.{Signed-one_front, Signed-some};
+    ghost use Rattle.oas_num.specs.Laws.IntegerLaws.{Signed-one_front, Signed-some};
 
     ghost spells = { SpellsSigned };
 

@@ -22,7 +22,7 @@ pub struct Real {
 impl Spelled for Real {
     ghost use Rattle.oas_num.specs.Reading.{ReadsPiece};
     ghost use Rattle.oas_num.specs.Reals.{SpellsReal, RealMay, RealTook};
-    ghost use Rattle.oas_num.specs.RealLaws.{OneFront-SpellsReal, HasSome-SpellsReal};
+    ghost use Rattle.oas_num.specs.Laws.RealLaws.{OneFront-SpellsReal, HasSome-SpellsReal};
 
     ghost spells = { SpellsReal };
 

@@ -113,7 +113,7 @@ impl Name {
 impl Spelled for Name {
     ghost use Rattle.oas_num.specs.Texts.{SpellsName};
     ghost use Rattle.oas_num.specs.Style.{Any};
-    ghost use Rattle.oas_num.specs.TextLaws.{OneFront-name, HasSome-name};
+    ghost use Rattle.oas_num.specs.Laws.TextLaws.{OneFront-name, HasSome-name};
     ghost use Rattle.oas_num.specs.Reading.{NameTook};
 
     ghost spells = { SpellsName };
@@ -220,7 +220,7 @@ impl Label {
 impl Spelled for Label {
     ghost use Rattle.oas_num.specs.Texts.{SpellsLabel};
     ghost use Rattle.oas_num.specs.Style.{Any};
-    ghost use Rattle.oas_num.specs.TextLaws.{OneFront-label, HasSome-label};
+    ghost use Rattle.oas_num.specs.Laws.TextLaws.{OneFront-label, HasSome-label};
     ghost use Rattle.oas_num.specs.Reading.{LabelTook};
 
     ghost spells = { SpellsLabel };
@@ -307,7 +307,7 @@ fn pass_over<S: Source>(count: u64, source: &mut S) -> Result<Padding, Why>
 
 impl Spelled for Padding {
     ghost use Rattle.oas_num.specs.Texts.{SpellsPadding};
-    ghost use Rattle.oas_num.specs.TextLaws.{OneFront-padding, HasSome-padding};
+    ghost use Rattle.oas_num.specs.Laws.TextLaws.{OneFront-padding, HasSome-padding};
     ghost use Rattle.oas_num.specs.Reading.{IntegerMay, PaddingTook};
 
     ghost spells = { SpellsPadding };

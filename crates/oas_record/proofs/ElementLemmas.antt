@@ -2,9 +2,9 @@
 use Rattle.std.proofs.Common.{◌≡◌, Bool, true, false, IsTrue}
 use Rattle.std.specs.Prelude.{◌↔◌}
 use Rattle.oas_num.specs.Grammar.{OneFront, IsThere}
-use Rattle.oas_num.specs.GrammarLaws.{OneFront-there}
+use Rattle.oas_num.specs.Laws.GrammarLaws.{OneFront-there}
 use Rattle.oas_num.specs.Integers.{IsUnsigned}
-use Rattle.oas_num.specs.IntegerLaws.{OneFront-IsUnsigned}
+use Rattle.oas_num.specs.Laws.IntegerLaws.{OneFront-IsUnsigned}
 
 -- a number that may be there
 pub OneFront-number_if : (there : Bool) → OneFront (IsThere there IsUnsigned)

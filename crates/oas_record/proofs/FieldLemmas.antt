@@ -2,17 +2,17 @@
 use Rattle.std.proofs.Common.{ℕ, ◌<◌, ◌≤◌, Bool, arith}
 use Rattle.oas_num.specs.Script.{Script}
 use Rattle.oas_num.specs.Grammar.{OneFront, IsSuch, IsThere}
-use Rattle.oas_num.specs.GrammarLaws.{OneFront-there}
+use Rattle.oas_num.specs.Laws.GrammarLaws.{OneFront-there}
 use Rattle.oas_num.specs.Reading.{ReadsValue}
 use Rattle.oas_num.proofs.GrammarLemmas.{such_read}
 use Rattle.oas_num.specs.Style.{Style, Any}
 use Rattle.oas_num.specs.Reals.{SpellsReal}
-use Rattle.oas_num.specs.RealLaws.{OneFront-SpellsReal}
+use Rattle.oas_num.specs.Laws.RealLaws.{OneFront-SpellsReal}
 use Rattle.oas_num.specs.Integers.{IsUnsigned, IsSigned}
-use Rattle.oas_num.specs.IntegerLaws.{OneFront-IsSigned}
+use Rattle.oas_num.specs.Laws.IntegerLaws.{OneFront-IsSigned}
 use Rattle.oas_shape.specs.declared.list_use.ListUse.{ListUse}
 use Rattle.oas_shape.specs.PointLists.{point_list_in}
-use Rattle.oas_shape.specs.PointListLaws.{OneFront-point_list}
+use Rattle.oas_shape.specs.Laws.PointListLaws.{OneFront-point_list}
 use Rattle.oas_record.specs.References.{cell_kind, cell_in, string_kind, text_in}
 use Rattle.oas_record.specs.Kinds.{front_in}
 use Rattle.oas_record.specs.Ends.{offsets_if, offsets_part}

@@ -12,11 +12,11 @@ use Rattle.oas_num.specs.Grammar.{OneFront, IsPair, IsSuch, IsByte}
 use Rattle.oas_num.specs.Integers.{IsUnsigned}
 use Rattle.oas_num.specs.Style.{Any}
 use Rattle.oas_num.specs.Texts.{IsLabelByte, IsOf, IsText, label_in, SpellsLabel}
-use Rattle.oas_num.specs.IntegerLaws.{OneFront-IsUnsigned}
+use Rattle.oas_num.specs.Laws.IntegerLaws.{OneFront-IsUnsigned}
 use Rattle.oas_num.specs.Pieces.{PairTook}
-use Rattle.oas_num.specs.TextLaws.{OneFront-label, OneFront-class}
+use Rattle.oas_num.specs.Laws.TextLaws.{OneFront-label, OneFront-class}
 use Rattle.oas_num.specs.Reals.{real_in, RealTook}
-use Rattle.oas_num.specs.RealLaws.{OneFront-real}
+use Rattle.oas_num.specs.Laws.RealLaws.{OneFront-real}
 use Rattle.oas_num.specs.Begun.{Begins}
 use Rattle.oas_num.specs.Reading.{ReadsValue, Fails, FailsPiece, ByteMay, IntegerMay, ClassMay}
 use Rattle.oas_num.proofs.ReadLemmas.{Takes-none, Takes-then, Wants, Fails-after}
@@ -25,8 +25,8 @@ use Rattle.oas_num.proofs.GrammarLemmas.{such_read, Listed, listed_none, listed_
 use Rattle.oas_record.specs.declared.heads.Head.{Head}
 use Rattle.oas_record.specs.Ends.{IsNumber}
 use Rattle.oas_record.specs.Heads.{magic, IsMagic, MagicMay, IsPassedLabel, PassedTook, version, version_in, VersionTook, IsPositiveReal, IsUnit, SpellsUnit, UnitTook, IsFlag, flag_in, start_in, StartTook, head_in, ReadsHead}
-use Rattle.oas_record.specs.HeadLaws.{OneFront-start_id, OneFront-flag}
-use Rattle.oas_num.specs.BegunLaws.{Begins-none, HasSome-exactly}
+use Rattle.oas_record.specs.Laws.HeadLaws.{OneFront-start_id, OneFront-flag}
+use Rattle.oas_num.specs.Laws.BegunLaws.{Begins-none, HasSome-exactly}
 
 -- ---- the magic
 

@@ -4,7 +4,7 @@ use Rattle.oas_num.specs.declared.refusals.Why.{Why}
 use Rattle.oas_num.specs.declared.refusals.Why.TheVariants.{InfoByte}
 use Rattle.oas_num.specs.Script.{Script}
 use Rattle.oas_num.specs.Grammar.{IsPair, IsSuch, IsImage, IsByte}
-use Rattle.oas_num.specs.GrammarLaws.{OneFront-such, OneFront-byte}
+use Rattle.oas_num.specs.Laws.GrammarLaws.{OneFront-such, OneFront-byte}
 use Rattle.oas_num.specs.Pieces.{PairTook}
 use Rattle.oas_num.specs.Reading.{ReadsValue, FailsPiece, ByteMay}
 use Rattle.oas_num.proofs.GrammarLemmas.{such_read}

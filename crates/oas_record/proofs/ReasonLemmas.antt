@@ -4,9 +4,9 @@ use Rattle.std.proofs.lemmas.List.{length-append, append-nil}
 use Rattle.std.proofs.Math.Nat.{pow-suc}
 use Rattle.oas_num.specs.declared.refusals.Why.{Why}
 use Rattle.oas_num.specs.declared.refusals.Why.TheVariants.{Truncated, IntegerRange, OutOfPlace, InfoByte, Read, InputTooLong}
-use Rattle.oas_num.specs.GrammarLaws.{after_same}
+use Rattle.oas_num.specs.Laws.GrammarLaws.{after_same}
 use Rattle.oas_num.specs.Integers.{IsClosed, IsUnsigned, value_of}
-use Rattle.oas_num.specs.IntegerLaws.{open_front, OneFront-IsUnsigned}
+use Rattle.oas_num.specs.Laws.IntegerLaws.{open_front, OneFront-IsUnsigned}
 use Rattle.oas_num.specs.Reading.{ByteMay, IntegerMay, IsUnended, IsOutOfRange}
 use Rattle.oas_record.specs.Heads.{StartTook}
 use Rattle.oas_record.specs.Circles.{IsCircleInfo, CircleTook}

@@ -3,11 +3,11 @@ use Rattle.std.proofs.Common.{◌≡◌, ◌≢◌, ℕ, ◌+◌, Bool, IsTrue, 
 use Rattle.oas_num.specs.declared.refusals.Why.{Why}
 use Rattle.oas_num.specs.declared.refusals.Why.TheVariants.{Truncated, RecordLeftOut, UnknownRecord, OutOfPlace, EndLength, Read, InputTooLong}
 use Rattle.oas_num.specs.Script.{Script}
-use Rattle.oas_num.specs.GrammarLaws.{after_same}
+use Rattle.oas_num.specs.Laws.GrammarLaws.{after_same}
 use Rattle.oas_num.specs.Integers.{IsUnsigned}
-use Rattle.oas_num.specs.IntegerLaws.{OneFront-IsUnsigned}
+use Rattle.oas_num.specs.Laws.IntegerLaws.{OneFront-IsUnsigned}
 use Rattle.oas_num.specs.Begun.{HasSome}
-use Rattle.oas_num.specs.BegunLaws.{HasSome-image}
+use Rattle.oas_num.specs.Laws.BegunLaws.{HasSome-image}
 use Rattle.oas_num.specs.Style.{Any}
 use Rattle.oas_num.specs.Reading.{is_format, ReadsPiece, ReadsValue, FailsPiece, IntegerMay}
 use Rattle.oas_num.proofs.ReadLemmas.{Takes-none, Wants}
@@ -16,7 +16,7 @@ use Rattle.oas_record.specs.declared.records.Record.{Record}
 use Rattle.oas_record.specs.declared.records.Record.TheVariants as record_of
 use Rattle.oas_record.specs.Ends.{end_in, EndTook, end_kind}
 use Rattle.oas_record.specs.Records.{id_of, end, after_id, parts_in, record_in}
-use Rattle.oas_record.specs.RecordLaws.{OneFront-parts}
+use Rattle.oas_record.specs.Laws.RecordLaws.{OneFront-parts}
 use Rattle.oas_record.proofs.SomeLemmas.{HasSome-parts}
 use Rattle.oas_record.specs.Refusals.{AfterTook, RecordTook, IsKnown, IsRefusedId, RefusesId, IsWrongEnd}
 use Rattle.oas_num.proofs.PieceLemmas.{fails_behind}

@@ -5,16 +5,16 @@ use Rattle.std.proofs.lemmas.Nat.Gcd.{dvd_refl}
 use Rattle.std.proofs.lemmas.Bool.{eq-eqb}
 use Rattle.std.proofs.lemmas.Bool.Decides.{eqb_tells}
 use Rattle.oas_num.specs.Begun.{HasSome}
-use Rattle.oas_num.specs.BegunLaws.{HasSome-pair, HasSome-image, HasSome-exactly}
+use Rattle.oas_num.specs.Laws.BegunLaws.{HasSome-pair, HasSome-image, HasSome-exactly}
 use Rattle.oas_num.specs.Grammar.{IsPair, IsSuch}
 use Rattle.oas_num.specs.Combinators.{IsEither}
 use Rattle.oas_num.specs.Ratio.{Ratio}
 use Rattle.oas_num.specs.Integers.{IsUnsigned}
-use Rattle.oas_num.specs.IntegerLaws.{zero_spelled}
+use Rattle.oas_num.specs.Laws.IntegerLaws.{zero_spelled}
 use Rattle.oas_num.specs.Writing.{shortest}
 use Rattle.oas_num.specs.Style.{Any}
-use Rattle.oas_num.specs.StyleLaws.{unsigned_spelled}
-use Rattle.oas_num.specs.TextLaws.{IsWithin-label, label_spelled}
+use Rattle.oas_num.specs.Laws.StyleLaws.{unsigned_spelled}
+use Rattle.oas_num.specs.Laws.TextLaws.{IsWithin-label, label_spelled}
 use Rattle.oas_record.specs.declared.records.Record.{Record}
 use Rattle.oas_record.specs.declared.records.Record.TheVariants as record_of
 use Rattle.oas_record.specs.Kinds.{exactly, image_any}
@@ -28,7 +28,7 @@ use Rattle.oas_record.specs.Paths.{path_kind}
 use Rattle.oas_record.specs.Circles.{circle_kind}
 use Rattle.oas_record.specs.Ends.{nothing, offsets_part, zeros, zero_group, end_bytes, end_kind, end_parts}
 use Rattle.oas_record.specs.Heads.{magic, IsMagic, version, version_in, SpellsUnit, IsFlag, flag_in, twelve_zeros, offsets_in, start_parts, head_of, start_in, head_after, head_in}
-use Rattle.oas_record.specs.HeadLaws.{offsets_within, itself}
+use Rattle.oas_record.specs.Laws.HeadLaws.{offsets_within, itself}
 use Rattle.oas_record.specs.Records.{id_of, pad, end, xy_absolute, xy_relative, cell_name, text_string, a_cell, placement, text, rectangle, polygon, path, circle, after_id, parts_in, record_in}
 use Rattle.oas_record.specs.Refusals.{IsKnown, HasRecord}
 use Rattle.oas_record.proofs.IdLemmas.{id_after}

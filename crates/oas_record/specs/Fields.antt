@@ -6,9 +6,9 @@ use Rattle.oas_shape.specs.declared.list_use.ListUse.{ListUse}
 use Rattle.oas_shape.specs.declared.repetitions.RepField.{RepField}
 use Rattle.oas_shape.specs.Polylines.{Polyline}
 use Rattle.oas_shape.specs.PointLists.{point_list_in, PointListTook}
-use Rattle.oas_shape.specs.PointListLaws.{OneSpelling-point_list, IsWithin-point_list, HasSome-point_list}
+use Rattle.oas_shape.specs.Laws.PointListLaws.{OneSpelling-point_list, IsWithin-point_list, HasSome-point_list}
 use Rattle.oas_shape.specs.Repetitions.{rep_field_in, RepFieldTook}
-use Rattle.oas_shape.specs.RepetitionLaws.{OneSpelling-rep_field, IsWithin-rep_field, HasSome-rep_field}
+use Rattle.oas_shape.specs.Laws.RepetitionLaws.{OneSpelling-rep_field, IsWithin-rep_field, HasSome-rep_field}
 use Rattle.oas_record.specs.declared.spots.Spot.{Spot}
 use Rattle.oas_record.specs.FoundParts.{found_point_list, found_rep_field}
 use Rattle.oas_record.specs.ShapeNever.{point_list_never, rep_field_never}

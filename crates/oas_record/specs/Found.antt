@@ -2,9 +2,9 @@
 use Rattle.std.proofs.Common.{◌≡◌, ◌≢◌, ℕ, zero, suc, Bool, true, false, List, [], ◌∷◌, ◌++◌, Option, Some, None, ◌⊎◌, inl, inr, refl, sym, ap, subst, ◌∙◌, append_assoc, arith}
 use Rattle.std.proofs.lemmas.Bool.Decides.{eqb_tells}
 use Rattle.oas_num.specs.Grammar.{OneFront, IsPair, IsSuch, IsImage, IsThere, IsEach, IsCount}
-use Rattle.oas_num.specs.GrammarLaws.{OneFront-pair, OneFront-such, OneFront-image, OneFront-there, OneFront-count, after_same}
+use Rattle.oas_num.specs.Laws.GrammarLaws.{OneFront-pair, OneFront-such, OneFront-image, OneFront-there, OneFront-count, after_same}
 use Rattle.oas_num.specs.Combinators.{IsExactly, IsNever, IsEither, IsKeyed}
-use Rattle.oas_num.specs.CombinatorLaws.{OneFront-exactly, OneFront-within, OneFront-keyed}
+use Rattle.oas_num.specs.Laws.CombinatorLaws.{OneFront-exactly, OneFront-within, OneFront-keyed}
 
 -- ---- what holds, or doesn't
 

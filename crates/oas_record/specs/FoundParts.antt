@@ -7,14 +7,14 @@ use Rattle.std.specs.List.{AllByRecursion}
 use Rattle.oas_num.specs.declared.deltas.Delta1.{Delta1}
 use Rattle.oas_num.specs.declared.deltas.GDelta.{GDelta}
 use Rattle.oas_num.specs.Grammar.{IsPair, IsSuch, IsImage, IsThere, IsCount, IsByte}
-use Rattle.oas_num.specs.GrammarLaws.{OneFront-byte}
+use Rattle.oas_num.specs.Laws.GrammarLaws.{OneFront-byte}
 use Rattle.oas_num.specs.Integers.{IsClosed, value_of, IsUnsigned, IsSigned, signed_of}
-use Rattle.oas_num.specs.IntegerLaws.{closed_same, OneFront-IsUnsigned}
+use Rattle.oas_num.specs.Laws.IntegerLaws.{closed_same, OneFront-IsUnsigned}
 use Rattle.oas_num.specs.Style.{Any}
 use Rattle.oas_num.specs.Texts.{IsBetween, IsText, IsPositive, name_in, label_in, padding_of, padding_length, SpellsPadding}
 use Rattle.oas_num.specs.Reals.{has_num, has_den, IsFraction, real_of, SpellsReal}
 use Rattle.oas_num.specs.Deltas.{delta2_of, delta3_of, SpellsDelta1, SpellsGDelta, gdelta_of, has_second, IsNumbers}
-use Rattle.oas_num.specs.DeltaLaws.{Delta1-one_front}
+use Rattle.oas_num.specs.Laws.DeltaLaws.{Delta1-one_front}
 use Rattle.oas_shape.specs.declared.list_use.ListUse.{ListUse}
 use Rattle.oas_shape.specs.declared.list_use.ListUse.TheVariants.{Polygon, Path}
 use Rattle.oas_shape.specs.declared.repetitions.RepField.TheVariants.{New}

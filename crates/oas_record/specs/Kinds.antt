@@ -7,17 +7,17 @@ use Rattle.oas_num.specs.declared.reals.Real.{Real}
 use Rattle.oas_num.specs.declared.texts.Padding.{Padding}
 use Rattle.oas_num.specs.Grammar.{OneFront, IsPair, IsSuch, IsImage, IsThere, IsCount, IsByte}
 use Rattle.oas_num.specs.Combinators.{IsExactly, IsEither, IsNever, OneSpelling, IsWithin}
-use Rattle.oas_num.specs.CombinatorLaws.{OneFront-within, OneSpelling-exactly, OneSpelling-never, OneSpelling-either, OneSpelling-pair, OneSpelling-such, OneSpelling-byte, OneSpelling-there, OneSpelling-count, IsWithin-itself, IsWithin-either, IsWithin-pair, IsWithin-such, IsWithin-image, IsWithin-there, IsWithin-count}
+use Rattle.oas_num.specs.Laws.CombinatorLaws.{OneFront-within, OneSpelling-exactly, OneSpelling-never, OneSpelling-either, OneSpelling-pair, OneSpelling-such, OneSpelling-byte, OneSpelling-there, OneSpelling-count, IsWithin-itself, IsWithin-either, IsWithin-pair, IsWithin-such, IsWithin-image, IsWithin-there, IsWithin-count}
 use Rattle.oas_num.specs.Begun.{HasSome}
-use Rattle.oas_num.specs.BegunLaws.{HasSome-pair, HasSome-image, HasSome-there, HasSome-such, HasSome-either, HasSome-exactly, HasSome-count}
+use Rattle.oas_num.specs.Laws.BegunLaws.{HasSome-pair, HasSome-image, HasSome-there, HasSome-such, HasSome-either, HasSome-exactly, HasSome-count}
 use Rattle.oas_num.specs.Integers.{IsUnsigned, IsSigned}
-use Rattle.oas_num.specs.IntegerLaws.{zero_spelled, HasSome-IsUnsigned, HasSome-IsSigned}
+use Rattle.oas_num.specs.Laws.IntegerLaws.{zero_spelled, HasSome-IsUnsigned, HasSome-IsSigned}
 use Rattle.oas_num.specs.Style.{Style, Any, Shortest, unsigned_in, signed_in}
-use Rattle.oas_num.specs.StyleLaws.{OneSpelling-unsigned, IsWithin-unsigned, OneSpelling-signed, IsWithin-signed}
+use Rattle.oas_num.specs.Laws.StyleLaws.{OneSpelling-unsigned, IsWithin-unsigned, OneSpelling-signed, IsWithin-signed}
 use Rattle.oas_num.specs.Texts.{name_in, label_in, SpellsPadding}
-use Rattle.oas_num.specs.TextLaws.{OneSpelling-name, IsWithin-name, HasSome-name, OneSpelling-label, IsWithin-label, HasSome-label, HasSome-padding}
+use Rattle.oas_num.specs.Laws.TextLaws.{OneSpelling-name, IsWithin-name, HasSome-name, OneSpelling-label, IsWithin-label, HasSome-label, HasSome-padding}
 use Rattle.oas_num.specs.Reals.{real_in, RealTook}
-use Rattle.oas_num.specs.RealLaws.{OneSpelling-real, IsWithin-real, HasSome-real}
+use Rattle.oas_num.specs.Laws.RealLaws.{OneSpelling-real, IsWithin-real, HasSome-real}
 use Rattle.oas_num.specs.Pieces.{PairTook, ThereTook, CountTook, SuchTook, Unless}
 use Rattle.oas_num.specs.Reading.{ByteMay, IntegerMay, NameTook, LabelTook, PaddingTook}
 use Rattle.oas_record.specs.Found.{Settled, IsFound, found_such, found_image, found_pair, found_exactly, found_either, found_there, found_count, found_never}

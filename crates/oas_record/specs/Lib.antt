@@ -8,7 +8,6 @@ pub mod Fields
 pub mod NameRecords
 pub mod Ends
 pub mod Heads
-pub mod HeadLaws
 pub mod Placements
 pub mod Texts
 pub mod Rectangles
@@ -16,5 +15,5 @@ pub mod Polygons
 pub mod Paths
 pub mod Circles
 pub mod Records
-pub mod RecordLaws
 pub mod Refusals
+pub mod Laws

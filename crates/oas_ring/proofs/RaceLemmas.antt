@@ -12,10 +12,10 @@ use Rattle.oas_ring.specs.Points.{origin, point_at, point_cmp, list_cmp}
 use Rattle.oas_ring.specs.Rings.{rotation}
 use Rattle.oas_ring.specs.Race.{IsBeaten, IsRace, next_order, IsLeastTurn}
 use Rattle.std.proofs.Math.Seq.{take-add}
-use Rattle.oas_ring.specs.RingsLaws.{rotated_twice, length-rotation}
-use Rattle.oas_ring.specs.PointsLaws.{points_total, exact_points}
-use Rattle.oas_ring.specs.PointsLaws.{not_below_itself, below_one_way, not_below_twice}
-use Rattle.oas_ring.specs.ReadingsLaws.{place_within}
+use Rattle.oas_ring.specs.Laws.RingsLaws.{rotated_twice, length-rotation}
+use Rattle.oas_ring.specs.Laws.PointsLaws.{points_total, exact_points}
+use Rattle.oas_ring.specs.Laws.PointsLaws.{not_below_itself, below_one_way, not_below_twice}
+use Rattle.oas_ring.specs.Laws.ReadingsLaws.{place_within}
 use Rattle.oas_ring.proofs.ReadingLemmas.{list_cmp_decided}
 
 -- a common front does not matter

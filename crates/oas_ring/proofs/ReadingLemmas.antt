@@ -9,10 +9,10 @@ use Rattle.oas_ring.specs.declared.readings.Reading.{Reading}
 use Rattle.oas_ring.specs.Points.{origin, point_at, point_cmp, list_cmp}
 use Rattle.oas_ring.specs.Rings.{rotation}
 use Rattle.oas_ring.specs.Readings.{directed, reading_of, IsLeastReadingOf}
-use Rattle.oas_ring.specs.ReadingsLaws.{length-reading_of, same_ring-reading_of, read_from_same_ring}
+use Rattle.oas_ring.specs.Laws.ReadingsLaws.{length-reading_of, same_ring-reading_of, read_from_same_ring}
 use Rattle.oas_ring.specs.Race.{IsLeastTurn}
-use Rattle.oas_ring.specs.RingsLaws.{same_ring_twice}
-use Rattle.oas_ring.specs.PointsLaws.{not_below_twice}
+use Rattle.oas_ring.specs.Laws.RingsLaws.{same_ring_twice}
+use Rattle.oas_ring.specs.Laws.PointsLaws.{not_below_twice}
 
 -- one point more of two lists
 pub list_cmp_more : (a b : List Point) (k : ℕ) (o : Ordering) → k < length a → k < length b

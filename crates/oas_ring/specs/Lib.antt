@@ -1,10 +1,7 @@
 pub mod Points
-pub mod PointsLaws
 pub mod Rings
-pub mod RingsLaws
 pub mod Readings
-pub mod ReadingsLaws
 pub mod Race
 pub mod View
 pub mod Rectangles
-pub mod RectanglesLaws
+pub mod Laws

@@ -4,7 +4,7 @@ ghost use Rattle.std.specs.Prelude.{◌≡◌, List, IfOk, refl};
 ghost use Rattle.std.specs.Cmp.{partial_order_from_total, partial_equiv_from_equiv, eq_by_cmp_equiv};
 ghost use Rattle.std.specs.Ordering.{as_partial_cmp, eq_by_cmp};
 ghost use Rattle.oas_ring.specs.Points.{list_cmp};
-ghost use Rattle.oas_ring.specs.PointsLaws.{point_lists_total};
+ghost use Rattle.oas_ring.specs.Laws.PointsLaws.{point_lists_total};
 ghost use Rattle.oas_ring.specs.declared.point.Point.{Point};
 
 use crate::point::Point;

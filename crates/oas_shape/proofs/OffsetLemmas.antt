@@ -21,7 +21,7 @@ use Rattle.oas_shape.specs.declared.offsets.Along.{Along}
 use Rattle.oas_shape.specs.Steps.{still, added, times, sums_after, IsNear, IsPartialSum}
 use Rattle.oas_shape.specs.Offsets.{offsets_by}
 use Rattle.oas_shape.specs.Repetitions.{displacement_in, IsOffsets, DisplacementTook, RefusesNext, OffsetsTook}
-use Rattle.oas_shape.specs.RepetitionLaws.{OneFront-displacement, still_is, still_near}
+use Rattle.oas_shape.specs.Laws.RepetitionLaws.{OneFront-displacement, still_is, still_near}
 use Rattle.oas_shape.proofs.SumLemmas.{all_more, at_middle, at_front}
 use Rattle.oas_shape.proofs.ReadingLemmas.{image_read, next_item, no_memory_piece}
 

@@ -10,7 +10,7 @@ use Rattle.oas_num.proofs.HalfwayLemmas.{Halfway, at_image, ◌▸◌}
 use Rattle.oas_shape.specs.declared.list_use.ListUse.{ListUse}
 use Rattle.oas_shape.specs.ListUses.{IsFitting}
 use Rattle.oas_shape.specs.PointLists.{IsListKind, deltas_in, polyline_of, after_kind, IsPointList, DeltasTook, AfterKindTook, PointListTook}
-use Rattle.oas_shape.specs.PointListLaws.{OneFront-kind, OneFront-fitting}
+use Rattle.oas_shape.specs.Laws.PointListLaws.{OneFront-kind, OneFront-fitting}
 
 module _ (purpose : ListUse) where
   -- nothing was read

@@ -4,7 +4,7 @@ use Rattle.oas_num.specs.declared.refusals.Why.{Why}
 use Rattle.oas_num.specs.declared.refusals.Why.TheVariants.{Memory}
 use Rattle.oas_num.specs.Script.{Script, Takes}
 use Rattle.oas_num.specs.Grammar.{OneFront, IsImage, IsEach}
-use Rattle.oas_num.specs.GrammarLaws.{after_same}
+use Rattle.oas_num.specs.Laws.GrammarLaws.{after_same}
 use Rattle.oas_num.specs.Reading.{ReadsValue, FailsPiece}
 
 module _ {U V : Type 0} (f : U → V) (A : U → List ℕ → Type 0) where

@@ -5,7 +5,7 @@ use Rattle.oas_num.specs.declared.refusals.Why.{Why}
 use Rattle.oas_num.specs.Script.{Script}
 use Rattle.oas_num.specs.Grammar.{IsPair, IsSuch, IsThere}
 use Rattle.oas_num.specs.Integers.{IsUnsigned}
-use Rattle.oas_num.specs.IntegerLaws.{OneFront-IsUnsigned}
+use Rattle.oas_num.specs.Laws.IntegerLaws.{OneFront-IsUnsigned}
 use Rattle.oas_num.specs.Style.{Any}
 use Rattle.oas_num.specs.Reading.{ReadsValue, FailsPiece}
 use Rattle.oas_num.proofs.ReadLemmas.{Takes-none}
@@ -16,7 +16,7 @@ use Rattle.oas_shape.specs.declared.repetitions.Repetition.{Repetition}
 use Rattle.oas_shape.specs.declared.repetitions.RepField.{RepField}
 use Rattle.oas_shape.specs.declared.repetitions.RepField.TheVariants.{Again, New}
 use Rattle.oas_shape.specs.Repetitions.{IsRepetitionKind, IsOffsets, grid_of, listed_of, after_dim, IsListed, repetition_by, field_by, field_of, rep_field_in, OffsetsTook, AfterDimTook, ListedTook, RepetitionTook, FieldTook, RepFieldTook}
-use Rattle.oas_shape.specs.RepetitionLaws.{OneFront-kind, OneFront-grid}
+use Rattle.oas_shape.specs.Laws.RepetitionLaws.{OneFront-kind, OneFront-grid}
 use Rattle.oas_shape.proofs.ReadingLemmas.{image_read}
 
 -- ---- a type that lists its displacements

@@ -9,7 +9,7 @@ use Rattle.oas_num.specs.Script.{Script}
 use Rattle.oas_num.specs.declared.refusals.Why.{Why}
 use Rattle.oas_num.specs.declared.refusals.Why.TheVariants.{Memory}
 use Rattle.oas_num.specs.Grammar.{IsImage, IsCount}
-use Rattle.oas_num.specs.DeltaLaws.{Delta1-one_front}
+use Rattle.oas_num.specs.Laws.DeltaLaws.{Delta1-one_front}
 use Rattle.oas_num.specs.Pieces.{ListTook}
 use Rattle.oas_num.specs.Reading.{ReadsValue, FailsPiece, IntegerMay}
 use Rattle.oas_num.proofs.GrammarLemmas.{Listed, listed_none, listed_more, listed_all}

@@ -2,8 +2,7 @@ pub mod ListUses
 pub mod Steps
 pub mod Polylines
 pub mod PointLists
-pub mod PointListLaws
 pub mod OffsetLists
 pub mod Offsets
 pub mod Repetitions
-pub mod RepetitionLaws
+pub mod Laws

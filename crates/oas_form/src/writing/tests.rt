@@ -1,6 +1,7 @@
 //! Layouts whose bytes are known from outside, into sinks and writers of several kinds.
 
 use super::*;
+use crate::has_canonical_bytes;
 use oas_layout::{Draft, Element, Limits, Profile, Turns};
 use oas_num::{Counter, Fraction, Label, Name, SliceSource, Spelled};
 use oas_ring::{Point, Points};
@@ -143,6 +144,8 @@ fn gives(rt: &HostRuntime, layout: &Layout, wanted: &[u8]) -> bool {
     count == wanted.len() as u64
         && counter.count() == count
         && length == count
+        && has_canonical_bytes(layout, wanted)
+        && !has_canonical_bytes(layout, &wanted[1..])
         && written.as_slice() == wanted
 }
 

@@ -11,7 +11,7 @@ returns-in_err-layout-clause-exactly g c =
 pub returns-clause-judged : goal.returns-clause-judged
 returns-clause-judged g c =
     let kept = c.in_ok-layout.ensures.kept in
-    judged kept.read _ _ kept.takes c.is_spelled.ensures.layout (rw c.deref.ensures.value at c.is_spelled.ensures.spelled)
+    judged kept.read _ _ kept.takes c.has_canonical_bytes.ensures.layout (rw c.deref.ensures.value at c.has_canonical_bytes.ensures.bytes)
 
 pub returns-clause-exactly : goal.returns-clause-exactly
 returns-clause-exactly g c = exactly_taken _ (taken c.in_ok-layout.ensures.kept.read)

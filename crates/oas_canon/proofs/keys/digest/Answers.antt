@@ -1,4 +1,4 @@
-use Rattle.oas_canon.proofs.SinkLemmas.{hashed}
+use Rattle.oas_canon.proofs.HashingLemmas.{hashed}
 use Rattle.oas_canon.proofs.keys.digest.Goals as goal
 
 pub returns-clause-digest : goal.returns-clause-digest

@@ -1,4 +1,4 @@
-use Rattle.oas_drawing.specs.DrawnLaws.{order_is_stated_of, drawn_total, exact_drawn}
+use Rattle.oas_drawing.specs.Laws.DrawnLaws.{order_is_stated_of, drawn_total, exact_drawn}
 use Rattle.oas_drawing.proofs.laws.drawn_order.Goals as goal
 
 pub returns : goal.returns

@@ -1,4 +1,4 @@
-use Rattle.oas_file.specs.FileLaws as law
+use Rattle.oas_file.specs.Laws.FileLaws as law
 use Rattle.oas_file.proofs.laws.one_meaning.Goals as goal
 
 pub returns : goal.returns

@@ -1,4 +1,4 @@
-use Rattle.oas_num.specs.WrittenLaws.{took_all, cut_off}
+use Rattle.oas_num.specs.Laws.WrittenLaws.{took_all, cut_off}
 use Rattle.oas_form.proofs.LayoutForms.{layout_counted}
 use Rattle.oas_form.proofs.writing.write_canonical.Goals as goal
 

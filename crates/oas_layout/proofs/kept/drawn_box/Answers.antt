@@ -1,5 +1,5 @@
 use Rattle.std.proofs.Common.{sym, ◌∙◌, ap}
-use Rattle.oas_ring.specs.RectanglesLaws.{box_of-answer}
+use Rattle.oas_ring.specs.Laws.RectanglesLaws.{box_of-answer}
 use Rattle.oas_layout.specs.Same.{drawn_box}
 use Rattle.oas_layout.proofs.kept.drawn_box.Goals as goal
 

@@ -1,7 +1,7 @@
 use Rattle.std.proofs.Common.{◌^◌, ◌<◌, length, arith, rules}
 use Rattle.oas_layout.specs.Contents.{meaning_of}
 use Rattle.oas_listing.specs.Listing.{listing}
-use Rattle.oas_num.specs.WrittenLaws.{written, cut_off}
+use Rattle.oas_num.specs.Laws.WrittenLaws.{written, cut_off}
 use Rattle.oas_listing.proofs.writing.write_listing.Goals as goal
 
 pub returns-in-Ok-clause-written : goal.returns-in-Ok-clause-written

@@ -1,4 +1,4 @@
-use Rattle.oas_num.specs.DeltaLaws.{OneFront-gdelta, OneSpelling-gdelta, IsWithin-gdelta, shortest_gdelta-spells}
+use Rattle.oas_num.specs.Laws.DeltaLaws.{OneFront-gdelta, OneSpelling-gdelta, IsWithin-gdelta, shortest_gdelta-spells}
 use Rattle.oas_num.proofs.laws.gdeltas.Goals as goal
 
 pub returns : goal.returns

@@ -1,4 +1,4 @@
-use Rattle.oas_num.specs.TextLaws.{OneFront-label, OneSpelling-label, IsWithin-label}
+use Rattle.oas_num.specs.Laws.TextLaws.{OneFront-label, OneSpelling-label, IsWithin-label}
 use Rattle.oas_num.proofs.laws.labels.Goals as goal
 
 pub returns : goal.returns

@@ -1,4 +1,4 @@
-use Rattle.oas_num.specs.TextLaws.{OneFront-name, OneSpelling-name, IsWithin-name}
+use Rattle.oas_num.specs.Laws.TextLaws.{OneFront-name, OneSpelling-name, IsWithin-name}
 use Rattle.oas_num.proofs.laws.names.Goals as goal
 
 pub returns : goal.returns

@@ -1,4 +1,4 @@
-use Rattle.oas_num.specs.RealLaws.{OneFront-real, OneSpelling-real, IsWithin-real}
+use Rattle.oas_num.specs.Laws.RealLaws.{OneFront-real, OneSpelling-real, IsWithin-real}
 use Rattle.oas_num.proofs.laws.reals.Goals as goal
 
 pub returns : goal.returns

@@ -1,5 +1,5 @@
-use Rattle.oas_num.specs.WritingLaws.{shortest_only}
-use Rattle.oas_num.specs.StyleLaws.{shortest-IsShortest}
+use Rattle.oas_num.specs.Laws.WritingLaws.{shortest_only}
+use Rattle.oas_num.specs.Laws.StyleLaws.{shortest-IsShortest}
 use Rattle.oas_num.proofs.WritingLemmas.{shortest_signed-IsShortestSigned}
 use Rattle.oas_num.proofs.laws.shortest.Goals as goal
 

@@ -1,4 +1,4 @@
-use Rattle.oas_num.specs.StyleLaws.{OneFront-signed, OneSpelling-signed, IsWithin-signed}
+use Rattle.oas_num.specs.Laws.StyleLaws.{OneFront-signed, OneSpelling-signed, IsWithin-signed}
 use Rattle.oas_num.proofs.laws.signed.Goals as goal
 
 pub returns : goal.returns

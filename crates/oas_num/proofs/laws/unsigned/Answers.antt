@@ -1,4 +1,4 @@
-use Rattle.oas_num.specs.StyleLaws.{OneFront-unsigned, OneSpelling-unsigned, IsWithin-unsigned}
+use Rattle.oas_num.specs.Laws.StyleLaws.{OneFront-unsigned, OneSpelling-unsigned, IsWithin-unsigned}
 use Rattle.oas_num.proofs.laws.unsigned.Goals as goal
 
 pub returns : goal.returns

@@ -1,7 +1,7 @@
 use Rattle.std.proofs.Common.{◌+◌, ◌∙◌, ap, arith}
 use Rattle.std.proofs.lemmas.Result.{err_from_is_err_and}
 use Rattle.std.proofs.lemmas.List.{length_push}
-use Rattle.oas_num.specs.TextLaws.{OneFront-class}
+use Rattle.oas_num.specs.Laws.TextLaws.{OneFront-class}
 use Rattle.oas_num.proofs.TextLemmas.{TextMay-class, inside}
 use Rattle.oas_num.proofs.GrammarLemmas.{listed_more}
 use Rattle.oas_num.proofs.PieceLemmas.{item_fails, item_unkept}

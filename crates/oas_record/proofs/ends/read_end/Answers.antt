@@ -1,7 +1,7 @@
 use Rattle.std.proofs.Common.{refl}
 use Rattle.std.proofs.lemmas.Result.{err_from_is_err_and}
-use Rattle.oas_num.specs.TextLaws.{OneFront-padding}
-use Rattle.oas_num.specs.IntegerLaws.{OneFront-IsUnsigned}
+use Rattle.oas_num.specs.Laws.TextLaws.{OneFront-padding}
+use Rattle.oas_num.specs.Laws.IntegerLaws.{OneFront-IsUnsigned}
 use Rattle.oas_record.specs.Ends.{nothing, end_parts, EndTook}
 use Rattle.oas_record.proofs.FieldLemmas.{OneFront-offsets_if}
 use Rattle.oas_record.proofs.EndLemmas.{other_scheme, scheme_read}

@@ -1,9 +1,9 @@
 use Rattle.std.proofs.Common.{refl}
 use Rattle.std.proofs.lemmas.Result.{err_from_is_err_and}
 use Rattle.oas_num.specs.Style.{Any}
-use Rattle.oas_num.specs.IntegerLaws.{OneFront-IsUnsigned}
+use Rattle.oas_num.specs.Laws.IntegerLaws.{OneFront-IsUnsigned}
 use Rattle.oas_record.specs.Heads.{StartTook}
-use Rattle.oas_record.specs.HeadLaws.{OneFront-version, OneFront-unit}
+use Rattle.oas_record.specs.Laws.HeadLaws.{OneFront-version, OneFront-unit}
 use Rattle.oas_num.proofs.HalfwayLemmas.{◌▸◌, at_image, fails_at, fails_last, is_read, such_took, such_refused}
 use Rattle.oas_record.proofs.HeadLemmas.{id_field, flag_field, other_flag}
 use Rattle.oas_record.proofs.heads.read_start.Goals as goal

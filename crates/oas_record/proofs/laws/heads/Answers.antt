@@ -1,4 +1,4 @@
-use Rattle.oas_record.specs.HeadLaws.{OneFront-head, OneSpelling-head, IsWithin-head}
+use Rattle.oas_record.specs.Laws.HeadLaws.{OneFront-head, OneSpelling-head, IsWithin-head}
 use Rattle.oas_record.proofs.SomeLemmas.{HasSome-head}
 use Rattle.oas_record.proofs.laws.heads.Goals as goal
 

@@ -1,4 +1,4 @@
-use Rattle.oas_record.specs.RecordLaws.{OneFront-records, OneSpelling-records, IsWithin-records}
+use Rattle.oas_record.specs.Laws.RecordLaws.{OneFront-records, OneSpelling-records, IsWithin-records}
 use Rattle.oas_record.proofs.laws.lists.Goals as goal
 
 pub returns : goal.returns

@@ -1,4 +1,4 @@
-use Rattle.oas_record.specs.RecordLaws.{OneFront-record, OneSpelling-record, IsWithin-record}
+use Rattle.oas_record.specs.Laws.RecordLaws.{OneFront-record, OneSpelling-record, IsWithin-record}
 use Rattle.oas_record.proofs.SomeLemmas.{record_some}
 use Rattle.oas_record.proofs.laws.records.Goals as goal
 

@@ -1,6 +1,6 @@
 use Rattle.std.proofs.lemmas.Result.{err_from_is_err_and}
 use Rattle.oas_num.specs.Style.{Any}
-use Rattle.oas_num.specs.TextLaws.{OneFront-label}
+use Rattle.oas_num.specs.Laws.TextLaws.{OneFront-label}
 use Rattle.oas_record.specs.NameRecords.{TextStringTook}
 use Rattle.oas_num.proofs.HalfwayLemmas.{◌▸◌, at_start, fails_at, fails_last, is_read, number_took}
 use Rattle.oas_record.proofs.name_records.read_text_string.Goals as goal

@@ -1,7 +1,7 @@
 use Rattle.std.proofs.Common.{arith}
 use Rattle.std.proofs.lemmas.Result.{err_from_is_err_and}
 use Rattle.oas_num.specs.Texts.{IsLabelByte}
-use Rattle.oas_num.specs.TextLaws.{OneFront-class}
+use Rattle.oas_num.specs.Laws.TextLaws.{OneFront-class}
 use Rattle.oas_record.proofs.PassLemmas.{passed_none, passed_more, passed_fails, passed_all}
 use Rattle.oas_record.proofs.passing.pass_label.Goals as goal
 

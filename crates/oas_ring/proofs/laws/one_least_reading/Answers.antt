@@ -1,4 +1,4 @@
-use Rattle.oas_ring.specs.ReadingsLaws.{least_of-IsLeastReadingOf, least_of-is}
+use Rattle.oas_ring.specs.Laws.ReadingsLaws.{least_of-IsLeastReadingOf, least_of-is}
 use Rattle.oas_ring.proofs.laws.one_least_reading.Goals as goal
 
 pub returns : goal.returns

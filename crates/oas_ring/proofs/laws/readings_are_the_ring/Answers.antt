@@ -1,7 +1,7 @@
 use Rattle.std.proofs.Common.{sym, subst, List}
 use Rattle.oas_ring.specs.declared.point.Point.{Point}
 use Rattle.oas_ring.specs.Rings.{SameRing}
-use Rattle.oas_ring.specs.ReadingsLaws.{read_from_same_ring, same_ring-reading_of}
+use Rattle.oas_ring.specs.Laws.ReadingsLaws.{read_from_same_ring, same_ring-reading_of}
 use Rattle.oas_ring.proofs.laws.readings_are_the_ring.Goals as goal
 
 pub returns : goal.returns

@@ -1,4 +1,4 @@
-use Rattle.oas_ring.specs.ReadingsLaws.{same_exactly_if_least}
+use Rattle.oas_ring.specs.Laws.ReadingsLaws.{same_exactly_if_least}
 use Rattle.oas_ring.proofs.laws.same_exactly.Goals as goal
 
 pub returns : goal.returns

@@ -1,7 +1,7 @@
 use Rattle.std.proofs.Common.{sym, ◌∙◌, ap, length, arith}
 use Rattle.oas_ring.specs.Readings.{reading_of}
 use Rattle.oas_ring.proofs.ReadingLemmas.{least_of_both}
-use Rattle.oas_ring.specs.PointsLaws.{not_below_itself, not_below_from_above, not_below_from_not_above}
+use Rattle.oas_ring.specs.Laws.PointsLaws.{not_below_itself, not_below_from_above, not_below_from_not_above}
 use Rattle.oas_ring.proofs.least.least_reading_over.Goals as goal
 
 pub returns-in-Greater-clause-least : goal.returns-in-Greater-clause-least

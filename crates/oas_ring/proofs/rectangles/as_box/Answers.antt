@@ -2,7 +2,7 @@ use Rattle.std.proofs.Common.{◌≡◌, sym, ◌∙◌, subst, arith}
 use Rattle.std.proofs.lemmas.Bool.{iff_false}
 use Rattle.oas_ring.specs.declared.rectangles.Corners.{Corners}
 use Rattle.oas_ring.specs.Rectangles.{IsBox}
-use Rattle.oas_ring.specs.RectanglesLaws.{length_of_box, corners_of_box}
+use Rattle.oas_ring.specs.Laws.RectanglesLaws.{length_of_box, corners_of_box}
 use Rattle.oas_ring.proofs.rectangles.as_box.Goals as goal
 
 pub returns-then-points-ne4-clause-none : goal.returns-then-points-ne4-clause-none

@@ -1,5 +1,5 @@
 use Rattle.oas_ring.specs.Readings.{reading_of}
-use Rattle.oas_ring.specs.ReadingsLaws.{same_exactly_if_least}
+use Rattle.oas_ring.specs.Laws.ReadingsLaws.{same_exactly_if_least}
 use Rattle.oas_ring.proofs.sameness.same_ring.Goals as goal
 
 pub returns-else-is_empty : goal.returns-else-is_empty

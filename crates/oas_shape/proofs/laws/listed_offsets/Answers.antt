@@ -1,6 +1,6 @@
 use Rattle.std.proofs.Common.{◌+◌, arith}
 use Rattle.oas_shape.specs.Repetitions.{grid_of}
-use Rattle.oas_shape.specs.RepetitionLaws.{offsets_len, offsets_are}
+use Rattle.oas_shape.specs.Laws.RepetitionLaws.{offsets_len, offsets_are}
 use Rattle.oas_shape.proofs.laws.listed_offsets.Goals as goal
 
 pub returns : goal.returns

@@ -1,4 +1,4 @@
-use Rattle.oas_shape.specs.PointListLaws.{OneFront-point_list, OneSpelling-point_list, IsWithin-point_list, HasSome-point_list}
+use Rattle.oas_shape.specs.Laws.PointListLaws.{OneFront-point_list, OneSpelling-point_list, IsWithin-point_list, HasSome-point_list}
 use Rattle.oas_shape.proofs.laws.point_lists.Goals as goal
 
 pub returns : goal.returns

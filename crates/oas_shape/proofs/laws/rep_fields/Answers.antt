@@ -1,4 +1,4 @@
-use Rattle.oas_shape.specs.RepetitionLaws.{OneFront-rep_field, OneSpelling-rep_field, IsWithin-rep_field, HasSome-rep_field}
+use Rattle.oas_shape.specs.Laws.RepetitionLaws.{OneFront-rep_field, OneSpelling-rep_field, IsWithin-rep_field, HasSome-rep_field}
 use Rattle.oas_shape.proofs.laws.rep_fields.Goals as goal
 
 pub returns : goal.returns

@@ -1,5 +1,5 @@
 use Rattle.std.proofs.lemmas.Result.{err_from_is_err_and}
-use Rattle.oas_num.specs.IntegerLaws.{OneFront-IsUnsigned}
+use Rattle.oas_num.specs.Laws.IntegerLaws.{OneFront-IsUnsigned}
 use Rattle.oas_shape.specs.Repetitions.{LineTook}
 use Rattle.oas_num.proofs.HalfwayLemmas.{at_image, ◌▸◌, fails_at, fails_last, is_read}
 use Rattle.oas_shape.proofs.repetitions.read_line.Goals as goal

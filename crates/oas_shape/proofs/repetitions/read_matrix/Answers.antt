@@ -1,6 +1,6 @@
 use Rattle.std.proofs.lemmas.Result.{err_from_is_err_and}
 use Rattle.oas_shape.specs.Repetitions.{MatrixTook}
-use Rattle.oas_shape.specs.RepetitionLaws.{OneFront-two}
+use Rattle.oas_shape.specs.Laws.RepetitionLaws.{OneFront-two}
 use Rattle.oas_num.proofs.HalfwayLemmas.{at_image, ◌▸◌, fails_at, fails_last, is_read}
 use Rattle.oas_shape.proofs.repetitions.read_matrix.Goals as goal
 

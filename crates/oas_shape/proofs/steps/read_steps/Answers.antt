@@ -1,7 +1,7 @@
 use Rattle.std.proofs.Common.{◌+◌, ◌∙◌, ap, arith, inl, inr, refl}
 use Rattle.std.proofs.lemmas.Result.{err_from_is_err_and}
 use Rattle.std.proofs.lemmas.List.{length_push}
-use Rattle.oas_num.specs.GrammarLaws.{OneFront-image}
+use Rattle.oas_num.specs.Laws.GrammarLaws.{OneFront-image}
 use Rattle.oas_num.proofs.GrammarLemmas.{listed_more}
 use Rattle.oas_num.proofs.PieceLemmas.{item_fails, item_unkept}
 use Rattle.oas_num.proofs.HalfwayLemmas.{image_took}

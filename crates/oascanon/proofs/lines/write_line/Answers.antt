@@ -1,5 +1,5 @@
 use Rattle.std.proofs.Common.{[], ◌∷◌, ◌^◌, ◌<◌, length, length-append, arith, rules}
-use Rattle.oas_num.specs.WrittenLaws.{took_all, cut_off}
+use Rattle.oas_num.specs.Laws.WrittenLaws.{took_all, cut_off}
 use Rattle.oascanon.specs.Lines.{line_of}
 use Rattle.oascanon.proofs.lines.write_line.Goals as goal
 

@@ -2,7 +2,7 @@ use Rattle.std.proofs.Common.{◌-◌, ◌++◌, length, take, drop, sym, ap, su
 use Rattle.std.proofs.Math.Seq.{take-add}
 use Rattle.std.proofs.lemmas.List.{take-take, length-take}
 use Rattle.std.specs.Io.KnownBytes.{Appends}
-use Rattle.oas_bytes.specs.OutletLaws.{Appends-then}
+use Rattle.oas_bytes.specs.Laws.OutletLaws.{Appends-then}
 use Rattle.oas_bytes.proofs.flushing.FlushRecord.send.Goals as goal
 
 pub loop-sent-preserved : goal.loop-sent-preserved

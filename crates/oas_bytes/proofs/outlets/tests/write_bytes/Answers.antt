@@ -1,4 +1,4 @@
-use Rattle.oas_bytes.specs.OutletLaws.{writer_has, writer_took, writer_took_rest}
+use Rattle.oas_bytes.specs.Laws.OutletLaws.{writer_has, writer_took, writer_took_rest}
 use Rattle.oas_bytes.proofs.outlets.tests.write_bytes.Goals as goal
 
 pub returns-in_default-clause-err : goal.returns-in_default-clause-err

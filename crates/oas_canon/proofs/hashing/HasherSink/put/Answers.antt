@@ -1,7 +1,7 @@
 use Rattle.std.proofs.Common.{ℕ, List, sym, subst}
 use Rattle.oas_canon.specs.declared.hashing.Hasher.{Hasher}
 use Rattle.oas_canon.specs.Hashing.{HasTaken}
-use Rattle.oas_canon.proofs.SinkLemmas.{emptied, put_more}
+use Rattle.oas_canon.proofs.HashingLemmas.{emptied, put_more}
 use Rattle.oas_canon.proofs.hashing.HasherSink.put.Goals.{then-self-eq-SIZE, else-self-eq-SIZE}
 use Rattle.oas_canon.proofs.hashing.HasherSink.put.Goals as goal
 

@@ -1,6 +1,6 @@
 use Rattle.std.proofs.lemmas.Result.{err_from_is_err_and}
-use Rattle.oas_num.specs.IntegerLaws.{OneFront-IsUnsigned}
-use Rattle.oas_num.specs.DeltaLaws.{HasSome-second}
+use Rattle.oas_num.specs.Laws.IntegerLaws.{OneFront-IsUnsigned}
+use Rattle.oas_num.specs.Laws.DeltaLaws.{HasSome-second}
 use Rattle.oas_num.proofs.GrammarLemmas.{◌▹◌, is_read}
 use Rattle.oas_num.proofs.DeltaLemmas.{starts_gdelta, first_number_fails, second_number_fails}
 use Rattle.oas_num.proofs.deltas.GDeltaSpelled.read.Goals as goal

@@ -1,5 +1,5 @@
 use Rattle.std.proofs.Common.{arith}
-use Rattle.oas_num.specs.RatioLaws.{divisor_some, quotients}
+use Rattle.oas_num.specs.Laws.RatioLaws.{divisor_some, quotients}
 use Rattle.oas_num.proofs.fractions.Fraction.reduced.Goals as goal
 
 pub nonzero_div-result : goal.nonzero_div-result

@@ -1,5 +1,5 @@
 use Rattle.std.proofs.lemmas.Result.{err_from_is_err_and}
-use Rattle.oas_num.specs.RealLaws.{OneFront-part}
+use Rattle.oas_num.specs.Laws.RealLaws.{OneFront-part}
 use Rattle.oas_num.proofs.GrammarLemmas.{◌▸◌, is_read}
 use Rattle.oas_num.proofs.RealLemmas.{with_kind, kind_fails, unknown, float, num_fails, den_fails}
 use Rattle.oas_num.proofs.reals.RealSpelled.read.Goals as goal

@@ -1,6 +1,6 @@
 use Rattle.std.proofs.Common.{refl, arith}
 use Rattle.std.proofs.lemmas.Result.{err_from_is_err_and}
-use Rattle.oas_num.specs.IntegerLaws.{OneFront-IsUnsigned}
+use Rattle.oas_num.specs.Laws.IntegerLaws.{OneFront-IsUnsigned}
 use Rattle.oas_record.specs.Paths.{ExtensionsTook}
 use Rattle.oas_record.proofs.FieldLemmas.{OneFront-signed_if, scheme_field, other_scheme}
 use Rattle.oas_num.proofs.HalfwayLemmas.{◌▸◌, at_image, fails_at, fails_last, is_read, such_took, such_refused, signed_took}

@@ -1,6 +1,6 @@
 use Rattle.std.proofs.Common.{◌+◌, sym, arith}
 use Rattle.std.proofs.lemmas.Result.{err_from_is_err_and}
-use Rattle.oas_shape.specs.RepetitionLaws.{offsets_are}
+use Rattle.oas_shape.specs.Laws.RepetitionLaws.{offsets_are}
 use Rattle.oas_shape.proofs.OffsetLemmas.{summing_more, summed_all, summed_more, summed_fails, summed_past, summed_no_memory}
 use Rattle.oas_shape.proofs.offset_list.OffsetList.read.Goals as goal
 

@@ -1,6 +1,6 @@
 use Rattle.std.proofs.Common.{IsTrue, false, refl, rules, arith}
 use Rattle.std.proofs.lemmas.Result.{err_from_is_err_and}
-use Rattle.oas_num.specs.IntegerLaws.{OneFront-IsUnsigned}
+use Rattle.oas_num.specs.Laws.IntegerLaws.{OneFront-IsUnsigned}
 use Rattle.oas_num.proofs.HalfwayLemmas.{fails_at, fails_last, is_read, such_took, such_refused}
 use Rattle.oas_shape.specs.ListUses.{IsFitting}
 use Rattle.oas_shape.specs.PointLists.{IsListKind}

@@ -1,6 +1,6 @@
 use Rattle.std.proofs.lemmas.Result.{err_from_is_err_and}
 use Rattle.std.proofs.Common.{refl, arith}
-use Rattle.oas_num.specs.IntegerLaws.{OneFront-IsUnsigned}
+use Rattle.oas_num.specs.Laws.IntegerLaws.{OneFront-IsUnsigned}
 use Rattle.oas_num.proofs.HalfwayLemmas.{fails_at, fails_last, is_read, such_took, such_refused}
 use Rattle.oas_shape.specs.Repetitions.{IsRepetitionKind}
 use Rattle.oas_shape.proofs.RepetitionLemmas.{starts, with_kind, again_read, new_read, new_fails}

@@ -1,0 +1,5 @@
+-- What follows of the definitions. Nothing here has to be believed.
+pub mod PointsLaws
+pub mod RingsLaws
+pub mod ReadingsLaws
+pub mod RectanglesLaws
