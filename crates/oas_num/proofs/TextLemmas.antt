@@ -16,7 +16,7 @@ use Rattle.oas_num.specs.Pieces.{CountTook}
 use Rattle.oas_num.specs.Reading.{ReadsPiece, ReadsValue, FailsPiece, ByteMay, IntegerMay, ClassMay, TextMay, NameLengthMay, TextTook, NameTook, LabelTook, PaddingTook, IsInside}
 use Rattle.oas_num.proofs.GrammarLemmas.{Midway, begins, key_read, such_read, such_fails_by, refused, image_fails, is_read, Listed, listed_none, listed_more}
 use Rattle.oas_num.proofs.PieceLemmas.{first_fails, second_fails, keyed_fails, item_fails}
-use Rattle.oas_num.specs.declared.texts.Padding.{Padding}
+use Rattle.oas_num.specs.declared.padding.Padding.{Padding}
 
 pub ClassMay-byte : (class : ℕ → Type 0) (why : Why) (last : List ℕ) → ByteMay why last → ClassMay class why last
 ClassMay-byte class Truncated last h = h

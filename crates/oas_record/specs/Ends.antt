@@ -2,7 +2,7 @@
 use Rattle.std.proofs.Common.{◌≡◌, ℕ, zero, suc, Bool, true, false, List, [], ◌∷◌, ◌++◌, replicate, inl, inr, refl, sym, ◌∙◌, arith}
 use Rattle.oas_num.specs.declared.refusals.Why.{Why}
 use Rattle.oas_num.specs.declared.refusals.Why.TheVariants.{ValidationScheme}
-use Rattle.oas_num.specs.declared.texts.Padding.{Padding}
+use Rattle.oas_num.specs.declared.padding.Padding.{Padding}
 use Rattle.oas_num.specs.Grammar.{IsImage, IsEach, IsByte}
 use Rattle.oas_num.specs.Combinators.{OneSpelling, IsWithin}
 use Rattle.oas_num.specs.Integers.{IsUnsigned}

@@ -4,7 +4,7 @@ use Rattle.std.proofs.Common.{◌≡◌, ℕ, ℤ, ◌<◌, Bool, true, false, i
 use Rattle.oas_num.specs.declared.refusals.Why.{Why}
 use Rattle.oas_num.specs.declared.refusals.Why.TheVariants.{Write, InfoByte}
 use Rattle.oas_num.specs.declared.reals.Real.{Real}
-use Rattle.oas_num.specs.declared.texts.Padding.{Padding}
+use Rattle.oas_num.specs.declared.padding.Padding.{Padding}
 use Rattle.oas_num.specs.Grammar.{OneFront, IsPair, IsSuch, IsImage, IsThere, IsCount, IsByte}
 use Rattle.oas_num.specs.Combinators.{IsExactly, IsEither, IsNever, OneSpelling, IsWithin}
 use Rattle.oas_num.specs.Laws.CombinatorLaws.{OneFront-within, OneSpelling-exactly, OneSpelling-never, OneSpelling-either, OneSpelling-pair, OneSpelling-such, OneSpelling-byte, OneSpelling-there, OneSpelling-count, IsWithin-itself, IsWithin-either, IsWithin-pair, IsWithin-such, IsWithin-image, IsWithin-there, IsWithin-count}

@@ -1,7 +1,7 @@
 use Rattle.std.proofs.Common.{arith}
 use Rattle.std.proofs.lemmas.Result.{err_from_is_err_and}
 use Rattle.oas_num.proofs.TextLemmas.{passed_none, passed_more, passed_fails, passed_all}
-use Rattle.oas_num.proofs.texts.pass_over.Goals as goal
+use Rattle.oas_num.proofs.padding.pass_over.Goals as goal
 
 pub loop-init : goal.loop-init
 loop-init g c = passed_none _

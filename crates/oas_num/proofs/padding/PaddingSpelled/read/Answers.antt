@@ -1,6 +1,6 @@
 use Rattle.std.proofs.lemmas.Result.{err_from_is_err_and}
 use Rattle.oas_num.proofs.TextLemmas.{padding_length_fails, padding_done}
-use Rattle.oas_num.proofs.texts.PaddingSpelled.read.Goals as goal
+use Rattle.oas_num.proofs.padding.PaddingSpelled.read.Goals as goal
 
 pub returns-in_err-length : goal.returns-in_err-length
 returns-in_err-length g c =
