@@ -25,7 +25,7 @@ use Rattle.oas_layout.specs.declared.limits.Limits.{Limits}
 use Rattle.oas_layout.specs.declared.profile.Profile.{Profile}
 use Rattle.oas_layout.specs.Ascending.{Ascends}
 use Rattle.oas_layout.specs.Element.{element_cmp}
-use Rattle.oas_layout.specs.Laws.LayoutLaws.ElementLaws.{element_total}
+use Rattle.oas_layout.specs.Laws.ElementLaws.{element_total}
 use Rattle.oas_layout.specs.Same.{IsNormal}
 use Rattle.oas_layout.specs.Weight.{lacks_points}
 use Rattle.oas_layout.proofs.Sealed.{name_cmp}

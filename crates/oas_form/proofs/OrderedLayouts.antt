@@ -14,7 +14,7 @@ use Rattle.std.proofs.lemmas.Map.Lookups.{exact_bytes}
 use Rattle.oas_layout.specs.declared.profile.Profile.{Profile}
 use Rattle.oas_layout.specs.declared.element.Element.{Element}
 use Rattle.oas_layout.specs.Element.{element_cmp}
-use Rattle.oas_layout.specs.Laws.LayoutLaws.ElementLaws.{element_total}
+use Rattle.oas_layout.specs.Laws.ElementLaws.{element_total}
 use Rattle.oas_layout.specs.Ascending.{Ascends}
 use Rattle.oas_layout.specs.Bag.{items}
 use Rattle.oas_layout.specs.Same.{IsNormal}

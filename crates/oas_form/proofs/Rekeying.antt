@@ -12,9 +12,9 @@ use Rattle.oas_layout.specs.declared.profile.Profile.TheVariants.{One, Two}
 use Rattle.oas_layout.specs.declared.element.Element.{Element}
 use Rattle.oas_layout.specs.declared.element.Element.TheVariants.{Polygon}
 use Rattle.oas_layout.specs.Element.{element_cmp}
-use Rattle.oas_layout.specs.Laws.LayoutLaws.ElementLaws.{exact_elements}
+use Rattle.oas_layout.specs.Laws.ElementLaws.{exact_elements}
 use Rattle.oas_layout.specs.Bag.{items, with_more}
-use Rattle.oas_layout.specs.Laws.LayoutLaws.BagLaws.{total, sum_by-items, total-put_more}
+use Rattle.oas_layout.specs.Laws.BagLaws.{total, sum_by-items, total-put_more}
 use Rattle.oas_layout.specs.Same.{same_element, normal_polygon, normal, IsNormal}
 use Rattle.oas_layout.specs.Laws.SameLaws.{same_element-is, normal-least, normal-polygon}
 use Rattle.oas_layout.specs.Meaning.{Meaning, SameLayout, count_of, elements_of}

@@ -16,15 +16,15 @@ use Rattle.oas_layout.specs.declared.profile.Profile.{Profile}
 use Rattle.oas_layout.specs.declared.profile.Profile.TheVariants.{One}
 use Rattle.oas_layout.specs.declared.element.Element.{Element}
 use Rattle.oas_layout.specs.Element.{element_cmp}
-use Rattle.oas_layout.specs.Laws.LayoutLaws.ElementLaws.{element_total}
+use Rattle.oas_layout.specs.Laws.ElementLaws.{element_total}
 use Rattle.oas_layout.specs.Ascending.{Ascends}
 use Rattle.oas_layout.specs.Bag.{items, put_more, with_more, IsBag}
-use Rattle.oas_layout.specs.Laws.LayoutLaws.BagLaws.{adding}
+use Rattle.oas_layout.specs.Laws.BagLaws.{adding}
 use Rattle.oas_layout.specs.Same.{same_element, normal, IsNormal}
 use Rattle.oas_layout.specs.Laws.SameLaws.{normal-normal, weight_of-normal, weight_of-normal-le}
 use Rattle.oas_layout.specs.Weight.{weight_of}
 use Rattle.oas_layout.specs.Meaning.{Meaning, SameLayout, count_of, elements_of, cells_sum, element_count, cells_weight}
-use Rattle.oas_layout.specs.Laws.LayoutLaws.ContentsLaws.{length-items-with_more, weight-with_more}
+use Rattle.oas_layout.specs.Laws.ContentsLaws.{length-items-with_more, weight-with_more}
 use Rattle.oas_layout.proofs.LawProofs.{symmetric, transitive}
 use Rattle.oas_layout.proofs.Order.{IsBag-empty, IsBag-put_more}
 use Rattle.oas_layout.proofs.Sealed.{name_cmp}

@@ -21,7 +21,7 @@ use Rattle.oas_layout.specs.Weight.{weight_of, lacks_points}
 use Rattle.oas_layout.specs.Sound.{IsSound}
 use Rattle.oas_layout.specs.Meaning.{element_count}
 use Rattle.oas_layout.specs.Contents.{Cell, Contents, expanded, cells_with_more, holding, with_cell, has_cell, cell_refusal, refusal, AllSound, IsCell, IsCounted}
-use Rattle.oas_layout.specs.Laws.LayoutLaws.ContentsLaws.{cells_sum-push, element_count-with_more, cells_weight-with_more}
+use Rattle.oas_layout.specs.Laws.ContentsLaws.{cells_sum-push, element_count-with_more, cells_weight-with_more}
 use Rattle.oas_layout.proofs.Order.{IsBag-empty, IsBag-put_more, sound-put_more}
 
 module _ (e : Element) (n : ℕ) where

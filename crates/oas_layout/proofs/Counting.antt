@@ -14,7 +14,7 @@ use Rattle.std.proofs.lemmas.Map.Entries.{none_below_head}
 use Rattle.std.proofs.lemmas.Map.Keys.{sorted_head, sorted_tail}
 use Rattle.std.proofs.lemmas.Map.Lookups.{CmpEqualImpliesEq}
 use Rattle.std.proofs.lemmas.List.Sums.{sum_by-cons}
-use Rattle.oas_layout.specs.Laws.LayoutLaws.BagLaws.{total}
+use Rattle.oas_layout.specs.Laws.BagLaws.{total}
 use Rattle.oas_layout.specs.Ascending.{Ascends}
 
 -- E is the test of equivalence, which ties keys in normal form as the order does

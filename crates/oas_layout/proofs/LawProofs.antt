@@ -10,11 +10,11 @@ use Rattle.oas_layout.specs.declared.profile.Profile.{Profile}
 use Rattle.oas_layout.specs.declared.profile.Profile.TheVariants.{One, Two}
 use Rattle.oas_layout.specs.declared.element.Element.{Element}
 use Rattle.oas_layout.specs.Element.{element_cmp}
-use Rattle.oas_layout.specs.Laws.LayoutLaws.ElementLaws.{element_total, exact_elements}
+use Rattle.oas_layout.specs.Laws.ElementLaws.{element_total, exact_elements}
 use Rattle.oas_layout.specs.Same.{same_element, normal, IsNormal}
 use Rattle.oas_layout.specs.Laws.SameLaws.{same_element-Decides, normal-alike, same_from_normal, normal-normal, normal-same, normal-least, normal-no_box, normal-polygon, same_normal, same_from-normal}
 use Rattle.oas_layout.specs.Laws.LayoutLaws.{TestsSame, KeptIsSame, SameIfKeptEqual, KeptIsKept, KeptPolygons, HeldApart, HeldCounts, EqualCounts, IsReflexive, IsSymmetric, IsTransitive}
-use Rattle.oas_layout.specs.Laws.LayoutLaws.BagLaws.{total, sum_by-items}
+use Rattle.oas_layout.specs.Laws.BagLaws.{total, sum_by-items}
 use Rattle.oas_layout.proofs.Counting.{share-is, same_lists}
 
 -- the test of sameness is the relation

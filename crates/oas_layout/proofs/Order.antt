@@ -9,8 +9,8 @@ use Rattle.std.specs.Map.{lookup, keys_of}
 use Rattle.std.specs.BTreeMap.{is_at, insert_entry}
 use Rattle.oas_layout.specs.declared.element.Element.{Element}
 use Rattle.oas_layout.specs.Element.{element_cmp}
-use Rattle.oas_layout.specs.Laws.LayoutLaws.ElementLaws.{derived_cmp, stated_cmp, element_total}
-use Rattle.oas_layout.specs.Laws.LayoutLaws.BagLaws.{insert_entry-count}
+use Rattle.oas_layout.specs.Laws.ElementLaws.{derived_cmp, stated_cmp, element_total}
+use Rattle.oas_layout.specs.Laws.BagLaws.{insert_entry-count}
 use Rattle.oas_layout.specs.declared.profile.Profile.{Profile}
 use Rattle.oas_layout.specs.Bag.{count_at, put_more, IsTally, IsBag}
 use Rattle.oas_layout.specs.Same.{IsNormal}

@@ -20,7 +20,7 @@ use Rattle.oas_layout.specs.Sound.{IsSound}
 use Rattle.oas_layout.specs.Meaning.{element_count}
 use Rattle.oas_layout.specs.Contents.{Cell, Contents, expanded, has_cell, AllSound, IsCell, IsCounted}
 use Rattle.oas_layout.specs.Plain.{is_plain, AllPlain, ArePlain, weight_with, plain_refusal, with_plain}
-use Rattle.oas_layout.specs.Laws.LayoutLaws.ContentsLaws.{length-items-with_more, weight-with_more, cells_sum-append}
+use Rattle.oas_layout.specs.Laws.ContentsLaws.{length-items-with_more, weight-with_more, cells_sum-append}
 use Rattle.oas_layout.proofs.Order.{IsTally-empty, sound-put_more}
 
 -- a product of two numbers of 64 bits

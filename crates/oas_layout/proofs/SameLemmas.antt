@@ -12,13 +12,13 @@ use Rattle.std.specs.Cmp.Lexicographic.{pointwise, nat_list_cmp_total, nat_list_
 use Rattle.std.proofs.lemmas.Map.Lookups.{exact_bytes}
 use Rattle.oas_layout.specs.declared.element.Element.{Element}
 use Rattle.oas_layout.specs.declared.profile.Profile.{Profile}
-use Rattle.oas_layout.specs.Laws.LayoutLaws.ElementLaws.{element_total, exact_elements}
+use Rattle.oas_layout.specs.Laws.ElementLaws.{element_total, exact_elements}
 use Rattle.oas_layout.specs.Bag.{items, IsBag}
 use Rattle.oas_layout.specs.Same.{same_element, IsNormal}
 use Rattle.oas_layout.specs.Laws.SameLaws.{same_normal}
 use Rattle.oas_layout.specs.Meaning.{elements_of, count_of, SameLayout}
 use Rattle.oas_layout.specs.Contents.{Cell, Contents, expanded, meaning_of, IsCell, IsLayout}
-use Rattle.oas_layout.specs.Laws.LayoutLaws.BagLaws.{sum_by-items}
+use Rattle.oas_layout.specs.Laws.BagLaws.{sum_by-items}
 use Rattle.oas_layout.proofs.Counting.{same_bags}
 use Rattle.oas_layout.proofs.Sealed.{name_cmp}
 

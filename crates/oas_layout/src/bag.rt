@@ -2,7 +2,7 @@
 
 ghost use Rattle.std.specs.Prelude.{◌≡◌, ◌+◌, ◌<◌, ◌^◌, [], unwrap_or, OnOk, OnErr, IfErr, IsTrue, ◌↔◌};
 ghost use Rattle.std.specs.BTreeMap.{get, insert_entry, IsOrdered, IsUnchanged};
-ghost use Rattle.oas_layout.specs.Laws.LayoutLaws.ElementLaws.{derived_cmp};
+ghost use Rattle.oas_layout.specs.Laws.ElementLaws.{derived_cmp};
 ghost use Rattle.oas_layout.specs.Bag.{count_at, with_more, IsTally};
 
 use crate::element::Element;

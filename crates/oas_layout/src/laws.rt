@@ -6,7 +6,7 @@ ghost use Rattle.std.specs.declared.cmp.Ordering.TheVariants.{Equal};
 ghost use Rattle.oas_layout.specs.declared.element.Element.{Element};
 ghost use Rattle.oas_layout.specs.declared.element.Turns.{Turns};
 ghost use Rattle.oas_layout.specs.Element.{element_cmp};
-ghost use Rattle.oas_layout.specs.Laws.LayoutLaws.ElementLaws.{derived_cmp, derived_eq, derived_turns_cmp, turns_cmp};
+ghost use Rattle.oas_layout.specs.Laws.ElementLaws.{derived_cmp, derived_eq, derived_turns_cmp, turns_cmp};
 ghost use Rattle.oas_layout.specs.declared.profile.Profile.{Profile};
 ghost use Rattle.oas_layout.specs.Laws.LayoutLaws.{TestsSame, KeptIsSame, SameIfKeptEqual, KeptIsKept, KeptPolygons, AddingCounts, HeldApart, HeldCounts, EqualCounts, IsReflexive, IsSymmetric, IsTransitive};
 

@@ -13,7 +13,7 @@ use Rattle.oas_shape.specs.Steps.{still}
 use Rattle.oas_record.specs.declared.references.CellRef.{CellRef}
 use Rattle.oas_record.specs.declared.records.Record.{Record}
 use Rattle.oas_layout.specs.Bag.{items}
-use Rattle.oas_layout.specs.Laws.LayoutLaws.BagLaws.{total, total-put_more}
+use Rattle.oas_layout.specs.Laws.BagLaws.{total, total-put_more}
 use Rattle.oas_drawing.specs.declared.drawn.Drawn.{Drawn}
 use Rattle.oas_drawing.specs.declared.kinds.Kind.{Kind}
 use Rattle.oas_drawing.specs.Modal.{ModalState}

@@ -22,9 +22,9 @@ use Rattle.oas_layout.specs.declared.element.Element.{Element}
 use Rattle.oas_layout.specs.declared.limits.Limits.{Limits}
 use Rattle.oas_layout.specs.declared.profile.Profile.{Profile}
 use Rattle.oas_layout.specs.Bag.{items, with_more}
-use Rattle.oas_layout.specs.Laws.LayoutLaws.BagLaws.{total, sum_by-items, adding}
+use Rattle.oas_layout.specs.Laws.BagLaws.{total, sum_by-items, adding}
 use Rattle.oas_layout.specs.Element.{element_cmp}
-use Rattle.oas_layout.specs.Laws.LayoutLaws.ElementLaws.{element_total}
+use Rattle.oas_layout.specs.Laws.ElementLaws.{element_total}
 use Rattle.oas_layout.specs.Grid.{fits_grid}
 use Rattle.oas_layout.specs.Plain.{plain_refusal, with_plain, weight_with}
 use Rattle.oas_layout.specs.Same.{same_element, normal, IsNormal}

@@ -8,8 +8,8 @@ use Rattle.oas_num.specs.declared.refusals.Why.TheVariants.{Memory, TooHeavy}
 use Rattle.oas_layout.specs.declared.element.Element.{Element}
 use Rattle.oas_layout.specs.declared.element.Element.TheVariants.{Placement, Text}
 use Rattle.oas_layout.specs.Bag.{items}
-use Rattle.oas_layout.specs.Laws.LayoutLaws.BagLaws.{total}
-use Rattle.oas_layout.specs.Laws.LayoutLaws.ContentsLaws.{element_count-with_more}
+use Rattle.oas_layout.specs.Laws.BagLaws.{total}
+use Rattle.oas_layout.specs.Laws.ContentsLaws.{element_count-with_more}
 use Rattle.oas_layout.specs.Grid.{fits_grid}
 use Rattle.oas_layout.specs.Same.{normal}
 use Rattle.oas_layout.specs.Weight.{weight_of, lacks_points}

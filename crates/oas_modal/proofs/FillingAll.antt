@@ -8,8 +8,8 @@ use Rattle.oas_num.specs.declared.refusals.Why.{Why}
 use Rattle.oas_num.specs.declared.refusals.Why.TheVariants.{Memory, TooHeavy}
 use Rattle.oas_layout.specs.declared.element.Element.{Element}
 use Rattle.oas_layout.specs.Bag.{items}
-use Rattle.oas_layout.specs.Laws.LayoutLaws.BagLaws.{total, sum_by-items}
-use Rattle.oas_layout.specs.Laws.LayoutLaws.ContentsLaws.{length-items, cells_sum-push, cells_sum-append}
+use Rattle.oas_layout.specs.Laws.BagLaws.{total, sum_by-items}
+use Rattle.oas_layout.specs.Laws.ContentsLaws.{length-items, cells_sum-push, cells_sum-append}
 use Rattle.oas_layout.specs.Weight.{weight_of}
 use Rattle.oas_layout.specs.Meaning.{element_count, cells_weight}
 use Rattle.oas_layout.specs.Contents.{Contents, names, expanded, with_cell, added}

@@ -21,7 +21,7 @@ use Rattle.oas_drawing.specs.Drawn.{drawn_cmp}
 use Rattle.oas_drawing.specs.Laws.DrawnLaws.{exact_drawn}
 use Rattle.oas_modal.specs.Alike.{SameDrawn, AlikeCells}
 use Rattle.oas_modal.specs.Finish.{drawn_cells}
-use Rattle.oas_layout.specs.Laws.LayoutLaws.BagLaws.{sum_by-items, total-put_more}
+use Rattle.oas_layout.specs.Laws.BagLaws.{sum_by-items, total-put_more}
 use Rattle.oas_modal.specs.Meaning.{DrawnCell, in_last, cells_drawn}
 use Rattle.oas_modal.specs.Standing.{Standing, took, reason, put_all, drew_last, held_after}
 use Rattle.oas_modal.specs.Stands.{seen, refused_after, refusal, ReaderState, StandsFor}

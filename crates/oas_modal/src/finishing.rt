@@ -5,7 +5,7 @@ ghost use Rattle.std.specs.List.{AllByRecursion, list_any};
 ghost use Rattle.std.specs.Map.{keys_of};
 ghost use Rattle.oas_num.specs.declared.refusals.Why.TheVariants.{Memory, TooHeavy};
 ghost use Rattle.oas_layout.specs.Bag.{items};
-ghost use Rattle.oas_layout.specs.Laws.LayoutLaws.BagLaws.{total};
+ghost use Rattle.oas_layout.specs.Laws.BagLaws.{total};
 ghost use Rattle.oas_layout.specs.Weight.{weight_of};
 ghost use Rattle.oas_layout.specs.Meaning.{element_count, cells_weight, SameLayout};
 ghost use Rattle.oas_layout.specs.Contents.{expanded, meaning_of, has_cell};

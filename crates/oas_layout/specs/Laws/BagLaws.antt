@@ -15,7 +15,7 @@ use Rattle.std.proofs.lemmas.List.Folds.{sum_by-replicate}
 use Rattle.std.proofs.lemmas.List.Sums.{sum_by-append}
 use Rattle.oas_layout.specs.declared.profile.Profile.{Profile}
 use Rattle.oas_layout.specs.Element.{element_cmp}
-use Rattle.oas_layout.specs.Laws.LayoutLaws.ElementLaws.{exact_elements}
+use Rattle.oas_layout.specs.Laws.ElementLaws.{exact_elements}
 use Rattle.oas_layout.specs.Same.{same_element, normal}
 use Rattle.oas_layout.specs.Laws.SameLaws.{same_with-normal}
 use Rattle.oas_layout.specs.Bag.{items, put_more, with_more}

@@ -4,9 +4,9 @@ use Rattle.std.proofs.Common.{sym, ◌∙◌, ap, arith, length-append}
 use Rattle.std.proofs.lemmas.List.{length-replicate}
 use Rattle.oas_layout.specs.declared.element.Element.{Element}
 use Rattle.oas_layout.specs.Element.{element_cmp}
-use Rattle.oas_layout.specs.Laws.LayoutLaws.ElementLaws.{exact_elements}
+use Rattle.oas_layout.specs.Laws.ElementLaws.{exact_elements}
 use Rattle.oas_layout.specs.Bag.{items, with_more}
-use Rattle.oas_layout.specs.Laws.LayoutLaws.BagLaws.{total, sum_by-items, total-put_more}
+use Rattle.oas_layout.specs.Laws.BagLaws.{total, sum_by-items, total-put_more}
 use Rattle.oas_layout.specs.Weight.{weight_of}
 use Rattle.oas_layout.specs.Meaning.{cells_sum, element_count, cells_weight}
 use Rattle.oas_layout.specs.Contents.{Cell, expanded, cells_with_more}

@@ -17,7 +17,7 @@ use Rattle.oas_layout.specs.declared.profile.Profile.TheVariants.{One, Two}
 use Rattle.oas_layout.specs.declared.element.Element.{Element}
 use Rattle.oas_layout.specs.declared.element.Element.TheVariants.{Placement, Text, Rectangle, Polygon, Path, Circle}
 use Rattle.oas_layout.specs.Element.{element_cmp, kind}
-use Rattle.oas_layout.specs.Laws.LayoutLaws.ElementLaws.{element_total, exact_elements}
+use Rattle.oas_layout.specs.Laws.ElementLaws.{element_total, exact_elements}
 use Rattle.oas_ring.specs.Readings.{least_of}
 use Rattle.oas_ring.specs.Laws.ReadingsLaws.{is_same_ring-SameRing, least_of-IsLeastReadingOf, least_of-is, least_of-same_ring, least_of-least_of, length-least_of}
 use Rattle.oas_ring.specs.Laws.RectanglesLaws.{is_box-Decides, box_of-is, box_of-box, box_of-none, box_of-alike}

@@ -1,4 +1,4 @@
-use Rattle.oas_layout.specs.Laws.LayoutLaws.ElementLaws.{order_is_stated, element_total, exact_elements, derived_eq-Decides, same_turns}
+use Rattle.oas_layout.specs.Laws.ElementLaws.{order_is_stated, element_total, exact_elements, derived_eq-Decides, same_turns}
 use Rattle.oas_layout.proofs.laws.element_order.Goals as goal
 
 pub returns : goal.returns

@@ -1,6 +1,6 @@
 use Rattle.std.proofs.Common.{◌+◌, ◌∙◌, ap, unwrap_or, arith}
 use Rattle.std.specs.BTreeMap.{get}
-use Rattle.oas_layout.specs.Laws.LayoutLaws.ElementLaws.{derived_cmp}
+use Rattle.oas_layout.specs.Laws.ElementLaws.{derived_cmp}
 use Rattle.oas_layout.specs.Bag.{count_at}
 use Rattle.oas_layout.proofs.Order.{count_at-derived, put_more-inserted, IsTally-insert_entry}
 use Rattle.oas_layout.proofs.bag.Bag.add.Goals as goal

@@ -2,7 +2,7 @@ use Rattle.std.proofs.Common.{◌≡◌, ◌∙◌, sym}
 use Rattle.std.specs.Bool.{Decides}
 use Rattle.std.specs.Cmp.{unsigned_Decides}
 use Rattle.std.proofs.lemmas.Map.Lookups.{btree_map_eq-Decides}
-use Rattle.oas_layout.specs.Laws.LayoutLaws.ElementLaws.{derived_eq-Decides}
+use Rattle.oas_layout.specs.Laws.ElementLaws.{derived_eq-Decides}
 use Rattle.oas_layout.proofs.bag.Bag.same.Goals as goal
 
 pub returns : goal.returns
