@@ -24,7 +24,7 @@ impl PointList {
         ensures near { IfOk result (λ points. AllByRecursion IsInRange points.items) }
         ensures refused { IfErr result (λ why. VerticesMay why (vertices_of self.now at)) }
     {
-        let mut points = walk(alloc, self.deltas.as_slice(), self.running, at)?;
+        let mut points = walk(alloc, self.deltas.as_slice(), self.running, at, self.len())?;
         let last = points[points.len() - 1];
         match point_left_out(self.closing, at, last) {
             Some(point) => {
@@ -36,14 +36,22 @@ impl PointList {
     }
 }
 
-/// The vertices that the deltas lead to, one after another.
-fn walk(alloc: Global, deltas: &[GDelta], running: bool, at: Point) -> Result<Vec<Point>, Why>
+/// The vertices that the deltas lead to, one after another, in memory that has room for so many.
+fn walk(
+    alloc: Global,
+    deltas: &[GDelta],
+    running: bool,
+    at: Point,
+    room: usize,
+) -> Result<Vec<Point>, Why>
     requires { IsInRange at }
     ensures given { IfOk result (λ points. points.items ≡ listed_vertices running deltas.now at) }
     ensures near { IfOk result (λ points. AllByRecursion IsInRange points.items) }
     ensures refused { IfErr result (λ why. VerticesMay why (listed_vertices running deltas.now at)) }
 {
-    let mut points = Vec::new(alloc);
+    let Ok(mut points) = Vec::with_capacity(alloc, room) else {
+        return Err(Why::Memory);
+    };
     points.push(at)?;
     let mut last = at;
     let mut by = Displacement { x: 0, y: 0 };
