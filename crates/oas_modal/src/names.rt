@@ -73,10 +73,10 @@ impl<S: PartialEq + Drop> NameTable<S> {
     /// Takes a name record: a string, and its number where it gives one, else the next one of its class, from 0 on.
     ///
     /// It is refused by `MixedNumbering` where the class has records of the other form, by `NumberTwice` where the number
-    /// has another string, and by `Memory`.
+    /// has another string, and by `Memory` only where neither holds.
     pub fn name(&mut self, string: S, number: Option<u64>) -> Result<(), Why>
         ensures ok { OnOk result ((table_reason S.eq self.old (Some (string, number)) ≡ None) × (self.new ≡ with_name self.old (Some (string, number)))) }
-        ensures why { IfErr result (λ why. (why ≡ Memory) ⊎ (table_reason S.eq self.old (Some (string, number)) ≡ Some why)) }
+        ensures why { IfErr result (λ why. ((why ≡ Memory) × (table_reason S.eq self.old (Some (string, number)) ≡ None)) ⊎ (table_reason S.eq self.old (Some (string, number)) ≡ Some why)) }
         ensures err { OnErr result (self.new ≡ self.old) }
     {
         if let Some(why) = self.reason(&string, number) {
