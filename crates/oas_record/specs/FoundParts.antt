@@ -18,7 +18,7 @@ use Rattle.oas_num.specs.Laws.DeltaLaws.{Delta1-one_front}
 use Rattle.oas_shape.specs.declared.list_use.ListUse.{ListUse}
 use Rattle.oas_shape.specs.declared.list_use.ListUse.TheVariants.{Polygon, Path}
 use Rattle.oas_shape.specs.declared.repetitions.RepField.TheVariants.{New}
-use Rattle.oas_shape.specs.Steps.{IsNear, IsPartialSum}
+use Rattle.oas_shape.specs.Steps.{IsBounded, IsPartialSum}
 use Rattle.oas_shape.specs.Offsets.{offsets_by}
 use Rattle.oas_shape.specs.ListUses.{IsFitting}
 use Rattle.oas_shape.specs.PointLists.{IsListKind, alternating, step2, step3, stepg, deltas_in, polyline_of, point_list_in}
@@ -173,13 +173,13 @@ found_point_list purpose =
 found_two : IsFound AreTwo
 found_two = found_pair found_unsigned (λ _. found_unsigned)
 
-settled_near : (far : ℕ) (z : ℤ) → Settled (IsNear far z)
+settled_near : (far : ℕ) (z : ℤ) → Settled (IsBounded far z)
 settled_near far z = settled_both (settled_int _ z) (settled_int z (pos far))
 
 settled_sums : (ds : List GDelta) → Settled (AllByRecursion IsPartialSum ds)
 settled_sums [] = inl tt
 settled_sums (d ∷ ds) = settled_both (by (settled_both (settled_near (2 ^ 62) d.dx) (settled_near (2 ^ 62) d.dy))) (settled_sums ds) where
-  by : Settled (IsNear (2 ^ 62) d.dx × IsNear (2 ^ 62) d.dy) → Settled (IsPartialSum d)
+  by : Settled (IsBounded (2 ^ 62) d.dx × IsBounded (2 ^ 62) d.dy) → Settled (IsPartialSum d)
   by (inl both) = inl (record { x = both.0; y = both.1 })
   by (inr not) = inr (λ near. not (near.x, near.y))
 

@@ -18,7 +18,7 @@ use Rattle.oas_num.proofs.GrammarLemmas.{Listed, listed_none, listed_more, liste
 use Rattle.oas_num.proofs.PieceLemmas.{fails_behind}
 use Rattle.oas_num.proofs.HalfwayLemmas.{such_took, such_refused}
 use Rattle.oas_shape.specs.declared.offsets.Along.{Along}
-use Rattle.oas_shape.specs.Steps.{still, added, times, sums_after, IsNear, IsPartialSum}
+use Rattle.oas_shape.specs.Steps.{still, added, times, sums_after, IsBounded, IsPartialSum}
 use Rattle.oas_shape.specs.Offsets.{offsets_by}
 use Rattle.oas_shape.specs.Repetitions.{displacement_in, IsOffsets, DisplacementTook, RefusesNext, OffsetsTook}
 use Rattle.oas_shape.specs.Laws.RepetitionLaws.{OneFront-displacement, still_is, still_near}
@@ -176,8 +176,8 @@ pub summing_none : (along : Along) (grid : ℕ) (s : Script) (more : ℕ) → Su
 summing_none along grid s more = record { count = 0; summed = summed_none along grid s; left_is = omega arith }
 
 -- a sum of two
-pub near_sum : (a b r : ℤ) → IsNear (2 ^ 97) a → IsNear (2 ^ 97) b → r ≡ a +ℤ b → IsNear (2 ^ 98) r
-near_sum a b r p q e = subst (IsNear (2 ^ 98)) (sym e) (omega (arith, ints), omega (arith, ints))
+pub near_sum : (a b r : ℤ) → IsBounded (2 ^ 97) a → IsBounded (2 ^ 97) b → r ≡ a +ℤ b → IsBounded (2 ^ 98) r
+near_sum a b r p q e = subst (IsBounded (2 ^ 98)) (sym e) (omega (arith, ints), omega (arith, ints))
 
 -- one displacement more, which isn't the last
 pub summing_more : {along : Along} {grid : ℕ} {old mid new : Script} {offsets : List GDelta} {last : GDelta} {left more : ℕ} {d next : GDelta}

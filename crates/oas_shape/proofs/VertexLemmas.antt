@@ -8,7 +8,7 @@ use Rattle.std.proofs.Math.Seq.{drop-cons}
 use Rattle.oas_num.specs.declared.deltas.GDelta.{GDelta}
 use Rattle.oas_num.specs.Deltas.{step}
 use Rattle.oas_ring.specs.declared.point.Point.{Point}
-use Rattle.oas_shape.specs.Steps.{still, added, sums_after, sums, moved, IsNear, IsInRange}
+use Rattle.oas_shape.specs.Steps.{still, added, sums_after, sums, moved, IsBounded, IsInRange}
 use Rattle.oas_shape.specs.declared.point_list.Closing.{Closing}
 use Rattle.oas_shape.specs.declared.point_list.Closing.TheVariants.{Listed, FirstX, FirstY}
 use Rattle.oas_shape.specs.Polylines.{Polyline, displacements, next_step, listed_vertices, last_after, left_out, left_out_count, vertices_of, VerticesMay}
@@ -56,8 +56,8 @@ pub record Walked (running : Bool) (deltas : List GDelta) (at : Point) (points :
   pub so_far : points ++ points_after last (displaced running by (drop index deltas)) ≡ listed_vertices running deltas at
   pub near : AllByRecursion IsInRange points
   pub last_near : IsInRange last
-  pub x_near : IsNear (2 ^ 63) by.dx
-  pub y_near : IsNear (2 ^ 63) by.dy
+  pub x_near : IsBounded (2 ^ 63) by.dx
+  pub y_near : IsBounded (2 ^ 63) by.dy
 
 -- at the position
 pub walked_none : (running : Bool) (deltas : List GDelta) (at : Point) → IsInRange at → Walked running deltas at (at ∷ []) at still 0
@@ -70,7 +70,7 @@ walked_none running deltas at near = record {
 }
 
 -- a component of a displacement from one vertex to another
-step_near : (from to far : ℤ) → IsNear (2 ^ 60) from → IsNear (2 ^ 60) to → to ≡ from +ℤ far → IsNear (2 ^ 63) far
+step_near : (from to far : ℤ) → IsBounded (2 ^ 60) from → IsBounded (2 ^ 60) to → to ≡ from +ℤ far → IsBounded (2 ^ 63) far
 step_near from to far p q e = (omega (arith, ints), omega (arith, ints))
 
 module _ {running : Bool} {deltas : List GDelta} {at : Point} {points : List Point} {last : Point} {by : GDelta} {index : ℕ} (w : Walked running deltas at points last by index) where

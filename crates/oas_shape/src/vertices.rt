@@ -3,7 +3,7 @@ ghost use Rattle.std.specs.Prelude.{◌≡◌, ◌+ℤ◌, ◌^◌, IfOk, IfErr,
 ghost use Rattle.std.specs.List.{AllByRecursion};
 ghost use Rattle.std.specs.Option.{option_to_list};
 ghost use Rattle.oas_num.specs.Deltas.{step};
-ghost use Rattle.oas_shape.specs.Steps.{moved, IsNear, IsInRange};
+ghost use Rattle.oas_shape.specs.Steps.{moved, IsBounded, IsInRange};
 ghost use Rattle.oas_shape.specs.Polylines.{next_step, listed_vertices, left_out, vertices_of, VerticesMay};
 
 use crate::displacements::Displacement;
@@ -68,11 +68,11 @@ fn walk(
 
 /// The next displacement, which in a running list is on top of the one before.
 fn next_displacement(running: bool, before: Displacement, delta: GDelta) -> Displacement
-    requires x { IsNear (2 ^ 63) before.x }
-    requires y { IsNear (2 ^ 63) before.y }
+    requires x { IsBounded (2 ^ 63) before.x }
+    requires y { IsBounded (2 ^ 63) before.y }
     ensures value { step result.x result.y ≡ next_step running (step before.x before.y) delta }
-    ensures x_near { IsNear (2 ^ 64) result.x }
-    ensures y_near { IsNear (2 ^ 64) result.y }
+    ensures x_near { IsBounded (2 ^ 64) result.x }
+    ensures y_near { IsBounded (2 ^ 64) result.y }
 {
     if running {
         Displacement {
@@ -86,8 +86,8 @@ fn next_displacement(running: bool, before: Displacement, delta: GDelta) -> Disp
 
 /// The point so far from that one, where it is within the limits.
 fn point_from(from: Point, by: Displacement) -> Option<Point>
-    requires x { IsNear (2 ^ 64) by.x }
-    requires y { IsNear (2 ^ 64) by.y }
+    requires x { IsBounded (2 ^ 64) by.x }
+    requires y { IsBounded (2 ^ 64) by.y }
     ensures { SomeIff result (IsInRange (moved from (step by.x by.y))) (moved from (step by.x by.y)) }
 {
     let x = coordinate_from(from.x, by.x)?;
@@ -97,8 +97,8 @@ fn point_from(from: Point, by: Displacement) -> Option<Point>
 
 /// The coordinate so far from that one, where it is within the limits.
 fn coordinate_from(from: i64, far: i128) -> Option<i64>
-    requires { IsNear (2 ^ 64) far }
-    ensures { SomeIff result (IsNear (2 ^ 60) (from +ℤ far)) (from +ℤ far) }
+    requires { IsBounded (2 ^ 64) far }
+    ensures { SomeIff result (IsBounded (2 ^ 60) (from +ℤ far)) (from +ℤ far) }
 {
     let to = i128::from(from) + far;
     if to < -FURTHEST {
