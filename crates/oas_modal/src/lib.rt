@@ -40,5 +40,5 @@ mod taking;
 
 pub use finishing::finish;
 pub use held::HeldCell;
-pub use names::{Numbering, NameTable, cell_meant, string_meant};
+pub use names::{NameTable, Numbering, cell_meant, string_meant};
 pub use reader::Reader;

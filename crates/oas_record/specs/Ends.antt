@@ -91,7 +91,13 @@ end_within false v a p = record {
       front = 252 ∷ 1 ∷ no_padding;
       back = 0 ∷ [];
       joined = refl;
-      first = record { front = 252 ∷ 1 ∷ []; back = no_padding; joined = refl; first = two_groups; second = record { from = no_padding; is = refl; spelled = record { len = refl; each = zeros 252 } } };
+      first = record {
+        front = 252 ∷ 1 ∷ [];
+        back = no_padding;
+        joined = refl;
+        first = two_groups;
+        second = record { from = no_padding; is = refl; spelled = record { len = refl; each = zeros 252 } };
+      };
       second = record { holds = refl; spelled = zero_group };
     };
   };

@@ -88,7 +88,9 @@ module _ {running : Bool} {deltas : List GDelta} {at : Point} {points : List Poi
   walked_more d next_by next lt same near e =
       let there = subst IsInRange (sym e) near in
       record {
-        so_far = rw (add-one, append_assoc) (subst (λ (q : Point). points ++ q ∷ points_after q (displaced running next_by (drop (suc index) deltas)) ≡ listed_vertices running deltas at) (sym e) (left d next_by lt same));
+        so_far = rw (add-one, append_assoc) (subst (λ (q : Point). points ++ q
+            ∷ points_after q (displaced running next_by (drop (suc index) deltas)) ≡ listed_vertices running deltas at) (sym e)
+            (left d next_by lt same));
         near = all_more IsInRange points next w.near there;
         last_near = there;
         x_near = step_near last.x next.x next_by.dx w.last_near.x there.x (ap (λ (q : Point). q.x) e);
@@ -96,7 +98,8 @@ module _ {running : Bool} {deltas : List GDelta} {at : Point} {points : List Poi
       }
 
   -- a vertex past the limits
-  pub walked_past : (d next_by : GDelta) → index < length deltas → next_by ≡ next_step running by (get_or deltas index d) → ¬ IsInRange (moved last next_by) → ¬ AllByRecursion IsInRange (listed_vertices running deltas at)
+  pub walked_past : (d next_by : GDelta) → index < length deltas → next_by ≡ next_step running by (get_or deltas index d)
+      → ¬ IsInRange (moved last next_by) → ¬ AllByRecursion IsInRange (listed_vertices running deltas at)
   walked_past d next_by lt same past all =
       past (at_middle IsInRange points (moved last next_by) (points_after (moved last next_by) (displaced running next_by (drop (suc index) deltas)))
       (subst (AllByRecursion IsInRange) (sym (left d next_by lt same)) all))
@@ -153,7 +156,8 @@ pub counted_by : (line made : Polyline) (at : Point) (n m : ℕ) → made ≡ li
 counted_by line made at n m e p q = subst (λ (l : Polyline). length (vertices_of l at) ≡ n + 1 + m) e (counted made at ∙ (λ i. sym p i + 1 + sym q i))
 
 -- what the listed vertices are refused by, all are
-pub may_whole : (line made : Polyline) (at : Point) (why : Why) (deltas : List GDelta) → made ≡ line → deltas ≡ made.deltas → VerticesMay why (listed_vertices made.running deltas at) → VerticesMay why (vertices_of line at)
+pub may_whole : (line made : Polyline) (at : Point) (why : Why) (deltas : List GDelta) → made ≡ line → deltas ≡ made.deltas
+    → VerticesMay why (listed_vertices made.running deltas at) → VerticesMay why (vertices_of line at)
 may_whole line made at CoordinateRange deltas e f h =
     let listed = listed_vertices made.running made.deltas at in
     subst (λ (l : Polyline). VerticesMay CoordinateRange (vertices_of l at)) e
@@ -162,7 +166,8 @@ may_whole line made at Memory deltas e f h = tt
 may_whole line made at _ deltas e f h = absurd h
 
 -- all vertices are those that are listed and the one that is left out
-pub given_whole : (line made : Polyline) (at last : Point) (points all more : List Point) (deltas : List GDelta) → made ≡ line → deltas ≡ made.deltas → points ≡ listed_vertices made.running deltas at → last ≡ last_after at points
+pub given_whole : (line made : Polyline) (at last : Point) (points all more : List Point) (deltas : List GDelta) → made ≡ line → deltas ≡ made.deltas
+    → points ≡ listed_vertices made.running deltas at → last ≡ last_after at points
     → more ≡ left_out made.closing at last → all ≡ points ++ more → all ≡ vertices_of line at
 given_whole line made at last points all more deltas e f g h m p =
     let listed = g ∙ ap (λ (ds : List GDelta). listed_vertices made.running ds at) f in
