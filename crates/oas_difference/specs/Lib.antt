@@ -1,0 +1,4 @@
+pub mod Ascending
+pub mod Pairs
+pub mod Difference
+pub mod Laws
