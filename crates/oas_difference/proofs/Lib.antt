@@ -1,3 +1,4 @@
 pub mod Ascending
 pub mod EmptyLaw
+pub mod Held
 pub mod Pairs

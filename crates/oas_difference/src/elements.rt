@@ -1,13 +1,10 @@
-//! The elements of two cells side by side.
+//! The elements of a cell, from which those of another are taken away.
 
-ghost use Rattle.std.specs.Prelude.{◌≡◌, [], ◌∷◌, drop, length, unwrap_or, MatchOption};
-ghost use Rattle.std.specs.Iterator.{at_most};
-ghost use Rattle.std.specs.List.Sorted.{IsStrictlySortedBy};
-ghost use Rattle.std.specs.Map.{keys_of};
-ghost use Rattle.std.specs.Map.Iter.{TakesFirst};
+ghost use Rattle.std.specs.Prelude.{◌≡◌, [], unwrap_or, option_map};
+ghost use Rattle.std.specs.Map.Iter.{TakesFirst, deref};
 ghost use Rattle.oas_layout.specs.Bag.{counted};
 ghost use Rattle.oas_layout.specs.Element.{element_cmp};
-ghost use Rattle.oas_difference.specs.Pairs.{element_pairs, element_pair};
+ghost use Rattle.oas_difference.specs.Pairs.{head_key, least, taken};
 
 use oas_layout::{Element, Elements};
 use std::cmp::Ordering;
@@ -15,7 +12,7 @@ use std::marker::Model;
 
 /// The elements of a cell, if there is one, with the first of them in hand; seen as the list of them.
 #[derive(Drop)]
-struct Side<'a> {
+pub(crate) struct Side<'a> {
     first: Option<(&'a Element, u64)>,
     rest: Option<Elements<'a>>,
 }
@@ -23,7 +20,7 @@ struct Side<'a> {
 impl<'a> Model for Side<'a> {
     ghost use Rattle.std.specs.Prelude.{◌≡◌, List, [], ℕ, None, unwrap_or};
     ghost use Rattle.oas_layout.specs.declared.element.Element.{Element};
-    ghost use Rattle.oas_difference.specs.Pairs.{in_hand};
+    ghost use Rattle.oas_difference.specs.Held.{in_hand};
 
     ghost Value = { List (Element × ℕ) };
 
@@ -34,13 +31,10 @@ impl<'a> Model for Side<'a> {
 
 impl<'a> Side<'a> {
     /// All of these elements.
-    fn new(mut elements: Option<Elements<'a>>) -> Side<'a>
+    pub(crate) fn new(mut elements: Option<Elements<'a>>) -> Side<'a>
         ensures { result ≡ unwrap_or elements.entry [] }
     {
-        let first = match &mut elements {
-            Some(rest) => rest.next(),
-            None => None,
-        };
+        let first = next_of(&mut elements);
         Side {
             first,
             rest: elements,
@@ -48,120 +42,55 @@ impl<'a> Side<'a> {
     }
 
     /// The first of them.
-    fn first(&self) -> Option<(&'a Element, u64)>
-        ensures { MatchOption result (self.now ≡ []) (λ p. self.now ≡ counted p ∷ drop 1 self.now) }
+    pub(crate) fn element(&self) -> Option<&'a Element>
+        ensures { option_map deref result ≡ head_key self.now }
     {
-        self.first
-    }
-
-    /// Leaves the first of them.
-    fn advance(&mut self)
-        ensures { self.new ≡ drop 1 self.old }
-    {
-        self.first = match &mut self.rest {
-            Some(rest) => rest.next(),
+        match self.first {
+            Some((element, _)) => Some(element),
             None => None,
-        };
+        }
     }
-}
 
-/// An element that either of two cells has, and how often each of them has it.
-#[derive(Clone, Copy)]
-pub(crate) struct ElementPair<'a> {
-    pub(crate) element: &'a Element,
-    pub(crate) before: u64,
-    pub(crate) after: u64,
-}
-
-/// The elements of two cells ascending, each once.
-#[derive(Drop)]
-pub(crate) struct ElementPairs<'a> {
-    before: Side<'a>,
-    after: Side<'a>,
-}
-
-impl<'a> Model for ElementPairs<'a> {
-    ghost use Rattle.std.specs.Prelude.{List, ℕ};
-    ghost use Rattle.std.specs.List.Sorted.{IsStrictlySortedBy};
-    ghost use Rattle.std.specs.Map.{keys_of};
-    ghost use Rattle.oas_layout.specs.declared.element.Element.{Element};
-    ghost use Rattle.oas_layout.specs.Element.{element_cmp};
-    ghost use Rattle.oas_difference.specs.Pairs.{element_pairs};
-
-    ghost Value = { List (Element × (ℕ × ℕ)) };
-
-    ghost view = { λ a. element_pairs a.before a.after };
-
-    ghost invariant = { λ a. IsStrictlySortedBy element_cmp (keys_of a.before) × IsStrictlySortedBy element_cmp (keys_of a.after) };
-}
-
-impl<'a> ElementPairs<'a> {
-    /// The elements of a cell before and after, of which each may not be there.
-    pub(crate) fn new(before: Option<Elements<'a>>, after: Option<Elements<'a>>) -> ElementPairs<'a>
-        requires before { IsStrictlySortedBy element_cmp (keys_of (unwrap_or before.entry [])) }
-        requires after { IsStrictlySortedBy element_cmp (keys_of (unwrap_or after.entry [])) }
-        ensures { result ≡ element_pairs (unwrap_or before.entry []) (unwrap_or after.entry []) }
+    /// How often the element is there, which is none of them but the first, and leaves it.
+    pub(crate) fn take(&mut self, element: &Element) -> u64
+        ensures count { result ≡ unwrap_or (taken element_cmp element.now self.old).0 0 }
+        ensures rest { self.new ≡ (taken element_cmp element.now self.old).1 }
     {
-        ElementPairs {
-            before: Side::new(before),
-            after: Side::new(after),
+        let Some((first, count)) = self.first else {
+            return 0;
+        };
+        match element.cmp(first) {
+            Ordering::Equal => {
+                self.first = next_of(&mut self.rest);
+                count
+            }
+            _ => 0,
         }
     }
 }
 
-impl<'a> Iterator for ElementPairs<'a> {
-    type Item = ElementPair<'a>;
+/// The next of these elements, if there are any.
+fn next_of<'a>(elements: &mut Option<Elements<'a>>) -> Option<(&'a Element, u64)>
+    ensures { TakesFirst counted (unwrap_or elements.old []) result (unwrap_or elements.new []) }
+{
+    match elements {
+        Some(rest) => rest.next(),
+        None => None,
+    }
+}
 
-    ghost next_gives = { TakesFirst element_pair };
-
-    ghost remaining = { λ s. at_most (length s) };
-
-    fn next(&mut self) -> Option<ElementPair<'a>> {
-        match (self.before.first(), self.after.first()) {
-            (None, None) => None,
-            (Some((element, before)), None) => {
-                self.before.advance();
-                Some(ElementPair {
-                    element,
-                    before,
-                    after: 0,
-                })
-            }
-            (None, Some((element, after))) => {
-                self.after.advance();
-                Some(ElementPair {
-                    element,
-                    before: 0,
-                    after,
-                })
-            }
-            (Some((element, before)), Some((other, after))) => match element.cmp(other) {
-                Ordering::Less => {
-                    self.before.advance();
-                    Some(ElementPair {
-                        element,
-                        before,
-                        after: 0,
-                    })
-                }
-                Ordering::Equal => {
-                    self.before.advance();
-                    self.after.advance();
-                    Some(ElementPair {
-                        element,
-                        before,
-                        after,
-                    })
-                }
-                Ordering::Greater => {
-                    self.after.advance();
-                    Some(ElementPair {
-                        element: other,
-                        before: 0,
-                        after,
-                    })
-                }
-            },
-        }
+/// The lesser of two elements, or the one that is there.
+pub(crate) fn first_element<'a>(
+    left: Option<&'a Element>,
+    right: Option<&'a Element>,
+) -> Option<&'a Element>
+    ensures { option_map deref result ≡ least element_cmp (option_map deref left) (option_map deref right) }
+{
+    match (left, right) {
+        (None, last) | (last, None) => last,
+        (Some(element), Some(other)) => match element.cmp(other) {
+            Ordering::Greater => Some(other),
+            _ => Some(element),
+        },
     }
 }
