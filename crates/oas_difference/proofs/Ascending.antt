@@ -18,7 +18,7 @@ module _ {K : Type 0} (P : K → Type 0) where
   all_append [] ys p q = q
   all_append (x ∷ xs) ys p q = (p.0, all_append xs ys p.1 q)
 
-  all_insert : (R : K → K → Ordering) (ks : List K) (k : K) → AllByRecursion P ks → P k → AllByRecursion P (insert_key R ks k)
+  pub all_insert : (R : K → K → Ordering) (ks : List K) (k : K) → AllByRecursion P ks → P k → AllByRecursion P (insert_key R ks k)
   all_insert R [] k p h = (h, tt)
   all_insert R (x ∷ xs) k p h =
       elim (R k x) as (λ r. AllByRecursion P (match_ordering r (k ∷ x ∷ xs) (x ∷ xs) (x ∷ insert_key R xs k))) [

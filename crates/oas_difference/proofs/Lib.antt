@@ -1,4 +1,5 @@
 pub mod Ascending
 pub mod EmptyLaw
 pub mod Held
+pub mod Lengths
 pub mod Pairs
