@@ -68,7 +68,7 @@ not_below_itself n = by_cases (nat_lt n n) refl where
   by_cases true e = absurd (omega (arith, ltb-true n n e))
   by_cases false e = e
 
-same_count : (n m : ℕ) (text : List ℕ) → n ≡ m → change n m text ≡ []
+pub same_count : (n m : ℕ) (text : List ℕ) → n ≡ m → change n m text ≡ []
 same_count n m text e =
     ap (λ (k : ℕ). change n k text) (sym e) ∙ ap (λ b. if b then signed 45 (n - n) text else if b then signed 43 (n - n) text else []) (not_below_itself n)
 
@@ -99,7 +99,7 @@ units_alike u v e = by_cases (same_ratio u v) refl e where
   by_cases true p h = ratios_alike u v p
   by_cases false p h = let no : ⊥ = cc in absurd no
 
-one_unit : (u v : Ratio) → u ≡ v → unit_changes u v ≡ []
+pub one_unit : (u v : Ratio) → u ≡ v → unit_changes u v ≡ []
 one_unit u v e = ap (λ w. unit_changes u w) (sym e) ∙ ap (λ b. if b then [] else change 1 0 (unit_line u) ++ change 0 1 (unit_line u)) (one_ratio u)
 
 -- ---- elements

@@ -4,6 +4,7 @@ use Rattle.std.specs.Prelude.{◌==◌, option_map, IfSome}
 use Rattle.std.specs.Ordering.{nat_cmp}
 use Rattle.std.specs.Cmp.Lexicographic.{slice_cmp, pointwise, texts_ties}
 use Rattle.std.specs.List.{AllByRecursion}
+use Rattle.std.specs.List.Sorted.{IsStrictlySortedBy}
 use Rattle.std.specs.Map.{keys_of, lookup}
 use Rattle.std.specs.BTreeMap.{is_at}
 use Rattle.std.proofs.lemmas.List.Folds.{flat_map-map}
@@ -55,6 +56,7 @@ module _ (profile : Profile) where
   -- ---- a cell
 
   empty_bag : IsBag profile []
+  unfolding IsStrictlySortedBy
   empty_bag = record { tally = record { ascending = tt; positive = tt }; normal = tt }
 
   bag_of : (o : Option (List (Element × ℕ))) → IfSome o (IsBag profile) → IsBag profile (unwrap_or o [])

@@ -51,6 +51,7 @@ module _ {K : Type 0} (R : K → K → Ordering) where
 
   module _ (o : IsTotalOrder R) where
     sorted_insert : (ks : List K) (k : K) → IsStrictlySortedBy R ks → IsStrictlySortedBy R (insert_key R ks k)
+    unfolding IsStrictlySortedBy
     sorted_insert [] k s = (tt, tt)
     sorted_insert (x ∷ xs) k s =
         elim (R k x) as (λ r. R k x ≡ r → IsStrictlySortedBy R (match_ordering r (k ∷ x ∷ xs) (x ∷ xs) (x ∷ insert_key R xs k))) [
@@ -60,6 +61,7 @@ module _ {K : Type 0} (R : K → K → Ordering) where
         ] refl
 
     sorted_ascending : (xs : List K) → IsStrictlySortedBy R (ascending R xs)
+    unfolding IsStrictlySortedBy
     sorted_ascending [] = tt
     sorted_ascending (x ∷ xs) = sorted_insert (ascending R xs) x (sorted_ascending xs)
 
@@ -157,7 +159,7 @@ unfolding line_most
 length-changes es fs =
     let ks = ascending element_cmp (keys_of es ++ keys_of fs) in
     let pair : Element → Element × (Option ℕ × Option ℕ) = λ k. (k, (found element_cmp es k, found element_cmp fs k)) in
-    omega (arith, ap length (flat_map-map pair_line pair ks), length-texts (λ k. pair_line (pair k)) ks, sum_le (λ k. length (pair_line (pair k))) line_most (λ k. length-change _ _ (element_line k)) ks, sum_ascending element_cmp line_most (keys_of es ++ keys_of fs), sum_by-append line_most (keys_of es) (keys_of fs))
+    omega (arith, ap length (flat_map-map pair_line pair ks), length-texts (λ k. pair_line (pair k)) ks, sum_le (λ k. length (pair_line (pair k))) line_most (λ k. length-change (unwrap_or (found element_cmp es k) 0) (unwrap_or (found element_cmp fs k) 0) (element_line k)) ks, sum_ascending element_cmp line_most (keys_of es ++ keys_of fs), sum_by-append line_most (keys_of es) (keys_of fs))
 
 -- what a cell gives at most
 cell_most : List ℕ → List (Element × ℕ) → ℕ

@@ -3,3 +3,4 @@ pub mod EmptyLaw
 pub mod Held
 pub mod Lengths
 pub mod Pairs
+pub mod Steps

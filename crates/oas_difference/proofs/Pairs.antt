@@ -70,6 +70,7 @@ module _ {K V : Type 0} (R : K → K → Ordering) where
     pub fewer : length (taken R k es).1 + length (taken R k fs).1 < length es + length fs
 
   pub sorted_taken : (k : K) (es : List (K × V)) → IsStrictlySortedBy R (keys_of es) → IsStrictlySortedBy R (keys_of (taken R k es).1)
+  unfolding IsStrictlySortedBy
   sorted_taken k [] s = tt
   sorted_taken k (e ∷ es) s =
       elim (R k e.0) as (λ r. IsStrictlySortedBy R (keys_of (cond {A = Option V × List (K × V)} (is_eq r) (Some e.1, es) (None, e ∷ es)).1)) [

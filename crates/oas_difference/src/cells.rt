@@ -1,6 +1,6 @@
 //! What has changed in each cell.
 
-ghost use Rattle.std.specs.Prelude.{◌≡◌, ◌++◌, [], ◌∷◌, drop, unwrap_or, option_map, IfSome, codes};
+ghost use Rattle.std.specs.Prelude.{◌≡◌, ◌++◌, true, [], ◌∷◌, drop, unwrap_or, option_map, IfSome, codes};
 ghost use Rattle.std.specs.Ordering.{nat_cmp};
 ghost use Rattle.std.specs.Cmp.Lexicographic.{slice_cmp};
 ghost use Rattle.std.specs.List.Sorted.{IsStrictlySortedBy};
@@ -77,7 +77,7 @@ impl<'a> Cells<'a> {
 
 /// The lesser of two names, or the one that is there.
 fn first_name<'a>(left: Option<&'a Name>, right: Option<&'a Name>) -> Option<&'a Name>
-    ensures { option_map deref result ≡ least (slice_cmp nat_cmp) (option_map deref left) (option_map deref right) }
+    ensures { option_map deref result ≡ least (slice_cmp nat_cmp) (option_map deref left.entry) (option_map deref right.entry) }
 {
     match (left, right) {
         (None, last) | (last, None) => last,
@@ -108,14 +108,14 @@ fn put_place<K: Sink>(sink: &mut K, name: &Name) -> Result<(), SinkFault>
 fn put_both<'a, K: Sink>(
     sink: &mut K,
     name: &Name,
-    before: &mut Side<'a>,
-    after: &mut Side<'a>,
+    mut before: Side<'a>,
+    mut after: Side<'a>,
 ) -> Result<(), SinkFault>
-    requires before { IsStrictlySortedBy element_cmp (keys_of before.old) }
-    requires after { IsStrictlySortedBy element_cmp (keys_of after.old) }
-    ensures { Writes K.given K.failures sink.old (below_name true true name.now (held_changes before.old after.old)) result sink.new }
+    requires before { IsStrictlySortedBy element_cmp (keys_of before) }
+    requires after { IsStrictlySortedBy element_cmp (keys_of after) }
+    ensures { Writes K.given K.failures sink.old (below_name true true name.now (held_changes before.entry after.entry)) result sink.new }
 {
-    let Some(first) = next_change(before, after) else {
+    let Some(first) = next_change(&mut before, &mut after) else {
         return Ok(());
     };
     put_place(sink, name)?;
@@ -130,21 +130,21 @@ fn put_cell<'a, K: Sink>(
     before: Option<Elements<'a>>,
     after: Option<Elements<'a>>,
 ) -> Result<(), SinkFault>
-    requires before { IfSome before.entry IsTally }
-    requires after { IfSome after.entry IsTally }
+    requires before { IfSome before IsTally }
+    requires after { IfSome after IsTally }
     ensures { Writes K.given K.failures sink.old (held_cell (name.now, (before.entry, after.entry))) result sink.new }
 {
     let there = (before.is_some(), after.is_some());
-    let (mut before, mut after) = (Side::new(before), Side::new(after));
+    let (before, after) = (Side::new(before), Side::new(after));
     match there {
-        (true, true) => put_both(sink, name, &mut before, &mut after),
+        (true, true) => put_both(sink, name, before, after),
         (true, false) => {
             put_alone(sink, b'-', name)?;
-            put_changes(sink, &mut before, &mut after)
+            put_changes(sink, before, after)
         }
         (false, true) => {
             put_alone(sink, b'+', name)?;
-            put_changes(sink, &mut before, &mut after)
+            put_changes(sink, before, after)
         }
         (false, false) => Ok(()),
     }
@@ -153,12 +153,12 @@ fn put_cell<'a, K: Sink>(
 /// Puts what has changed in each cell.
 pub(crate) fn put_cells<'a, K: Sink>(
     sink: &mut K,
-    before: &mut Cells<'a>,
-    after: &mut Cells<'a>,
+    mut before: Cells<'a>,
+    mut after: Cells<'a>,
 ) -> Result<(), SinkFault>
-    requires before { IsStrictlySortedBy (slice_cmp nat_cmp) (keys_of before.old) }
-    requires after { IsStrictlySortedBy (slice_cmp nat_cmp) (keys_of after.old) }
-    ensures { Writes K.given K.failures sink.old (held_cells before.old after.old) result sink.new }
+    requires before { IsStrictlySortedBy (slice_cmp nat_cmp) (keys_of before) }
+    requires after { IsStrictlySortedBy (slice_cmp nat_cmp) (keys_of after) }
+    ensures { Writes K.given K.failures sink.old (held_cells before.entry after.entry) result sink.new }
 {
     while let Some(name) = first_name(before.name(), after.name()) {
         let (left, right) = (before.take(name), after.take(name));

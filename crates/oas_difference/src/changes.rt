@@ -1,6 +1,6 @@
 //! What has changed in a cell.
 
-ghost use Rattle.std.specs.Prelude.{◌≡◌, ◌≢◌, ◌++◌, ◌∷◌, [], decimal, MatchOption};
+ghost use Rattle.std.specs.Prelude.{◌≡◌, ◌≢◌, ◌+◌, ◌<◌, ◌++◌, ◌∷◌, [], length, decimal, MatchOption, IfSome};
 ghost use Rattle.std.specs.List.Sorted.{IsStrictlySortedBy};
 ghost use Rattle.std.specs.Map.{keys_of};
 ghost use Rattle.oas_num.specs.Writing.{Writes};
@@ -29,7 +29,8 @@ pub(crate) fn next_change<'a>(before: &mut Side<'a>, after: &mut Side<'a>) -> Op
     requires after { IsStrictlySortedBy element_cmp (keys_of after.old) }
     ensures change { MatchOption result (held_changes before.old after.old ≡ [])
         (λ c. held_changes before.old after.old ≡ change c.before c.after (element_line c.element.now) ++ held_changes before.new after.new) }
-    ensures unlike { MatchOption result Unit (λ c. c.before ≢ c.after) }
+    ensures unlike { IfSome result (λ c. c.before ≢ c.after) }
+    ensures fewer { IfSome result (λ _. length before.new + length after.new < length before.old + length after.old) }
     ensures before { IsStrictlySortedBy element_cmp (keys_of before.new) }
     ensures after { IsStrictlySortedBy element_cmp (keys_of after.new) }
 {
@@ -71,7 +72,7 @@ fn put_signed<K: Sink>(
 
 /// Puts the line of a change.
 pub(crate) fn put_change<K: Sink>(sink: &mut K, found: Change<'_>) -> Result<(), SinkFault>
-    ensures { Writes K.given K.failures sink.old (change found.before found.after (element_line found.element.now)) result sink.new }
+    ensures { Writes K.given K.failures sink.old (change found.entry.before found.entry.after (element_line found.entry.element.now)) result sink.new }
 {
     if found.after < found.before {
         put_signed(sink, b'-', found.before - found.after, found.element)
@@ -85,14 +86,14 @@ pub(crate) fn put_change<K: Sink>(sink: &mut K, found: Change<'_>) -> Result<(),
 /// Puts the lines of what has changed.
 pub(crate) fn put_changes<'a, K: Sink>(
     sink: &mut K,
-    before: &mut Side<'a>,
-    after: &mut Side<'a>,
+    mut before: Side<'a>,
+    mut after: Side<'a>,
 ) -> Result<(), SinkFault>
-    requires before { IsStrictlySortedBy element_cmp (keys_of before.old) }
-    requires after { IsStrictlySortedBy element_cmp (keys_of after.old) }
-    ensures { Writes K.given K.failures sink.old (held_changes before.old after.old) result sink.new }
+    requires before { IsStrictlySortedBy element_cmp (keys_of before) }
+    requires after { IsStrictlySortedBy element_cmp (keys_of after) }
+    ensures { Writes K.given K.failures sink.old (held_changes before.entry after.entry) result sink.new }
 {
-    while let Some(change) = next_change(before, after) {
+    while let Some(change) = next_change(&mut before, &mut after) {
         put_change(sink, change)?;
     }
     Ok(())

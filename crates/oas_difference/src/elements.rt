@@ -84,7 +84,7 @@ pub(crate) fn first_element<'a>(
     left: Option<&'a Element>,
     right: Option<&'a Element>,
 ) -> Option<&'a Element>
-    ensures { option_map deref result ≡ least element_cmp (option_map deref left) (option_map deref right) }
+    ensures { option_map deref result ≡ least element_cmp (option_map deref left.entry) (option_map deref right.entry) }
 {
     match (left, right) {
         (None, last) | (last, None) => last,

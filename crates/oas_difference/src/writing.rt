@@ -28,13 +28,17 @@ fn put_units<K: Sink>(sink: &mut K, before: Fraction, after: Fraction) -> Result
 }
 
 /// Puts the difference of two layouts.
-fn put_difference<K: Sink>(sink: &mut K, before: &Layout, after: &Layout) -> Result<(), SinkFault>
+fn put_difference<'a, K: Sink>(
+    sink: &mut K,
+    before: &'a Layout,
+    after: &'a Layout,
+) -> Result<(), SinkFault>
     requires { before.now.profile ≡ after.now.profile }
     ensures writes { Writes K.given K.failures sink.old (difference before.now.profile (meaning_of before.now) (meaning_of after.now)) result sink.new }
     ensures short { length (difference before.now.profile (meaning_of before.now) (meaning_of after.now)) < 2 ^ 64 }
 {
     put_units(sink, before.unit(), after.unit())?;
-    put_cells(sink, &mut Cells::new(before), &mut Cells::new(after))
+    put_cells(sink, Cells::new(before), Cells::new(after))
 }
 
 /// Puts the difference of two layouts into an outlet, and has its writer take all of it.
