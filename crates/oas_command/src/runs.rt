@@ -2,6 +2,7 @@
 
 mod canon;
 mod check;
+mod diff;
 mod ends;
 mod key;
 mod rekey;
@@ -10,6 +11,7 @@ mod show;
 
 pub use canon::{canon_telling, run_canon};
 pub use check::{check_telling, run_check};
+pub use diff::{diff_telling, run_diff};
 pub use ends::run_refused;
 pub use key::{key_telling, run_key};
 pub use rekey::{rekey_telling, run_rekey};

@@ -52,7 +52,7 @@ length-digits_onto (suc k) n acc =
     either (n / 10 == 0) (digit_glyph false (n % 10) ∷ acc) (digits_onto k 10 false (n / 10) (digit_glyph false (n % 10) ∷ acc)) (suc k + length acc)
     (omega arith) (omega (arith, length-digits_onto k (n / 10) (digit_glyph false (n % 10) ∷ acc)))
 
-length-decimal : (n : ℕ) → length (decimal n) ≤ 64
+pub length-decimal : (n : ℕ) → length (decimal n) ≤ 64
 unfolding digits
 length-decimal n = length-digits_onto 64 n []
 
@@ -66,7 +66,7 @@ length-pair p = omega (arith, length-append (signed_decimal p.x) (44 ∷ signed_
 -- ---- lines
 
 -- the fields, and a space before each
-abbrev taken : List (List ℕ) → ℕ
+abbrev pub taken : List (List ℕ) → ℕ
 taken [] = 0
 taken (field ∷ fields) = 1 + length field + taken fields
 
@@ -74,14 +74,14 @@ length-fields : (fields : List (List ℕ)) → length (behind_spaces fields) ≡
 length-fields [] = refl
 length-fields (field ∷ fields) = omega (arith, length-append (32 ∷ field) (behind_spaces fields), length-fields fields)
 
-length-line : (word : List ℕ) (fields : List (List ℕ)) → length (line (word ∷ fields)) ≡ length word + taken fields + 1
+pub length-line : (word : List ℕ) (fields : List (List ℕ)) → length (line (word ∷ fields)) ≡ length word + taken fields + 1
 length-line word fields = omega (arith, length-append (spaced (word ∷ fields)) (10 ∷ []), length-append word (behind_spaces fields), length-fields fields)
 
 length-points : (ps : List Point) → taken (map pair ps) ≤ 132 * length ps
 length-points [] = omega arith
 length-points (p ∷ ps) = omega (arith, length-pair p, length-points ps)
 
-length-element : (e : Element) → length (element_line e) ≤ 512 * weight_of e
+pub length-element : (e : Element) → length (element_line e) ≤ 512 * weight_of e
 length-element (Placement cell x y turns flip) =
     omega (
       arith,

@@ -14,10 +14,10 @@ const MISUSED: u8 = 2;
 
 /// What stands below each help text.
 const AFTER_HELP: &str = "Status:
-  0  done; for `check` canonical, for `same` the same layout
+  0  done; for `check` canonical, for `same` and `diff` the same layout
   1  refused (one line on standard error: NAME: refused REASON at OFFSET), or can't be opened
   2  the command line isn't understood
-  3  for `check` not canonical, for `same` different layouts, for `rekey` not canonical
+  3  for `check` not canonical, for `same` and `diff` different layouts, for `rekey` not canonical
      by profile 1 (one line on standard error: NAME: not profile 1 canonical)
 
 Limits:
@@ -47,6 +47,10 @@ pub enum Task<'a> {
         input: Option<&'a str>,
     },
     Same {
+        first: &'a str,
+        second: &'a str,
+    },
+    Diff {
         first: &'a str,
         second: &'a str,
     },
@@ -123,6 +127,10 @@ fn task_of<'a>(name: &str, found: &ArgMatches<'a>) -> Option<Task<'a>> {
             first: found.get_str("A")?,
             second: found.get_str("B")?,
         }),
+        "diff" => Some(Task::Diff {
+            first: found.get_str("A")?,
+            second: found.get_str("B")?,
+        }),
         "show" => Some(Task::Show { input }),
         "key" => Some(Task::Key { input }),
         "rekey" => Some(Task::Rekey {
@@ -155,6 +163,7 @@ fn oascanon<'a>(alloc: Global) -> Result<Command<'a>, Error> {
             .subcommand(canon(alloc)?)?
             .subcommand(check)?
             .subcommand(same(alloc)?)?
+            .subcommand(diff(alloc)?)?
             .subcommand(show)?
             .subcommand(key)?
             .subcommand(rekey(alloc)?)?,
@@ -175,6 +184,14 @@ fn same<'a>(alloc: Global) -> Result<Command<'a>, Error> {
     let a = Arg::new(alloc, "A").required(true).help("An OASIS file");
     let b = Arg::new(alloc, "B").required(true).help("Another");
     Ok(command_of(alloc, "same", about)?.arg(a)?.arg(b)?)
+}
+
+/// `diff A B`
+fn diff<'a>(alloc: Global) -> Result<Command<'a>, Error> {
+    let about = "Lists what one of two files has more often than the other";
+    let a = Arg::new(alloc, "A").required(true).help("An OASIS file");
+    let b = Arg::new(alloc, "B").required(true).help("Another");
+    Ok(command_of(alloc, "diff", about)?.arg(a)?.arg(b)?)
 }
 
 /// `rekey OLD NEW`

@@ -23,7 +23,7 @@ use commands::{Request, Task, limits_of};
 use creating::Output;
 use oas_canon::{Limits, ReaderSource, Refusal, Why};
 use oas_command::{
-    name_of, run_canon, run_check, run_key, run_refused, run_rekey, run_same, run_show,
+    name_of, run_canon, run_check, run_diff, run_key, run_refused, run_rekey, run_same, run_show,
     run_unopened,
 };
 use opening::Input;
@@ -47,6 +47,7 @@ fn answer(rt: &HostRuntime, request: Request<'_>) -> u8 {
         Task::Canon { input, output } => canon(rt, input, output, limits),
         Task::Check { input } => check(rt, input, limits),
         Task::Same { first, second } => same(rt, first, second, limits),
+        Task::Diff { first, second } => diff(rt, first, second, limits),
         Task::Show { input } => show(rt, input, limits),
         Task::Key { input } => key(rt, input, limits),
         Task::Rekey { old, new } => rekey(rt, old, new, limits),
@@ -109,6 +110,23 @@ fn same(rt: &HostRuntime, first: &str, second: &str, limits: Limits) -> Result<u
     let mut b = source_of(rt, Some(second), limits)?;
     let (mut out, mut err) = (rt.stdout(), rt.stderr());
     Ok(run_same(
+        rt.alloc(),
+        first,
+        &mut a,
+        second,
+        &mut b,
+        &mut out,
+        &mut err,
+        limits,
+    ))
+}
+
+/// `diff A B`: both are opened before one is read.
+fn diff(rt: &HostRuntime, first: &str, second: &str, limits: Limits) -> Result<u8, u8> {
+    let mut a = source_of(rt, Some(first), limits)?;
+    let mut b = source_of(rt, Some(second), limits)?;
+    let (mut out, mut err) = (rt.stdout(), rt.stderr());
+    Ok(run_diff(
         rt.alloc(),
         first,
         &mut a,
