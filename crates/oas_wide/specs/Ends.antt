@@ -3,7 +3,7 @@ use Rattle.std.proofs.Common.{ℕ, ◌<◌, Bool, not, List, Option, Some, None,
 use Rattle.std.specs.Prelude.{◌==◌, if◌then◌else◌}
 use Rattle.oas_num.specs.declared.refusals.Why.{Why}
 use Rattle.oas_num.specs.declared.refusals.Why.TheVariants.{ValidationScheme}
-use Rattle.oas_num.specs.declared.texts.Padding.{Padding}
+use Rattle.oas_num.specs.declared.padding.Padding.{Padding}
 use Rattle.oas_num.specs.Pieces.{Unless}
 use Rattle.oas_record.specs.Ends.{offsets_part}
 use Rattle.oas_record.specs.FoundParts.{settled_below}

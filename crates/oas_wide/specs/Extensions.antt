@@ -1,7 +1,7 @@
 -- How geometry of an extension is spelled, after its id (SEMI P39, XGEOMETRY record).
 use Rattle.std.proofs.Common.{ℕ, ◌<◌, List, arith}
 use Rattle.oas_num.specs.declared.refusals.Why.{Why}
-use Rattle.oas_num.specs.declared.texts.Padding.{Padding}
+use Rattle.oas_num.specs.declared.padding.Padding.{Padding}
 use Rattle.oas_record.specs.declared.spots.Spot.{Spot}
 use Rattle.oas_record.specs.Fields.{Layers, layers, spot}
 use Rattle.oas_record.specs.FoundParts.{settled_below}

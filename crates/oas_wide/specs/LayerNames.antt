@@ -3,7 +3,7 @@ use Rattle.std.proofs.Common.{ℕ, ◌<◌, not, List, Option, Some, None, arith
 use Rattle.std.specs.Prelude.{◌==◌, if◌then◌else◌}
 use Rattle.oas_num.specs.declared.refusals.Why.{Why}
 use Rattle.oas_num.specs.declared.refusals.Why.TheVariants.{InfoByte}
-use Rattle.oas_num.specs.declared.texts.Padding.{Padding}
+use Rattle.oas_num.specs.declared.padding.Padding.{Padding}
 use Rattle.oas_num.specs.Pieces.{Unless}
 use Rattle.oas_record.specs.FoundParts.{settled_below}
 use Rattle.oas_record.specs.Kinds.{Kind, IsTest, number, padding, pair, there, such, image_any, number_test}

@@ -5,7 +5,7 @@ use Rattle.std.proofs.Math.Dec.{ltb}
 use Rattle.oas_num.specs.declared.refusals.Why.{Why}
 use Rattle.oas_num.specs.declared.refusals.Why.TheVariants.{RealType}
 use Rattle.oas_num.specs.declared.integers.Signed.{Signed}
-use Rattle.oas_num.specs.declared.texts.Padding.{Padding}
+use Rattle.oas_num.specs.declared.padding.Padding.{Padding}
 use Rattle.oas_num.specs.Combinators.{IsNever}
 use Rattle.oas_num.specs.Laws.CombinatorLaws.{OneSpelling-never}
 use Rattle.oas_num.specs.Integers.{SpellsSigned}

@@ -2,7 +2,7 @@
 -- XELEMENT records).
 use Rattle.std.specs.Prelude.{ℕ, Bool, List, Option}
 use Rattle.oas_num.specs.declared.refusals.Why.{Why}
-use Rattle.oas_num.specs.declared.texts.Padding.{Padding}
+use Rattle.oas_num.specs.declared.padding.Padding.{Padding}
 use Rattle.oas_record.specs.Kinds.{Kind, number, padding, pair, there}
 
 -- a string, and its number where it is there
