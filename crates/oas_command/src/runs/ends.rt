@@ -1,6 +1,6 @@
 //! How a run ends.
 
-ghost use Rattle.std.specs.Prelude.{◌≡◌, Bool, Ok};
+ghost use Rattle.std.specs.Prelude.{◌≡◌, ◌≢◌, ◌⊎◌, Bool, Ok};
 ghost use Rattle.oas_num.specs.Refusals.{number_of};
 ghost use Rattle.oas_command.specs.Lines.{refusal_line};
 ghost use Rattle.oas_command.specs.Runs.{status_after, verdict_status, Tells, Ends, AppendsFront};
@@ -23,6 +23,21 @@ pub(super) fn status_of_verdict(yes: bool) -> u8
     ensures { result ≡ verdict_status (Ok yes) }
 {
     if yes { DONE } else { NO }
+}
+
+/// The status of two runs together: 1 where one of them was refused, else 3 where the answer of one is no.
+pub fn worse(a: u8, b: u8) -> u8
+    ensures refused { (a ≡ 1) ⊎ (b ≡ 1) → result ≡ 1 }
+    ensures no { a ≢ 1 → b ≢ 1 → (a ≡ 3) ⊎ (b ≡ 3) → result ≡ 3 }
+    ensures done { a ≡ 0 → b ≡ 0 → result ≡ 0 }
+{
+    if a == REFUSED || b == REFUSED {
+        REFUSED
+    } else if a == NO || b == NO {
+        NO
+    } else {
+        a
+    }
 }
 
 /// Names a refusal, and answers its status.

@@ -3,7 +3,10 @@
 
 use super::devices::{Full, Writer};
 use super::rows::bytes_of;
-use crate::runs::{run_canon, run_check, run_key, run_rekey, run_same, run_show};
+use crate::runs::{
+    run_canon, run_check, run_key, run_named_check, run_named_key, run_rekey, run_same, run_show,
+    worse,
+};
 use oas_canon::Limits;
 use oas_num::{INPUT_MAX, SliceSource};
 use std::alloc::{AllocError, Global};
@@ -25,6 +28,10 @@ two-spellings | same | HEAD CELL RECT TAIL & HEAD 0D00 RECT 030141 TAIL | 0 | sa
 a-box-is-not-canonical | check | HEAD CELL 153B010004030128290001290000 TAIL | 3 | not canonical;
 key-of-a-box | key | HEAD CELL 153B010004030128290001290000 TAIL | 0 | faa9cb7d21110cae5bde5660c1b56c7b0b00a54880eacf1bfeba45a6cc348d77;
 listing-of-a-box | show | HEAD CELL 153B010004030128290001290000 TAIL | 0 | unit 1000/1;cell A;rectangle 1 0 10 20 0 0;
+named-canonical | named check | HEAD CELL RECT TAIL | 0 | first: canonical;
+named-spelled-by-a-number | named check | HEAD 0D00 RECT 030141 TAIL | 3 | first: not canonical;
+named-key | named key | HEAD 0D00 RECT 030141 TAIL | 0 | faa9cb7d21110cae5bde5660c1b56c7b0b00a54880eacf1bfeba45a6cc348d77  first;
+escaped-key | escaped key | HEAD CELL RECT TAIL | 0 | \\faa9cb7d21110cae5bde5660c1b56c7b0b00a54880eacf1bfeba45a6cc348d77  first;
 a-box-and-its-rectangle | same | HEAD CELL 153B0100000214280000 TAIL & HEAD CELL RECT TAIL | 0 | same;
 ";
 
@@ -32,6 +39,8 @@ a-box-and-its-rectangle | same | HEAD CELL 153B0100000214280000 TAIL & HEAD CELL
 const REFUSED: &str = "\
 not-checked | check | HEAD CELL 22 TAIL | 1 | first: refused 11 at 37;
 no-key | key | HEAD CELL 22 TAIL | 1 | first: refused 11 at 37;
+not-checked-by-name | named check | HEAD CELL 22 TAIL | 1 | first: refused 11 at 37;
+no-key-by-name | named key | HEAD CELL 22 TAIL | 1 | first: refused 11 at 37;
 no-listing | show | HEAD CELL 22 TAIL | 1 | first: refused 11 at 37;
 the-first-of-two | same | HEAD CELL 22 TAIL & HEAD 23 TAIL | 1 | first: refused 11 at 37;
 the-second-of-two | same | HEAD CELL RECT TAIL & HEAD 23 TAIL | 1 | second: refused 12 at 34;
@@ -99,6 +108,9 @@ impl<'a> Run<'a> {
             "canon" => run_canon(alloc, "first", &mut from, out, err, limits),
             "check" => run_check(alloc, "first", &mut from, out, err, limits),
             "key" => run_key(alloc, "first", &mut from, out, err, limits),
+            "named check" => run_named_check(alloc, "first", &mut from, out, err, limits),
+            "named key" => run_named_key(alloc, "first", false, &mut from, out, err, limits),
+            "escaped key" => run_named_key(alloc, "first", true, &mut from, out, err, limits),
             "show" => run_show(alloc, "first", &mut from, out, err, limits),
             "rekey" => run_rekey(alloc, "first", &mut from, out, err, limits),
             _ => run_same(
@@ -157,6 +169,13 @@ fn each_refusal(rt: HostRuntime) -> Result<(), Fail> {
         assert_eq!(rt; err.taken.as_slice(), run.answer.as_slice(), "at {name}");
     }
     Ok(())
+}
+
+#[test]
+fn status_of_two(rt: HostRuntime) {
+    for (a, b, both) in [(0u8, 0u8, 0u8), (0, 3, 3), (3, 0, 3), (3, 1, 1), (1, 3, 1)] {
+        assert_eq!(rt; worse(a, b), both);
+    }
 }
 
 /// Runs a command to a writer that fails, and asserts that it refuses at the place that was reached.
