@@ -1,49 +1,32 @@
 //! The command `oascanon`: the canonical form of an OASIS file, and what can be asked of one.
 //!
 //! The words of the command line are read by [`commands`]. [`opening`] opens an input by its name, and [`creating`] has an
-//! output that is created at its first byte. The work is done by the `run_` functions, which are generic over their inputs
-//! and outputs, so that tests call them over memory; `main` opens the streams of the process and calls them. What they
-//! promise to `main`:
+//! output that is created at its first byte. The work is done by the runs of `oas_command`; `main` opens the streams of the
+//! process and calls them.
 //!
-//! - [`runs::run_canon`] answers status 0 where `oas_canon::canonicalize` answered Ok, and 1 where it refused. What was
-//!   read and written is all that the contract of that call says of its answer (`Canonicalizes`, specs/Calls.antt), the
-//!   offset and the reason of a refusal among it, and what the error output took is a front of that refusal's line, and
-//!   nothing after an Ok (`AppendsFront`, specs/Runs.antt).
-//! - [`runs::run_check`], [`runs::run_key`], [`runs::run_show`] and [`runs::run_same`] each hand on what the contract of
-//!   the call that they make says of what it found (`Judges`, `Keys`, `ReadsLayout`, `Compares`). The text of what was found
-//!   was written, or the writer failed after a front of it that is as long as the refusal says, and where nothing was found
-//!   nothing was written (`Delivers`). The status is 0, of a `check` and a `same` whose answer is no it is 3, and after a
-//!   refusal 1; the error output as above, in `same` under the name of the refused file.
-//! - [`runs::run_rekey`] answers status 0 where `oas_canon::rekey` re-keyed, 3 where it answered that the file isn't
-//!   canonical by profile one, and 1 where it refused, and hands on all that the contract of that call says
-//!   (`RekeysFile`); what the error output took is a front of the line of that answer (`rekey_said`, specs/Rekeying.antt).
-//! - [`runs::canon_telling`] and the like are the same over a sink for that line, whose contract counts failures: the line
-//!   was put, unless the sink failed (`Ends`, `EndsRekeying`).
-//! - [`lines::write_line`] writes a line to an output, or a front of it (`IsWritten`, `IsCutOff`).
-//! - [`messages::put_refusal`] puts the line `NAME: refused N at OFFSET` (`refusal_line`, specs/Lines.antt), and
-//!   [`opening::put_unopened`] the line `NAME: cannot be opened` (`unopened_line`, specs/Opening.antt). The line of a file
-//!   that isn't canonical by profile one is `NAME: not profile 1 canonical` (`not_profile_1_line`).
+//! - [`opening::Input`] opens a file by its name, or standard input without one (`is_named`, specs/Opening.antt).
 //! - [`creating::NewFile`] creates nothing as long as no byte is written to it (`is_created`, specs/Creating.antt).
+//! - [`replacing::Replacement`] is in the place of the file that stood there once it is flushed, and not before (`Stage`).
+//! - [`commands::limits_of`] answers the limits with the flag `--large` and without it.
 //!
 //! Not under a contract: which words `clap` understands, and that `main` hands each run what it opened.
 #![tactic(auto)]
 
 mod commands;
 mod creating;
-mod lines;
-mod messages;
 mod opening;
 mod replacing;
-mod runs;
 #[cfg(test)]
 mod tests;
 
 use commands::{Request, Task, limits_of};
 use creating::Output;
-use oas_canon::Limits;
-use oas_num::{ReaderSource, Refusal, Why};
-use opening::{Input, name_of, run_unopened};
-use runs::{run_canon, run_check, run_key, run_refused, run_rekey, run_same, run_show};
+use oas_canon::{Limits, ReaderSource, Refusal, Why};
+use oas_command::{
+    name_of, run_canon, run_check, run_key, run_refused, run_rekey, run_same, run_show,
+    run_unopened,
+};
+use opening::Input;
 use std::process::ExitCode;
 
 fn main(rt: HostRuntime) -> ExitCode {
