@@ -169,3 +169,20 @@ units_parts u v e =
     ap (λ b. if b then [] else signed 45 1 (unit_line u) ++ signed 43 1 (unit_line v)) e
     ∙ (λ i. signed_parts 45 1 (unit_line u) i ++ signed_parts 43 1 (unit_line v) i)
     ∙ append_assoc (45 ∷ 32 ∷ (decimal 1 ++ 32 ∷ [])) (unit_line u) ((43 ∷ 32 ∷ (decimal 1 ++ 32 ∷ [])) ++ unit_line v)
+
+-- ---- the first cell
+
+pub head_at : (cs : List Cell) (i : ℕ) (name : List ℕ) → slice_get (names cs) i ≡ Some name → (es : List (Element × ℕ)) × (drop i cs ≡ (name, es) ∷ drop (suc i) cs)
+head_at [] i name h = let no : ⊥ = cc in absurd no
+head_at (c ∷ cs) zero name h = (c.1, λ i. (unwrap_or (h i) name, c.1) ∷ cs)
+head_at (c ∷ cs) (suc i) name h = head_at cs i name h
+
+module _ (k name : List ℕ) (es : List (Element × ℕ)) (now rest : List Cell) (is : now ≡ (name, es) ∷ rest) where
+  pub cell_tied : slice_cmp nat_cmp k name ≡ Equal → taken (slice_cmp nat_cmp) k now ≡ (Some es, rest)
+  cell_tied h = ap (taken (slice_cmp nat_cmp) k) is ∙ ap (λ r. cond {A = Option (List (Element × ℕ)) × List Cell} (is_eq r) (Some es, rest) (None, (name, es) ∷ rest)) h
+
+  pub cell_apart : (r : Ordering) → r ≡ slice_cmp nat_cmp k name → r ≢ Equal → taken (slice_cmp nat_cmp) k now ≡ (None, now)
+  cell_apart r e n =
+      ap (taken (slice_cmp nat_cmp) k) is
+      ∙ ap (λ b. cond {A = Option (List (Element × ℕ)) × List Cell} b (Some es, rest) (None, (name, es) ∷ rest)) (ap is_eq (sym e) ∙ not_tied r n)
+      ∙ ap (λ (l : List Cell). (None, l)) (sym is)
