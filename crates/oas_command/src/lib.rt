@@ -34,7 +34,7 @@ mod unopened;
 pub use lines::write_line;
 pub use messages::put_refusal;
 pub use runs::{
-    canon_telling, check_telling, diff_telling, key_telling, rekey_telling, run_canon, run_check, run_diff, run_key,
-    run_refused, run_rekey, run_same, run_show, same_telling, show_telling,
+    canon_telling, check_telling, diff_telling, key_telling, rekey_telling, run_canon, run_check,
+    run_diff, run_key, run_refused, run_rekey, run_same, run_show, same_telling, show_telling,
 };
 pub use unopened::{name_of, put_unopened, run_unopened};
