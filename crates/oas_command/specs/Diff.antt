@@ -1,5 +1,5 @@
 -- What the command `diff` reads, writes and answers.
-use Rattle.std.specs.Prelude.{◌≡◌, ℕ, List, [], ◌∷◌, Result, Ok, Err}
+use Rattle.std.specs.Prelude.{◌≡◌, ℕ, zero, suc, List, [], ◌∷◌, Result, Ok, Err}
 use Rattle.oas_num.specs.declared.refusals.Refusal.{Refusal}
 use Rattle.oas_num.specs.Script.{Script}
 use Rattle.oas_layout.specs.declared.limits.Limits.{Limits}
@@ -26,6 +26,11 @@ diff_text found = difference PROFILE (meaning_of found.0) (meaning_of found.1)
 abbrev pub text_status : List ℕ → ℕ
 text_status [] = 0
 text_status (b ∷ bs) = 3
+
+-- the same of its length
+abbrev pub length_status : ℕ → ℕ
+length_status zero = 0
+length_status (suc n) = 3
 
 -- 0 where the difference is empty, 3 where it isn't, 1 after a refusal
 abbrev pub diff_status : Result (Contents × Contents) Refusal → ℕ

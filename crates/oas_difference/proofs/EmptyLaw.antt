@@ -72,7 +72,7 @@ pub same_count : (n m : ℕ) (text : List ℕ) → n ≡ m → change n m text �
 same_count n m text e =
     ap (λ (k : ℕ). change n k text) (sym e) ∙ ap (λ b. if b then signed 45 (n - n) text else if b then signed 43 (n - n) text else []) (not_below_itself n)
 
-neither_below : (n m : ℕ) → nat_lt m n ≡ false → nat_lt n m ≡ false → n ≡ m
+pub neither_below : (n m : ℕ) → nat_lt m n ≡ false → nat_lt n m ≡ false → n ≡ m
 neither_below n m e f = grind (arith, nat_tests)
 
 counts_alike : (n m : ℕ) (text : List ℕ) → change n m text ≡ [] → n ≡ m

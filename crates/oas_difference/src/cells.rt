@@ -1,6 +1,6 @@
 //! What has changed in each cell.
 
-ghost use Rattle.std.specs.Prelude.{◌≡◌, ◌++◌, true, [], ◌∷◌, drop, unwrap_or, option_map, IfSome, codes};
+ghost use Rattle.std.specs.Prelude.{◌≡◌, true, unwrap_or, option_map, IfSome};
 ghost use Rattle.std.specs.Ordering.{nat_cmp};
 ghost use Rattle.std.specs.Cmp.Lexicographic.{slice_cmp};
 ghost use Rattle.std.specs.List.Sorted.{IsStrictlySortedBy};
@@ -8,6 +8,7 @@ ghost use Rattle.std.specs.Map.{keys_of};
 ghost use Rattle.std.specs.Map.Iter.{deref};
 ghost use Rattle.oas_num.specs.Writing.{Writes};
 ghost use Rattle.oas_layout.specs.Bag.{IsTally};
+ghost use Rattle.oas_layout.specs.Contents.{IsLayout};
 ghost use Rattle.oas_layout.specs.Element.{element_cmp};
 ghost use Rattle.oas_difference.specs.Difference.{cell_line, place_line, signed, below_name};
 ghost use Rattle.oas_difference.specs.Pairs.{head_key, least, taken};
@@ -25,32 +26,40 @@ use std::marker::Model;
 #[derive(Drop)]
 pub(crate) struct Cells<'a> {
     layout: &'a Layout,
+    count: usize,
     next: usize,
 }
 
 impl<'a> Model for Cells<'a> {
-    ghost use Rattle.std.specs.Prelude.{List, drop};
+    ghost use Rattle.std.specs.Prelude.{◌≡◌, List, length, drop};
     ghost use Rattle.oas_layout.specs.Contents.{Cell};
 
     ghost Value = { List Cell };
 
     ghost view = { λ c. drop c.next c.layout.now.cells };
+
+    ghost invariant = { λ c. c.count ≡ length c.layout.now.cells };
 }
 
 impl<'a> Cells<'a> {
     /// All of them.
     pub(crate) fn new(layout: &'a Layout) -> Cells<'a>
         ensures cells { result ≡ layout.now.cells }
-        ensures ascending { IsStrictlySortedBy (slice_cmp nat_cmp) (keys_of result) }
+        ensures layout { IsLayout layout.now }
     {
-        Cells { layout, next: 0 }
+        let count = layout.cells();
+        Cells {
+            layout,
+            count,
+            next: 0,
+        }
     }
 
     /// The name of the first.
     fn name(&self) -> Option<&'a Name>
         ensures { option_map deref result ≡ head_key self.now }
     {
-        if self.next < self.layout.cells() {
+        if self.next < self.count {
             Some(self.layout.cell_name(self.next))
         } else {
             None
@@ -63,7 +72,10 @@ impl<'a> Cells<'a> {
         ensures rest { self.new ≡ (taken (slice_cmp nat_cmp) name.now self.old).1 }
         ensures tally { IfSome result IsTally }
     {
-        let first = self.name()?;
+        if self.next >= self.count {
+            return None;
+        }
+        let first = self.layout.cell_name(self.next);
         match name.as_bytes().cmp(first.as_bytes()) {
             Ordering::Equal => {
                 let elements = self.layout.elements(self.next);
@@ -135,7 +147,8 @@ fn put_cell<'a, K: Sink>(
     ensures { Writes K.given K.failures sink.old (held_cell (name.now, (before.entry, after.entry))) result sink.new }
 {
     let there = (before.is_some(), after.is_some());
-    let (before, after) = (Side::new(before), Side::new(after));
+    let before = Side::new(before);
+    let after = Side::new(after);
     match there {
         (true, true) => put_both(sink, name, before, after),
         (true, false) => {

@@ -37,8 +37,10 @@ fn put_difference<'a, K: Sink>(
     ensures writes { Writes K.given K.failures sink.old (difference before.now.profile (meaning_of before.now) (meaning_of after.now)) result sink.new }
     ensures short { length (difference before.now.profile (meaning_of before.now) (meaning_of after.now)) < 2 ^ 64 }
 {
+    let left = Cells::new(before);
+    let right = Cells::new(after);
     put_units(sink, before.unit(), after.unit())?;
-    put_cells(sink, Cells::new(before), Cells::new(after))
+    put_cells(sink, left, right)
 }
 
 /// Puts the difference of two layouts into an outlet, and has its writer take all of it.

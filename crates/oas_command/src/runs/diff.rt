@@ -1,10 +1,10 @@
 //! The command `diff`.
 
-ghost use Rattle.std.specs.Prelude.{◌≡◌, Result};
+ghost use Rattle.std.specs.Prelude.{◌≡◌, Result, IfOk};
 ghost use Rattle.oas_num.specs.declared.refusals.Refusal.{Refusal as Refused};
 ghost use Rattle.oas_layout.specs.Contents.{Contents};
 ghost use Rattle.oas_canon.specs.declared.sameness.Which.{Which as WhichFile};
-ghost use Rattle.oas_command.specs.Diff.{ReadsBoth, diff_text, diff_status};
+ghost use Rattle.oas_command.specs.Diff.{ReadsBoth, diff_text, diff_status, length_status};
 ghost use Rattle.oas_command.specs.Runs.{Delivers, found_in, blamed, said, Ends, AppendsFront};
 
 use super::ends::{DONE, NO, conclude, refuse};
@@ -58,11 +58,20 @@ pub fn diff_telling<S: Source, T: Source, W: Write, K: Sink>(
     match read_both(alloc, a, b, limits) {
         Ok((before, after)) => {
             let written = write_difference(&before, &after, out);
-            let status = if written == Ok(0) { DONE } else { NO };
-            conclude(name_a, written, status, told)
+            conclude(name_a, written, status_of_length(written), told)
         }
         Err((Which::First, refusal)) => refuse(name_a, refusal, told),
         Err((Which::Second, refusal)) => refuse(name_b, refusal, told),
+    }
+}
+
+/// The status of a run that wrote a difference of so many bytes.
+fn status_of_length(written: Result<u64, Refusal>) -> u8
+    ensures { IfOk written (λ n. result ≡ length_status n) }
+{
+    match written {
+        Ok(0) | Err(_) => DONE,
+        Ok(_) => NO,
     }
 }
 
