@@ -56,6 +56,9 @@ pub enum Task<'a> {
     Key {
         input: Option<&'a str>,
     },
+    Keys {
+        input: Option<&'a str>,
+    },
     Rekey {
         old: &'a str,
         new: &'a str,
@@ -125,6 +128,7 @@ fn task_of<'a>(name: &str, found: &ArgMatches<'a>) -> Option<Task<'a>> {
         }),
         "show" => Some(Task::Show { input }),
         "key" => Some(Task::Key { input }),
+        "keys" => Some(Task::Keys { input }),
         "rekey" => Some(Task::Rekey {
             old: found.get_str("OLD")?,
             new: found.get_str("NEW")?,
@@ -146,6 +150,11 @@ fn oascanon<'a>(alloc: Global) -> Result<Command<'a>, Error> {
         "key",
         "Writes the SHA-256 of a file's canonical form",
     )?;
+    let keys = reader(
+        alloc,
+        "keys",
+        "Writes such a key of each cell alone, and its name",
+    )?;
     Ok(
         Command::new(alloc, "oascanon")
             .about("The canonical form of OASIS mask layouts (SEMI P39)")
@@ -157,6 +166,7 @@ fn oascanon<'a>(alloc: Global) -> Result<Command<'a>, Error> {
             .subcommand(same(alloc)?)?
             .subcommand(show)?
             .subcommand(key)?
+            .subcommand(keys)?
             .subcommand(rekey(alloc)?)?,
     )
 }
