@@ -1,6 +1,6 @@
 # Completions of oascanon for bash.
 _oascanon() {
-  local commands='canon check same diff show key rekey help' word=${COMP_WORDS[COMP_CWORD]}
+  local commands='canon check same diff show key keys rekey help' word=${COMP_WORDS[COMP_CWORD]}
   if [ "$COMP_CWORD" -eq 1 ]; then
     mapfile -t COMPREPLY < <(compgen -W "$commands --help --version" -- "$word")
   elif [[ $word == -* ]]; then

@@ -7,6 +7,7 @@ complete -c oascanon -n __fish_use_subcommand -f -a same -d 'Says whether two fi
 complete -c oascanon -n __fish_use_subcommand -f -a diff -d 'Lists what one of two files has more often than the other'
 complete -c oascanon -n __fish_use_subcommand -f -a show -d 'Lists the layout that a file means'
 complete -c oascanon -n __fish_use_subcommand -f -a key -d "Writes the SHA-256 of a file's canonical form"
+complete -c oascanon -n __fish_use_subcommand -f -a keys -d 'Writes such a key of each cell alone, and its name'
 complete -c oascanon -n __fish_use_subcommand -f -a rekey -d 'From the canonical file by profile one to that by profile two'
 complete -c oascanon -n __fish_use_subcommand -f -a help -d 'Prints what a command understands'
 complete -c oascanon -n 'not __fish_use_subcommand' -l large -d 'Takes larger files'

@@ -11,6 +11,8 @@
 //!   writer failed after a front of it that is as long as the refusal says, and where nothing was found nothing was written
 //!   (`Delivers`). The status is 0, of a `check` and a `same` whose answer is no it is 3, and after a refusal 1; the error
 //!   output as above, in `same` under the name of the refused file.
+//! - [`run_keys`] does as `run_show`: its text is the key of each cell (`cell_key_lines`, of `oas_canon`'s
+//!   specs/CellKeys.antt).
 //! - [`run_rekey`] answers status 0 where `oas_canon::rekey` re-keyed, 3 where it answered that the file isn't canonical by
 //!   profile one, and 1 where it refused, and hands on all that the contract of that call says (`RekeysFile`); what the
 //!   error output took is a front of the line of that answer (`rekey_said`, specs/Rekeying.antt).
@@ -34,8 +36,9 @@ mod unopened;
 pub use lines::write_line;
 pub use messages::put_refusal;
 pub use runs::{
-    canon_telling, check_telling, diff_telling, key_telling, named_check_telling,
-    named_key_telling, rekey_telling, run_canon, run_check, run_diff, run_key, run_named_check,
-    run_named_key, run_refused, run_rekey, run_same, run_show, same_telling, show_telling, worse,
+    canon_telling, check_telling, diff_telling, key_telling, keys_telling, named_check_telling,
+    named_key_telling, rekey_telling, run_canon, run_check, run_diff, run_key, run_keys,
+    run_named_check, run_named_key, run_refused, run_rekey, run_same, run_show, same_telling,
+    show_telling, worse,
 };
 pub use unopened::{name_of, put_unopened, run_unopened};

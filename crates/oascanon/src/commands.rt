@@ -60,6 +60,9 @@ pub enum Task<'a> {
     Key {
         input: Option<&'a str>,
     },
+    Keys {
+        input: Option<&'a str>,
+    },
     Rekey {
         old: &'a str,
         new: &'a str,
@@ -133,6 +136,7 @@ fn task_of<'a>(name: &str, found: &ArgMatches<'a>) -> Option<Task<'a>> {
         }),
         "show" => Some(Task::Show { input }),
         "key" => Some(Task::Key { input }),
+        "keys" => Some(Task::Keys { input }),
         "rekey" => Some(Task::Rekey {
             old: found.get_str("OLD")?,
             new: found.get_str("NEW")?,
@@ -154,6 +158,11 @@ fn oascanon<'a>(alloc: Global) -> Result<Command<'a>, Error> {
         "key",
         "Writes the SHA-256 of a file's canonical form",
     )?;
+    let keys = reader(
+        alloc,
+        "keys",
+        "Writes such a key of each cell alone, and its name",
+    )?;
     Ok(
         Command::new(alloc, "oascanon")
             .about("The canonical form of OASIS mask layouts (SEMI P39)")
@@ -166,6 +175,7 @@ fn oascanon<'a>(alloc: Global) -> Result<Command<'a>, Error> {
             .subcommand(diff(alloc)?)?
             .subcommand(show)?
             .subcommand(key)?
+            .subcommand(keys)?
             .subcommand(rekey(alloc)?)?,
     )
 }

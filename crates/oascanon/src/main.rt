@@ -23,8 +23,8 @@ use commands::{Request, Task, limits_of};
 use creating::Output;
 use oas_canon::{Limits, ReaderSource, Refusal, Why};
 use oas_command::{
-    name_of, run_canon, run_check, run_diff, run_key, run_refused, run_rekey, run_same, run_show,
-    run_unopened,
+    name_of, run_canon, run_check, run_diff, run_key, run_keys, run_refused, run_rekey, run_same,
+    run_show, run_unopened,
 };
 use opening::Input;
 use std::process::ExitCode;
@@ -50,6 +50,7 @@ fn answer(rt: &HostRuntime, request: Request<'_>) -> u8 {
         Task::Diff { first, second } => diff(rt, first, second, limits),
         Task::Show { input } => show(rt, input, limits),
         Task::Key { input } => key(rt, input, limits),
+        Task::Keys { input } => keys(rt, input, limits),
         Task::Rekey { old, new } => rekey(rt, old, new, limits),
     };
     match ended {
@@ -152,6 +153,14 @@ fn key(rt: &HostRuntime, input: Option<&str>, limits: Limits) -> Result<u8, u8> 
     let (mut out, mut err) = (rt.stdout(), rt.stderr());
     let name = name_of(input);
     Ok(run_key(rt.alloc(), name, &mut from, &mut out, &mut err, limits))
+}
+
+/// `keys [IN]`
+fn keys(rt: &HostRuntime, input: Option<&str>, limits: Limits) -> Result<u8, u8> {
+    let mut from = source_of(rt, input, limits)?;
+    let (mut out, mut err) = (rt.stdout(), rt.stderr());
+    let name = name_of(input);
+    Ok(run_keys(rt.alloc(), name, &mut from, &mut out, &mut err, limits))
 }
 
 /// `rekey OLD NEW`

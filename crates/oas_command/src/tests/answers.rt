@@ -4,8 +4,8 @@
 use super::devices::{Full, Writer};
 use super::rows::bytes_of;
 use crate::runs::{
-    run_canon, run_check, run_key, run_named_check, run_named_key, run_rekey, run_same, run_show,
-    worse,
+    run_canon, run_check, run_key, run_keys, run_named_check, run_named_key, run_rekey, run_same,
+    run_show, worse,
 };
 use oas_canon::Limits;
 use oas_num::{INPUT_MAX, SliceSource};
@@ -20,6 +20,7 @@ canonical | check | HEAD CELL RECT TAIL | 0 | canonical;
 spelled-by-a-number | check | HEAD 0D00 RECT 030141 TAIL | 3 | not canonical;
 key-of-a-canonical-file | key | HEAD CELL RECT TAIL | 0 | faa9cb7d21110cae5bde5660c1b56c7b0b00a54880eacf1bfeba45a6cc348d77;
 key-of-another-spelling | key | HEAD 0D00 RECT 030141 TAIL | 0 | faa9cb7d21110cae5bde5660c1b56c7b0b00a54880eacf1bfeba45a6cc348d77;
+keys-of-two-cells | keys | HEAD 0E0142 CELL RECT TAIL | 0 | faa9cb7d21110cae5bde5660c1b56c7b0b00a54880eacf1bfeba45a6cc348d77  A;e548ccba0286fed19248bc56d784a0083342adba183e389cec47947966846bf6  B;
 listing | show | HEAD CELL RECT TAIL | 0 | unit 1000/1;cell A;rectangle 1 0 10 20 0 0;
 listing-of-no-cell | show | HEAD TAIL | 0 | unit 1000/1;
 two-strings | same | HEAD CELL 135B02486903000000 TAIL & HEAD CELL 135B02486F03000000 TAIL | 3 | different;
@@ -41,6 +42,7 @@ not-checked | check | HEAD CELL 22 TAIL | 1 | first: refused 11 at 37;
 no-key | key | HEAD CELL 22 TAIL | 1 | first: refused 11 at 37;
 not-checked-by-name | named check | HEAD CELL 22 TAIL | 1 | first: refused 11 at 37;
 no-key-by-name | named key | HEAD CELL 22 TAIL | 1 | first: refused 11 at 37;
+no-keys | keys | HEAD CELL 22 TAIL | 1 | first: refused 11 at 37;
 no-listing | show | HEAD CELL 22 TAIL | 1 | first: refused 11 at 37;
 the-first-of-two | same | HEAD CELL 22 TAIL & HEAD 23 TAIL | 1 | first: refused 11 at 37;
 the-second-of-two | same | HEAD CELL RECT TAIL & HEAD 23 TAIL | 1 | second: refused 12 at 34;
@@ -111,6 +113,7 @@ impl<'a> Run<'a> {
             "named check" => run_named_check(alloc, "first", &mut from, out, err, limits),
             "named key" => run_named_key(alloc, "first", false, &mut from, out, err, limits),
             "escaped key" => run_named_key(alloc, "first", true, &mut from, out, err, limits),
+            "keys" => run_keys(alloc, "first", &mut from, out, err, limits),
             "show" => run_show(alloc, "first", &mut from, out, err, limits),
             "rekey" => run_rekey(alloc, "first", &mut from, out, err, limits),
             _ => run_same(

@@ -100,6 +100,7 @@ fn words_of_the_others(rt: HostRuntime) -> Result<(), Fail> {
         true,
         Task::Key { input },
     )?;
+    expect_task(&rt, alloc, "oascanon keys a", false, Task::Keys { input })?;
     let (first, second) = ("a", "b");
     let same = Task::Same { first, second };
     expect_task(&rt, alloc, "oascanon same a b", false, same)?;
