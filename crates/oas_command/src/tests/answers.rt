@@ -29,23 +29,31 @@ two-spellings | same | HEAD CELL RECT TAIL & HEAD 0D00 RECT 030141 TAIL | 0 | sa
 a-box-is-not-canonical | check | HEAD CELL 153B010004030128290001290000 TAIL | 3 | not canonical;
 key-of-a-box | key | HEAD CELL 153B010004030128290001290000 TAIL | 0 | faa9cb7d21110cae5bde5660c1b56c7b0b00a54880eacf1bfeba45a6cc348d77;
 listing-of-a-box | show | HEAD CELL 153B010004030128290001290000 TAIL | 0 | unit 1000/1;cell A;rectangle 1 0 10 20 0 0;
+a-box-and-its-rectangle | same | HEAD CELL 153B0100000214280000 TAIL & HEAD CELL RECT TAIL | 0 | same;
+";
+
+/// The same of answers that have their file's name.
+const NAMED: &str = "\
 named-canonical | named check | HEAD CELL RECT TAIL | 0 | first: canonical;
 named-spelled-by-a-number | named check | HEAD 0D00 RECT 030141 TAIL | 3 | first: not canonical;
 named-key | named key | HEAD 0D00 RECT 030141 TAIL | 0 | faa9cb7d21110cae5bde5660c1b56c7b0b00a54880eacf1bfeba45a6cc348d77  first;
 escaped-key | escaped key | HEAD CELL RECT TAIL | 0 | \\faa9cb7d21110cae5bde5660c1b56c7b0b00a54880eacf1bfeba45a6cc348d77  first;
-a-box-and-its-rectangle | same | HEAD CELL 153B0100000214280000 TAIL & HEAD CELL RECT TAIL | 0 | same;
 ";
 
 /// The same of files that are refused, with the line of the refusal.
 const REFUSED: &str = "\
 not-checked | check | HEAD CELL 22 TAIL | 1 | first: refused 11 at 37;
 no-key | key | HEAD CELL 22 TAIL | 1 | first: refused 11 at 37;
-not-checked-by-name | named check | HEAD CELL 22 TAIL | 1 | first: refused 11 at 37;
-no-key-by-name | named key | HEAD CELL 22 TAIL | 1 | first: refused 11 at 37;
 no-keys | keys | HEAD CELL 22 TAIL | 1 | first: refused 11 at 37;
 no-listing | show | HEAD CELL 22 TAIL | 1 | first: refused 11 at 37;
 the-first-of-two | same | HEAD CELL 22 TAIL & HEAD 23 TAIL | 1 | first: refused 11 at 37;
 the-second-of-two | same | HEAD CELL RECT TAIL & HEAD 23 TAIL | 1 | second: refused 12 at 34;
+";
+
+/// The same where the answer would have its file's name.
+const NAMED_REFUSED: &str = "\
+not-checked-by-name | named check | HEAD CELL 22 TAIL | 1 | first: refused 11 at 37;
+no-key-by-name | named key | HEAD CELL 22 TAIL | 1 | first: refused 11 at 37;
 ";
 
 /// A command, and the files that it is run on, of which all but `same` read the first alone.
@@ -136,17 +144,26 @@ pub fn writer(alloc: Global, room: usize) -> Result<Writer, AllocError> {
 
 /// The runs of all rows that answer.
 pub fn answering(alloc: Global) -> Result<Vec<Run<'static>>, Fail> {
+    runs_of(alloc, ANSWERS)
+}
+
+/// The runs of all rows that answer with a name.
+pub fn answering_by_name(alloc: Global) -> Result<Vec<Run<'static>>, Fail> {
+    runs_of(alloc, NAMED)
+}
+
+/// The runs of these rows.
+fn runs_of(alloc: Global, rows: &'static str) -> Result<Vec<Run<'static>>, Fail> {
     let mut runs = Vec::new(alloc);
-    for row in ANSWERS.lines() {
+    for row in rows.lines() {
         runs.push(Run::of_row(alloc, row)?)?;
     }
     Ok(runs)
 }
 
-#[test]
-fn each_answer(rt: HostRuntime) -> Result<(), Fail> {
-    let alloc = rt.alloc();
-    for run in &answering(alloc)? {
+/// Asserts what each of these runs answers.
+fn expect_answers(rt: &impl Abort, alloc: Global, runs: &[Run<'_>]) -> Result<(), Fail> {
+    for run in runs {
         let mut out = writer(alloc, usize::MAX)?;
         let mut err = writer(alloc, usize::MAX)?;
         let status = run.run(alloc, &mut out, &mut err);
@@ -158,11 +175,9 @@ fn each_answer(rt: HostRuntime) -> Result<(), Fail> {
     Ok(())
 }
 
-#[test]
-fn each_refusal(rt: HostRuntime) -> Result<(), Fail> {
-    let alloc = rt.alloc();
-    for row in REFUSED.lines() {
-        let run = Run::of_row(alloc, row)?;
+/// Asserts that each of these runs is refused, and says so.
+fn expect_refusals(rt: &impl Abort, alloc: Global, runs: &[Run<'_>]) -> Result<(), Fail> {
+    for run in runs {
         let mut out = writer(alloc, usize::MAX)?;
         let mut err = writer(alloc, usize::MAX)?;
         let status = run.run(alloc, &mut out, &mut err);
@@ -172,6 +187,20 @@ fn each_refusal(rt: HostRuntime) -> Result<(), Fail> {
         assert_eq!(rt; err.taken.as_slice(), run.answer.as_slice(), "at {name}");
     }
     Ok(())
+}
+
+#[test]
+fn each_answer(rt: HostRuntime) -> Result<(), Fail> {
+    let alloc = rt.alloc();
+    expect_answers(&rt, alloc, answering(alloc)?.as_slice())?;
+    expect_answers(&rt, alloc, answering_by_name(alloc)?.as_slice())
+}
+
+#[test]
+fn each_refusal(rt: HostRuntime) -> Result<(), Fail> {
+    let alloc = rt.alloc();
+    expect_refusals(&rt, alloc, runs_of(alloc, REFUSED)?.as_slice())?;
+    expect_refusals(&rt, alloc, runs_of(alloc, NAMED_REFUSED)?.as_slice())
 }
 
 #[test]
@@ -215,6 +244,9 @@ pub fn expect_faults(rt: &impl Abort, alloc: Global, run: &Run<'_>) -> Result<()
 fn writers_that_fail(rt: HostRuntime) -> Result<(), Fail> {
     let alloc = rt.alloc();
     for run in &answering(alloc)? {
+        expect_faults(&rt, alloc, run)?;
+    }
+    for run in &answering_by_name(alloc)? {
         expect_faults(&rt, alloc, run)?;
     }
     Ok(())

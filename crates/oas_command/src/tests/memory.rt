@@ -3,7 +3,7 @@
 //! The process's heap is filled with pieces, down to the smallest, and then emptied a piece at a time, so that each run
 //! has a little more memory than the one before. (Under `rt try` the heap can't be filled, and nothing is refused.)
 
-use super::answers::{Run, answering, writer};
+use super::answers::{Run, answering, answering_by_name, writer};
 use super::devices::Writer;
 use scarce_memory::Hoard;
 use std::alloc::Global;
@@ -74,6 +74,15 @@ fn each_growth_of_canon(rt: HostRuntime) -> Result<(), Fail> {
 fn each_growth_of_an_answer(rt: HostRuntime) -> Result<(), Fail> {
     let alloc = rt.alloc();
     for run in &answering(alloc)? {
+        expect_growths(&rt, alloc, run)?;
+    }
+    Ok(())
+}
+
+#[test]
+fn each_growth_of_a_named_answer(rt: HostRuntime) -> Result<(), Fail> {
+    let alloc = rt.alloc();
+    for run in &answering_by_name(alloc)? {
         expect_growths(&rt, alloc, run)?;
     }
     Ok(())
