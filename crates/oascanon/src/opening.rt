@@ -1,10 +1,18 @@
 //! Inputs by name.
-ghost use Rattle.std.specs.Prelude.{◌≡◌, None, IfOk, IsOk, is_some};
+ghost use Rattle.std.specs.Prelude.{◌≡◌, ◌≢◌, None, Some, IfOk, IsOk, is_some, codes};
 ghost use Rattle.oascanon.specs.Opening.{is_named};
 
 use std::fs::File;
 use std::io;
 use std::io::{Read, Stdin};
+
+/// The file that a word of the command line means: `-` is none, but standard input or output. A file of that name is `./-`.
+pub fn file_meant<'a>(word: &'a str) -> Option<&'a str>
+    ensures dash { word.now ≡ codes "-" → result ≡ None }
+    ensures file { word.now ≢ codes "-" → result ≡ Some word.entry }
+{
+    if word == "-" { None } else { Some(word) }
+}
 
 /// Where a file is read from.
 #[derive(Drop)]

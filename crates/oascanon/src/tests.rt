@@ -1,4 +1,5 @@
-//! What no contract says: command lines, and files by name.
+//! What no clause says: command lines, files by name, lists of names and names that are printed.
 
 mod files;
+mod names;
 mod words;
