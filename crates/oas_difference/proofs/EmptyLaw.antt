@@ -1,17 +1,17 @@
 -- The difference is empty exactly if the layouts are the same.
-use Rattle.std.proofs.Common.{◌≡◌, ℕ, ◌<◌, ◌+◌, List, [], ◌∷◌, ◌++◌, flat_map, Bool, true, false, cond, Option, None, Some, is_some, unwrap_or, ◌⊎◌, inl, inr, refl, sym, ◌∙◌, ap, subst, arith}
+use Rattle.std.proofs.Common.{◌≡◌, ℕ, List, [], ◌∷◌, ◌++◌, flat_map, Bool, true, false, cond, Option, None, Some, is_some, unwrap_or, ◌⊎◌, inl, inr, refl, sym, ◌∙◌, ap, subst, arith}
 use Rattle.std.specs.Prelude.{◌==◌, ◌&&◌, ◌-◌, nat_lt, count_by, if◌then◌else◌}
 use Rattle.std.proofs.lemmas.Bool.{ltb-true, eqb-true, eq-eqb}
 use Rattle.std.proofs.lemmas.Bool.Decides.{nat_tests}
 use Rattle.std.proofs.lemmas.List.Sums.{sum_by-cons}
 use Rattle.std.specs.Cmp.Lexicographic.{pointwise, texts_ties}
-use Rattle.std.specs.Ordering.{match_ordering, nat_cmp, is_eq, eq_by_cmp}
+use Rattle.std.specs.Ordering.{match_ordering, nat_cmp, eq_by_cmp}
 use Rattle.std.specs.Cmp.{Equal-is}
 use Rattle.std.specs.Cmp.Lexicographic.{slice_cmp}
 use Rattle.std.specs.declared.cmp.Ordering.{Ordering}
 use Rattle.std.specs.declared.cmp.Ordering.TheVariants.{Less, Equal, Greater}
 use Rattle.std.specs.List.{AllByRecursion}
-use Rattle.std.specs.Map.{keys_of, lookup}
+use Rattle.std.specs.Map.{keys_of}
 use Rattle.std.specs.BTreeSet.{insert_key}
 use Rattle.std.proofs.lemmas.Map.Lookups.{CmpEqualImpliesEq, exact_bytes}
 use Rattle.oas_num.specs.Ratio.{Ratio}
@@ -24,7 +24,7 @@ use Rattle.oas_layout.specs.Laws.SameLaws.{same_element-is, same_element-Decides
 use Rattle.oas_layout.specs.Meaning.{Meaning, SameLayout, elements_of, count_of}
 use Rattle.oas_listing.specs.Listing.{element_line}
 use Rattle.oas_difference.specs.Ascending.{ascending}
-use Rattle.oas_difference.specs.Difference.{change, signed, unit_line, same_ratio, unit_changes, element_changes, cell_line, place_line, below_name, cell_changes, difference}
+use Rattle.oas_difference.specs.Difference.{change, signed, unit_line, same_ratio, unit_changes, element_changes, below_name, cell_changes, difference}
 use Rattle.oas_difference.specs.Laws.DifferenceLaws.{EmptyIfSame}
 
 -- ---- lists without a line

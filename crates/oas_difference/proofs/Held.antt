@@ -1,5 +1,5 @@
 -- The difference of two layouts is that of what they hold.
-use Rattle.std.proofs.Common.{◌≡◌, ℕ, ◌<◌, List, [], ◌∷◌, ◌++◌, map, flat_map, Bool, true, false, cond, Option, None, Some, is_some, unwrap_or, refl, sym, ◌∙◌, ap, subst}
+use Rattle.std.proofs.Common.{◌≡◌, ℕ, List, [], ◌∷◌, ◌++◌, flat_map, Bool, true, false, cond, Option, None, Some, is_some, unwrap_or, refl, sym, ◌∙◌, ap, subst}
 use Rattle.std.specs.Prelude.{◌==◌, option_map, IfSome}
 use Rattle.std.specs.Ordering.{nat_cmp}
 use Rattle.std.specs.Cmp.Lexicographic.{slice_cmp, pointwise, texts_ties}
@@ -19,7 +19,7 @@ use Rattle.oas_layout.specs.Contents.{Cell, Contents, expanded, meaning_of, IsCe
 use Rattle.oas_layout.proofs.LawProofs.{held}
 use Rattle.oas_listing.specs.Listing.{element_line}
 use Rattle.oas_difference.specs.Ascending.{ascending}
-use Rattle.oas_difference.specs.Pairs.{found, side_by_side}
+use Rattle.oas_difference.specs.Pairs.{found}
 use Rattle.oas_difference.specs.Difference.{change, unit_changes, element_changes, below_name, cell_changes, difference}
 use Rattle.oas_difference.specs.Held.{pair_line, held_changes, held_cell, held_cells}
 use Rattle.oas_difference.proofs.Ascending.{all_append, all_ascending, items_keys}

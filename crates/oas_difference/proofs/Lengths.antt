@@ -1,8 +1,8 @@
 -- The difference of two layouts is short enough for its length to be counted.
-use Rattle.std.proofs.Common.{◌≡◌, ℕ, ◌+◌, ◌*◌, ◌^◌, ◌<◌, ◌≤◌, zero, suc, List, [], ◌∷◌, ◌++◌, length, flat_map, map, sum_by, cond, Bool, true, false, Option, None, Some, is_some, unwrap_or, decimal, length-append, refl, sym, ◌∙◌, ap, subst, arith}
+use Rattle.std.proofs.Common.{◌≡◌, ℕ, ◌+◌, ◌*◌, ◌^◌, ◌<◌, ◌≤◌, zero, suc, List, [], ◌∷◌, ◌++◌, length, flat_map, sum_by, cond, Bool, true, false, Option, None, Some, unwrap_or, decimal, length-append, refl, ◌∙◌, ap, subst, arith}
 use Rattle.std.specs.Prelude.{codes, nat_lt, ◌-◌, if◌then◌else◌}
 use Rattle.std.specs.Ordering.{nat_cmp, is_eq, match_ordering, ordering_reverse}
-use Rattle.std.specs.Cmp.{IsTotalOrder, tied_itself}
+use Rattle.std.specs.Cmp.{IsTotalOrder}
 use Rattle.std.specs.Cmp.Lexicographic.{slice_cmp, nat_list_cmp_total}
 use Rattle.std.specs.declared.cmp.Ordering.{Ordering}
 use Rattle.std.specs.declared.cmp.Ordering.TheVariants.{Less, Equal, Greater}
@@ -19,15 +19,14 @@ use Rattle.oas_layout.specs.declared.profile.Profile.{Profile}
 use Rattle.oas_layout.specs.declared.element.Element.{Element}
 use Rattle.oas_layout.specs.declared.element.Element.TheVariants.{Placement, Text, Rectangle, Polygon, Path, Circle}
 use Rattle.oas_layout.specs.Element.{element_cmp}
-use Rattle.oas_layout.specs.Bag.{items}
 use Rattle.oas_layout.specs.Weight.{weight_of}
-use Rattle.oas_layout.specs.Meaning.{cells_sum, cells_weight}
+use Rattle.oas_layout.specs.Meaning.{cells_weight}
 use Rattle.oas_layout.specs.Contents.{Cell, Contents, expanded, IsCell, IsLayout}
 use Rattle.oas_layout.specs.Laws.BagLaws.{total, sum_by-items}
 use Rattle.oas_listing.specs.Listing.{element_line, fraction}
-use Rattle.oas_listing.proofs.Lengths.{length-decimal, length-element, length-line, taken}
+use Rattle.oas_listing.proofs.Lengths.{length-decimal, length-element, length-line}
 use Rattle.oas_difference.specs.Ascending.{ascending}
-use Rattle.oas_difference.specs.Pairs.{found, side_by_side}
+use Rattle.oas_difference.specs.Pairs.{found}
 use Rattle.oas_difference.specs.Difference.{signed, change, unit_line, same_ratio, unit_changes, cell_line, place_line, below_name}
 use Rattle.oas_difference.specs.Held.{pair_line, held_changes, held_cell, held_cells}
 use Rattle.oas_difference.proofs.Ascending.{Below, below_chain, above, all_insert}

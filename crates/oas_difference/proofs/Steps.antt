@@ -8,7 +8,7 @@ use Rattle.std.specs.Map.Iter.{TakesFirst}
 use Rattle.oas_num.specs.Ratio.{Ratio}
 use Rattle.oas_num.proofs.PuttingLemmas.{PutSoFar}
 use Rattle.oas_layout.specs.Bag.{counted, IsTally}
-use Rattle.std.specs.Ordering.{nat_cmp, is_eq, eq_by_cmp, match_ordering}
+use Rattle.std.specs.Ordering.{nat_cmp, is_eq, match_ordering}
 use Rattle.std.specs.Cmp.Lexicographic.{slice_cmp, nat_list_cmp_total}
 use Rattle.std.specs.List.Sorted.{IsStrictlySortedBy}
 use Rattle.std.specs.Map.{keys_of}

@@ -1,6 +1,6 @@
 use Rattle.std.proofs.Common.{◌∙◌, ap, true}
 use Rattle.std.proofs.lemmas.Result.{err_from_is_err_and}
-use Rattle.oas_num.proofs.PuttingLemmas.{first, begins, fails_at, ends, ◌▸◌}
+use Rattle.oas_num.proofs.PuttingLemmas.{begins, fails_at, ends, ◌▸◌}
 use Rattle.oas_listing.specs.Listing.{element_line}
 use Rattle.oas_difference.specs.Difference.{below_name}
 use Rattle.oas_difference.specs.Held.{held_changes}

@@ -1,6 +1,6 @@
 use Rattle.std.proofs.Common.{◌≡◌}
 use Rattle.std.proofs.lemmas.Result.{err_from_is_err_and}
-use Rattle.oas_num.proofs.PuttingLemmas.{first, begins, fails_at, ends, ◌▸◌}
+use Rattle.oas_num.proofs.PuttingLemmas.{first, begins, fails_at, ends}
 use Rattle.oas_difference.proofs.Steps.{place_parts}
 use Rattle.oas_difference.proofs.cells.put_place.Goals as goal
 

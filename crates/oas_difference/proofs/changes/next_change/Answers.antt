@@ -1,4 +1,4 @@
-use Rattle.std.proofs.Common.{◌≡◌, ◌∙◌, ◌++◌, Some, sym, arith}
+use Rattle.std.proofs.Common.{◌≡◌, ◌∙◌, Some, sym, arith}
 use Rattle.oas_layout.specs.Element.{element_cmp}
 use Rattle.oas_listing.specs.Listing.{element_line}
 use Rattle.oas_difference.specs.Pairs.{head_key, least}

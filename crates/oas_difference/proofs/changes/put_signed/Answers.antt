@@ -1,5 +1,5 @@
 use Rattle.std.proofs.lemmas.Result.{err_from_is_err_and}
-use Rattle.oas_num.proofs.PuttingLemmas.{first, begins, fails_at, ends, ◌▸◌}
+use Rattle.oas_num.proofs.PuttingLemmas.{first, begins, fails_at, ends}
 use Rattle.oas_listing.specs.Listing.{element_line}
 use Rattle.oas_difference.proofs.Steps.{signed_parts}
 use Rattle.oas_difference.proofs.changes.put_signed.Goals as goal

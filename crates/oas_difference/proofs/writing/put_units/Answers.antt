@@ -1,6 +1,6 @@
 use Rattle.std.proofs.Common.{◌≡◌, ◌∙◌, false, sym}
 use Rattle.std.proofs.lemmas.Result.{err_from_is_err_and}
-use Rattle.oas_num.proofs.PuttingLemmas.{first, begins, fails_at, ends, ◌▸◌}
+use Rattle.oas_num.proofs.PuttingLemmas.{begins, fails_at, ends, ◌▸◌}
 use Rattle.oas_difference.specs.Difference.{same_ratio}
 use Rattle.oas_difference.proofs.Steps.{units_parts, left_is}
 use Rattle.oas_difference.proofs.writing.put_units.Goals as goal

@@ -1,5 +1,4 @@
 use Rattle.std.proofs.Common.{◌∙◌, ap}
-use Rattle.oas_layout.specs.Contents.{Cell}
 use Rattle.oas_difference.specs.Pairs.{head_key}
 use Rattle.oas_difference.proofs.Steps.{name_at}
 use Rattle.oas_difference.proofs.cells.Cells.name.Goals as goal

@@ -1,7 +1,5 @@
-use Rattle.std.proofs.Common.{◌≡◌, ◌∙◌, ℕ, List, Option, [], sym, ap, unwrap_or}
-use Rattle.std.specs.declared.cmp.Ordering.TheVariants.{Equal}
+use Rattle.std.proofs.Common.{◌∙◌, ℕ, List, Option, [], sym, ap, unwrap_or}
 use Rattle.oas_layout.specs.declared.element.Element.{Element}
-use Rattle.oas_layout.specs.Element.{element_cmp}
 use Rattle.oas_layout.specs.Laws.ElementLaws.{order_is_stated}
 use Rattle.oas_difference.proofs.Steps.{hand_next, hand_tied, hand_apart}
 use Rattle.oas_difference.proofs.elements.Side.take.Goals as goal
