@@ -125,8 +125,10 @@ pub fn request_of<'a>(
         return Ok(None);
     };
     let is_large = found.get_flag("large");
-    let task = task_of(alloc, name, found)?;
-    Ok(task.map(|task| Request { task, is_large }))
+    let Some(task) = task_of(alloc, name, found)? else {
+        return Ok(None);
+    };
+    Ok(Some(Request { task, is_large }))
 }
 
 /// The task of the command of this name.
@@ -148,8 +150,8 @@ fn task_of<'a>(
         "keys" => Ok(Some(Task::Keys {
             input: file_of(found, "IN"),
         })),
-        "same" => Ok(two_of(found).map(|(first, second)| Task::Same { first, second })),
-        "diff" => Ok(two_of(found).map(|(first, second)| Task::Diff { first, second })),
+        "same" => Ok(same_of(found)),
+        "diff" => Ok(diff_of(found)),
         "rekey" => Ok(Some(Task::Rekey {
             old: file_of(found, "OLD"),
             new: file_of(found, "NEW"),
@@ -161,6 +163,18 @@ fn task_of<'a>(
 /// The file of an argument, if it names one.
 fn file_of<'a>(found: &ArgMatches<'a>, argument: &str) -> Option<&'a str> {
     file_meant(found.get_str(argument)?)
+}
+
+/// The task of `same`, unless both files are standard input.
+fn same_of<'a>(found: &ArgMatches<'a>) -> Option<Task<'a>> {
+    let (first, second) = two_of(found)?;
+    Some(Task::Same { first, second })
+}
+
+/// The task of `diff`, unless both files are standard input.
+fn diff_of<'a>(found: &ArgMatches<'a>) -> Option<Task<'a>> {
+    let (first, second) = two_of(found)?;
+    Some(Task::Diff { first, second })
 }
 
 /// The files A and B, unless both are standard input.
@@ -178,8 +192,10 @@ fn question_of<'a>(
     question: Question,
     found: &ArgMatches<'a>,
 ) -> Result<Option<Task<'a>>, AllocError> {
-    let inputs = inputs_of(alloc, found)?;
-    Ok(inputs.map(|inputs| Task::Ask { question, inputs }))
+    let Some(inputs) = inputs_of(alloc, found)? else {
+        return Ok(None);
+    };
+    Ok(Some(Task::Ask { question, inputs }))
 }
 
 /// The inputs of a question.
@@ -199,5 +215,8 @@ fn inputs_of<'a>(alloc: Global, found: &ArgMatches<'a>) -> Result<Option<Inputs<
         inputs.push(None)?;
     }
     let standard = inputs.iter().filter(|input| input.is_none()).count();
-    Ok((standard <= 1).then_some(Inputs::Named(inputs)))
+    if standard > 1 {
+        return Ok(None);
+    }
+    Ok(Some(Inputs::Named(inputs)))
 }
