@@ -29,9 +29,23 @@ def said(command, data, layouts):
         return 0, listing(layouts[0])
     if command == "key":
         return 0, hashlib.sha256(out).hexdigest().encode() + b"\n"
+    if command == "keys":
+        return 0, b"".join(map(key_line, cells_alone(layouts[0])))
     if command == "check":
         return (0, b"canonical\n") if out == data else (3, b"not canonical\n")
     return (0, b"same\n") if layouts[0] == layouts[1] else (3, b"different\n")
+
+
+def cells_alone(layout):
+    """The name of each cell, ascending, and the layout that has this unit and that cell alone."""
+    unit, cells = layout
+    return [(name, (unit, {name: cells[name]})) for name in sorted(cells)]
+
+
+def key_line(cell):
+    """The key of a cell alone, and its name."""
+    name, alone = cell
+    return hashlib.sha256(canonical(alone)).hexdigest().encode() + b"  " + name + b"\n"
 
 
 def rekeyed(name, data, limits):
