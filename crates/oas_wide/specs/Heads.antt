@@ -69,6 +69,9 @@ some_version = record {
   spelled = IsWithin-label.within version (shortest 3 ++ version) (label_spelled version (record { fits = omega arith; class = ((omega arith, omega arith), ((omega arith, omega arith), ((omega arith, omega arith), tt))) }));
 }
 
+pub no_fault : Write ≡ Version → ⊥
+no_fault e = cc
+
 -- the version, 1.0
 abbrev pub version_kind : Kind (Unit {0})
 version_kind = record {
@@ -79,7 +82,7 @@ version_kind = record {
   one = OneSpelling-never;
   within = record { within = λ v bytes p. absurd p };
   some = some_version;
-  never = such_never (λ v h. let e : Write ≡ Version = h.0 in cc) (pair_never (record { none = λ bytes h. h }) (λ n. record { none = λ bytes b. b.holds.1 }));
+  never = such_never (λ v h. no_fault h.0) (pair_never (record { none = λ bytes h. h }) (λ n. record { none = λ bytes b. b.holds.1 }));
 }
 
 -- ---- the unit
