@@ -1,4 +1,4 @@
 mod KeptLemmas
 mod RekeyLemmas
 mod HashingLemmas
-mod Whole
+pub mod Whole

@@ -28,6 +28,7 @@ mod fields;
 pub mod laws;
 mod writing;
 
+pub use cells::put_listing;
 pub use writing::write_listing;
 
 #[cfg(test)]

@@ -1,0 +1,4 @@
+pub mod Outcomes
+pub mod Rooms
+pub mod Filling
+pub mod Buffers
