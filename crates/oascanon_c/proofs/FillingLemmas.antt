@@ -1,5 +1,5 @@
 -- Filling room, a byte at a time.
-use Rattle.std.proofs.Common.{◌≡◌, ℕ, suc, ◌+◌, ◌-◌, ◌^◌, ◌<◌, ◌≤◌, min, List, [], ◌∷◌, ◌++◌, length, take, drop, set, get_or, Result, Ok, Err, Bool, true, false, Unit, MutBor, refl, sym, ◌∙◌, ap, subst, append_assoc, append-nil, length-append, arith}
+use Rattle.std.proofs.Common.{◌≡◌, ℕ, suc, ◌+◌, ◌-◌, ◌^◌, ◌<◌, ◌≤◌, min, List, [], ◌∷◌, ◌++◌, length, take, drop, set, get_or, Result, Ok, Err, Bool, true, false, MutBor, refl, sym, ◌∙◌, ap, subst, append_assoc, append-nil, length-append, arith}
 use Rattle.std.specs.Prelude.{nat_lt, if◌then◌else◌}
 use Rattle.std.proofs.lemmas.List.{length-take, length-drop, take_all, take-append-le, drop_all}
 use Rattle.std.proofs.Math.Seq.{drop-cons, set-append_seam}
@@ -98,10 +98,10 @@ module _ (end : Filler) (old whole : List ℕ) (h : HasPut end old whole) (short
   told : PutsInto whole old (answer_of end.given end.room.now) end.room.now
   told = by_cases (nat_lt (length end.room.now) end.given) refl
 
-module _ (room : MutBor (List ℕ)) (start end : Filler) (whole last : List ℕ) (answer : Answer) (same : start.room ≡ room) (h : HasPut start room.now []) (is : answer ≡ answer_of end.given end.room.now) (follows : room.ghost_name ≡ end.room.ghost_name → last ≡ end.room.now) (short : length whole < 2 ^ 64) where
+module _ (room : MutBor (List ℕ)) (start end : Filler) (whole last : List ℕ) (answer : Answer) (same : start.room.now ≡ room.now) (named : start.room.ghost_name ≡ room.ghost_name) (h : HasPut start room.now []) (is : answer ≡ answer_of end.given end.room.now) (follows : room.ghost_name ≡ end.room.ghost_name → last ≡ end.room.now) (short : length whole < 2 ^ 64) where
   filled : Fills start whole end → PutsInto whole room.now answer last
   filled f =
-      let name : room.ghost_name ≡ end.room.ghost_name = ap (λ (r : MutBor (List ℕ)). r.ghost_name) (sym same) ∙ sym f.same in
+      let name : room.ghost_name ≡ end.room.ghost_name = sym named ∙ sym f.same in
       let stands : last ≡ end.room.now = follows name in
       subst (λ (a : Answer). PutsInto whole room.now a last) (sym is) (subst (λ (x : List ℕ). PutsInto whole room.now (answer_of end.given end.room.now) x) (sym stands) (told end room.now whole (f.puts room.now [] h) short))
 

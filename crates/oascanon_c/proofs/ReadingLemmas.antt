@@ -41,14 +41,14 @@ goes_off bytes rest (Some r) g n = sym g.1 ∙ n.1
 
 module _ {limits : Limits} {bytes : List ℕ} {new : Script} where
   -- what was taken to the end is all of them
-  pub all_taken : {taken : List ℕ} → Takes (over limits bytes) taken new → IsAtEnd new → taken ≡ bytes
-  all_taken {taken = taken} t e =
+  pub all_taken : (taken : List ℕ) → Takes (over limits bytes) taken new → IsAtEnd new → taken ≡ bytes
+  all_taken taken t e =
       let off : nat_lt limits.input (length bytes) ≡ false = goes_off taken (whole limits bytes) new.rest t.rest e.none in
       all_given taken (whole limits bytes) new.rest t.rest e.none ∙ take_all limits.input bytes (ltb-false limits.input (length bytes) off)
 
   pub read_from : {l : Contents} → IsRead limits Two (over limits bytes) l new → IsReadFrom limits bytes l
   read_from r =
-      let same : r.bytes ≡ bytes = all_taken r.takes r.ended in
+      let same : r.bytes ≡ bytes = all_taken r.bytes r.takes r.ended in
       record {
         accepted = subst (Accepted limits) same r.accepted;
         meaning = r.meaning;
@@ -75,8 +75,8 @@ module _ {limits : Limits} {bytes : List ℕ} {new : Script} where
 
   pub keyed_from : {digest : List ℕ} → IsKeyed limits Two (over limits bytes) new digest → Accepted limits bytes × ((canonical : List ℕ) × IsCanonicalOf limits Two bytes canonical × (digest ≡ sha256 canonical))
   keyed_from k =
-      let same : k.bytes ≡ bytes = all_taken k.taken.takes k.taken.ended in
-      (subst (Accepted limits) same k.taken.accepted, k.canonical, subst (λ (b : List ℕ). IsCanonicalOf limits Two b k.canonical) same k.is, k.hashed)
+      let same : k.bytes ≡ bytes = all_taken k.bytes k.taken.takes k.taken.ended in
+      (subst (Accepted limits) same k.taken.accepted, (k.canonical, subst (λ (b : List ℕ). IsCanonicalOf limits Two b k.canonical) same k.is, k.hashed))
 
 module _ (limits : Limits) (bytes : List ℕ) (new : Script) where
   pub outcome_read : (r : Result Contents Refusal) → ReadsLayout limits Two (over limits bytes) r new → IfOk r (IsReadFrom limits bytes)
@@ -106,23 +106,23 @@ module _ {limits : Limits} {bytes : List ℕ} {l : Contents} (read : IsReadFrom 
 -- ---- what is told
 
 module _ (b : Bounds) {limits : Limits} (are : AreLimits limits b.elements b.weight b.input) {bytes : List ℕ} {l : Contents} (read : IsReadFrom limits bytes l) where
-  pub form_told : {old new : List ℕ} → IsLayout l → (a : Answer) → Puts (canonical_bytes (meaning_of l)) old a new → Canonicalizes b bytes old a new
-  form_told held (Done n) p = (limits, are, read.accepted, canonical_bytes (meaning_of l), is_form read held, p)
-  form_told held (TooSmall n) p = (limits, are, read.accepted, canonical_bytes (meaning_of l), is_form read held, p)
-  form_told held No p = absurd p
-  form_told held NotLimits p = absurd p
-  form_told held (Refused which refusal) p = absurd p
+  pub form_told : (old new : List ℕ) → IsLayout l → (a : Answer) → Puts (canonical_bytes (meaning_of l)) old a new → Canonicalizes b bytes old a new
+  form_told old new held (Done n) p = (limits, are, (read.accepted, (canonical_bytes (meaning_of l), is_form read held, p)))
+  form_told old new held (TooSmall n) p = (limits, are, (read.accepted, (canonical_bytes (meaning_of l), is_form read held, p)))
+  form_told old new held No p = absurd p
+  form_told old new held NotLimits p = absurd p
+  form_told old new held (Refused which refusal) p = absurd p
 
-  pub lines_told : {old new : List ℕ} (a : Answer) → Puts (listing (meaning_of l)) old a new → Lists b bytes old a new
-  lines_told (Done n) p = (limits, are, read.accepted, read.meaning, meaning_of l, read.means, read.same, p)
-  lines_told (TooSmall n) p = (limits, are, read.accepted, read.meaning, meaning_of l, read.means, read.same, p)
-  lines_told No p = absurd p
-  lines_told NotLimits p = absurd p
-  lines_told (Refused which refusal) p = absurd p
+  pub lines_told : (old new : List ℕ) (a : Answer) → Puts (listing (meaning_of l)) old a new → Lists b bytes old a new
+  lines_told old new (Done n) p = (limits, are, (read.accepted, (read.meaning, meaning_of l, read.means, read.same, p)))
+  lines_told old new (TooSmall n) p = (limits, are, (read.accepted, (read.meaning, meaning_of l, read.means, read.same, p)))
+  lines_told old new No p = absurd p
+  lines_told old new NotLimits p = absurd p
+  lines_told old new (Refused which refusal) p = absurd p
 
   pub judged : IsLayout l → (says : Bool) → (IsTrue says ↔ (canonical_bytes (meaning_of l) ≡ bytes)) → Judges b bytes (answered says)
-  judged held true h = (limits, are, read.accepted, (spelled read held true h).0 refl, refl)
-  judged held false h = (limits, are, read.accepted, λ f. let no = (spelled read held false h).1 f in cc)
+  judged held true h = (limits, are, (read.accepted, ((spelled read held true h).0 refl, refl)))
+  judged held false h = (limits, are, (read.accepted, λ f. let no = (spelled read held false h).1 f in cc))
 
 -- ---- two files
 
@@ -149,5 +149,5 @@ module _ {limits : Limits} {one other : List ℕ} {l k : Contents} (first : IsRe
   )
 
   pub compares : (b : Bounds) → AreLimits limits b.elements b.weight b.input → (says : Bool) → (IsTrue says ↔ SameLayout l.profile (meaning_of l) (meaning_of k)) → Compares b one other (answered says)
-  compares b are true h = ((limits, are, are_read, (compared true h).0 refl), refl)
-  compares b are false h = (limits, are, are_read, λ s. let no = (compared false h).1 s in cc)
+  compares b are true h = ((limits, are, (are_read, (compared true h).0 refl)), refl)
+  compares b are false h = (limits, are, (are_read, λ s. let no = (compared false h).1 s in cc))

@@ -5,7 +5,7 @@ use Rattle.oascanon_c.proofs.buffers.key.Goals as goal
 pub returns-in-Ok : goal.returns-in-Ok
 returns-in-Ok c =
     let k = keyed_from {limits = c.in-Some.limits} {bytes = c.args.bytes.now} (rw (c.new-source.ensures, c.input.ensures) at c.in-Ok.ensures.keyed) in
-    (c.in-Some.limits, c.in-Some.ensures.limits, k.0, k.1, k.2, refl, k.3)
+    (c.in-Some.limits, c.in-Some.ensures.limits, (k.0, (k.1.0, k.1.1, refl, k.1.2)))
 
 pub returns-in-Err : goal.returns-in-Err
 returns-in-Err c = (
