@@ -1,10 +1,12 @@
 # Completions of oascanon for bash.
 _oascanon() {
-  local commands='canon check same show key rekey help' word=${COMP_WORDS[COMP_CWORD]}
+  local commands='canon check same diff show key keys rekey help' word=${COMP_WORDS[COMP_CWORD]}
   if [ "$COMP_CWORD" -eq 1 ]; then
     mapfile -t COMPREPLY < <(compgen -W "$commands --help --version" -- "$word")
   elif [[ $word == -* ]]; then
-    mapfile -t COMPREPLY < <(compgen -W '--large --help' -- "$word")
+    local flags='--large --help'
+    case ${COMP_WORDS[1]} in check | key) flags+=' --names --files0-from' ;; esac
+    mapfile -t COMPREPLY < <(compgen -W "$flags" -- "$word")
   elif [ "${COMP_WORDS[1]}" = help ]; then
     mapfile -t COMPREPLY < <(compgen -W "$commands" -- "$word")
   else

@@ -56,3 +56,19 @@ def test_manual(program, folder):
 def test_version(program, folder):
     version = output(program, "--version").split()[1]
     assert f'"oascanon {version}"' in (TOP / "man/oascanon.1").read_text()
+
+
+def test_help_fits_a_screen(program, folder):
+    lines = output(program, "--help").splitlines()
+    assert len(lines) <= 24 and max(map(len, lines)) <= 80
+    assert len(re.findall(r"oascanon [a-z]+ .*\.oas", "\n".join(lines))) == 3
+
+
+def test_examples(program, folder):
+    for command in commands(program) - {"help"}:
+        example = output(program, command, "--help").split("Example:\n")[1].splitlines()[0]
+        assert f"oascanon {command}" in example
+
+
+def test_version_has_the_profiles(program, folder):
+    assert re.search(r"profiles one and two", output(program, "--version"))

@@ -1,5 +1,36 @@
 -- What an outlet was given, call by call.
-use Rattle.std.proofs.Common.{◌≡◌, ℕ, ◌+◌, ◌<◌, ◌^◌, min, List, [], ◌∷◌, ◌++◌, length, take, drop, Option, Result, Ok, Err, Bool, true, false, refl, sym, ap, ◌∙◌, append_assoc, append-nil, take-append-drop, length-append, ◌-◌, arith}
+use Rattle.std.proofs.Common.{
+  ◌≡◌,
+  ℕ,
+  ◌+◌,
+  ◌<◌,
+  ◌^◌,
+  min,
+  List,
+  [],
+  ◌∷◌,
+  ◌++◌,
+  length,
+  take,
+  drop,
+  Option,
+  Result,
+  Ok,
+  Err,
+  Bool,
+  true,
+  false,
+  refl,
+  sym,
+  ap,
+  ◌∙◌,
+  append_assoc,
+  append-nil,
+  take-append-drop,
+  length-append,
+  ◌-◌,
+  arith,
+}
 use Rattle.std.proofs.lemmas.List.{length-take-le}
 use Rattle.std.specs.Io.KnownBytes.{Appends, Keeps}
 use Rattle.oas_bytes.specs.declared.outlets.Outlet.{Outlet}
@@ -17,7 +48,8 @@ works_below n false full lt = refl
 length-sum : (a b : List ℕ) → length (a ++ b) ≡ length a + length b
 length-sum a b = omega (arith, length-append {A = ℕ})
 
-count_more : (start old new : ℕ) (a b : List ℕ) (n : ℕ) → length (a ++ b) ≡ length a + n → old ≡ min (start + length a) (2 ^ 64 - 1) → new ≡ min (old + n) (2 ^ 64 - 1) → new ≡ min (start + length (a ++ b)) (2 ^ 64 - 1)
+count_more : (start old new : ℕ) (a b : List ℕ) (n : ℕ) → length (a ++ b) ≡ length a + n → old ≡ min (start + length a) (2 ^ 64 - 1)
+    → new ≡ min (old + n) (2 ^ 64 - 1) → new ≡ min (start + length (a ++ b)) (2 ^ 64 - 1)
 count_more start old new a b n len e f = omega (arith, len, e, f)
 
 module _ {W : Type 0} where
@@ -47,7 +79,8 @@ module _ {W : Type 0} where
     }
 
     -- the writer took the window
-    pub window_sent : p.failed ≡ false → p.window ≡ [] → Appends (contents o.writer.now) (contents p.writer.now) o.window → p.taken ≡ min (o.taken + length o.window) (2 ^ 64 - 1) → Puts (IsGiven contents) failures_of o [] p
+    pub window_sent : p.failed ≡ false → p.window ≡ [] → Appends (contents o.writer.now) (contents p.writer.now) o.window
+        → p.taken ≡ min (o.taken + length o.window) (2 ^ 64 - 1) → Puts (IsGiven contents) failures_of o [] p
     window_sent still window took taken = record {
       after = λ start before h.
           let all : h.kept ≡ o.window = h.waits works ∙ unsent_works o works in
@@ -64,7 +97,9 @@ module _ {W : Type 0} where
     }
 
     -- the writer took a part of the window, and failed
-    pub window_lost : (count : ℕ) → p.failed ≡ true → count < length o.window → Appends (contents o.writer.now) (contents p.writer.now) (take count o.window) → p.taken ≡ min (o.taken + count) (2 ^ 64 - 1) → PutsFront (IsGiven contents) failures_of o [] p
+    pub window_lost : (count : ℕ) → p.failed ≡ true → count < length o.window
+        → Appends (contents o.writer.now) (contents p.writer.now) (take count o.window) → p.taken ≡ min (o.taken + count) (2 ^ 64 - 1)
+        → PutsFront (IsGiven contents) failures_of o [] p
     window_lost count failed lt took taken = record {
       front = [];
       back = [];
@@ -78,7 +113,8 @@ module _ {W : Type 0} where
               same_writer = same_writer ∙ h.same_writer;
               sent = h.sent ++ take count o.window;
               kept = drop count o.window;
-              split = ap (λ (t : List ℕ). unsent start ++ t) (append-nil before) ∙ h.split ∙ ap (λ (t : List ℕ). h.sent ++ t) parts ∙ sym (append_assoc h.sent (take count o.window) (drop count o.window));
+              split = ap (λ (t : List ℕ). unsent start ++ t) (append-nil before) ∙ h.split ∙ ap (λ (t : List ℕ). h.sent ++ t) parts
+                  ∙ sym (append_assoc h.sent (take count o.window) (drop count o.window));
               took = Appends-then _ _ _ h.sent (take count o.window) h.took took;
               counted = count_more start.taken o.taken p.taken h.sent (take count o.window) count (length-sum h.sent (take count o.window) ∙ ap (λ (n : ℕ). length h.sent + n) some) h.counted taken;
               waits = λ w. cc;
@@ -89,7 +125,8 @@ module _ {W : Type 0} where
     }
 
     -- the window was taken, and what the writer then kept is what it had
-    kept_still : Keeps (contents o.writer.now) (contents p.writer.now) → unsent o ≡ [] → p.taken ≡ o.taken → (p.failed ≡ false → unsent p ≡ []) → (start : Outlet W) (before : List ℕ) → IsGiven contents start before o → IsGiven contents start (before ++ []) p
+    kept_still : Keeps (contents o.writer.now) (contents p.writer.now) → unsent o ≡ [] → p.taken ≡ o.taken → (p.failed ≡ false → unsent p ≡ [])
+        → (start : Outlet W) (before : List ℕ) → IsGiven contents start before o → IsGiven contents start (before ++ []) p
     kept_still keeps none taken still start before h = record {
       same_writer = same_writer ∙ h.same_writer;
       sent = h.sent;
@@ -120,7 +157,8 @@ module _ {W : Type 0} where
     }
 
   -- a call that fails after one that did not
-  pub fails_after : (contents : W → Option (List ℕ)) (o m p : Outlet W) → Puts (IsGiven contents) failures_of o [] m → PutsFront (IsGiven contents) failures_of m [] p → PutsFront (IsGiven contents) failures_of o [] p
+  pub fails_after : (contents : W → Option (List ℕ)) (o m p : Outlet W) → Puts (IsGiven contents) failures_of o [] m
+      → PutsFront (IsGiven contents) failures_of m [] p → PutsFront (IsGiven contents) failures_of o [] p
   fails_after contents o m p a b = record {
     front = b.front;
     back = b.back;
@@ -130,6 +168,7 @@ module _ {W : Type 0} where
   }
 
   -- a call after one that put nothing
-  pub writes_after : (contents : W → Option (List ℕ)) (o m p : Outlet W) (answer : Result Unit SinkFault) → Puts (IsGiven contents) failures_of o [] m → Writes (IsGiven contents) failures_of m [] answer p → Writes (IsGiven contents) failures_of o [] answer p
+  pub writes_after : (contents : W → Option (List ℕ)) (o m p : Outlet W) (answer : Result Unit SinkFault) → Puts (IsGiven contents) failures_of o [] m
+      → Writes (IsGiven contents) failures_of m [] answer p → Writes (IsGiven contents) failures_of o [] answer p
   writes_after contents o m p (Ok done) a b = Puts-then (IsGiven contents) failures_of o m p [] [] a b
   writes_after contents o m p (Err fault) a b = fails_after contents o m p a b

@@ -34,9 +34,22 @@ rest_same : (known : Option (List ℕ)) (held : List ℕ) (room : ℕ) → Gave 
 rest_same None held room = tt
 rest_same (Some known) held room = (refl, refl)
 
-pub stays : (s : Script) (known : Option (List ℕ)) (window : List ℕ) (start end at limit : ℕ) (ending : Ending) → reader_script known window start end at limit ending ≡ s → ending ≡ endings.Open → start < end → end ≤ length window → at ≤ limit → IsReady s known window start end at limit ending
+pub stays : (s : Script) (known : Option (List ℕ)) (window : List ℕ) (start end at limit : ℕ) (ending : Ending)
+    → reader_script known window start end at limit ending ≡ s → ending ≡ endings.Open → start < end → end ≤ length window → at ≤ limit
+    → IsReady s known window start end at limit ending
 stays s known window start end at limit ending is opened lt within below =
-    rw (← is, opened) (record { some = lt; within = within; below = below; is_open = refl; given = refl; limit_is = refl; unreliable = refl; failures = refl; settled = refl; rest = rest_same known (slice_range window start end) (limit - at) })
+    rw (← is, opened) (record {
+      some = lt;
+      within = within;
+      below = below;
+      is_open = refl;
+      given = refl;
+      limit_is = refl;
+      unreliable = refl;
+      failures = refl;
+      settled = refl;
+      rest = rest_same known (slice_range window start end) (limit - at);
+    })
 
 rest_filled : (known new : Option (List ℕ)) (n room : ℕ) (buf : List ℕ) → Consumes known new (take n buf) → Gave (rest_from known [] room) [] (rest_from new (take n buf) room)
 rest_filled None new n room buf h = tt
@@ -46,7 +59,9 @@ rest_filled (Some xs) (Some ys) n room buf h = (ap (take room) h, ap (λ (left :
 no_range : (window : List ℕ) (start : ℕ) → slice_range window start start ≡ []
 no_range window start = let e : start - start ≡ 0 = omega arith in rw e refl
 
-pub fills : (s : Script) (known new : Option (List ℕ)) (window buf : List ℕ) (start end at limit n : ℕ) (ending : Ending) → reader_script known window start end at limit ending ≡ s → ending ≡ endings.Open → start ≡ end → at ≤ limit → Consumes known new (take n buf) → n ≢ 0 → n ≤ length buf → IsReady s new buf 0 n at limit ending
+pub fills : (s : Script) (known new : Option (List ℕ)) (window buf : List ℕ) (start end at limit n : ℕ) (ending : Ending)
+    → reader_script known window start end at limit ending ≡ s → ending ≡ endings.Open → start ≡ end → at ≤ limit → Consumes known new (take n buf)
+    → n ≢ 0 → n ≤ length buf → IsReady s new buf 0 n at limit ending
 fills s known new window buf start end at limit n ending is opened same below h some within =
     rw (← is, opened, same) (record {
       some = omega arith;
@@ -124,19 +139,26 @@ waits_open endings.Failed start end h lt = absurd (omega (arith, h))
 waits_open endings.TooLong start end h lt = absurd (omega (arith, h))
 
 -- as it stood
-pub still_has : (s : Script) (known : Option (List ℕ)) (window : List ℕ) (start end filled before limit : ℕ) (ending : Ending) → reader_script known window start filled (before + start) limit ending ≡ s → IsSoundReader known window start end filled before limit ending → ending ≡ endings.Open → start ≢ filled → HasNext s known window start end filled before limit ending
+pub still_has : (s : Script) (known : Option (List ℕ)) (window : List ℕ) (start end filled before limit : ℕ) (ending : Ending)
+    → reader_script known window start filled (before + start) limit ending ≡ s → IsSoundReader known window start end filled before limit ending
+    → ending ≡ endings.Open → start ≢ filled → HasNext s known window start end filled before limit ending
 still_has s known window start end filled before limit ending is h opened ne =
     let lt : start < filled = omega (arith, h.ordered, h.under, ne) in
     record { ready = stays s known window start filled (before + start) limit ending is opened lt h.within h.below; ordered = h.ordered; under = h.under }
 
 -- with a byte that may be given
-pub has_byte : (s : Script) (known : Option (List ℕ)) (window : List ℕ) (start end filled before limit : ℕ) (ending : Ending) → reader_script known window start filled (before + start) limit ending ≡ s → IsSoundReader known window start end filled before limit ending → start < end → HasNext s known window start end filled before limit ending
+pub has_byte : (s : Script) (known : Option (List ℕ)) (window : List ℕ) (start end filled before limit : ℕ) (ending : Ending)
+    → reader_script known window start filled (before + start) limit ending ≡ s → IsSoundReader known window start end filled before limit ending
+    → start < end → HasNext s known window start end filled before limit ending
 has_byte s known window start end filled before limit ending is h lt =
     let ne : start ≢ filled = λ (e : start ≡ filled). omega (arith, h.under, lt, e) in
     still_has s known window start end filled before limit ending is h (waits_open ending start end h.waits lt) ne
 
 -- filled anew
-pub has_filled : (s : Script) (known new : Option (List ℕ)) (window buf : List ℕ) (start end filled before limit n last : ℕ) (ending : Ending) → reader_script known window start filled (before + start) limit ending ≡ s → IsSoundReader known window start end filled before limit ending → ending ≡ endings.Open → start ≡ filled → Consumes known new (take n buf) → n ≢ 0 → n ≤ length buf → last ≡ min n (limit - (before + start)) → HasNext s new buf 0 last n (before + start) limit ending
+pub has_filled : (s : Script) (known new : Option (List ℕ)) (window buf : List ℕ) (start end filled before limit n last : ℕ) (ending : Ending)
+    → reader_script known window start filled (before + start) limit ending ≡ s → IsSoundReader known window start end filled before limit ending
+    → ending ≡ endings.Open → start ≡ filled → Consumes known new (take n buf) → n ≢ 0 → n ≤ length buf → last ≡ min n (limit - (before + start))
+    → HasNext s new buf 0 last n (before + start) limit ending
 has_filled s known new window buf start end filled before limit n last ending is h opened same c some within e =
     let z : (before + start) + 0 ≡ before + start = omega arith in
     record {

@@ -36,7 +36,8 @@ module _ {K : Type 0} (given : K → List ℕ → K → Type 0) (failures : K �
       rw (append-nil) at f
 
   -- bytes one after another
-  pub all_fails : (old mid new : K) (bytes : List ℕ) (i : ℕ) → i < length bytes → Puts given failures old (take i bytes) mid → PutsFront given failures mid (get_or bytes i 0 ∷ []) new → PutsFront given failures old bytes new
+  pub all_fails : (old mid new : K) (bytes : List ℕ) (i : ℕ) → i < length bytes → Puts given failures old (take i bytes) mid
+      → PutsFront given failures mid (get_or bytes i 0 ∷ []) new → PutsFront given failures old bytes new
   all_fails old mid new bytes i lt p q =
       let e : bytes ≡ take i bytes ++ ((get_or bytes i 0 ∷ []) ++ drop (suc i) bytes) = split_at bytes i lt in
       rw e (PutsFront-then old mid new (take i bytes) (get_or bytes i 0 ∷ []) (drop (suc i) bytes) p q)

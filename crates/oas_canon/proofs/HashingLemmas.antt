@@ -1,8 +1,8 @@
 -- A sink that hashes: one byte more, and all of a layout's bytes.
-use Rattle.std.proofs.Common.{◌≡◌, ℕ, ◌<◌, List, [], ◌∷◌, ◌++◌, Result, Ok, Err, sym, append_assoc, append-nil, arith}
+use Rattle.std.proofs.Common.{◌≡◌, ℕ, List, [], ◌∷◌, ◌++◌, Result, Ok, Err, sym, append_assoc, append-nil, arith}
 use Rattle.sha2.specs.Hashers.{Holds256}
 use Rattle.oas_num.specs.SinkFault.{SinkFault}
-use Rattle.oas_num.specs.Writing.{Puts, PutsFront}
+use Rattle.oas_num.specs.Writing.{Puts}
 use Rattle.oas_form.specs.Putting.{Counts}
 use Rattle.oas_canon.specs.declared.hashing.Hasher.{Hasher}
 use Rattle.oas_canon.specs.Hashing.{HasTaken, Hashes}

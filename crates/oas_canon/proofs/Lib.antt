@@ -1,4 +1,5 @@
 mod KeptLemmas
 mod RekeyLemmas
 mod HashingLemmas
+mod CellKeyLemmas
 pub mod Whole

@@ -10,6 +10,8 @@
 //! - [`is_canonical`] answers whether the bytes of an accepted file are its canonical form (`IsJudged`), which is said of a
 //!   source whose bytes are known; [`same_files`] whether two accepted files mean the same layout (`IsCompared`); [`key`]
 //!   the SHA-256 of an accepted file's canonical form (`IsKeyed`).
+//! - [`write_cell_keys`] writes the key of each cell of a layout: the SHA-256 of the canonical file that has the layout's
+//!   unit and that cell alone, and the cell's name (`cell_key_lines`, specs/CellKeys.antt).
 //! - [`rekey`] writes the canonical file by profile two of a file that is canonical by profile one (`IsRekeyed`,
 //!   specs/Rekeying.antt), and answers [`Rekeyed::NotProfile1`], with the writer as it was, of an accepted file that isn't,
 //!   which is said of a source whose bytes are known (`IsOther`). It keeps the bytes, as [`is_canonical`] does.
@@ -32,6 +34,7 @@
 #![tactic(auto)]
 
 mod canonical;
+mod cell_keys;
 mod checking;
 mod hashing;
 mod keeping;
@@ -42,6 +45,7 @@ mod rekeying;
 mod sameness;
 
 pub use canonical::canonicalize;
+pub use cell_keys::{cell_key, write_cell_keys};
 pub use checking::is_canonical;
 pub use keys::key;
 pub use oas_file::read_layout;

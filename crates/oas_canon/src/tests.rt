@@ -1,6 +1,7 @@
 //! What no clause says: that each call succeeds where memory is there, which answers it gives of small files, a device that
 //! fails, and memory that is refused at each growth. The worked rows are the command's.
 
+mod cell_keys;
 mod memory;
 mod rekeying;
 

@@ -24,7 +24,25 @@ use Rattle.oas_drawing.specs.declared.kinds.Kind.TheVariants.{Placement, Text, R
 use Rattle.oas_drawing.specs.Modal.{ModalState}
 use Rattle.oas_drawing.specs.Turns.{turned}
 use Rattle.oas_drawing.specs.Drawn.{drawn_fits}
-use Rattle.oas_drawing.specs.Drawing.{kind_of, repeats, placement_at, text_at, rectangle_at, polygon_at, path_at, circle_at, kind_at, place_of, point_from, drawn_by, offset_if, number_if, drawn_at, copies_at, first_offsets}
+use Rattle.oas_drawing.specs.Drawing.{
+  kind_of,
+  repeats,
+  placement_at,
+  text_at,
+  rectangle_at,
+  polygon_at,
+  path_at,
+  circle_at,
+  kind_at,
+  place_of,
+  point_from,
+  drawn_by,
+  offset_if,
+  number_if,
+  drawn_at,
+  copies_at,
+  first_offsets,
+}
 use Rattle.oas_drawing.specs.Reasons.{first_of, fits_if, fault_of, kind_reason, all_fit, reason_if, draw_reason}
 use Rattle.std.specs.Prelude.{ℤ}
 
@@ -121,23 +139,35 @@ last_reason : (before : Option Why) (b : Bool) → before ≡ None → option_or
 last_reason None b e = refl
 last_reason (Some w) b e = cc
 
-at_kind : (limits : Limits) (count weight : ℕ) (m : ModalState) (r : Record) (kind : Kind) → kind_of r ≡ Some kind → draw_reason limits count weight m r ≡ option_or (kind_reason limits count weight m kind (repeats r)) (first_of ((not (all_fit m kind (repeats r)), CoordinateRange) ∷ []))
+at_kind : (limits : Limits) (count weight : ℕ) (m : ModalState) (r : Record) (kind : Kind) → kind_of r ≡ Some kind
+    → draw_reason limits count weight m r ≡ option_or (kind_reason limits count weight m kind (repeats r))
+    (first_of ((not (all_fit m kind (repeats r)), CoordinateRange) ∷ []))
 at_kind limits count weight m r kind e = ap (λ (k : Option Kind). reason_if limits count weight m k (repeats r)) e
 
-pub refused_before : (limits : Limits) (count weight : ℕ) (m : ModalState) (r : Record) (kind : Kind) (why : Why) → kind_of r ≡ Some kind → kind_reason limits count weight m kind (repeats r) ≡ Some why → draw_reason limits count weight m r ≡ Some why
+pub refused_before : (limits : Limits) (count weight : ℕ) (m : ModalState) (r : Record) (kind : Kind) (why : Why) → kind_of r ≡ Some kind
+    → kind_reason limits count weight m kind (repeats r) ≡ Some why → draw_reason limits count weight m r ≡ Some why
 refused_before limits count weight m r kind why e h =
     at_kind limits count weight m r kind e ∙ ap (λ (o : Option Why). option_or o (first_of ((not (all_fit m kind (repeats r)), CoordinateRange) ∷ []))) h
 
-pub refused_at : (limits : Limits) (count weight : ℕ) (m : ModalState) (r : Record) (kind : Kind) (i : ℕ) (why : Why) → kind_of r ≡ Some kind → kind_reason limits count weight m kind (repeats r) ≡ None → i < number_if (repeats r) m.repetition → fault_of (drawn_by m kind (offset_if (repeats r) m.repetition i)) ≡ Some why → draw_reason limits count weight m r ≡ Some why
+pub refused_at : (limits : Limits) (count weight : ℕ) (m : ModalState) (r : Record) (kind : Kind) (i : ℕ) (why : Why) → kind_of r ≡ Some kind
+    → kind_reason limits count weight m kind (repeats r) ≡ None → i < number_if (repeats r) m.repetition
+    → fault_of (drawn_by m kind (offset_if (repeats r) m.repetition i)) ≡ Some why → draw_reason limits count weight m r ≡ Some why
 refused_at limits count weight m r kind i why e none below h =
-    let there : is_none (drawn_by m kind (offset_if (repeats r) m.repetition i)) ≡ false = drawn_defined m kind (offset_if (repeats r) m.repetition i) still ∙ first_false (is_none (drawn_by m kind still)) ModalUndefined _ none in
-    let fault : (Some CoordinateRange ≡ Some why) × (fits_if (drawn_by m kind (offset_if (repeats r) m.repetition i)) ≡ false) = faulty (drawn_by m kind (offset_if (repeats r) m.repetition i)) why there h in
+    let there : is_none (drawn_by m kind (offset_if (repeats r) m.repetition i)) ≡ false =
+    drawn_defined m kind (offset_if (repeats r) m.repetition i) still ∙ first_false (is_none (drawn_by m kind still)) ModalUndefined _ none in
+    let fault : (Some CoordinateRange ≡ Some why) × (fits_if (drawn_by m kind (offset_if (repeats r) m.repetition i)) ≡ false) =
+    faulty (drawn_by m kind (offset_if (repeats r) m.repetition i)) why there h in
     let fails : all_fit m kind (repeats r) ≡ false = one_fails (λ d. fits_if (drawn_by m kind d)) (offset_if (repeats r) m.repetition) (number_if (repeats r) m.repetition) i below fault.1 in
     at_kind limits count weight m r kind e ∙ (last_reason _ (all_fit m kind (repeats r)) none ∙ (ap (λ (b : Bool). first_of ((not b, CoordinateRange) ∷ [])) fails ∙ fault.0))
 
-pub allowed_all : (limits : Limits) (count weight : ℕ) (m : ModalState) (r : Record) (kind : Kind) → kind_of r ≡ Some kind → kind_reason limits count weight m kind (repeats r) ≡ None → ((i : ℕ) → i < number_if (repeats r) m.repetition → fault_of (drawn_by m kind (offset_if (repeats r) m.repetition i)) ≡ None) → draw_reason limits count weight m r ≡ None
+pub allowed_all : (limits : Limits) (count weight : ℕ) (m : ModalState) (r : Record) (kind : Kind) → kind_of r ≡ Some kind
+    → kind_reason limits count weight m kind (repeats r) ≡ None
+    → ((i : ℕ) → i < number_if (repeats r) m.repetition → fault_of (drawn_by m kind (offset_if (repeats r) m.repetition i)) ≡ None)
+    → draw_reason limits count weight m r ≡ None
 allowed_all limits count weight m r kind e none h =
-    let fits : all_fit m kind (repeats r) ≡ true = all_pass (λ d. fits_if (drawn_by m kind d)) (offset_if (repeats r) m.repetition) (number_if (repeats r) m.repetition) 0 (λ i low high. faultless (drawn_by m kind (offset_if (repeats r) m.repetition i)) (h i (omega arith))) in
+    let fits : all_fit m kind (repeats r) ≡ true = all_pass (λ d. fits_if (drawn_by m kind d)) (offset_if (repeats r) m.repetition)
+    (number_if (repeats r) m.repetition) 0 (λ i low high. faultless (drawn_by m kind (offset_if (repeats r) m.repetition i))
+    (h i (omega arith))) in
     at_kind limits count weight m r kind e ∙ (last_reason _ (all_fit m kind (repeats r)) none ∙ ap (λ (b : Bool). first_of ((not b, CoordinateRange) ∷ [])) fits)
 
 copies-append : (m : ModalState) (r : Record) (ds es : List GDelta) → copies_at m r (ds ++ es) ≡ copies_at m r ds ++ copies_at m r es
@@ -151,7 +181,8 @@ one_copy None = refl
 one_copy (Some d) = refl
 
 -- the first copies, and one more
-pub one_more : (m : ModalState) (r : Record) (n : ℕ) → copies_at m r (first_offsets m r (n + 1)) ≡ copies_at m r (first_offsets m r n) ++ option_to_list (drawn_at m r (offset_if (repeats r) m.repetition n))
+pub one_more : (m : ModalState) (r : Record) (n : ℕ) → copies_at m r (first_offsets m r (n + 1)) ≡ copies_at m r (first_offsets m r n)
+    ++ option_to_list (drawn_at m r (offset_if (repeats r) m.repetition n))
 one_more m r n =
     ap (copies_at m r) (map-range_with_len_more (offset_if (repeats r) m.repetition) 0 n n (omega arith)) ∙
     (copies-append m r (first_offsets m r n) (offset_if (repeats r) m.repetition n ∷ []) ∙

@@ -6,7 +6,7 @@ use Rattle.std.specs.List.{list_all, AllByRecursion}
 use Rattle.oas_num.specs.declared.refusals.Why.{Why}
 use Rattle.oas_num.specs.declared.refusals.Why.TheVariants.{CoordinateRange, Memory}
 use Rattle.oas_ring.specs.declared.point.Point.{Point}
-use Rattle.oas_shape.specs.Steps.{IsNear, IsInRange, moved, still}
+use Rattle.oas_shape.specs.Steps.{IsBounded, IsInRange, moved, still}
 use Rattle.oas_shape.specs.Polylines.{Polyline, vertices_of, VerticesMay}
 use Rattle.oas_layout.specs.Grid.{is_coordinate, is_grid_point}
 use Rattle.oas_drawing.specs.declared.positions.Position.{Position}
@@ -15,7 +15,7 @@ use Rattle.oas_drawing.specs.declared.drawn.Drawn.{Drawn}
 use Rattle.oas_drawing.specs.Drawn.{drawn_fits}
 use Rattle.oas_drawing.specs.Reasons.{first_of, fault_of, is_on_grid}
 
-near : (x : ℤ) → is_coordinate x ≡ true → IsNear (2 ^ 60) x
+near : (x : ℤ) → is_coordinate x ≡ true → IsBounded (2 ^ 60) x
 near x h = grind (arith, ints)
 
 both : (a b : Bool) → (a && b) ≡ true → (a ≡ true) × (b ≡ true)

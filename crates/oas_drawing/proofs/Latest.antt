@@ -41,7 +41,8 @@ module _ {A : Type 0} where
             }
       ]
 
-  split_latest : (gives : Record → List Record → Option A) (after : List Record) (by : Record) (before : List Record) (x : A) → gives by before ≡ Some x → is_cell by ≡ false → Silent gives after (by ∷ before) → latest gives (after ++ by ∷ before) ≡ Some x
+  split_latest : (gives : Record → List Record → Option A) (after : List Record) (by : Record) (before : List Record) (x : A)
+      → gives by before ≡ Some x → is_cell by ≡ false → Silent gives after (by ∷ before) → latest gives (after ++ by ∷ before) ≡ Some x
   split_latest gives [] by before x g n s = hit (is_cell by) (gives by before) (latest gives before) x n g
   split_latest gives (r ∷ rs) by before x g n s = miss (is_cell r) (gives r (rs ++ by ∷ before)) (latest gives (rs ++ by ∷ before)) x s.0 s.1 (split_latest gives rs by before x g n s.2)
 

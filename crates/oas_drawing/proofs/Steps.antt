@@ -14,7 +14,9 @@ use Rattle.oas_drawing.specs.Positions.{if_absolute, if_relative, sets, shifts, 
 use Rattle.oas_drawing.specs.Modal.{ModalState, modal_of, moved, moved_by, stepped}
 
 -- where one more coordinate leads, from the latest one that was set and the sum since
-landed : (relative : Bool) (given base : Option ℤ) (sum : ℤ) → unwrap_or (option_or (if_absolute relative given) base) (pos 0) +ℤ cond (is_some (if_absolute relative given)) (pos 0) (plus_given sum (if_relative relative given)) ≡ moved relative (unwrap_or base (pos 0) +ℤ sum) given
+landed : (relative : Bool) (given base : Option ℤ) (sum : ℤ) → unwrap_or (option_or (if_absolute relative given) base) (pos 0) +ℤ cond
+    (is_some (if_absolute relative given)) (pos 0) (plus_given sum (if_relative relative given)) ≡ moved relative (unwrap_or base (pos 0) +ℤ sum)
+    given
 landed relative None base sum = refl
 landed true (Some z) base sum = omega (arith, ints)
 landed false (Some z) base sum = omega (arith, ints)
@@ -28,7 +30,8 @@ after class axis rs given =
 moves : (class : Class) (axis : Axis) (given : Option ℤ) (rs : List Record) → after class axis rs given ≡ moved (is_relative rs) (coordinate class axis rs) given
 moves class axis given rs = landed (is_relative rs) given (latest (sets class axis) rs) (sum_since (sets class axis) (shifts class axis) rs)
 
-at_place : (f : Position → ModalState) (class : Class) (spot : Spot) (rs : List Record) → f (record { x = after class X rs spot.x; y = after class Y rs spot.y }) ≡ f (moved_by (is_relative rs) (position class rs) spot)
+at_place : (f : Position → ModalState) (class : Class) (spot : Spot) (rs : List Record)
+    → f (record { x = after class X rs spot.x; y = after class Y rs spot.y }) ≡ f (moved_by (is_relative rs) (position class rs) spot)
 at_place f class spot rs =
     ap (λ (x : ℤ). f (record { x = x; y = after class Y rs spot.y })) (moves class X spot.x rs) ∙
     ap (λ (y : ℤ). f (record { x = moved (is_relative rs) (coordinate class X rs) spot.x; y = y })) (moves class Y spot.y rs)

@@ -15,8 +15,8 @@ use Rattle.oas_drawing.specs.declared.kinds.Kind.{Kind}
 use Rattle.oas_drawing.specs.Drawing.{kind_of, repeats, elements_at, drawn_by, place_of, number_if, lacks_repetition}
 use Rattle.oas_drawing.specs.Modal.{ModalState, stepped}
 use Rattle.oas_drawing.specs.Reasons.{first_of, kind_reason, reason_if, is_magnified, is_askew, weight_if, lacks_if, is_on_grid, all_fit}
-use Rattle.oas_modal.specs.declared.names.Form.{Form}
-use Rattle.oas_modal.specs.Names.{is_mixed, form_given, is_other, name_of, cell_names, text_strings, same_string, reason_given, form_of, next_number, named}
+use Rattle.oas_modal.specs.declared.names.Numbering.{Numbering}
+use Rattle.oas_modal.specs.Names.{is_mixed, numbering_given, is_other, name_of, cell_names, text_strings, same_string, reason_given, numbering_of, next_number, named}
 use Rattle.oas_modal.specs.Meaning.{DrawnCell, cells_meant, lacks_name, has_twice, end_reason, cells_drawn}
 use Rattle.oas_modal.specs.Standing.{Standing, cell_weight, element_reason}
 use Rattle.oas_modal.specs.Stands.{seen, refused_after, refusal, end_refusal}
@@ -96,15 +96,15 @@ element_in limits s m r = by s.in_cell where
   by true = draw_in limits s.count s.weight m (kind_of r) (repeats r)
   by false = some_in _ refl
 
-name_in : {S : Type 0} (same : S → S → Bool) (form : Option Form) (next : ℕ) (names : List (ℕ × S)) (given : Option (S × Option ℕ)) → InBytes (reason_given same form next names given)
-name_in same form next names None = none_in
-name_in same form next names (Some g) = if_in (is_mixed form (form_given g.1)) _ _ refl (if_in (is_other same (name_of names (unwrap_or g.1 next)) g.0) _ _ refl none_in)
+name_in : {S : Type 0} (same : S → S → Bool) (numbering : Option Numbering) (next : ℕ) (names : List (ℕ × S)) (given : Option (S × Option ℕ)) → InBytes (reason_given same numbering next names given)
+name_in same numbering next names None = none_in
+name_in same numbering next names (Some g) = if_in (is_mixed numbering (numbering_given g.1)) _ _ refl (if_in (is_other same (name_of names (unwrap_or g.1 next)) g.0) _ _ refl none_in)
 
 record_in : (limits : Limits) (before : List Record) (r : Record) → InBytes (refused_after limits before r)
 record_in limits before record_of.Pad = none_in
 record_in limits before record_of.End = some_in _ refl
-record_in limits before (record_of.CellName name number) = name_in same_string (form_of cell_names before) (next_number cell_names before) (named cell_names before) (Some (name, number))
-record_in limits before (record_of.TextString label number) = name_in same_string (form_of text_strings before) (next_number text_strings before) (named text_strings before) (Some (label, number))
+record_in limits before (record_of.CellName name number) = name_in same_string (numbering_of cell_names before) (next_number cell_names before) (named cell_names before) (Some (name, number))
+record_in limits before (record_of.TextString label number) = name_in same_string (numbering_of text_strings before) (next_number text_strings before) (named text_strings before) (Some (label, number))
 record_in limits before (record_of.Cell c) = if_in (nat_lt limits.weight ((seen before).weight + cell_weight c)) _ _ refl none_in
 record_in limits before record_of.XyAbsolute = none_in
 record_in limits before record_of.XyRelative = none_in

@@ -14,6 +14,7 @@ use Rattle.oas_record.specs.Records.{record_in}
 use Rattle.oas_record.specs.Laws.RecordLaws.{OneFront-record}
 use Rattle.oas_record.specs.Refusals.{RecordTook}
 use Rattle.oas_layout.specs.declared.limits.Limits.{Limits}
+use Rattle.oas_modal.specs.Standing.{MayWant}
 use Rattle.oas_modal.specs.Stands.{ReaderState, StandsFor, refusal as refusal_of}
 use Rattle.oas_file.specs.Files.{FrontOf}
 use Rattle.oas_file.specs.Acceptance.{Allowed}
@@ -63,12 +64,16 @@ module _ {origin mid new : Script} {head : Head} {first s : ReaderState} (m : Ha
           };
         }
 
+    -- the reason, or want of memory, under these limits
+    abbrev Reasons : Limits → Why → Type 0
+    Reasons limits why = ((why ≡ Memory) × MayWant (refusal_of limits m.records r)) ⊎ (refusal_of limits m.records r ≡ Some why)
+
     -- it isn't allowed
     not_allowed : (why : Why) → refusal_of first.limits m.records r ≡ Some why → Allowed first.limits (m.records ++ r ∷ []) → ⊥
     not_allowed why some a = let none = allowed_last first.limits m.records r a in let e = sym none ∙ some in cc
 
-    next_placed : (at : ℕ) (why : Why) → at ≡ mid.given → (why ≡ Memory) ⊎ (refusal_of first.limits m.records r ≡ Some why) → IsPlaced first.limits origin (record { at = at; why = why }) new
-    next_placed at why is (inl e) = memory_placed at why (m.bytes ++ read.bytes) both e
+    next_placed : (at : ℕ) (why : Why) → at ≡ mid.given → Reasons first.limits why → IsPlaced first.limits origin (record { at = at; why = why }) new
+    next_placed at why is (inl e) = memory_placed at why (m.bytes ++ read.bytes) both e.0
     next_placed at why is (inr some) = record {
       bytes = m.bytes ++ read.bytes;
       takes = both;
@@ -86,7 +91,7 @@ module _ {origin mid new : Script} {head : Head} {first s : ReaderState} (m : Ha
       });
     }
 
-    next_reasoned : (at : ℕ) (why : Why) → at ≡ mid.given → (why ≡ Memory) ⊎ (refusal_of first.limits m.records r ≡ Some why) → IsReasoned first.limits origin (record { at = at; why = why }) new
+    next_reasoned : (at : ℕ) (why : Why) → at ≡ mid.given → Reasons first.limits why → IsReasoned first.limits origin (record { at = at; why = why }) new
     next_reasoned at why is reason = record {
       bytes = m.bytes ++ read.bytes;
       takes = both;
@@ -101,16 +106,16 @@ module _ {origin mid new : Script} {head : Head} {first s : ReaderState} (m : Ha
       });
     }
 
-    next_refuses : (refusal : Refusal) → refusal.at ≡ mid.given → (refusal.why ≡ Memory) ⊎ (refusal_of first.limits m.records r ≡ Some refusal.why) → Refuses first.limits origin refusal new
+    next_refuses : (refusal : Refusal) → refusal.at ≡ mid.given → Reasons first.limits refusal.why → Refuses first.limits origin refusal new
     next_refuses refusal at reason = (judged_refused (m.bytes ++ read.bytes) both (judged reason), next_placed refusal.at refusal.why at reason, next_reasoned refusal.at refusal.why at reason) where
-      judged : (refusal.why ≡ Memory) ⊎ (refusal_of first.limits m.records r ≡ Some refusal.why) → Judges first.limits (m.bytes ++ read.bytes) refusal.why
-      judged (inl e) = ForMemory e
+      judged : Reasons first.limits refusal.why → Judges first.limits (m.bytes ++ read.bytes) refusal.why
+      judged (inl e) = ForMemory e.0
       judged (inr some) = Decided (refusal_decides first.limits m.records r refusal.why some) (λ more a. not_allowed refusal.why some (front_allowed more front a))
 
     -- or it is refused
-    pub gather_refuses : (at : ℕ) (refusal : Refusal) → at ≡ mid.given → (refusal.at ≡ at) × ((refusal.why ≡ Memory) ⊎ (refusal_of s.limits m.records r ≡ Some refusal.why)) → Refuses first.limits origin refusal new
+    pub gather_refuses : (at : ℕ) (refusal : Refusal) → at ≡ mid.given → (refusal.at ≡ at) × Reasons s.limits refusal.why → Refuses first.limits origin refusal new
     gather_refuses at refusal is e =
-        next_refuses refusal (e.0 ∙ is) (subst (λ (l : Limits). (refusal.why ≡ Memory) ⊎ (refusal_of l m.records r ≡ Some refusal.why)) m.taken.same.limits e.1)
+        next_refuses refusal (e.0 ∙ is) (subst (λ (l : Limits). Reasons l refusal.why) m.taken.same.limits e.1)
 
   -- END is read
   pub gather_ends : (at : ℕ) → at ≡ mid.given → ReadsValue (record_in Any head.flag_in_end) mid End new → HasAll origin head first at new s

@@ -15,6 +15,7 @@ use Rattle.oas_record.specs.Heads.{magic, IsMagic, MagicMay, start_in, StartTook
 use Rattle.oas_record.specs.Records.{record_in}
 use Rattle.oas_record.specs.Refusals.{RecordTook}
 use Rattle.oas_layout.specs.declared.limits.Limits.{Limits}
+use Rattle.oas_modal.specs.Standing.{MayWant}
 use Rattle.oas_modal.specs.Stands.{refusal, end_refusal}
 use Rattle.oas_file.specs.Places.{IsBefore}
 
@@ -41,7 +42,8 @@ pub record InRecord (limits : Limits) (taken : List ℕ) (at : ℕ) (why : Why) 
   pub took : RecordTook head.flag_in_end why left
   pub cut : IsTrue (is_cut why) → NoneWithin (record_in Any head.flag_in_end) left
 
--- a record that was read isn't taken after those before it: for the first reason that holds, or for want of memory
+-- a record that was read isn't taken after those before it: for the first reason that holds, or for want of memory, where none
+-- holds, or only that a copy lies outside the grid
 pub record AsRecord (limits : Limits) (taken : List ℕ) (at : ℕ) (why : Why) : Type 0 where
   pub left : List ℕ
   pub head : Head
@@ -49,7 +51,7 @@ pub record AsRecord (limits : Limits) (taken : List ℕ) (at : ℕ) (why : Why) 
   pub next : Record
   pub before : IsBefore limits taken left at head records
   pub spelled : record_in Any head.flag_in_end next left
-  pub reason : (why ≡ Memory) ⊎ (refusal limits records next ≡ Some why)
+  pub reason : ((why ≡ Memory) × MayWant (refusal limits records next)) ⊎ (refusal limits records next ≡ Some why)
 
 -- why the input doesn't end
 abbrev pub EndingMay : Why → List ℕ → Type 0

@@ -1,4 +1,5 @@
 pub mod AllowedLemmas
+pub mod AloneLemmas
 pub mod ComparingLemmas
 pub mod DrawnSound
 pub mod ElementPutting

@@ -55,7 +55,11 @@ pub(crate) fn put_opening<K: Sink>(sink: &mut K, name: &[u8]) -> Result<u64, Sin
 }
 
 /// Puts a CELL record by name, and its elements.
-fn put_cell<K: Sink>(sink: &mut K, name: &[u8], elements: Elements<'_>) -> Result<u64, SinkFault>
+pub(crate) fn put_cell<K: Sink>(
+    sink: &mut K,
+    name: &[u8],
+    elements: Elements<'_>,
+) -> Result<u64, SinkFault>
     requires sound { AllSound elements }
     requires light { (1 + length name.now) + sum_by weight_of (items elements) ≤ 2 ^ 30 }
     ensures { Counts K.given K.failures sink.old (cell_bytes (name.now, items elements.entry)) result sink.new }

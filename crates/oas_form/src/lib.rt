@@ -10,7 +10,8 @@
 //!   them was put (`Counts`, specs/Putting.antt). [`write_canonical`] has a writer take exactly these bytes; its only refusal
 //!   is `Why::Write`, after a front of them that is as long as its place says (`IsWritten`, `IsCutOff`, oas_num's
 //!   specs/Written.antt). Of both it is said that these bytes are a canonical form and mean the layout. Neither takes memory.
-//!   [`has_canonical_bytes`] says whether bytes are these.
+//!   [`has_canonical_bytes`] says whether bytes are these. [`put_cell_alone`] puts the canonical bytes of one cell of a layout
+//!   alone, under its unit (`cell_alone`, specs/Alone.antt), of which the same is said.
 //! - [`laws`] joins the three, over the definitions alone. Each accepted file has a canonical form, and it is the same under
 //!   all limits that accept the file; what is accepted under limits is accepted under larger ones. One layout has one
 //!   canonical form; it is what is written of each layout that is the same; it is accepted, and its own canonical form; two
@@ -23,6 +24,7 @@
 //!   they mean, that they are accepted, and how they are spelled.
 #![tactic(auto)]
 
+mod alone;
 mod cells;
 mod comparing;
 mod elements;
@@ -37,6 +39,7 @@ mod point_lists;
 pub mod spelling_laws;
 mod writing;
 
+pub use alone::put_cell_alone;
 pub use judging::FormJudge;
 pub use matching::has_canonical_bytes;
 pub use writing::{put_canonical, write_canonical};

@@ -34,7 +34,8 @@ module _ {K : Type 0} {given : K → List ℕ → K → Type 0} {failures : K �
 
   -- ---- cells
 
-  module _ (cs : List Cell) (i : ℕ) (name : List ℕ) (es : List (Element × ℕ)) (lt : i < length cs) (named : slice_get (names cs) i ≡ Some name) (filled : slice_get (bags cs) i ≡ Some es) (p : PutSoFar given failures whole (flat_map cell_lines (drop i (expanded cs))) old mid) where
+  module _ (cs : List Cell) (i : ℕ) (name : List ℕ) (es : List (Element × ℕ)) (lt : i < length cs) (named : slice_get (names cs) i ≡ Some name)
+      (filled : slice_get (bags cs) i ≡ Some es) (p : PutSoFar given failures whole (flat_map cell_lines (drop i (expanded cs))) old mid) where
     here : get_or (expanded cs) i (name, items es) ≡ (name, items es)
     here = cell_at cs i name es ∙ (λ j. (get_or_from_slice_get (names cs) i name name named j, items (get_or_from_slice_get (bags cs) i es es filled j)))
 

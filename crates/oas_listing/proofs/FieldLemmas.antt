@@ -22,7 +22,9 @@ then_field fields field = flat_map-append (λ field. 32 ∷ field) fields (field
 
 -- ---- each kind's fields, as they are put
 
-pub placement_fields : (cell : List ℕ) (x y : ℤ) (turns flip : ℕ) → spaced (codes "placement" ∷ cell ∷ signed_decimal x ∷ signed_decimal y ∷ decimal turns ∷ decimal flip ∷ []) ≡ codes "placement" ++ ((32 ∷ cell) ++ (flat_map (λ z. 32 ∷ signed_decimal z) (x ∷ y ∷ []) ++ flat_map (λ n. 32 ∷ decimal n) (turns ∷ flip ∷ [])))
+pub placement_fields : (cell : List ℕ) (x y : ℤ) (turns flip : ℕ)
+    → spaced (codes "placement" ∷ cell ∷ signed_decimal x ∷ signed_decimal y ∷ decimal turns ∷ decimal flip ∷ []) ≡ codes "placement"
+    ++ ((32 ∷ cell) ++ (flat_map (λ z. 32 ∷ signed_decimal z) (x ∷ y ∷ []) ++ flat_map (λ n. 32 ∷ decimal n) (turns ∷ flip ∷ [])))
 placement_fields cell x y turns flip = ap (λ (b : List ℕ). codes "placement" ++ ((32 ∷ cell) ++ b)) (two_lists signed_decimal decimal (x ∷ y ∷ []) (turns ∷ flip ∷ []))
 
 module _ (word : List ℕ) (fields : List (List ℕ)) where

@@ -14,7 +14,7 @@ use oas_layout::{Elements, Layout};
 use oas_num::{Fraction, Sink, SinkFault};
 
 /// Puts the line of the unit.
-fn put_unit<K: Sink>(sink: &mut K, unit: Fraction) -> Result<(), SinkFault>
+pub fn put_unit<K: Sink>(sink: &mut K, unit: Fraction) -> Result<(), SinkFault>
     ensures { Writes K.given K.failures sink.old (line (codes "unit" ∷ fraction unit ∷ [])) result sink.new }
 {
     sink.put_all(b"unit")?;
@@ -25,7 +25,7 @@ fn put_unit<K: Sink>(sink: &mut K, unit: Fraction) -> Result<(), SinkFault>
 }
 
 /// Puts the line of a cell's name.
-fn put_name<K: Sink>(sink: &mut K, name: &[u8]) -> Result<(), SinkFault>
+pub fn put_name<K: Sink>(sink: &mut K, name: &[u8]) -> Result<(), SinkFault>
     ensures { Writes K.given K.failures sink.old (line (codes "cell" ∷ name.now ∷ [])) result sink.new }
 {
     sink.put_all(b"cell")?;

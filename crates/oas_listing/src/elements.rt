@@ -152,7 +152,7 @@ fn put_fields<K: Sink>(sink: &mut K, element: &Element) -> Result<(), SinkFault>
 }
 
 /// Puts the line of an element.
-fn put_element<K: Sink>(sink: &mut K, element: &Element) -> Result<(), SinkFault>
+pub fn put_element<K: Sink>(sink: &mut K, element: &Element) -> Result<(), SinkFault>
     ensures { Writes K.given K.failures sink.old (element_line element.now) result sink.new }
 {
     put_fields(sink, element)?;

@@ -19,7 +19,8 @@
 //! What this crate promises to the crates above it: a writer takes exactly the bytes of `listing` (specs/Listing.antt) of
 //! what the layout means, and [`write_listing`] answers how many they are (`IsWritten`, oas_num's specs/Written.antt); or it fails,
 //! by [`oas_num::Why::Write`], and then it took as many of the first of them as the refusal's place says (`IsCutOff`). No
-//! memory is taken. Layouts that are the same have one listing ([`laws`]).
+//! memory is taken. Layouts that are the same have one listing ([`laws`]). A line alone is put by [`put_unit`], [`put_name`] and
+//! [`put_element`].
 #![tactic(auto)]
 
 mod cells;
@@ -28,7 +29,8 @@ mod fields;
 pub mod laws;
 mod writing;
 
-pub use cells::put_listing;
+pub use cells::{put_listing, put_name, put_unit};
+pub use elements::put_element;
 pub use writing::write_listing;
 
 #[cfg(test)]

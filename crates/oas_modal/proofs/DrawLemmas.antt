@@ -2,13 +2,13 @@
 use Rattle.std.proofs.Common.{◌≡◌, ℕ, zero, suc, ◌+◌, ◌*◌, ◌<◌, ◌≤◌, List, [], ◌∷◌, ◌++◌, length, refl, sym, ap, ◌∙◌, subst, arith, Bool, true, false, ◌⊎◌, inl, inr, length-append}
 use Rattle.std.proofs.lemmas.Bool.Decides.{nat_tests}
 use Rattle.std.proofs.lemmas.List.Sums.{sum_by-append}
-use Rattle.std.specs.Prelude.{Option, None, Some, is_some, is_none, nat_lt, cond, sum_by}
-use Rattle.std.specs.Option.{option_to_list}
+use Rattle.std.specs.Prelude.{Option, None, Some, is_some, is_none, nat_lt, not, cond, sum_by}
+use Rattle.std.specs.Option.{option_or, option_to_list}
 use Rattle.std.specs.List.{AllByRecursion}
 use Rattle.std.specs.Ordering.{match_ordering}
 use Rattle.std.specs.declared.cmp.Ordering.TheVariants.{Less, Equal, Greater}
 use Rattle.oas_num.specs.declared.refusals.Why.{Why}
-use Rattle.oas_num.specs.declared.refusals.Why.TheVariants.{OutOfPlace, Memory, ModalUndefined, Magnification, Angle, TooManyElements, TooHeavy, PointCount}
+use Rattle.oas_num.specs.declared.refusals.Why.TheVariants.{OutOfPlace, Memory, ModalUndefined, Magnification, Angle, TooManyElements, TooHeavy, PointCount, CoordinateRange}
 use Rattle.oas_shape.specs.Steps.{still}
 use Rattle.oas_record.specs.declared.records.Record.{Record}
 use Rattle.oas_record.specs.declared.records.Record.TheVariants as record_of
@@ -25,10 +25,10 @@ use Rattle.oas_drawing.specs.Modal.{ModalState, stepped}
 use Rattle.oas_modal.specs.Names.{cell_names, text_strings, with_name, table_reason, same_string}
 use Rattle.oas_drawing.specs.Drawn.{drawn_cmp, weight_so_far}
 use Rattle.oas_drawing.specs.Drawing.{kind_of, repeats, drawn_by, place_of, offset_if, number_if, lacks_repetition}
-use Rattle.oas_drawing.specs.Reasons.{is_magnified, is_askew, weight_if, lacks_if, fault_of, kind_reason, draw_reason}
+use Rattle.oas_drawing.specs.Reasons.{first_of, is_magnified, is_askew, weight_if, lacks_if, fault_of, kind_reason, all_fit, reason_if, draw_reason}
 use Rattle.oas_modal.specs.Held.{Held, with_drawn}
 use Rattle.oas_modal.specs.Finish.{IsFit, AllFit, drawn_cells, drawn_total}
-use Rattle.oas_modal.specs.Standing.{Standing, drawn_of, weight_with, open_after, element_reason, reason, put_all, drew, drew_last, held_after}
+use Rattle.oas_modal.specs.Standing.{Standing, drawn_of, weight_with, open_after, element_reason, reason, MayWant, put_all, drew, drew_last, held_after}
 use Rattle.oas_modal.specs.Parts.{standing, cells, reason_of, Sound, Took}
 use Rattle.oas_modal.specs.Copying.{first_copies}
 use Rattle.oas_drawing.proofs.Copies.{drawn_defined, refused_before, refused_at, allowed_all}
@@ -208,6 +208,11 @@ pub record InCell (p : Parts) (r : Record) (kind : Kind) (held : Held) (m : Moda
   pub repeats_is : repeated ≡ repeats r
   pub sound : Sound p
 
+-- what is left once its copies are looked at is the grid
+grid_left : (fit : Bool) → MayWant (first_of ((not fit, CoordinateRange) ∷ []))
+grid_left true = inl refl
+grid_left false = inr refl
+
 module _ (p : Parts) (r : Record) (kind : Kind) (held : Held) (m : ModalState) (repeated : Bool) (c : InCell p r kind held m repeated) where
   abbrev judged_with : Bool → ModalState → Option Why
   judged_with b v = cond b (draw_reason p.limits p.count p.weight v r) (Some (OutOfPlace (id_of r)))
@@ -221,11 +226,18 @@ module _ (p : Parts) (r : Record) (kind : Kind) (held : Held) (m : ModalState) (
   pub refused_number : (why : Why) → kind_reason p.limits p.count p.weight m kind repeated ≡ Some why → reason_of p r ≡ Some why
   refused_number why h = judged_in ∙ refused_before p.limits p.count p.weight m r kind why c.kind_is (by_repeats (Some why) h)
 
+  may_want : kind_reason p.limits p.count p.weight m kind repeated ≡ None → MayWant (reason_of p r)
+  may_want none =
+      let left : Option Why = first_of ((not (all_fit m kind (repeats r)), CoordinateRange) ∷ []) in
+      let drawn : draw_reason p.limits p.count p.weight m r ≡ left =
+      ap (λ (k : Option Kind). reason_if p.limits p.count p.weight m k (repeats r)) c.kind_is ∙ ap (λ (o : Option Why). option_or o left) (by_repeats None none) in
+      subst MayWant (sym (judged_in ∙ drawn)) (grid_left (all_fit m kind (repeats r)))
+
   abbrev Faulty : Bool → ℕ → Why → Type 0
   Faulty b n why = (i : ℕ) × (i < n) × (fault_of (drawn_by m kind (offset_if b m.repetition i)) ≡ Some why)
 
-  pub refused_copy : (why : Why) (n : ℕ) → kind_reason p.limits p.count p.weight m kind repeated ≡ None → n ≡ number_if repeated m.repetition → (why ≡ Memory) ⊎ Faulty repeated n why → (why ≡ Memory) ⊎ (reason_of p r ≡ Some why)
-  refused_copy why n none number (inl h) = inl h
+  pub refused_copy : (why : Why) (n : ℕ) → kind_reason p.limits p.count p.weight m kind repeated ≡ None → n ≡ number_if repeated m.repetition → (why ≡ Memory) ⊎ Faulty repeated n why → ((why ≡ Memory) × MayWant (reason_of p r)) ⊎ (reason_of p r ≡ Some why)
+  refused_copy why n none number (inl h) = inl (h, may_want none)
   refused_copy why n none number (inr h) =
       let g : Faulty (repeats r) (number_if (repeats r) m.repetition) why = subst (λ (b : Bool). Faulty b (number_if b m.repetition) why) c.repeats_is (subst (λ (k : ℕ). Faulty repeated k why) number h) in
       inr (judged_in ∙ refused_at p.limits p.count p.weight m r kind g.0 why c.kind_is (by_repeats None none) g.1 g.2)

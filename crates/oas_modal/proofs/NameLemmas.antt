@@ -10,10 +10,10 @@ use Rattle.oas_num.specs.declared.refusals.Why.{Why}
 use Rattle.oas_num.specs.declared.refusals.Why.TheVariants.{MixedNumbering, NumberTwice}
 use Rattle.oas_record.specs.declared.records.Record.{Record}
 use Rattle.oas_drawing.specs.Reasons.{first_of}
-use Rattle.oas_modal.specs.declared.names.Form.{Form}
-use Rattle.oas_modal.specs.declared.names.Form.TheVariants.{Implicit, Explicit}
-use Rattle.oas_modal.specs.Names.{same_string, form_given, form_after, form_of, counted, next_after, next_number, named_after, named, name_of, is_mixed, is_other, naming_reason, reason_given, name_reason, AllowedNames, Table, no_names, table_reason, with_name, NamesStand}
-use Rattle.oas_modal.specs.Laws.NameLaws.{GivesName, HasForm, other_form, FormIsOfEach, StringIsGiven, NoStringIsGiven, MixedWhere, TwiceWhere}
+use Rattle.oas_modal.specs.declared.names.Numbering.{Numbering}
+use Rattle.oas_modal.specs.declared.names.Numbering.TheVariants.{Implicit, Explicit}
+use Rattle.oas_modal.specs.Names.{same_string, numbering_given, numbering_after, numbering_of, counted, next_after, next_number, named_after, named, name_of, is_mixed, is_other, naming_reason, reason_given, name_reason, AllowedNames, Table, no_names, table_reason, with_name, NamesStand}
+use Rattle.oas_modal.specs.Laws.NameLaws.{GivesName, HasNumbering, other_numbering, NumberingIsOfEach, StringIsGiven, NoStringIsGiven, MixedWhere, TwiceWhere}
 
 -- ---- one entry more
 
@@ -33,14 +33,14 @@ length_insert (e ∷ es) k v none = length_step e es k v (length_insert es k v) 
 
 -- ---- a table after one more record
 
--- what a table has where its records have this form, this next number and these names
-record HasNames {S : Type 0} (t : Table S) (form : Option Form) (next : ℕ) (names : List (ℕ × S)) : Type 0 where
-  form_is : t.form ≡ form
+-- what a table has where its records have this numbering, this next number and these names
+record HasNames {S : Type 0} (t : Table S) (numbering : Option Numbering) (next : ℕ) (names : List (ℕ × S)) : Type 0 where
+  numbering_is : t.numbering ≡ numbering
   agrees : (q : ℕ) → name_of t.named q ≡ name_of names q
-  next_is : form ≢ Some Explicit → length t.named ≡ next
-  free : form ≢ Some Explicit → (q : ℕ) → next ≤ q → name_of names q ≡ None
+  next_is : numbering ≢ Some Explicit → length t.named ≡ next
+  free : numbering ≢ Some Explicit → (q : ℕ) → next ≤ q → name_of names q ≡ None
 
-not_explicit : (form : Option Form) → is_mixed form Implicit ≡ false → form ≢ Some Explicit
+not_explicit : (numbering : Option Numbering) → is_mixed numbering Implicit ≡ false → numbering ≢ Some Explicit
 not_explicit None h e = cc
 not_explicit (Some Implicit) h e = cc
 not_explicit (Some Explicit) h e = cc
@@ -55,105 +55,105 @@ insert_agrees held names n n' string q e h = lookup_insert held n string q ∙ (
 free_more : {S : Type 0} (names : List (ℕ × S)) (next : ℕ) (string : S) (q : ℕ) → next + 1 ≤ q → name_of names q ≡ None → name_of ((next, string) ∷ names) q ≡ None
 free_more names next string q le h = grind (arith, nat_tests)
 
-more_named : {S : Type 0} (same : S → S → Bool) (t : Table S) (form : Option Form) (next : ℕ) (names : List (ℕ × S)) (string : S) (number : Option ℕ) → HasNames t form next names → naming_reason same form next names string number ≡ None →
-    HasNames (with_name t (Some (string, number))) (Some (form_given number)) (counted number next) ((unwrap_or number next, string) ∷ names)
-more_named same t form next names string (Some k) h none =
+more_named : {S : Type 0} (same : S → S → Bool) (t : Table S) (numbering : Option Numbering) (next : ℕ) (names : List (ℕ × S)) (string : S) (number : Option ℕ) → HasNames t numbering next names → naming_reason same numbering next names string number ≡ None →
+    HasNames (with_name t (Some (string, number))) (Some (numbering_given number)) (counted number next) ((unwrap_or number next, string) ∷ names)
+more_named same t numbering next names string (Some k) h none =
     record {
-      form_is = refl;
+      numbering_is = refl;
       agrees = λ q. insert_agrees t.named names k k string q refl (h.agrees q);
       next_is = λ f. absurd (f refl);
       free = λ f. absurd (f refl);
     }
-more_named same t form next names string None h none =
-    let implicit : form ≢ Some Explicit = not_explicit form (first_false _ _ _ _ none) in
+more_named same t numbering next names string None h none =
+    let implicit : numbering ≢ Some Explicit = not_explicit numbering (first_false _ _ _ _ none) in
     let at = h.next_is implicit in
     let few : length (insert_entry nat_cmp t.named (length t.named) string) ≡ length t.named + 1 =
     length_insert t.named (length t.named) string (h.agrees (length t.named) ∙ h.free implicit (length t.named) (omega (arith, at))) in
     record {
-      form_is = refl;
+      numbering_is = refl;
       agrees = λ q. insert_agrees t.named names (length t.named) next string q at (h.agrees q);
       next_is = λ f. few ∙ ap (λ n. n + 1) at;
       free = λ f q le. free_more names next string q le (h.free implicit q (omega (arith, le)));
     }
 
-more_given : {S : Type 0} (same : S → S → Bool) (t : Table S) (form : Option Form) (next : ℕ) (names : List (ℕ × S)) (o : Option (S × Option ℕ)) → HasNames t form next names → reason_given same form next names o ≡ None →
-    HasNames (with_name t o) (form_after o form) (next_after o next) (named_after o next names)
-more_given same t form next names None h none = h
-more_given same t form next names (Some g) h none = more_named same t form next names g.0 g.1 h none
+more_given : {S : Type 0} (same : S → S → Bool) (t : Table S) (numbering : Option Numbering) (next : ℕ) (names : List (ℕ × S)) (o : Option (S × Option ℕ)) → HasNames t numbering next names → reason_given same numbering next names o ≡ None →
+    HasNames (with_name t o) (numbering_after o numbering) (next_after o next) (named_after o next names)
+more_given same t numbering next names None h none = h
+more_given same t numbering next names (Some g) h none = more_named same t numbering next names g.0 g.1 h none
 
 pub one_more : {S : Type 0} (same : S → S → Bool) (given : Record → Option (S × Option ℕ)) (t : Table S) (before : List Record) (r : Record) → NamesStand given t before → name_reason same given before r ≡ None → NamesStand given (with_name t (given r)) (r ∷ before)
 one_more same given t before r h none =
-    let had : HasNames t (form_of given before) (next_number given before) (named given before) = record { form_is = h.form; agrees = h.agrees; next_is = h.next; free = h.free } in
-    let has = more_given same t (form_of given before) (next_number given before) (named given before) (given r) had none in
-    record { form = has.form_is; agrees = has.agrees; next = has.next_is; free = has.free }
+    let had : HasNames t (numbering_of given before) (next_number given before) (named given before) = record { numbering_is = h.numbering; agrees = h.agrees; next_is = h.next; free = h.free } in
+    let has = more_given same t (numbering_of given before) (next_number given before) (named given before) (given r) had none in
+    record { numbering = has.numbering_is; agrees = has.agrees; next = has.next_is; free = has.free }
 
 pub none_stand : {S : Type 0} (given : Record → Option (S × Option ℕ)) → NamesStand given no_names []
-none_stand given = record { form = refl; agrees = λ q. refl; next = λ f. refl; free = λ f q le. refl }
+none_stand given = record { numbering = refl; agrees = λ q. refl; next = λ f. refl; free = λ f q le. refl }
 
 -- what isn't asked where the first condition holds
 first_or : (a b b' : Bool) (w x : Why) → (a ≡ false → b ≡ b') → first_of ((a, w) ∷ (b, x) ∷ []) ≡ first_of ((a, w) ∷ (b', x) ∷ [])
 first_or true b b' w x f = refl
 first_or false b b' w x f = ap (λ c. first_of ((c, x) ∷ [])) (f refl)
 
-same_naming : {S : Type 0} (same : S → S → Bool) (t : Table S) (form : Option Form) (next : ℕ) (names : List (ℕ × S)) (string : S) (number : Option ℕ) → HasNames t form next names →
-    naming_reason same form (length t.named) t.named string number ≡ naming_reason same form next names string number
-same_naming same t form next names string (Some k) h = first_or (is_mixed form Explicit) _ _ _ _ (λ f. ap (λ o. is_other same o string) (h.agrees k))
-same_naming same t form next names string None h =
-    first_or (is_mixed form Implicit) _ _ _ _ (λ f. ap (λ o. is_other same o string) (h.agrees (length t.named) ∙ ap (name_of names) (h.next_is (not_explicit form f))))
+same_naming : {S : Type 0} (same : S → S → Bool) (t : Table S) (numbering : Option Numbering) (next : ℕ) (names : List (ℕ × S)) (string : S) (number : Option ℕ) → HasNames t numbering next names →
+    naming_reason same numbering (length t.named) t.named string number ≡ naming_reason same numbering next names string number
+same_naming same t numbering next names string (Some k) h = first_or (is_mixed numbering Explicit) _ _ _ _ (λ f. ap (λ o. is_other same o string) (h.agrees k))
+same_naming same t numbering next names string None h =
+    first_or (is_mixed numbering Implicit) _ _ _ _ (λ f. ap (λ o. is_other same o string) (h.agrees (length t.named) ∙ ap (name_of names) (h.next_is (not_explicit numbering f))))
 
-same_given : {S : Type 0} (same : S → S → Bool) (t : Table S) (form : Option Form) (next : ℕ) (names : List (ℕ × S)) (o : Option (S × Option ℕ)) → HasNames t form next names →
-    reason_given same form (length t.named) t.named o ≡ reason_given same form next names o
-same_given same t form next names None h = refl
-same_given same t form next names (Some g) h = same_naming same t form next names g.0 g.1 h
+same_given : {S : Type 0} (same : S → S → Bool) (t : Table S) (numbering : Option Numbering) (next : ℕ) (names : List (ℕ × S)) (o : Option (S × Option ℕ)) → HasNames t numbering next names →
+    reason_given same numbering (length t.named) t.named o ≡ reason_given same numbering next names o
+same_given same t numbering next names None h = refl
+same_given same t numbering next names (Some g) h = same_naming same t numbering next names g.0 g.1 h
 
 pub same_reason : {S : Type 0} (same : S → S → Bool) (given : Record → Option (S × Option ℕ)) (t : Table S) (before : List Record) (r : Record) → NamesStand given t before → table_reason same t (given r) ≡ name_reason same given before r
 same_reason same given t before r h =
-    let had : HasNames t (form_of given before) (next_number given before) (named given before) = record { form_is = h.form; agrees = h.agrees; next_is = h.next; free = h.free } in
-    ap (λ form. reason_given same form (length t.named) t.named (given r)) h.form ∙
-    same_given same t (form_of given before) (next_number given before) (named given before) (given r) had
+    let had : HasNames t (numbering_of given before) (next_number given before) (named given before) = record { numbering_is = h.numbering; agrees = h.agrees; next_is = h.next; free = h.free } in
+    ap (λ numbering. reason_given same numbering (length t.named) t.named (given r)) h.numbering ∙
+    same_given same t (numbering_of given before) (next_number given before) (named given before) (given r) had
 
 -- ---- what the records name
 
--- the form of allowed records is that of each
-is_same : (form f : Form) → is_mixed (Some form) f ≡ false → f ≡ form
+-- the numbering of allowed records is that of each
+is_same : (numbering f : Numbering) → is_mixed (Some numbering) f ≡ false → f ≡ numbering
 is_same Implicit Implicit h = refl
 is_same Implicit Explicit h = cc
 is_same Explicit Implicit h = cc
 is_same Explicit Explicit h = refl
 
-form_past : (given : Record → Option (List ℕ × Option ℕ)) (r : Record) (rs : List Record) (form : Form) → HasForm given rs form → HasForm given (r ∷ rs) form
-form_past given r rs form h = record { after = r ∷ h.after; by = h.by; before = h.before; string = h.string; said = h.said; split = ap (λ xs. r ∷ xs) h.split; gave = h.gave; form_is = h.form_is }
+numbering_past : (given : Record → Option (List ℕ × Option ℕ)) (r : Record) (rs : List Record) (numbering : Numbering) → HasNumbering given rs numbering → HasNumbering given (r ∷ rs) numbering
+numbering_past given r rs numbering h = record { after = r ∷ h.after; by = h.by; before = h.before; string = h.string; said = h.said; split = ap (λ xs. r ∷ xs) h.split; gave = h.gave; numbering_is = h.numbering_is }
 
-pub form_found : (given : Record → Option (List ℕ × Option ℕ)) (rs : List Record) (form : Form) → form_of given rs ≡ Some form → HasForm given rs form
-form_found given [] form h = cc
-form_found given (r ∷ rs) form h =
-    elim (given r) as (λ o. given r ≡ o → form_after o (form_of given rs) ≡ Some form → HasForm given (r ∷ rs) form) [
-      | None ↦ λ e k. form_past given r rs form (form_found given rs form k)
-      | Some g ↦ λ e k. record { after = []; by = r; before = rs; string = g.0; said = g.1; split = refl; gave = e; form_is = (cc) }
+pub numbering_found : (given : Record → Option (List ℕ × Option ℕ)) (rs : List Record) (numbering : Numbering) → numbering_of given rs ≡ Some numbering → HasNumbering given rs numbering
+numbering_found given [] numbering h = cc
+numbering_found given (r ∷ rs) numbering h =
+    elim (given r) as (λ o. given r ≡ o → numbering_after o (numbering_of given rs) ≡ Some numbering → HasNumbering given (r ∷ rs) numbering) [
+      | None ↦ λ e k. numbering_past given r rs numbering (numbering_found given rs numbering k)
+      | Some g ↦ λ e k. record { after = []; by = r; before = rs; string = g.0; said = g.1; split = refl; gave = e; numbering_is = (cc) }
     ] refl h
 
-form_stays : (o : Option (List ℕ × Option ℕ)) (had : Option Form) (form : Form) (next : ℕ) (names : List (ℕ × List ℕ)) → had ≡ Some form → reason_given same_string had next names o ≡ None → form_after o had ≡ Some form
-form_stays None had form next names e none = e
-form_stays (Some g) had form next names e none =
-    let one : is_mixed had (form_given g.1) ≡ false = first_false _ _ _ _ none in
-    ap (λ f. Some f) (is_same form (form_given g.1) (subst (λ (x : Option Form). is_mixed x (form_given g.1) ≡ false) e one))
+numbering_stays : (o : Option (List ℕ × Option ℕ)) (had : Option Numbering) (numbering : Numbering) (next : ℕ) (names : List (ℕ × List ℕ)) → had ≡ Some numbering → reason_given same_string had next names o ≡ None → numbering_after o had ≡ Some numbering
+numbering_stays None had numbering next names e none = e
+numbering_stays (Some g) had numbering next names e none =
+    let one : is_mixed had (numbering_given g.1) ≡ false = first_false _ _ _ _ none in
+    ap (λ f. Some f) (is_same numbering (numbering_given g.1) (subst (λ (x : Option Numbering). is_mixed x (numbering_given g.1) ≡ false) e one))
 
-form_at : (given : Record → Option (List ℕ × Option ℕ)) (rs : List Record) (form : Form) (after : List Record) (by : Record) (before : List Record) (string : List ℕ) (said : Option ℕ) → AllowedNames same_string given rs →
-    rs ≡ after ++ by ∷ before → given by ≡ Some (string, said) → form_given said ≡ form → form_of given rs ≡ Some form
-form_at given [] form [] by before string said allowed split gave is = cc
-form_at given [] form (a ∷ after) by before string said allowed split gave is = cc
-form_at given (r ∷ rs) form [] by before string said allowed split gave is =
+numbering_at : (given : Record → Option (List ℕ × Option ℕ)) (rs : List Record) (numbering : Numbering) (after : List Record) (by : Record) (before : List Record) (string : List ℕ) (said : Option ℕ) → AllowedNames same_string given rs →
+    rs ≡ after ++ by ∷ before → given by ≡ Some (string, said) → numbering_given said ≡ numbering → numbering_of given rs ≡ Some numbering
+numbering_at given [] numbering [] by before string said allowed split gave is = cc
+numbering_at given [] numbering (a ∷ after) by before string said allowed split gave is = cc
+numbering_at given (r ∷ rs) numbering [] by before string said allowed split gave is =
     let one : r ≡ by = cc in
-    ap (λ o. form_after o (form_of given rs)) (ap given one ∙ gave) ∙ ap (λ f. Some f) is
-form_at given (r ∷ rs) form (a ∷ after) by before string said allowed split gave is =
+    ap (λ o. numbering_after o (numbering_of given rs)) (ap given one ∙ gave) ∙ ap (λ f. Some f) is
+numbering_at given (r ∷ rs) numbering (a ∷ after) by before string said allowed split gave is =
     let rest : rs ≡ after ++ by ∷ before = cc in
-    form_stays (given r) (form_of given rs) form (next_number given rs) (named given rs) (form_at given rs form after by before string said allowed.0 rest gave is) allowed.1
+    numbering_stays (given r) (numbering_of given rs) numbering (next_number given rs) (named given rs) (numbering_at given rs numbering after by before string said allowed.0 rest gave is) allowed.1
 
-form_only : (given : Record → Option (List ℕ × Option ℕ)) (rs : List Record) (form : Form) → AllowedNames same_string given rs → HasForm given rs form → form_of given rs ≡ Some form
-form_only given rs form allowed h = form_at given rs form h.after h.by h.before h.string h.said allowed h.split h.gave h.form_is
+numbering_only : (given : Record → Option (List ℕ × Option ℕ)) (rs : List Record) (numbering : Numbering) → AllowedNames same_string given rs → HasNumbering given rs numbering → numbering_of given rs ≡ Some numbering
+numbering_only given rs numbering allowed h = numbering_at given rs numbering h.after h.by h.before h.string h.said allowed h.split h.gave h.numbering_is
 
-pub form_of_each : (given : Record → Option (List ℕ × Option ℕ)) → FormIsOfEach given
-form_of_each given rs form allowed = (form_found given rs form, form_only given rs form allowed)
+pub numbering_of_each : (given : Record → Option (List ℕ × Option ℕ)) → NumberingIsOfEach given
+numbering_of_each given rs numbering allowed = (numbering_found given rs numbering, numbering_only given rs numbering allowed)
 
 -- ---- the string of a number
 
@@ -195,11 +195,11 @@ same_had (Some x) had string e h =
     let yes : same_string x string ≡ true = elim (same_string x string) as (λ b. not b ≡ false → b ≡ true) [ true ↦ λ k. refl | false ↦ λ k. sym k ] h in
     sym ((bytes_decides x string).0 yes) ∙ is
 
-string_stays : (o : Option (List ℕ × Option ℕ)) (form : Option Form) (next : ℕ) (names : List (ℕ × List ℕ)) (number : ℕ) (string : List ℕ) → name_of names number ≡ Some string → reason_given same_string form next names o ≡ None → name_of (named_after o next names) number ≡ Some string
-string_stays None form next names number string h none = h
-string_stays (Some g) form next names number string h none =
+string_stays : (o : Option (List ℕ × Option ℕ)) (numbering : Option Numbering) (next : ℕ) (names : List (ℕ × List ℕ)) (number : ℕ) (string : List ℕ) → name_of names number ≡ Some string → reason_given same_string numbering next names o ≡ None → name_of (named_after o next names) number ≡ Some string
+string_stays None numbering next names number string h none = h
+string_stays (Some g) numbering next names number string h none =
     let two : is_other same_string (name_of names (unwrap_or g.1 next)) g.0 ≡ false =
-    second_false (is_mixed form (form_given g.1)) (is_other same_string (name_of names (unwrap_or g.1 next)) g.0) MixedNumbering NumberTwice none in
+    second_false (is_mixed numbering (numbering_given g.1)) (is_other same_string (name_of names (unwrap_or g.1 next)) g.0) MixedNumbering NumberTwice none in
     elim (nat_eq number (unwrap_or g.1 next)) as (λ b. nat_eq number (unwrap_or g.1 next) ≡ b → cond b (Some g.0) (name_of names number) ≡ Some string) [
       | true ↦ λ e. let n : number ≡ unwrap_or g.1 next = grind (arith, nat_tests) in ap (λ s. Some s) (same_had (name_of names (unwrap_or g.1 next)) string g.0 (ap (name_of names) (sym n) ∙ h) two)
       | false ↦ λ e. h
@@ -216,7 +216,7 @@ string_at given (r ∷ rs) number string [] by before said allowed split gave is
     head_is (named given rs) number (unwrap_or said (next_number given rs)) string (is ∙ ap (λ xs. unwrap_or said (next_number given xs)) (sym rest))
 string_at given (r ∷ rs) number string (a ∷ after) by before said allowed split gave is =
     let rest : rs ≡ after ++ by ∷ before = cc in
-    string_stays (given r) (form_of given rs) (next_number given rs) (named given rs) number string (string_at given rs number string after by before said allowed.0 rest gave is) allowed.1
+    string_stays (given r) (numbering_of given rs) (next_number given rs) (named given rs) number string (string_at given rs number string after by before said allowed.0 rest gave is) allowed.1
 
 string_only : (given : Record → Option (List ℕ × Option ℕ)) (rs : List Record) (number : ℕ) (string : List ℕ) → AllowedNames same_string given rs → GivesName given rs number string → name_of (named given rs) number ≡ Some string
 string_only given rs number string allowed h = string_at given rs number string h.after h.by h.before h.said allowed h.split h.gave h.number_is
@@ -261,14 +261,14 @@ no_string_is_given given rs number = (
 
 -- ---- which name records are refused
 
-mixed_is : (form : Option Form) (f : Form) → is_mixed form f ≡ true → form ≡ Some (other_form f)
+mixed_is : (numbering : Option Numbering) (f : Numbering) → is_mixed numbering f ≡ true → numbering ≡ Some (other_numbering f)
 mixed_is None f h = cc
 mixed_is (Some Implicit) Implicit h = cc
 mixed_is (Some Implicit) Explicit h = refl
 mixed_is (Some Explicit) Implicit h = refl
 mixed_is (Some Explicit) Explicit h = cc
 
-is_mixed-other : (f : Form) → is_mixed (Some (other_form f)) f ≡ true
+is_mixed-other : (f : Numbering) → is_mixed (Some (other_numbering f)) f ≡ true
 is_mixed-other Implicit = refl
 is_mixed-other Explicit = refl
 
@@ -286,20 +286,20 @@ twice_second a true h = refl
 twice_second true false h = cc
 twice_second false false h = cc
 
-no_other : (form : Option Form) (f : Form) → is_mixed form f ≡ false → form ≡ Some (other_form f) → ⊥
-no_other form f h e = let yes = ap (λ (x : Option Form). is_mixed x f) e ∙ is_mixed-other f in cc
+no_other : (numbering : Option Numbering) (f : Numbering) → is_mixed numbering f ≡ false → numbering ≡ Some (other_numbering f) → ⊥
+no_other numbering f h e = let yes = ap (λ (x : Option Numbering). is_mixed x f) e ∙ is_mixed-other f in cc
 
 -- the reason of a record that gives this
-reason_is : (given : Record → Option (List ℕ × Option ℕ)) (before : List Record) (r : Record) (string : List ℕ) (number : Option ℕ) → given r ≡ Some (string, number) → name_reason same_string given before r ≡ naming_reason same_string (form_of given before) (next_number given before) (named given before) string number
-reason_is given before r string number e = ap (λ o. reason_given same_string (form_of given before) (next_number given before) (named given before) o) e
+reason_is : (given : Record → Option (List ℕ × Option ℕ)) (before : List Record) (r : Record) (string : List ℕ) (number : Option ℕ) → given r ≡ Some (string, number) → name_reason same_string given before r ≡ naming_reason same_string (numbering_of given before) (next_number given before) (named given before) string number
+reason_is given before r string number e = ap (λ o. reason_given same_string (numbering_of given before) (next_number given before) (named given before) o) e
 
 pub mixed_where : (given : Record → Option (List ℕ × Option ℕ)) → MixedWhere given
 mixed_where given before r string number allowed e =
     let is = reason_is given before r string number e in (
-      λ h. form_found given before (other_form (form_given number)) (mixed_is (form_of given before) (form_given number) (mixed_true _ _ (sym is ∙ h))),
+      λ h. numbering_found given before (other_numbering (numbering_given number)) (mixed_is (numbering_of given before) (numbering_given number) (mixed_true _ _ (sym is ∙ h))),
       λ h. is ∙
           ap (λ b. first_of ((b, MixedNumbering) ∷ (is_other same_string (name_of (named given before) (unwrap_or number (next_number given before))) string, NumberTwice) ∷ []))
-          (ap (λ (x : Option Form). is_mixed x (form_given number)) (form_only given before (other_form (form_given number)) allowed h) ∙ is_mixed-other (form_given number)),
+          (ap (λ (x : Option Numbering). is_mixed x (numbering_given number)) (numbering_only given before (other_numbering (numbering_given number)) allowed h) ∙ is_mixed-other (numbering_given number)),
     )
 
 -- what another string is
@@ -326,13 +326,13 @@ twice_where given before r string number allowed e =
     let m = unwrap_or number (next_number given before) in (
       λ h.
           let other = other_had (name_of (named given before) m) string (twice_second _ _ (sym is ∙ h)) in (
-            λ form. no_other (form_of given before) (form_given number) (twice_first _ _ (sym is ∙ h)) (form_only given before (other_form (form_given number)) allowed form),
+            λ numbering. no_other (numbering_of given before) (numbering_given number) (twice_first _ _ (sym is ∙ h)) (numbering_only given before (other_numbering (numbering_given number)) allowed numbering),
             (other.0, string_found given before m other.0 other.1, other.2),
           ),
       λ h. is ∙
-          twice_of (is_mixed (form_of given before) (form_given number)) (is_other same_string (name_of (named given before) m) string)
-          (elim (is_mixed (form_of given before) (form_given number)) as (λ b. is_mixed (form_of given before) (form_given number) ≡ b → b ≡ false) [
-            | true ↦ λ k. absurd (h.0 (form_found given before (other_form (form_given number)) (mixed_is (form_of given before) (form_given number) k)))
+          twice_of (is_mixed (numbering_of given before) (numbering_given number)) (is_other same_string (name_of (named given before) m) string)
+          (elim (is_mixed (numbering_of given before) (numbering_given number)) as (λ b. is_mixed (numbering_of given before) (numbering_given number) ≡ b → b ≡ false) [
+            | true ↦ λ k. absurd (h.0 (numbering_found given before (other_numbering (numbering_given number)) (mixed_is (numbering_of given before) (numbering_given number) k)))
             | false ↦ λ k. refl
           ] refl)
           (is_other-had (name_of (named given before) m) h.1.0 string (string_only given before m h.1.0 allowed h.1.1) h.1.2),
@@ -347,4 +347,4 @@ allowed_front given (r ∷ later) before allowed = allowed_front given later bef
 pub names_stay : (given : Record → Option (List ℕ × Option ℕ)) (later before : List Record) (number : ℕ) (string : List ℕ) → AllowedNames same_string given (later ++ before) → name_of (named given before) number ≡ Some string → name_of (named given (later ++ before)) number ≡ Some string
 names_stay given [] before number string allowed h = h
 names_stay given (r ∷ later) before number string allowed h =
-    string_stays (given r) (form_of given (later ++ before)) (next_number given (later ++ before)) (named given (later ++ before)) number string (names_stay given later before number string allowed.0 h) allowed.1
+    string_stays (given r) (numbering_of given (later ++ before)) (next_number given (later ++ before)) (named given (later ++ before)) number string (names_stay given later before number string allowed.0 h) allowed.1

@@ -1,5 +1,5 @@
 -- a reader that has taken one more record
-use Rattle.std.proofs.Common.{◌≡◌, ℕ, ◌+◌, List, [], ◌∷◌, ◌++◌, reverse, refl, sym, ap, ◌∙◌, subst, arith, ◌⊎◌, inl, inr}
+use Rattle.std.proofs.Common.{◌≡◌, ℕ, ◌+◌, List, [], ◌∷◌, ◌++◌, reverse, refl, sym, ap, ◌∙◌, subst, arith, ◌⊎◌}
 use Rattle.std.proofs.lemmas.List.{reverse-append}
 use Rattle.std.proofs.lemmas.List.Sums.{sum_by-append}
 use Rattle.std.specs.Prelude.{Option, None, Some, sum_by}
@@ -23,7 +23,7 @@ use Rattle.oas_modal.specs.Alike.{SameDrawn, AlikeCells}
 use Rattle.oas_modal.specs.Finish.{drawn_cells}
 use Rattle.oas_layout.specs.Laws.BagLaws.{sum_by-items, total-put_more}
 use Rattle.oas_modal.specs.Meaning.{DrawnCell, in_last, cells_drawn}
-use Rattle.oas_modal.specs.Standing.{Standing, took, reason, put_all, drew_last, held_after}
+use Rattle.oas_modal.specs.Standing.{Standing, took, reason, MayWant, put_all, drew_last, held_after}
 use Rattle.oas_modal.specs.Stands.{seen, refused_after, refusal, ReaderState, StandsFor}
 use Rattle.oas_modal.specs.Parts.{standing, cells, reason_of, Took}
 use Rattle.oas_modal.proofs.NameLemmas.{same_reason, one_more}
@@ -153,7 +153,7 @@ take_ok failed p q s rs r view h none t =
       record { sound = ap (λ (v : ReaderState). v.failed) view ∙ h.sound; standing = more.at; names = more.named; strings = more.strung; cells = more.holds },
     )
 
-pub take_err : (failed : Option OneRefusal) (p : Parts) (s : ReaderState) (rs : List Record) (r : Record) (why : Why) → ◌≡◌ {A = ReaderState} (seen_as failed p) s → StandsFor s rs → (why ≡ Memory) ⊎ (reason_of p r ≡ Some why) → (why ≡ Memory) ⊎ (refusal s.limits rs r ≡ Some why)
-take_err failed p s rs r why view h (inl m) = inl m
-take_err failed p s rs r why view h (inr some) =
-    inr (ap (λ (v : ReaderState). refusal v.limits rs r) (sym view) ∙ (sym (judged_as p (reverse rs) r (kept_of failed p s rs view h)) ∙ some))
+pub take_err : (failed : Option OneRefusal) (p : Parts) (s : ReaderState) (rs : List Record) (r : Record) (why : Why) → ◌≡◌ {A = ReaderState} (seen_as failed p) s → StandsFor s rs → ((why ≡ Memory) × MayWant (reason_of p r)) ⊎ (reason_of p r ≡ Some why) → ((why ≡ Memory) × MayWant (refusal s.limits rs r)) ⊎ (refusal s.limits rs r ≡ Some why)
+take_err failed p s rs r why view h refused =
+    let judged : reason_of p r ≡ refusal s.limits rs r = judged_as p (reverse rs) r (kept_of failed p s rs view h) ∙ ap (λ (v : ReaderState). refusal v.limits rs r) view in
+    subst (λ (o : Option Why). ((why ≡ Memory) × MayWant o) ⊎ (o ≡ Some why)) judged refused

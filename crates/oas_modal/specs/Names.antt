@@ -11,8 +11,8 @@ use Rattle.oas_num.specs.declared.refusals.Why.TheVariants.{MixedNumbering, Numb
 use Rattle.oas_record.specs.declared.records.Record.{Record}
 use Rattle.oas_record.specs.declared.records.Record.TheVariants as record_of
 use Rattle.oas_drawing.specs.Reasons.{first_of}
-use Rattle.oas_modal.specs.declared.names.Form.{Form}
-use Rattle.oas_modal.specs.declared.names.Form.TheVariants.{Implicit, Explicit}
+use Rattle.oas_modal.specs.declared.names.Numbering.{Numbering}
+use Rattle.oas_modal.specs.declared.names.Numbering.TheVariants.{Implicit, Explicit}
 
 -- the class of CELLNAME records
 abbrev pub cell_names : Record → Option (List ℕ × Option ℕ)
@@ -24,38 +24,38 @@ abbrev pub text_strings : Record → Option (List ℕ × Option ℕ)
 text_strings (record_of.TextString label number) = Some (label, number)
 text_strings _ = None
 
--- the form of a record that gives this number, or none
-abbrev pub form_given : Option ℕ → Form
-form_given None = Implicit
-form_given (Some number) = Explicit
+-- the numbering of a record that gives this number, or none
+abbrev pub numbering_given : Option ℕ → Numbering
+numbering_given None = Implicit
+numbering_given (Some number) = Explicit
 
 -- one more where no number is given
 abbrev pub counted : Option ℕ → ℕ → ℕ
 counted None n = n + 1
 counted (Some number) n = n
 
--- whether a class that has this form already has records of the other one
-abbrev pub is_mixed : Option Form → Form → Bool
-is_mixed None form = false
+-- whether a class that has this numbering already has records of the other one
+abbrev pub is_mixed : Option Numbering → Numbering → Bool
+is_mixed None numbering = false
 is_mixed (Some Implicit) Implicit = false
 is_mixed (Some Implicit) Explicit = true
 is_mixed (Some Explicit) Implicit = true
 is_mixed (Some Explicit) Explicit = false
 
--- what a table holds: its form, and numbers with their strings
+-- what a table holds: its numbering, and numbers with their strings
 pub record Table (S : Type 0) : Type 0 where
-  pub form : Option Form
+  pub numbering : Option Numbering
   pub named : List (ℕ × S)
 
 module _ {S : Type 0} where
-  abbrev pub form_after : Option (S × Option ℕ) → Option Form → Option Form
-  form_after None form = form
-  form_after (Some g) form = Some (form_given g.1)
+  abbrev pub numbering_after : Option (S × Option ℕ) → Option Numbering → Option Numbering
+  numbering_after None numbering = numbering
+  numbering_after (Some g) numbering = Some (numbering_given g.1)
 
-  -- the form of the latest record of the class; None before the first
-  abbrev pub form_of : (Record → Option (S × Option ℕ)) → List Record → Option Form
-  form_of given [] = None
-  form_of given (r ∷ before) = form_after (given r) (form_of given before)
+  -- the numbering of the latest record of the class; None before the first
+  abbrev pub numbering_of : (Record → Option (S × Option ℕ)) → List Record → Option Numbering
+  numbering_of given [] = None
+  numbering_of given (r ∷ before) = numbering_after (given r) (numbering_of given before)
 
   abbrev pub next_after : Option (S × Option ℕ) → ℕ → ℕ
   next_after None next = next
@@ -84,19 +84,19 @@ module _ {S : Type 0} where
   is_other same None string = false
   is_other same (Some had) string = not (same had string)
 
-  -- why a record that gives this number, or none, to the string is refused, where the class has this form, this next
+  -- why a record that gives this number, or none, to the string is refused, where the class has this numbering, this next
   -- number and these names
-  abbrev pub naming_reason : (S → S → Bool) → Option Form → ℕ → List (ℕ × S) → S → Option ℕ → Option Why
-  naming_reason same form next names string number =
-      first_of ((is_mixed form (form_given number), MixedNumbering) ∷ (is_other same (name_of names (unwrap_or number next)) string, NumberTwice) ∷ [])
+  abbrev pub naming_reason : (S → S → Bool) → Option Numbering → ℕ → List (ℕ × S) → S → Option ℕ → Option Why
+  naming_reason same numbering next names string number =
+      first_of ((is_mixed numbering (numbering_given number), MixedNumbering) ∷ (is_other same (name_of names (unwrap_or number next)) string, NumberTwice) ∷ [])
 
-  abbrev pub reason_given : (S → S → Bool) → Option Form → ℕ → List (ℕ × S) → Option (S × Option ℕ) → Option Why
-  reason_given same form next names None = None
-  reason_given same form next names (Some g) = naming_reason same form next names g.0 g.1
+  abbrev pub reason_given : (S → S → Bool) → Option Numbering → ℕ → List (ℕ × S) → Option (S × Option ℕ) → Option Why
+  reason_given same numbering next names None = None
+  reason_given same numbering next names (Some g) = naming_reason same numbering next names g.0 g.1
 
   -- why a record is refused after these; one that isn't of the class never is
   abbrev pub name_reason : (S → S → Bool) → (Record → Option (S × Option ℕ)) → List Record → Record → Option Why
-  name_reason same given before r = reason_given same (form_of given before) (next_number given before) (named given before) (given r)
+  name_reason same given before r = reason_given same (numbering_of given before) (next_number given before) (named given before) (given r)
 
   -- no record is refused after those before it
   abbrev pub AllowedNames : (S → S → Bool) → (Record → Option (S × Option ℕ)) → List Record → Type 0
@@ -104,24 +104,24 @@ module _ {S : Type 0} where
   AllowedNames same given (r ∷ before) = AllowedNames same given before × (name_reason same given before r ≡ None)
 
   abbrev pub no_names : Table S
-  no_names = record { form = None; named = [] }
+  no_names = record { numbering = None; named = [] }
 
   -- why a table refuses what a record gives; the next number of a table is the number of its names
   abbrev pub table_reason : (S → S → Bool) → Table S → Option (S × Option ℕ) → Option Why
-  table_reason same t given = reason_given same t.form (length t.named) t.named given
+  table_reason same t given = reason_given same t.numbering (length t.named) t.named given
 
   -- a table that has taken what a record gives
   abbrev pub with_name : Table S → Option (S × Option ℕ) → Table S
   with_name t None = t
-  with_name t (Some g) = record { form = Some (form_given g.1); named = insert_entry nat_cmp t.named (unwrap_or g.1 (length t.named)) g.0 }
+  with_name t (Some g) = record { numbering = Some (numbering_given g.1); named = insert_entry nat_cmp t.named (unwrap_or g.1 (length t.named)) g.0 }
 
-  -- a table has the form of these records, and names each number as they do. As long as none of them gives a number, it
+  -- a table has the numbering of these records, and names each number as they do. As long as none of them gives a number, it
   -- has as many names as there are implicit records, and no number from there on has a name
   pub record NamesStand (given : Record → Option (S × Option ℕ)) (t : Table S) (rs : List Record) : Type 0 where
-    pub form : t.form ≡ form_of given rs
+    pub numbering : t.numbering ≡ numbering_of given rs
     pub agrees : (number : ℕ) → name_of t.named number ≡ name_of (named given rs) number
-    pub next : form_of given rs ≢ Some Explicit → length t.named ≡ next_number given rs
-    pub free : form_of given rs ≢ Some Explicit → (number : ℕ) → next_number given rs ≤ number → name_of (named given rs) number ≡ None
+    pub next : numbering_of given rs ≢ Some Explicit → length t.named ≡ next_number given rs
+    pub free : numbering_of given rs ≢ Some Explicit → (number : ℕ) → next_number given rs ≤ number → name_of (named given rs) number ≡ None
 
 -- the test by which cell names, and text strings, are compared
 abbrev pub same_string : List ℕ → List ℕ → Bool

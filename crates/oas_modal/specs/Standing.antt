@@ -1,7 +1,7 @@
 -- What a record is judged by, why it is refused, and what it changes. m are the variables after it.
-use Rattle.std.specs.Prelude.{ℕ, ◌+◌, nat_lt, Bool, true, false, cond, Option, None, Some, List, [], ◌∷◌, ◌++◌, length, sum_by}
+use Rattle.std.specs.Prelude.{◌≡◌, ◌⊎◌, ℕ, ◌+◌, nat_lt, Bool, true, false, cond, Option, None, Some, List, [], ◌∷◌, ◌++◌, length, sum_by}
 use Rattle.oas_num.specs.declared.refusals.Why.{Why}
-use Rattle.oas_num.specs.declared.refusals.Why.TheVariants.{OutOfPlace, TooHeavy}
+use Rattle.oas_num.specs.declared.refusals.Why.TheVariants.{OutOfPlace, TooHeavy, CoordinateRange}
 use Rattle.oas_record.specs.declared.references.CellRef.{CellRef}
 use Rattle.oas_record.specs.declared.references.CellRef.TheVariants as cell
 use Rattle.oas_record.specs.declared.records.Record.{Record}
@@ -71,6 +71,11 @@ reason limits names strings s (record_of.Cell c) = first_of ((nat_lt limits.weig
 reason limits names strings s record_of.XyAbsolute = None
 reason limits names strings s record_of.XyRelative = None
 reason limits names strings s r = element_reason limits s (stepped s.modal r) r
+
+-- Where memory may be wanted for a record that is refused for this reason, or for none: only where it is none, or where a copy
+-- lies outside the grid, since those before it are held one by one.
+abbrev pub MayWant : Option Why → Type 0
+MayWant why = (why ≡ None) ⊎ (why ≡ Some CoordinateRange)
 
 -- all of these drawn once more
 abbrev pub put_all : List (Drawn × ℕ) → List Drawn → List (Drawn × ℕ)

@@ -7,8 +7,8 @@
 //!   list of both (specs/Held.antt). Placements, texts and rectangles that have their names are held as the layout will hold
 //!   them, and aren't searched for again. A refused growth changes nothing.
 //! - A [`NameTable`] is the numbers that the name records of one class, CELLNAME or TEXTSTRING, give to strings. It refuses
-//!   a record exactly where, and by the first reason that, `table_reason` (specs/Names.antt) says, or else for want of
-//!   memory; a refusal changes nothing. What it holds afterwards is `with_name` of what it held before.
+//!   a record exactly where, and by the first reason that, `table_reason` (specs/Names.antt) says, and for want of memory
+//!   only where it says none; a refusal changes nothing. What it holds afterwards is `with_name` of what it held before.
 //! - It stands for a list of records (`NamesStand`) if it has their form, and names each number as they do. [`name_laws`]
 //!   says that it then refuses what the records refuse, and that it stands for one record more once that is taken.
 //! - [`cell_meant`] and [`string_meant`] answer what a reference means by a table (`cell_by`, `string_by`,
@@ -19,9 +19,10 @@
 //! - [`laws`] says, over the definitions alone, that more of what is drawn adds to its count alone, and that cells mean the
 //!   same in which each thing is drawn as often.
 //! - A [`Reader`] takes record after record. It stands for a list of records (`StandsFor`, specs/Stands.antt), and stands for
-//!   one more once that is taken; it refuses exactly where, and by the first reason that, `refusal` says, or else for want of
-//!   memory, and answers a refusal again from then on. Its `finish` gives a layout that is the same as what the records mean
-//!   (`records_mean`), or refuses by `end_refusal`. [`reader_laws`]: one more record changes where it stands by itself alone.
+//!   one more once that is taken; it refuses exactly where, and by the first reason that, `refusal` says, and for want of
+//!   memory only where it says none, or that a copy lies outside the grid (`MayWant`); a refusal is answered again from then
+//!   on. Its `finish` gives a layout that is the same as what the records mean (`records_mean`), or refuses by `end_refusal`,
+//!   or else for want of memory. [`reader_laws`]: one more record changes where it stands by itself alone.
 //!
 //! The modal variables, and what a record draws by them, are those of `oas_drawing`.
 #![tactic(auto)]
@@ -39,5 +40,5 @@ mod taking;
 
 pub use finishing::finish;
 pub use held::HeldCell;
-pub use names::{Form, NameTable, cell_meant, string_meant};
+pub use names::{NameTable, Numbering, cell_meant, string_meant};
 pub use reader::Reader;

@@ -8,7 +8,7 @@ ghost use Rattle.oas_record.specs.declared.references.CellRef.{CellRef};
 ghost use Rattle.oas_record.specs.declared.references.TextRef.{TextRef};
 ghost use Rattle.oas_modal.specs.Names.{Table, NamesStand, no_names, cell_names, text_strings, named, same_string};
 ghost use Rattle.oas_modal.specs.References.{cell_by, string_by, cell_used, string_used, uses_unknown, lacks_name};
-ghost use Rattle.oas_modal.specs.Laws.NameLaws.{RefusesAsRecords, StandsForMore, FormIsOfEach, StringIsGiven, NoStringIsGiven, MixedWhere, TwiceWhere, AllowedFront, NamesStay, UsesUnknown};
+ghost use Rattle.oas_modal.specs.Laws.NameLaws.{RefusesAsRecords, StandsForMore, NumberingIsOfEach, StringIsGiven, NoStringIsGiven, MixedWhere, TwiceWhere, AllowedFront, NamesStay, UsesUnknown};
 
 use oas_num::{Label, Name};
 
@@ -24,9 +24,9 @@ pub fn one_more_record()
     ensures stands { (given : OneRecord → Option (List ℕ × Option ℕ)) → StandsForMore given }
 {}
 
-/// Of records that are allowed, each number has one string, and all have one form.
+/// Of records that are allowed, each number has one string, and all have one numbering.
 pub fn one_string()
-    ensures form { (given : OneRecord → Option (List ℕ × Option ℕ)) → FormIsOfEach given }
+    ensures numbering { (given : OneRecord → Option (List ℕ × Option ℕ)) → NumberingIsOfEach given }
     ensures string { (given : OneRecord → Option (List ℕ × Option ℕ)) → StringIsGiven given }
     ensures none { (given : OneRecord → Option (List ℕ × Option ℕ)) → NoStringIsGiven given }
 {}

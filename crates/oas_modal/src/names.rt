@@ -3,7 +3,7 @@
 ghost use Rattle.std.specs.Prelude.{◌≡◌, ◌⊎◌, length, unwrap_or, Some, None, OnOk, OnErr, IfErr};
 ghost use Rattle.std.specs.Option.{option_copied};
 ghost use Rattle.oas_num.specs.declared.refusals.Why.TheVariants.{Memory};
-ghost use Rattle.oas_modal.specs.Names.{form_given, is_mixed, name_of, is_other, no_names, table_reason, with_name};
+ghost use Rattle.oas_modal.specs.Names.{numbering_given, is_mixed, name_of, is_other, no_names, table_reason, with_name};
 ghost use Rattle.oas_modal.specs.References.{cell_by, string_by};
 
 use oas_num::{Label, Name, Why};
@@ -17,30 +17,30 @@ pub(crate) mod tests;
 
 /// Whether name records leave their numbers to be counted, or give them (SEMI P39, CELLNAME record, TEXTSTRING record).
 #[derive(Clone, Copy, Debug, PartialEq, Eq)]
-pub enum Form {
+pub enum Numbering {
     /// Ids 3 and 5: the numbers count from 0.
     Implicit,
     /// Ids 4 and 6.
     Explicit,
 }
 
-impl Form {
-    /// The form of a name record that gives this number, or none.
-    fn of(number: Option<u64>) -> Form
-        ensures { result ≡ form_given number }
+impl Numbering {
+    /// The numbering of a name record that gives this number, or none.
+    fn of(number: Option<u64>) -> Numbering
+        ensures { result ≡ numbering_given number }
     {
         match number {
-            None => Form::Implicit,
-            Some(_) => Form::Explicit,
+            None => Numbering::Implicit,
+            Some(_) => Numbering::Explicit,
         }
     }
 }
 
-/// The numbers that the name records of one class give to strings, and the form of these records. The map is ordered, so
+/// The numbers that the name records of one class give to strings, and the numbering of these records. The map is ordered, so
 /// that no choice of numbers makes it slow.
 #[derive(Drop)]
 pub struct NameTable<S> {
-    form: Option<Form>,
+    numbering: Option<Numbering>,
     names: BTreeMap<u64, S>,
 }
 
@@ -49,7 +49,7 @@ impl<S> Model for NameTable<S> {
 
     ghost Value = { Table S };
 
-    ghost view = { λ a. record { form = a.form; named = a.names.entries } };
+    ghost view = { λ a. record { numbering = a.numbering; named = a.names.entries } };
 }
 
 impl<S: PartialEq + Drop> NameTable<S> {
@@ -58,7 +58,7 @@ impl<S: PartialEq + Drop> NameTable<S> {
         ensures { result ≡ no_names }
     {
         NameTable {
-            form: None,
+            numbering: None,
             names: BTreeMap::new(alloc),
         }
     }
@@ -72,20 +72,20 @@ impl<S: PartialEq + Drop> NameTable<S> {
 
     /// Takes a name record: a string, and its number where it gives one, else the next one of its class, from 0 on.
     ///
-    /// It is refused by `MixedNumbering` where the class has records of the other form, by `NumberTwice` where the number
-    /// has another string, and by `Memory`.
+    /// It is refused by `MixedNumbering` where the class has records of the other numbering, by `NumberTwice` where the number
+    /// has another string, and by `Memory` only where neither holds.
     pub fn name(&mut self, string: S, number: Option<u64>) -> Result<(), Why>
         ensures ok { OnOk result ((table_reason S.eq self.old (Some (string, number)) ≡ None) × (self.new ≡ with_name self.old (Some (string, number)))) }
-        ensures why { IfErr result (λ why. (why ≡ Memory) ⊎ (table_reason S.eq self.old (Some (string, number)) ≡ Some why)) }
+        ensures why { IfErr result (λ why. ((why ≡ Memory) × (table_reason S.eq self.old (Some (string, number)) ≡ None)) ⊎ (table_reason S.eq self.old (Some (string, number)) ≡ Some why)) }
         ensures err { OnErr result (self.new ≡ self.old) }
     {
         if let Some(why) = self.reason(&string, number) {
             return Err(why);
         }
-        let form = Form::of(number);
+        let numbering = Numbering::of(number);
         let number = self.number_for(number);
         self.names.insert(number, string)?;
-        self.form = Some(form);
+        self.numbering = Some(numbering);
         Ok(())
     }
 
@@ -100,7 +100,7 @@ impl<S: PartialEq + Drop> NameTable<S> {
     fn reason(&self, string: &S, number: Option<u64>) -> Option<Why>
         ensures { result ≡ table_reason S.eq self.now (Some (string.now, number)) }
     {
-        if self.has_other_form(Form::of(number)) {
+        if self.has_other_numbering(Numbering::of(number)) {
             return Some(Why::MixedNumbering);
         }
         if self.has_other_string(string, self.number_for(number)) {
@@ -109,13 +109,13 @@ impl<S: PartialEq + Drop> NameTable<S> {
         None
     }
 
-    /// Whether there are records of the other form.
-    fn has_other_form(&self, form: Form) -> bool
-        ensures { result ≡ is_mixed self.now.form form }
+    /// Whether there are records of the other numbering.
+    fn has_other_numbering(&self, numbering: Numbering) -> bool
+        ensures { result ≡ is_mixed self.now.numbering numbering }
     {
-        match self.form {
+        match self.numbering {
             None => false,
-            Some(had) => had != form,
+            Some(had) => had != numbering,
         }
     }
 

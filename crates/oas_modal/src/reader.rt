@@ -4,6 +4,7 @@ ghost use Rattle.std.specs.Prelude.{◌≡◌, ◌⊎◌, ◌++◌, ◌∷◌, [
 ghost use Rattle.oas_num.specs.declared.refusals.Why.TheVariants.{Memory};
 ghost use Rattle.oas_num.specs.declared.refusals.Refusal.{Refusal as OneRefusal};
 ghost use Rattle.oas_record.specs.declared.records.Record.{Record as OneRecord};
+ghost use Rattle.oas_modal.specs.Standing.{MayWant};
 ghost use Rattle.oas_modal.specs.Stands.{StandsFor, refusal, records_mean, end_refusal};
 ghost use Rattle.oas_layout.specs.Meaning.{SameLayout};
 ghost use Rattle.oas_layout.specs.Contents.{meaning_of};
@@ -63,14 +64,14 @@ impl Reader {
         }
     }
 
-    /// Takes one record more, which starts at byte `at`. It is refused as `refusal` says, the first reason of several, or by
-    /// `Memory`; END by `OutOfPlace`, as it is for the caller (own rule). After a refusal the answer is the same refusal from
-    /// then on.
+    /// Takes one record more, which starts at byte `at`. It is refused as `refusal` says, the first reason of several; END by
+    /// `OutOfPlace`, as it is for the caller (own rule); and by `Memory` only where it isn't refused else, or for a copy
+    /// outside the grid. After a refusal the answer is the same refusal from then on.
     pub fn take(&mut self, at: u64, next: Record) -> Result<(), Refusal>
         ensures again { (e : OneRefusal) → self.old.failed ≡ Some e → (result ≡ Err e) × (self.new ≡ self.old) }
         ensures failed { IfErr result (λ e. self.new.failed ≡ Some e) }
         ensures taken { (rs : List OneRecord) → StandsFor self.old rs → OnOk result ((refusal self.old.limits rs next ≡ None) × StandsFor self.new (rs ++ next ∷ [])) }
-        ensures refused { (rs : List OneRecord) → StandsFor self.old rs → IfErr result (λ e. (e.at ≡ at) × ((e.why ≡ Memory) ⊎ (refusal self.old.limits rs next ≡ Some e.why))) }
+        ensures refused { (rs : List OneRecord) → StandsFor self.old rs → IfErr result (λ e. (e.at ≡ at) × (((e.why ≡ Memory) × MayWant (refusal self.old.limits rs next)) ⊎ (refusal self.old.limits rs next ≡ Some e.why))) }
         ensures unit { OnOk result (self.new.unit ≡ self.old.unit) }
         ensures limits { OnOk result (self.new.limits ≡ self.old.limits) }
         ensures profile { OnOk result (self.new.profile ≡ self.old.profile) }

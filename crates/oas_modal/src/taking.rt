@@ -7,7 +7,7 @@ ghost use Rattle.oas_record.specs.Records.{id_of};
 ghost use Rattle.oas_drawing.specs.Positions.{IsNear};
 ghost use Rattle.oas_drawing.specs.Modal.{stepped};
 ghost use Rattle.oas_drawing.specs.Drawing.{kind_of};
-ghost use Rattle.oas_modal.specs.Standing.{cell_weight};
+ghost use Rattle.oas_modal.specs.Standing.{MayWant, cell_weight};
 ghost use Rattle.oas_modal.specs.Parts.{Took, Sound, cells, reason_of};
 
 use crate::copying::hold_copies;
@@ -60,7 +60,7 @@ fn draw(parts: &mut Parts, kind: Kind, next: Record) -> Result<(), Why>
     ensures reason { OnOk result (reason_of parts.old next ≡ None) }
     ensures new { OnOk result (Took parts.old next parts.new) }
     ensures sound { OnOk result (Sound parts.new) }
-    ensures err { IfErr result (λ why. (why ≡ Memory) ⊎ (reason_of parts.old next ≡ Some why)) }
+    ensures err { IfErr result (λ why. ((why ≡ Memory) × MayWant (reason_of parts.old next)) ⊎ (reason_of parts.old next ≡ Some why)) }
 {
     let Some(mut held) = parts.cell.take() else {
         return Err(Why::OutOfPlace(id_of_kind(kind)));
@@ -108,7 +108,7 @@ fn begin(parts: &mut Parts, cell: CellRef) -> Result<(), Why>
     ensures reason { OnOk result (reason_of parts.old (OneRecord.Cell cell) ≡ None) }
     ensures new { OnOk result (Took parts.old (OneRecord.Cell cell) parts.new) }
     ensures sound { OnOk result (Sound parts.new) }
-    ensures err { IfErr result (λ why. (why ≡ Memory) ⊎ (reason_of parts.old (OneRecord.Cell cell) ≡ Some why)) }
+    ensures err { IfErr result (λ why. ((why ≡ Memory) × (reason_of parts.old (OneRecord.Cell cell) ≡ None)) ⊎ (reason_of parts.old (OneRecord.Cell cell) ≡ Some why)) }
 {
     let weight = cell_weight(&cell);
     if weight > parts.limits.weight() - parts.weight {
@@ -127,7 +127,7 @@ fn name_cell(parts: &mut Parts, name: Name, number: Option<u64>) -> Result<(), W
     ensures reason { OnOk result (reason_of parts.old (OneRecord.CellName name number) ≡ None) }
     ensures new { OnOk result (Took parts.old (OneRecord.CellName name number) parts.new) }
     ensures sound { OnOk result (Sound parts.new) }
-    ensures err { IfErr result (λ why. (why ≡ Memory) ⊎ (reason_of parts.old (OneRecord.CellName name number) ≡ Some why)) }
+    ensures err { IfErr result (λ why. ((why ≡ Memory) × (reason_of parts.old (OneRecord.CellName name number) ≡ None)) ⊎ (reason_of parts.old (OneRecord.CellName name number) ≡ Some why)) }
 {
     parts.names.name(name, number)?;
     close(parts)?;
@@ -140,7 +140,7 @@ fn name_string(parts: &mut Parts, label: Label, number: Option<u64>) -> Result<(
     ensures reason { OnOk result (reason_of parts.old (OneRecord.TextString label number) ≡ None) }
     ensures new { OnOk result (Took parts.old (OneRecord.TextString label number) parts.new) }
     ensures sound { OnOk result (Sound parts.new) }
-    ensures err { IfErr result (λ why. (why ≡ Memory) ⊎ (reason_of parts.old (OneRecord.TextString label number) ≡ Some why)) }
+    ensures err { IfErr result (λ why. ((why ≡ Memory) × (reason_of parts.old (OneRecord.TextString label number) ≡ None)) ⊎ (reason_of parts.old (OneRecord.TextString label number) ≡ Some why)) }
 {
     parts.strings.name(label, number)?;
     close(parts)?;
@@ -154,7 +154,7 @@ fn take_other(parts: &mut Parts, next: Record) -> Result<(), Why>
     ensures reason { OnOk result (reason_of parts.old next ≡ None) }
     ensures new { OnOk result (Took parts.old next parts.new) }
     ensures sound { OnOk result (Sound parts.new) }
-    ensures err { IfErr result (λ why. (why ≡ Memory) ⊎ (reason_of parts.old next ≡ Some why)) }
+    ensures err { IfErr result (λ why. ((why ≡ Memory) × (reason_of parts.old next ≡ None)) ⊎ (reason_of parts.old next ≡ Some why)) }
 {
     match next {
         Record::End => Err(Why::OutOfPlace(2)),
@@ -185,7 +185,7 @@ pub(crate) fn accept(parts: &mut Parts, next: Record) -> Result<(), Why>
     ensures reason { OnOk result (reason_of parts.old next ≡ None) }
     ensures new { OnOk result (Took parts.old next parts.new) }
     ensures sound { OnOk result (Sound parts.new) }
-    ensures err { IfErr result (λ why. (why ≡ Memory) ⊎ (reason_of parts.old next ≡ Some why)) }
+    ensures err { IfErr result (λ why. ((why ≡ Memory) × MayWant (reason_of parts.old next)) ⊎ (reason_of parts.old next ≡ Some why)) }
 {
     match Kind::of(&next) {
         Some(kind) => draw(parts, kind, next),

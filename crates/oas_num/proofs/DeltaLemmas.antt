@@ -25,5 +25,6 @@ starts_gdelta s = seen SpellsGDelta gdelta_of IsNumbers (λ v. v) s s (begins Sp
 pub first_number_fails : {old new : Script} {why : Why} → FailsPiece IsUnsigned IntegerMay old why new → FailsPiece SpellsGDelta GDeltaTook old why new
 first_number_fails f = image_fails gdelta_of (first_fails f)
 
-pub second_number_fails : {old mid new : Script} {first : ℕ} {why : Why} → ReadsValue IsUnsigned old first mid → FailsPiece (IsThere (has_second first) IsUnsigned) IntegerMay mid why new → FailsPiece SpellsGDelta GDeltaTook old why new
+pub second_number_fails : {old mid new : Script} {first : ℕ} {why : Why} → ReadsValue IsUnsigned old first mid
+    → FailsPiece (IsThere (has_second first) IsUnsigned) IntegerMay mid why new → FailsPiece SpellsGDelta GDeltaTook old why new
 second_number_fails {first = first} read f = image_fails gdelta_of (second_fails OneFront-IsUnsigned read (there_fails_in IsUnsigned IntegerMay (has_second first) (λ _ h. h) f))

@@ -64,23 +64,30 @@ module _ {U V W : Type 0} (whole : U → List ℕ → Type 0) (A : V → List �
   none_begun some a none = Before-begins true (IsPair A B) some a none
 
   -- a field that isn't the last fails
-  pub fails : {piece : Bool} (may there : Why → List ℕ → Type 0) (old mid new : Script) (why : Why) → ((last : List ℕ) → there why last → may why last) → ((a : List ℕ) → Before piece A a → Begins (IsPair A B) a) → Midway whole (IsPair A B) build old mid → FailsBy piece A there mid why new → Fails whole may old why new
+  pub fails : {piece : Bool} (may there : Why → List ℕ → Type 0) (old mid new : Script) (why : Why)
+      → ((last : List ℕ) → there why last → may why last) → ((a : List ℕ) → Before piece A a → Begins (IsPair A B) a)
+      → Midway whole (IsPair A B) build old mid → FailsBy piece A there mid why new → Fails whole may old why new
   fails may there old mid new why allows begun m f =
       let g : Fails (IsPair A B) may mid why new = Fails-after (IsPair A B) A may there mid mid new why [] allows (Takes-none mid) (Wants-first A B) begun f in
       Fails-after whole (IsPair A B) may may old mid new why m.bytes (λ _ x. x) m.takes m.wants (Begins-after whole (IsPair A B) m.bytes build m.makes) g
 
   -- a field of one piece
-  pub fails_piece : (may there : Why → List ℕ → Type 0) (old mid new : Script) (why : Why) → ((last : List ℕ) → there why last → may why last) → Midway whole (IsPair A B) build old mid → FailsPiece A there mid why new → Fails whole may old why new
+  pub fails_piece : (may there : Why → List ℕ → Type 0) (old mid new : Script) (why : Why) → ((last : List ℕ) → there why last → may why last)
+      → Midway whole (IsPair A B) build old mid → FailsPiece A there mid why new → Fails whole may old why new
   fails_piece may there old mid new why allows m f = fails may there old mid new why allows (none_begun m.some) m f
 
   -- a field after which each value's rest is spelled
-  pub fails_some : {piece : Bool} (may there : Why → List ℕ → Type 0) (old mid new : Script) (why : Why) → ((v : V) → HasSome (B v)) → ((last : List ℕ) → there why last → may why last) → Midway whole (IsPair A B) build old mid → FailsBy piece A there mid why new → Fails whole may old why new
+  pub fails_some : {piece : Bool} (may there : Why → List ℕ → Type 0) (old mid new : Script) (why : Why) → ((v : V) → HasSome (B v))
+      → ((last : List ℕ) → there why last → may why last) → Midway whole (IsPair A B) build old mid → FailsBy piece A there mid why new
+      → Fails whole may old why new
   fails_some {piece} may there old mid new why somes allows m f =
       fails may there old mid new why allows (λ a h. pair_begun somes a (Before-begins piece A (HasSome-first A B m.some) a h)) m f
 
 module _ {U V : Type 0} (whole : U → List ℕ → Type 0) (A : V → List ℕ → Type 0) (build : V → U) where
   -- the last field fails
-  pub last_fails : {piece : Bool} (may there : Why → List ℕ → Type 0) (old mid new : Script) (why : Why) → ((last : List ℕ) → there why last → may why last) → Midway whole A build old mid → FailsBy piece A there mid why new → Fails whole may old why new
+  pub last_fails : {piece : Bool} (may there : Why → List ℕ → Type 0) (old mid new : Script) (why : Why)
+      → ((last : List ℕ) → there why last → may why last) → Midway whole A build old mid → FailsBy piece A there mid why new
+      → Fails whole may old why new
   last_fails {piece} may there old mid new why allows m f =
       Fails-after whole A may there old mid new why m.bytes allows m.takes m.wants (Before-after whole A m.bytes build m.makes piece m.some) f
 
@@ -104,7 +111,8 @@ module _ {T U V : Type 0} (whole : T → List ℕ → Type 0) (f : U → V) (A :
   }
 
 -- what a value stands for fails with it
-pub image_fails : {U V : Type 0} {A : U → List ℕ → Type 0} {may : Why → List ℕ → Type 0} {piece : Bool} {old new : Script} {why : Why} (f : U → V) → FailsBy piece A may old why new → FailsBy piece (IsImage f A) may old why new
+pub image_fails : {U V : Type 0} {A : U → List ℕ → Type 0} {may : Why → List ℕ → Type 0} {piece : Bool} {old new : Script} {why : Why} (f : U → V)
+    → FailsBy piece A may old why new → FailsBy piece (IsImage f A) may old why new
 image_fails {A = A} {may = may} {piece = piece} {old = old} {new = new} {why = why} f g =
     Fails-after (IsImage f A) A may may old old new why [] (λ _ h. h) (Takes-none old) (record { wants = λ v p r rest s e. (s.from, p, r, s.spelled, e) })
     (Before-as piece A (IsImage f A) (λ a b. record { value = f b.value; rest = b.rest; spelled = record { from = b.value; is = refl; spelled = b.spelled } })) g
@@ -132,7 +140,8 @@ module _ {V : Type 0} (P : V → Type 0) (A : V → List ℕ → Type 0) where
   }
 
 -- memory was refused for what was read last
-pub no_memory : {V : Type 0} (A : V → List ℕ → Type 0) (may : Why → List ℕ → Type 0) (old new : Script) (front last : List ℕ) → Begins A front → may Memory last → Takes old (front ++ last) new → Fails A may old Memory new
+pub no_memory : {V : Type 0} (A : V → List ℕ → Type 0) (may : Why → List ℕ → Type 0) (old new : Script) (front last : List ℕ) → Begins A front
+    → may Memory last → Takes old (front ++ last) new → Fails A may old Memory new
 no_memory A may old new front last begun allows takes = record {
   bytes = front ++ last;
   takes = takes;
@@ -167,7 +176,8 @@ module _ {V : Type 0} (A : V → List ℕ → Type 0) where
   }
 
   -- more items were spelled than were read
-  each_wants : OneFront A → (vs ws : List V) (a p r rest : List ℕ) → length vs < length ws → IsEach A vs a → IsEach A ws p → p ++ r ≡ a ++ rest → (w : V) × (q : List ℕ) × (more : List ℕ) × A w q × (q ++ more ≡ rest)
+  each_wants : OneFront A → (vs ws : List V) (a p r rest : List ℕ) → length vs < length ws → IsEach A vs a → IsEach A ws p → p ++ r ≡ a ++ rest
+      → (w : V) × (q : List ℕ) × (more : List ℕ) × A w q × (q ++ more ≡ rest)
   each_wants law [] [] a p r rest lt e f same = absurd (omega arith)
   each_wants law [] (w ∷ ws) a p r rest lt e f same =
       (w, f.0, f.1 ++ r, f.2, sym (append_assoc f.0 f.1 r) ∙ ap (λ (c : List ℕ). c ++ r) (sym f.4) ∙ same ∙ ap (λ (c : List ℕ). c ++ rest) e)
@@ -221,7 +231,8 @@ pub ◌▸◌ : {U V W : Type 0} {whole : U → List ℕ → Type 0} {A : V → 
     → Midway whole (IsPair A (λ (_ : V). B)) build old mid → OneFront A × ReadsValue A mid v new → Midway whole B (λ w. build (v, w)) old new
 ◌▸◌ {whole = whole} {A = A} {B = B} {build = build} {old = old} {mid = mid} {new = new} {v = v} m read = reads whole A (λ _. B) build old mid new v read.0 (HasSome-second_of A B m.some) m read.1
 
-pub fails_at : {U V W : Type 0} {whole : U → List ℕ → Type 0} {A : V → List ℕ → Type 0} {B : W → List ℕ → Type 0} {build : V × W → U} {piece : Bool} {old mid new : Script} {may there : Why → List ℕ → Type 0} {why : Why}
+pub fails_at : {U V W : Type 0} {whole : U → List ℕ → Type 0} {A : V → List ℕ → Type 0} {B : W → List ℕ → Type 0} {build : V × W → U} {piece : Bool}
+    {old mid new : Script} {may there : Why → List ℕ → Type 0} {why : Why}
     → Midway whole (IsPair A (λ (_ : V). B)) build old mid → ((why : Why) (last : List ℕ) → there why last → may why last) → FailsBy piece A there mid why new → Fails whole may old why new
 fails_at {whole = whole} {A = A} {B = B} {build = build} {old = old} {mid = mid} {new = new} {may = may} {there = there} {why = why} m allows f =
     fails_some whole A (λ _. B) build may there old mid new why (λ _. HasSome-second_of A B m.some) (allows why) m f
@@ -234,7 +245,8 @@ pub ◌▹◌ : {U V W : Type 0} {whole : U → List ℕ → Type 0} {A : V → 
 
 pub fails_last : {U V : Type 0} {whole : U → List ℕ → Type 0} {A : V → List ℕ → Type 0} {build : V → U} {piece : Bool} {old mid new : Script} {may there : Why → List ℕ → Type 0} {why : Why}
     → Midway whole A build old mid → ((why : Why) (last : List ℕ) → there why last → may why last) → FailsBy piece A there mid why new → Fails whole may old why new
-fails_last {whole = whole} {A = A} {build = build} {old = old} {mid = mid} {new = new} {may = may} {there = there} {why = why} m allows f = last_fails whole A build may there old mid new why (allows why) m f
+fails_last {whole = whole} {A = A} {build = build} {old = old} {mid = mid} {new = new} {may = may} {there = there} {why = why} m allows f =
+    last_fails whole A build may there old mid new why (allows why) m f
 
 pub is_read : {U V : Type 0} {whole : U → List ℕ → Type 0} {A : V → List ℕ → Type 0} {build : V → U} {old mid new : Script} {v : V}
     → Midway whole A build old mid → ReadsValue A mid v new → ReadsValue whole old (build v) new
@@ -249,12 +261,15 @@ module _ {V : Type 0} (P : V → Type 0) (A : V → List ℕ → Type 0) where
   such_fails may old new why f =
       Fails-after (IsSuch P A) A may may old old new why [] (λ _ h. h) (Takes-none old) (record { wants = λ v p r rest s e. (v, p, r, s.spelled, e) }) (λ _ h. h) f
 
-  pub such_fails_by : (may there : Why → List ℕ → Type 0) (old new : Script) (why : Why) → ((why : Why) (last : List ℕ) → there why last → may why last) → FailsPiece A there old why new → FailsPiece (IsSuch P A) may old why new
+  pub such_fails_by : (may there : Why → List ℕ → Type 0) (old new : Script) (why : Why)
+      → ((why : Why) (last : List ℕ) → there why last → may why last) → FailsPiece A there old why new → FailsPiece (IsSuch P A) may old why new
   such_fails_by may there old new why allows f =
       Fails-after (IsSuch P A) A may there old old new why [] (allows why) (Takes-none old) (record { wants = λ v p r rest s e. (v, p, r, s.spelled, e) }) (λ _ h. h) f
 
   -- where what begins a value begins one of which that holds
-  pub such_fails_begun : (may there : Why → List ℕ → Type 0) (old new : Script) (why : Why) → ((why : Why) (last : List ℕ) → there why last → may why last) → ((a : List ℕ) → Begins A a → Begins (IsSuch P A) a) → Fails A there old why new → Fails (IsSuch P A) may old why new
+  pub such_fails_begun : (may there : Why → List ℕ → Type 0) (old new : Script) (why : Why)
+      → ((why : Why) (last : List ℕ) → there why last → may why last) → ((a : List ℕ) → Begins A a → Begins (IsSuch P A) a)
+      → Fails A there old why new → Fails (IsSuch P A) may old why new
   such_fails_begun may there old new why allows begun f =
       Fails-after (IsSuch P A) A may there old old new why [] (allows why) (Takes-none old) (record { wants = λ v p r rest s e. (v, p, r, s.spelled, e) }) begun f
 
@@ -262,14 +277,16 @@ module _ {V : Type 0} (P : V → Type 0) (A : V → List ℕ → Type 0) where
 pub wrapped_read : {W V : Type 0} {A : V → List ℕ → Type 0} {old new : Script} {w : W} (of : W → V) → ReadsValue A old (of w) new → ReadsValue (λ u bytes. A (of u) bytes) old w new
 wrapped_read of read = record { bytes = read.bytes; spelled = read.spelled; takes = read.takes }
 
-pub wrapped_fails : {W V : Type 0} {A : V → List ℕ → Type 0} {may : Why → List ℕ → Type 0} {old new : Script} {why : Why} (of : W → V) → FailsPiece A may old why new → FailsPiece (λ (u : W) bytes. A (of u) bytes) may old why new
+pub wrapped_fails : {W V : Type 0} {A : V → List ℕ → Type 0} {may : Why → List ℕ → Type 0} {old new : Script} {why : Why} (of : W → V)
+    → FailsPiece A may old why new → FailsPiece (λ (u : W) bytes. A (of u) bytes) may old why new
 wrapped_fails {A = A} {may = may} {old = old} {new = new} {why = why} of f =
     Fails-after (λ u bytes. A (of u) bytes) A may may old old new why [] (λ _ h. h) (Takes-none old) (record { wants = λ v p r rest s e. (of v, p, r, s, e) }) (λ _ none. none) f
 
 -- a value that is keyed by what is read before it, as a string by its length
 module _ {K V T : Type 0} (whole : T → List ℕ → Type 0) (key : V → K) (A : K → List ℕ → Type 0) (B : K → V → List ℕ → Type 0) (build : V → T) where
   -- the key is read
-  unfoldable pub key_read : (old mid new : Script) (k : K) → OneFront A → ((v : V) (q : List ℕ) → B k v q → key v ≡ k) → HasSome (B k) → Midway whole (IsKeyed key A B) build old mid → ReadsValue A mid k new → Midway whole (B k) build old new
+  unfoldable pub key_read : (old mid new : Script) (k : K) → OneFront A → ((v : V) (q : List ℕ) → B k v q → key v ≡ k) → HasSome (B k)
+      → Midway whole (IsKeyed key A B) build old mid → ReadsValue A mid k new → Midway whole (B k) build old new
   key_read old mid new k law keys some m read = record {
     some = some;
     bytes = m.bytes ++ read.bytes;
@@ -284,13 +301,30 @@ module _ {K V T : Type 0} (whole : T → List ℕ → Type 0) (key : V → K) (A
     };
     makes = λ v q h.
         let same = sym (keys v q h) in
-        rw append_assoc (m.makes v (read.bytes ++ q) (record { front = read.bytes; back = q; first = subst (λ (x : K). A x read.bytes) same read.spelled; second = subst (λ (x : K). B x v q) same h; joined = refl }));
+        rw append_assoc (m.makes v (read.bytes ++ q) (record {
+          front = read.bytes;
+          back = q;
+          first = subst (λ (x : K). A x read.bytes) same read.spelled;
+          second = subst (λ (x : K). B x v q) same h;
+          joined = refl;
+        }));
   }
 
   -- the key fails
-  pub key_fails : (may there : Why → List ℕ → Type 0) (old mid new : Script) (why : Why) → ((why : Why) (last : List ℕ) → there why last → may why last) → Midway whole (IsKeyed key A B) build old mid → FailsPiece A there mid why new → Fails whole may old why new
+  pub key_fails : (may there : Why → List ℕ → Type 0) (old mid new : Script) (why : Why)
+      → ((why : Why) (last : List ℕ) → there why last → may why last) → Midway whole (IsKeyed key A B) build old mid → FailsPiece A there mid why new
+      → Fails whole may old why new
   key_fails may there old mid new why allows m f =
-      let first : Wants (IsKeyed key A B) [] A = record { wants = λ v p r rest s e. (key v, s.front, s.back ++ r, s.first, sym (append_assoc s.front s.back r) ∙ ap (λ (c : List ℕ). c ++ r) (sym s.joined) ∙ e) } in
+      let first : Wants (IsKeyed key A B) [] A = record {
+        wants =
+            λ v p r rest s e. (
+              key v,
+              s.front,
+              s.back ++ r,
+              s.first,
+              sym (append_assoc s.front s.back r) ∙ ap (λ (c : List ℕ). c ++ r) (sym s.joined) ∙ e,
+            );
+      } in
       let g : FailsPiece (IsKeyed key A B) may mid why new = Fails-after (IsKeyed key A B) A may there mid mid new why [] (allows why) (Takes-none mid) first (λ _ h. h) f in
       last_fails whole (IsKeyed key A B) build may may old mid new why (λ _ x. x) m g
 
@@ -299,7 +333,8 @@ there_wants : {V : Type 0} (A : V → List ℕ → Type 0) (v : Option V) (p r r
 there_wants A (Some v) p r rest s e = (v, p, r, s, e)
 there_wants A None p r rest s e = absurd s
 
-pub there_fails : {V : Type 0} {A : V → List ℕ → Type 0} {may : Why → List ℕ → Type 0} {piece : Bool} {old new : Script} {why : Why} (there : Bool) → IsTrue there → FailsBy piece A may old why new → FailsBy piece (IsThere there A) may old why new
+pub there_fails : {V : Type 0} {A : V → List ℕ → Type 0} {may : Why → List ℕ → Type 0} {piece : Bool} {old new : Script} {why : Why} (there : Bool)
+    → IsTrue there → FailsBy piece A may old why new → FailsBy piece (IsThere there A) may old why new
 there_fails {A = A} {may = may} {piece = piece} {old = old} {new = new} {why = why} true is f =
     Fails-after (IsThere true A) A may may old old new why [] (λ _ h. h) (Takes-none old) (record { wants = λ v p r rest s e. there_wants A v p r rest s e })
     (Before-as piece A (IsThere true A) (λ a b. record { value = Some b.value; rest = b.rest; spelled = b.spelled })) f

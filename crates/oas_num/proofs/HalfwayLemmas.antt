@@ -34,7 +34,8 @@ at_image s = record {
 
 -- a field more was read
 infixl 20 ◌▸◌
-pub ◌▸◌ : {U V W : Type 0} {whole : U → List ℕ → Type 0} {A : V → List ℕ → Type 0} {B : V → W → List ℕ → Type 0} {build : V × W → U} {took first : Why → List ℕ → Type 0} {second : V → Why → List ℕ → Type 0} {old mid new : Script} {v : V}
+pub ◌▸◌ : {U V W : Type 0} {whole : U → List ℕ → Type 0} {A : V → List ℕ → Type 0} {B : V → W → List ℕ → Type 0} {build : V × W → U}
+    {took first : Why → List ℕ → Type 0} {second : V → Why → List ℕ → Type 0} {old mid new : Script} {v : V}
     → Halfway whole (IsPair A B) build took (PairTook A first second) old mid → OneFront A × ReadsValue A mid v new → Halfway whole (B v) (λ w. build (v, w)) took (second v) old new
 ◌▸◌ {V = V} {B = B} {old = old} {mid = mid} {new = new} {v = v} m field =
     let law = field.0 in
@@ -59,7 +60,8 @@ pub fails_last : {U V : Type 0} {whole : U → List ℕ → Type 0} {A : V → L
     → Halfway whole A build took there old mid → FailsPiece A there mid why new → FailsPiece whole took old why new
 fails_last {whole = whole} {A = A} {why = why} m f = fails_behind whole A m.bytes (m.so why) m.takes m.wants f
 
-pub fails_at : {U V W : Type 0} {whole : U → List ℕ → Type 0} {A : V → List ℕ → Type 0} {B : V → W → List ℕ → Type 0} {build : V × W → U} {took first : Why → List ℕ → Type 0} {second : V → Why → List ℕ → Type 0} {old mid new : Script} {why : Why}
+pub fails_at : {U V W : Type 0} {whole : U → List ℕ → Type 0} {A : V → List ℕ → Type 0} {B : V → W → List ℕ → Type 0} {build : V × W → U}
+    {took first : Why → List ℕ → Type 0} {second : V → Why → List ℕ → Type 0} {old mid new : Script} {why : Why}
     → Halfway whole (IsPair A B) build took (PairTook A first second) old mid → FailsPiece A first mid why new → FailsPiece whole took old why new
 fails_at {first = first} {second = second} m f = fails_last m (first_fails {first = first} {second = second} f)
 
@@ -72,12 +74,14 @@ is_read {old = old} {mid = mid} {new = new} {v = v} m read = record {
 }
 
 -- a field that is there
-pub there_took : {V : Type 0} {A : V → List ℕ → Type 0} {took : Why → List ℕ → Type 0} {old new : Script} {why : Why} (here : Bool) → IsTrue here → FailsPiece A took old why new → FailsPiece (IsThere here A) (ThereTook here took) old why new
+pub there_took : {V : Type 0} {A : V → List ℕ → Type 0} {took : Why → List ℕ → Type 0} {old new : Script} {why : Why} (here : Bool) → IsTrue here
+    → FailsPiece A took old why new → FailsPiece (IsThere here A) (ThereTook here took) old why new
 there_took true is f = there_fails true is f
 there_took false is f = absurd cc
 
 -- a value that has to be such: its read fails
-pub such_took : {V : Type 0} {P : V → Type 0} {A : V → List ℕ → Type 0} {took : Why → List ℕ → Type 0} {refuses : V → Why → Type 0} {old new : Script} {why : Why} → FailsPiece A took old why new → FailsPiece (IsSuch P A) (SuchTook A took refuses) old why new
+pub such_took : {V : Type 0} {P : V → Type 0} {A : V → List ℕ → Type 0} {took : Why → List ℕ → Type 0} {refuses : V → Why → Type 0} {old new : Script}
+    {why : Why} → FailsPiece A took old why new → FailsPiece (IsSuch P A) (SuchTook A took refuses) old why new
 such_took {P = P} {A = A} {old = old} f = fails_behind (IsSuch P A) A [] (λ _ h. inl h) (Takes-none old) (record { wants = λ v p r rest s e. (v, p, r, s.spelled, e) }) f
 
 pub by_format : {why : Why} (other : Why) → IsTrue (is_format why) → (IsTrue (is_format other) → ⊥) → why ≢ other
@@ -87,16 +91,20 @@ by_format other is isnt e = isnt (subst (λ (w : Why). IsTrue (is_format w)) e i
 pub such_refused : {V : Type 0} {P : V → Type 0} {A : V → List ℕ → Type 0} {took : Why → List ℕ → Type 0} {refuses : V → Why → Type 0} {old new : Script} {why : Why} {v : V}
     → OneFront A → IsTrue (is_format why) → ¬ P v → refuses v why → ReadsValue A old v new → FailsPiece (IsSuch P A) (SuchTook A took refuses) old why new
 such_refused {P = P} {A = A} {took = took} {refuses = refuses} {old = old} {new = new} {why = why} {v = v} law is isnt reason read =
-    refused P A (SuchTook A took refuses) old new why v law read isnt (inr (v, read.spelled, reason)) (by_format Truncated is (λ h. cc)) (by_format Read is (λ h. cc)) (by_format InputTooLong is (λ h. cc))
+    refused P A (SuchTook A took refuses) old new why v law read isnt (inr (v, read.spelled, reason)) (by_format Truncated is (λ h. cc))
+    (by_format Read is (λ h. cc)) (by_format InputTooLong is (λ h. cc))
 
 -- what a value stands for
-pub image_took : {U V : Type 0} {f : U → V} {A : U → List ℕ → Type 0} {took : Why → List ℕ → Type 0} {old new : Script} {why : Why} → FailsPiece A took old why new → FailsPiece (IsImage f A) took old why new
+pub image_took : {U V : Type 0} {f : U → V} {A : U → List ℕ → Type 0} {took : Why → List ℕ → Type 0} {old new : Script} {why : Why}
+    → FailsPiece A took old why new → FailsPiece (IsImage f A) took old why new
 image_took {old = old} g = fails_last (at_image old) g
 
 -- ---- numbers that may be there
 
-pub number_took : (there : Bool) {old new : Script} {why : Why} → FailsPiece (IsThere there IsUnsigned) IntegerMay old why new → FailsPiece (IsThere there IsUnsigned) (ThereTook there IntegerMay) old why new
+pub number_took : (there : Bool) {old new : Script} {why : Why} → FailsPiece (IsThere there IsUnsigned) IntegerMay old why new
+    → FailsPiece (IsThere there IsUnsigned) (ThereTook there IntegerMay) old why new
 number_took there f = there_fails_in IsUnsigned IntegerMay there (λ _ h. h) f
 
-pub signed_took : (there : Bool) {old new : Script} {why : Why} → FailsPiece (IsThere there IsSigned) IntegerMay old why new → FailsPiece (IsThere there IsSigned) (ThereTook there IntegerMay) old why new
+pub signed_took : (there : Bool) {old new : Script} {why : Why} → FailsPiece (IsThere there IsSigned) IntegerMay old why new
+    → FailsPiece (IsThere there IsSigned) (ThereTook there IntegerMay) old why new
 signed_took there f = there_fails_in IsSigned IntegerMay there (λ _ h. h) f

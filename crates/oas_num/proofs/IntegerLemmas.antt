@@ -164,7 +164,13 @@ out_of_range old mid new i v w b so_far ninth read above =
     record {
       bytes = so_far.front ++ b ∷ [];
       takes = Takes-then old mid new so_far.front (b ∷ []) so_far.takes (rw only at read.takes);
-      reason = record { front = []; last = so_far.front ++ b ∷ []; joined = refl; begun = refl; holds = record { front = so_far.front; tenth = b; joined = refl; nine = so_far.len ∙ ninth; open_front = so_far.are_open; above = above } };
+      reason = record {
+        front = [];
+        last = so_far.front ++ b ∷ [];
+        joined = refl;
+        begun = refl;
+        holds = record { front = so_far.front; tenth = b; joined = refl; nine = so_far.len ∙ ninth; open_front = so_far.are_open; above = above };
+      };
       format = λ _. record {
         none = λ u p r more s e.
             let m = open_front so_far.front p r (b ∷ more) so_far.are_open s.closed (e ∙ append_assoc so_far.front (b ∷ []) more) in

@@ -37,7 +37,8 @@ fails_behind spells next {old = old} {mid = mid} {new = new} front so takes want
 
 module _ {V W : Type 0} {A : V → List ℕ → Type 0} {B : V → W → List ℕ → Type 0} where
   -- the first part of a pair
-  pub first_fails : {first : Why → List ℕ → Type 0} {second : V → Why → List ℕ → Type 0} {old new : Script} {why : Why} → FailsPiece A first old why new → FailsPiece (IsPair A B) (PairTook A first second) old why new
+  pub first_fails : {first : Why → List ℕ → Type 0} {second : V → Why → List ℕ → Type 0} {old new : Script} {why : Why}
+      → FailsPiece A first old why new → FailsPiece (IsPair A B) (PairTook A first second) old why new
   first_fails {old = old} f = fails_behind (IsPair A B) A [] (λ _ h. inl h) (Takes-none old) (Wants-first A B) f
 
   second_wanted : (v : V) (front : List ℕ) → OneFront A → A v front → Wants (IsPair A B) front (B v)
@@ -49,37 +50,49 @@ module _ {V W : Type 0} {A : V → List ℕ → Type 0} {B : V → W → List �
   }
 
   -- the second part, after the first was read
-  pub fails_second : {there took : Why → List ℕ → Type 0} {old mid new : Script} {v : V} {why : Why} → OneFront A → (read : ReadsValue A old v mid) → ((bytes : List ℕ) → there why bytes → took why (read.bytes ++ bytes)) → FailsPiece (B v) there mid why new → FailsPiece (IsPair A B) took old why new
+  pub fails_second : {there took : Why → List ℕ → Type 0} {old mid new : Script} {v : V} {why : Why} → OneFront A → (read : ReadsValue A old v mid)
+      → ((bytes : List ℕ) → there why bytes → took why (read.bytes ++ bytes)) → FailsPiece (B v) there mid why new
+      → FailsPiece (IsPair A B) took old why new
   fails_second {v = v} law read so f = fails_behind (IsPair A B) (B v) read.bytes so read.takes (second_wanted v read.bytes law read.spelled) f
 
-  pub second_fails : {first : Why → List ℕ → Type 0} {second : V → Why → List ℕ → Type 0} {old mid new : Script} {v : V} {why : Why} → OneFront A → ReadsValue A old v mid → FailsPiece (B v) (second v) mid why new → FailsPiece (IsPair A B) (PairTook A first second) old why new
+  pub second_fails : {first : Why → List ℕ → Type 0} {second : V → Why → List ℕ → Type 0} {old mid new : Script} {v : V} {why : Why} → OneFront A
+      → ReadsValue A old v mid → FailsPiece (B v) (second v) mid why new → FailsPiece (IsPair A B) (PairTook A first second) old why new
   second_fails {v = v} law read f =
       fails_second law read (λ bytes h. inr (record { value = v; front = read.bytes; last = bytes; spelled = read.spelled; holds = h; joined = refl })) f
 
 -- what is keyed by what stands before it
-pub keyed_fails : {K V : Type 0} (key : V → K) {A : K → List ℕ → Type 0} {B : K → V → List ℕ → Type 0} {took : Why → List ℕ → Type 0} {old new : Script} {why : Why} → FailsPiece (IsPair A B) took old why new → FailsPiece (IsKeyed key A B) took old why new
+pub keyed_fails : {K V : Type 0} (key : V → K) {A : K → List ℕ → Type 0} {B : K → V → List ℕ → Type 0} {took : Why → List ℕ → Type 0}
+    {old new : Script} {why : Why} → FailsPiece (IsPair A B) took old why new → FailsPiece (IsKeyed key A B) took old why new
 keyed_fails key {A = A} {B = B} {old = old} f = fails_behind (IsKeyed key A B) (IsPair A B) [] (λ _ h. h) (Takes-none old) (record { wants = λ v p r rest s e. ((key v, v), p, r, s, e) }) f
 
 -- Where there is no field, nothing fails: no bytes at all are its spelling.
-not_there : {V : Type 0} (A : V → List ℕ → Type 0) (took : Why → List ℕ → Type 0) {old new : Script} (why : Why) → ((bytes : List ℕ) → ¬ took Memory bytes) → FailsPiece (IsThere false A) took old why new → ⊥
+not_there : {V : Type 0} (A : V → List ℕ → Type 0) (took : Why → List ℕ → Type 0) {old new : Script} (why : Why)
+    → ((bytes : List ℕ) → ¬ took Memory bytes) → FailsPiece (IsThere false A) took old why new → ⊥
 not_there A took Truncated kept f = (f.cut refl).none None [] f.bytes refl refl
 not_there A took Read kept f = (f.cut refl).none None [] f.bytes refl refl
 not_there A took InputTooLong kept f = (f.cut refl).none None [] f.bytes refl refl
 not_there A took Memory kept f = kept f.bytes (whole_piece f)
 not_there A took _ kept f = (f.format refl).none None [] f.bytes [] refl (sym (append-nil f.bytes))
 
-pub there_fails_in : {V : Type 0} (A : V → List ℕ → Type 0) (took : Why → List ℕ → Type 0) {old new : Script} {why : Why} (here : Bool) → ((bytes : List ℕ) → ¬ took Memory bytes) → FailsPiece (IsThere here A) took old why new → FailsPiece (IsThere here A) (ThereTook here took) old why new
+pub there_fails_in : {V : Type 0} (A : V → List ℕ → Type 0) (took : Why → List ℕ → Type 0) {old new : Script} {why : Why} (here : Bool)
+    → ((bytes : List ℕ) → ¬ took Memory bytes) → FailsPiece (IsThere here A) took old why new
+    → FailsPiece (IsThere here A) (ThereTook here took) old why new
 there_fails_in A took true kept f = f
 there_fails_in A took {why = why} false kept f = absurd (not_there A took why kept f)
 
 module _ {V : Type 0} {A : V → List ℕ → Type 0} {count : ℕ} where
   -- an item, after others
-  pub item_fails : {there took : Why → List ℕ → Type 0} {old mid new : Script} {why : Why} {vs : List V} → OneFront A → ((bytes : List ℕ) → there why bytes → took why bytes) → length vs < count → Listed A old mid vs → FailsPiece A there mid why new → FailsPiece (IsCount A count) (CountTook A count took) old why new
+  pub item_fails : {there took : Why → List ℕ → Type 0} {old mid new : Script} {why : Why} {vs : List V} → OneFront A
+      → ((bytes : List ℕ) → there why bytes → took why bytes) → length vs < count → Listed A old mid vs → FailsPiece A there mid why new
+      → FailsPiece (IsCount A count) (CountTook A count took) old why new
   item_fails {vs = vs} law allows lt l f =
-      fails_behind (IsCount A count) A l.bytes (λ bytes h. record { value = vs; front = l.bytes; last = bytes; spelled = l.each; holds = (lt, allows bytes h); joined = refl }) l.takes (listed_wants A count law l lt) f
+      fails_behind (IsCount A count) A l.bytes (λ bytes h. record
+      { value = vs; front = l.bytes; last = bytes; spelled = l.each; holds = (lt, allows bytes h); joined = refl }) l.takes
+      (listed_wants A count law l lt) f
 
   -- an item was read for which there is no memory
-  pub item_unkept : {took : Why → List ℕ → Type 0} {old mid new : Script} {vs : List V} {v : V} → ((bytes : List ℕ) → A v bytes → took Memory bytes) → length vs < count → Listed A old mid vs → ReadsValue A mid v new → FailsPiece (IsCount A count) (CountTook A count took) old Memory new
+  pub item_unkept : {took : Why → List ℕ → Type 0} {old mid new : Script} {vs : List V} {v : V} → ((bytes : List ℕ) → A v bytes → took Memory bytes)
+      → length vs < count → Listed A old mid vs → ReadsValue A mid v new → FailsPiece (IsCount A count) (CountTook A count took) old Memory new
   item_unkept {old = old} {mid = mid} {new = new} {vs = vs} allows lt l read = record {
     bytes = l.bytes ++ read.bytes;
     takes = Takes-then old mid new l.bytes read.bytes l.takes read.takes;

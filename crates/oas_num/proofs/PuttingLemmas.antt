@@ -1,5 +1,32 @@
 -- Putting one part of some bytes after another.
-use Rattle.std.proofs.Common.{◌≡◌, ℕ, zero, suc, ◌+◌, ◌<◌, ◌≤◌, List, [], ◌∷◌, ◌++◌, length, drop, get_or, drop-cons, flat_map, Result, refl, sym, ap, subst, ◌∙◌, append_assoc, append-nil, add-one, arith}
+use Rattle.std.proofs.Common.{
+  ◌≡◌,
+  ℕ,
+  zero,
+  suc,
+  ◌+◌,
+  ◌<◌,
+  ◌≤◌,
+  List,
+  [],
+  ◌∷◌,
+  ◌++◌,
+  length,
+  drop,
+  get_or,
+  drop-cons,
+  flat_map,
+  Result,
+  refl,
+  sym,
+  ap,
+  subst,
+  ◌∙◌,
+  append_assoc,
+  append-nil,
+  add-one,
+  arith,
+}
 use Rattle.oas_num.specs.SinkFault.{SinkFault}
 use Rattle.oas_num.specs.Writing.{Puts, PutsFront, Writes}
 use Rattle.oas_num.proofs.WritingLemmas.{Puts-none, Puts-then, PutsFront-then, Writes-then}
@@ -40,7 +67,8 @@ module _ {K : Type 0} {given : K → List ℕ → K → Type 0} {failures : K �
       rw p.joined (PutsFront-then _ _ old mid new p.front a left p.puts q)
 
   -- the last part
-  pub ends : {whole a : List ℕ} {old mid : K} (new : K) (r : Result Unit SinkFault) → PutSoFar given failures whole a old mid → Writes given failures mid a r new → Writes given failures old whole r new
+  pub ends : {whole a : List ℕ} {old mid : K} (new : K) (r : Result Unit SinkFault) → PutSoFar given failures whole a old mid
+      → Writes given failures mid a r new → Writes given failures old whole r new
   ends {a = a} {old = old} {mid = mid} new r p q =
       rw p.joined (Writes-then _ _ old mid new p.front a r p.puts q)
 
@@ -66,6 +94,7 @@ module _ {K : Type 0} {given : K → List ℕ → K → Type 0} {failures : K �
       pub item_fails : {new : K} → PutsFront given failures mid (f (get_or xs i d)) new → PutsFront given failures old whole new
       item_fails q = fails_at _ next_left q
 
-  pub items_put : {A : Type 0} (f : A → List ℕ) (xs : List A) (i : ℕ) {whole : List ℕ} {old now : K} → length xs ≤ i → PutSoFar given failures whole (flat_map f (drop i xs)) old now → Puts given failures old whole now
+  pub items_put : {A : Type 0} (f : A → List ℕ) (xs : List A) (i : ℕ) {whole : List ℕ} {old now : K} → length xs ≤ i
+      → PutSoFar given failures whole (flat_map f (drop i xs)) old now → Puts given failures old whole now
   items_put f xs i {whole} {old} {now} le p =
       all_put (subst (λ (b : List ℕ). PutSoFar given failures whole b old now) (ap (flat_map f) (drop_all xs i le)) p)

@@ -49,11 +49,20 @@ module _ {V W : Type 0} (spells : V → List ℕ → Type 0) (next : W → List 
   }
 
   -- what fails there fails as a whole
-  pub Fails-after : {piece to : Bool} (may there : Why → List ℕ → Type 0) (old mid new : Script) (why : Why) (front : List ℕ) → ((last : List ℕ) → there why last → may why last) → Takes old front mid → Wants spells front next → ((a : List ℕ) → Before piece next a → Before to spells (front ++ a)) → FailsBy piece next there mid why new → FailsBy to spells may old why new
+  pub Fails-after : {piece to : Bool} (may there : Why → List ℕ → Type 0) (old mid new : Script) (why : Why) (front : List ℕ)
+      → ((last : List ℕ) → there why last → may why last) → Takes old front mid → Wants spells front next
+      → ((a : List ℕ) → Before piece next a → Before to spells (front ++ a)) → FailsBy piece next there mid why new
+      → FailsBy to spells may old why new
   Fails-after may there old mid new why front allows takes wants begun f = record {
     bytes = front ++ f.bytes;
     takes = Takes-then old mid new front f.bytes takes f.takes;
-    reason = let r = f.reason in record { front = front ++ r.front; last = r.last; joined = ap (λ (x : List ℕ). front ++ x) r.joined ∙ sym (append_assoc front r.front r.last); begun = begun r.front r.begun; holds = allows r.last r.holds };
+    reason = let r = f.reason in record {
+      front = front ++ r.front;
+      last = r.last;
+      joined = ap (λ (x : List ℕ). front ++ x) r.joined ∙ sym (append_assoc front r.front r.last);
+      begun = begun r.front r.begun;
+      holds = allows r.last r.holds;
+    };
     format = λ is. NoneFits-after front f.bytes wants (f.format is);
     cut = λ is. NoneWithin-after front f.bytes wants (f.cut is);
     truncated = f.truncated;

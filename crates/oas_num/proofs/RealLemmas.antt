@@ -32,18 +32,24 @@ kind_fails {old = old} {new = new} {why = why} f = image_fails real_of (first_fa
 
 pub unknown : {old new : Script} {kind : ℕ} → 8 ≤ kind → ReadsValue IsUnsigned old kind new → FailsPiece SpellsReal RealTook old RealType new
 unknown {old = old} {new = new} {kind = kind} le read =
-    image_fails real_of (first_fails (refused IsFraction IsUnsigned RealMay old new RealType kind OneFront-IsUnsigned read (λ (lt : kind < 6). omega arith) (kind, read.spelled, le) (λ e. cc) (λ e. cc) (λ e. cc)))
+    image_fails real_of (first_fails (refused IsFraction IsUnsigned RealMay old new RealType kind OneFront-IsUnsigned read
+    (λ (lt : kind < 6). omega arith) (kind, read.spelled, le) (λ e. cc) (λ e. cc) (λ e. cc)))
 
 pub float : {old new : Script} {kind : ℕ} → 6 ≤ kind → kind < 8 → ReadsValue IsUnsigned old kind new → FailsPiece SpellsReal RealTook old FloatReal new
 float {old = old} {new = new} {kind = kind} le below read =
-    image_fails real_of (first_fails (refused IsFraction IsUnsigned RealMay old new FloatReal kind OneFront-IsUnsigned read (λ (lt : kind < 6). omega arith) (kind, read.spelled, le, below) (λ e. cc) (λ e. cc) (λ e. cc)))
+    image_fails real_of (first_fails (refused IsFraction IsUnsigned RealMay old new FloatReal kind OneFront-IsUnsigned read
+    (λ (lt : kind < 6). omega arith) (kind, read.spelled, le, below) (λ e. cc) (λ e. cc) (λ e. cc)))
 
 -- a part, after the type
-part_fails : {old mid new : Script} {kind : ℕ} {why : Why} → kind < 6 → ReadsValue IsUnsigned old kind mid → FailsPiece (SpellsParts kind) (PartsTook kind) mid why new → FailsPiece SpellsReal RealTook old why new
+part_fails : {old mid new : Script} {kind : ℕ} {why : Why} → kind < 6 → ReadsValue IsUnsigned old kind mid
+    → FailsPiece (SpellsParts kind) (PartsTook kind) mid why new → FailsPiece SpellsReal RealTook old why new
 part_fails {old = old} {mid = mid} {kind = kind} lt read f = image_fails real_of (second_fails OneFront-kind (such_read IsFraction IsUnsigned old mid kind lt read) f)
 
-pub num_fails : {old mid new : Script} {kind : ℕ} {why : Why} → kind < 6 → ReadsValue IsUnsigned old kind mid → FailsPiece (IsThere (has_num kind) IsUnsigned) IntegerMay mid why new → FailsPiece SpellsReal RealTook old why new
+pub num_fails : {old mid new : Script} {kind : ℕ} {why : Why} → kind < 6 → ReadsValue IsUnsigned old kind mid
+    → FailsPiece (IsThere (has_num kind) IsUnsigned) IntegerMay mid why new → FailsPiece SpellsReal RealTook old why new
 num_fails {kind = kind} lt read f = part_fails lt read (first_fails (there_fails_in IsUnsigned IntegerMay (has_num kind) (λ _ h. h) f))
 
-pub den_fails : {old mid then new : Script} {kind : ℕ} {num : Option ℕ} {why : Why} → kind < 6 → ReadsValue IsUnsigned old kind mid → ReadsValue (IsThere (has_num kind) IsUnsigned) mid num then → FailsPiece (IsThere (has_den kind) IsUnsigned) IntegerMay then why new → FailsPiece SpellsReal RealTook old why new
+pub den_fails : {old mid then new : Script} {kind : ℕ} {num : Option ℕ} {why : Why} → kind < 6 → ReadsValue IsUnsigned old kind mid
+    → ReadsValue (IsThere (has_num kind) IsUnsigned) mid num then → FailsPiece (IsThere (has_den kind) IsUnsigned) IntegerMay then why new
+    → FailsPiece SpellsReal RealTook old why new
 den_fails {kind = kind} lt read num f = part_fails lt read (second_fails (OneFront-part (has_num kind)) num (there_fails_in IsUnsigned IntegerMay (has_den kind) (λ _ h. h) f))

@@ -16,7 +16,7 @@ use Rattle.oas_num.specs.Pieces.{CountTook}
 use Rattle.oas_num.specs.Reading.{ReadsPiece, ReadsValue, FailsPiece, ByteMay, IntegerMay, ClassMay, TextMay, NameLengthMay, TextTook, NameTook, LabelTook, PaddingTook, IsInside}
 use Rattle.oas_num.proofs.GrammarLemmas.{Midway, begins, key_read, such_read, such_fails_by, refused, image_fails, is_read, Listed, listed_none, listed_more}
 use Rattle.oas_num.proofs.PieceLemmas.{first_fails, second_fails, keyed_fails, item_fails}
-use Rattle.oas_num.specs.declared.texts.Padding.{Padding}
+use Rattle.oas_num.specs.declared.padding.Padding.{Padding}
 
 pub ClassMay-byte : (class : ℕ → Type 0) (why : Why) (last : List ℕ) → ByteMay why last → ClassMay class why last
 ClassMay-byte class Truncated last h = h
@@ -54,11 +54,14 @@ name_length_fails {old = old} {new = new} {why = why} f =
 pub empty : {old new : Script} {count : ℕ} → count ≡ 0 → ReadsValue IsUnsigned old count new → FailsPiece SpellsName NameTook old EmptyName new
 empty {old = old} {new = new} {count = count} none read =
     let spelled : IsUnsigned 0 read.bytes = rw none at read.spelled in
-    let g : FailsPiece name_parts NameTook old EmptyName new = first_fails (refused IsPositive IsUnsigned NameLengthMay old new EmptyName count OneFront-IsUnsigned read (λ (pos : 0 < count). omega arith) spelled (λ e. cc) (λ e. cc) (λ e. cc)) in
+    let g : FailsPiece name_parts NameTook old EmptyName new =
+    first_fails (refused IsPositive IsUnsigned NameLengthMay old new EmptyName count OneFront-IsUnsigned read (λ (pos : 0 < count). omega arith)
+    spelled (λ e. cc) (λ e. cc) (λ e. cc)) in
     keyed_fails length g
 
 -- the bytes of a name fail
-pub name_text_fails : {old mid new : Script} {count : ℕ} {why : Why} → count ≢ 0 → ReadsValue IsUnsigned old count mid → FailsPiece (IsText IsNameByte count) (TextTook IsNameByte count) mid why new → FailsPiece SpellsName NameTook old why new
+pub name_text_fails : {old mid new : Script} {count : ℕ} {why : Why} → count ≢ 0 → ReadsValue IsUnsigned old count mid
+    → FailsPiece (IsText IsNameByte count) (TextTook IsNameByte count) mid why new → FailsPiece SpellsName NameTook old why new
 name_text_fails {old = old} {mid = mid} {new = new} {count = count} {why = why} some read f =
     let g : FailsPiece name_parts NameTook old why new = second_fails (OneFront-positive Any) (such_read IsPositive IsUnsigned old mid count (omega arith) read) f in
     keyed_fails length g
@@ -66,7 +69,8 @@ name_text_fails {old = old} {mid = mid} {new = new} {count = count} {why = why} 
 -- the length of a name was read
 pub with_name_length : {old new : Script} {count : ℕ} → count ≢ 0 → ReadsValue IsUnsigned old count new → Midway SpellsName (IsText IsNameByte count) (λ text. text) old new
 with_name_length {old = old} {new = new} {count = count} some read =
-    key_read SpellsName length (IsSuch IsPositive IsUnsigned) (λ count. IsText IsNameByte count) (λ v. v) old old new count (OneFront-positive Any) (λ v q h. h.len) (HasSome-text classes.Name count) (begins SpellsName (HasSome-name Any) old)
+    key_read SpellsName length (IsSuch IsPositive IsUnsigned) (λ count. IsText IsNameByte count) (λ v. v) old old new count (OneFront-positive Any)
+    (λ v q h. h.len) (HasSome-text classes.Name count) (begins SpellsName (HasSome-name Any) old)
     (such_read IsPositive IsUnsigned old new count (omega arith) read)
 
 -- the bytes that were read are those of a name
@@ -85,7 +89,8 @@ label_length_fails {old = old} {new = new} {why = why} f =
     keyed_fails length g
 
 -- the bytes of a label fail
-pub label_text_fails : {old mid new : Script} {count : ℕ} {why : Why} → ReadsValue IsUnsigned old count mid → FailsPiece (IsText IsLabelByte count) (TextTook IsLabelByte count) mid why new → FailsPiece SpellsLabel LabelTook old why new
+pub label_text_fails : {old mid new : Script} {count : ℕ} {why : Why} → ReadsValue IsUnsigned old count mid
+    → FailsPiece (IsText IsLabelByte count) (TextTook IsLabelByte count) mid why new → FailsPiece SpellsLabel LabelTook old why new
 label_text_fails {old = old} {new = new} {why = why} read f =
     let g : FailsPiece label_parts LabelTook old why new = second_fails OneFront-IsUnsigned read f in
     keyed_fails length g
@@ -93,7 +98,8 @@ label_text_fails {old = old} {new = new} {why = why} read f =
 -- the length of a label was read
 pub with_label_length : {old new : Script} {count : ℕ} → ReadsValue IsUnsigned old count new → Midway SpellsLabel (IsText IsLabelByte count) (λ text. text) old new
 with_label_length {old = old} {new = new} {count = count} read =
-    key_read SpellsLabel length IsUnsigned (λ count. IsText IsLabelByte count) (λ v. v) old old new count OneFront-IsUnsigned (λ v q h. h.len) (HasSome-text classes.Label count) (begins SpellsLabel (HasSome-label Any) old) read
+    key_read SpellsLabel length IsUnsigned (λ count. IsText IsLabelByte count) (λ v. v) old old new count OneFront-IsUnsigned (λ v q h. h.len)
+    (HasSome-text classes.Label count) (begins SpellsLabel (HasSome-label Any) old) read
 
 -- the bytes that were read are those of a label
 pub read_label : {old new : Script} {count : ℕ} {text : List ℕ} → count < 2 ^ 64 → ReadsValue (IsText IsLabelByte count) old text new → IsLabel text
@@ -117,7 +123,8 @@ passed_more {old = old} {mid = mid} {new = new} {byte = byte} p read = record {
   len = length_push _ _ ∙ ap (λ n. n + 1) p.len;
 }
 
-pub passed_fails : {old mid new : Script} {at count : ℕ} {why : Why} → at < count → Passed old mid at → FailsPiece IsByte ByteMay mid why new → FailsPiece (IsPassed count) (CountTook IsByte count ByteMay) old why new
+pub passed_fails : {old mid new : Script} {at count : ℕ} {why : Why} → at < count → Passed old mid at → FailsPiece IsByte ByteMay mid why new
+    → FailsPiece (IsPassed count) (CountTook IsByte count ByteMay) old why new
 passed_fails lt p f = image_fails padding_of (item_fails OneFront-byte (λ _ h. h) (omega (arith, lt, p.len)) p.listed f)
 
 pub passed_all : {old new : Script} {at count : ℕ} → at ≡ count → Passed old new at → ReadsValue (IsPassed count) old (record { length = count }) new
@@ -137,9 +144,11 @@ padding_length_fails {old = old} {new = new} {why = why} f =
 
 pub with_padding_length : {old new : Script} {count : ℕ} → ReadsValue IsUnsigned old count new → Midway SpellsPadding (IsPassed count) (λ padding. padding) old new
 with_padding_length {old = old} {new = new} {count = count} read =
-    key_read SpellsPadding padding_length IsUnsigned IsPassed (λ v. v) old old new count OneFront-IsUnsigned (λ v q h. sym (ap padding_length h.is) ∙ h.spelled.len) (HasSome-passed count) (begins SpellsPadding HasSome-padding old) read
+    key_read SpellsPadding padding_length IsUnsigned IsPassed (λ v. v) old old new count OneFront-IsUnsigned
+    (λ v q h. sym (ap padding_length h.is) ∙ h.spelled.len) (HasSome-passed count) (begins SpellsPadding HasSome-padding old) read
 
-pub padding_done : (old mid new : Script) (count : ℕ) (r : Result Padding Why) → ReadsValue IsUnsigned old count mid → ReadsPiece (IsPassed count) (CountTook IsByte count ByteMay) mid r new → ReadsPiece SpellsPadding PaddingTook old r new
+pub padding_done : (old mid new : Script) (count : ℕ) (r : Result Padding Why) → ReadsValue IsUnsigned old count mid
+    → ReadsPiece (IsPassed count) (CountTook IsByte count ByteMay) mid r new → ReadsPiece SpellsPadding PaddingTook old r new
 padding_done old mid new count (Ok padding) read passed = is_read (with_padding_length read) passed
 padding_done old mid new count (Err why) read passed =
     let g : FailsPiece padding_parts PaddingTook old why new = second_fails OneFront-IsUnsigned read passed in

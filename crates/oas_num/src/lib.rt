@@ -23,6 +23,7 @@ mod deltas;
 mod fractions;
 mod integers;
 pub mod laws;
+mod padding;
 mod reals;
 mod refusals;
 mod spelling;
@@ -38,10 +39,11 @@ pub use oas_bytes::{
     Counter, Ending, INPUT_MAX, Outlet, ReaderSource, Sink, SinkFault, SliceSource, Source,
     SourceFault,
 };
+pub use padding::Padding;
 pub use reals::Real;
 pub use refusals::{Refusal, Why};
 pub use spelling::{Spelled, next_byte, read_if, read_list};
-pub use texts::{Label, Name, Padding, TextClass, next_within, read_text};
+pub use texts::{Label, Name, TextClass, next_within, read_text};
 pub use writing::{put_gdelta, put_signed, put_unsigned, unsigned_len};
 
 #[cfg(test)]

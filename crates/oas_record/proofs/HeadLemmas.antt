@@ -24,7 +24,26 @@ use Rattle.oas_num.proofs.PieceLemmas.{fails_behind, first_fails, second_fails, 
 use Rattle.oas_num.proofs.GrammarLemmas.{such_read, Listed, listed_none, listed_more, listed_all}
 use Rattle.oas_record.specs.declared.heads.Head.{Head}
 use Rattle.oas_record.specs.Ends.{IsNumber}
-use Rattle.oas_record.specs.Heads.{magic, IsMagic, MagicMay, IsPassedLabel, PassedTook, version, version_in, VersionTook, IsPositiveReal, IsUnit, SpellsUnit, UnitTook, IsFlag, flag_in, start_in, StartTook, head_in, ReadsHead}
+use Rattle.oas_record.specs.Heads.{
+  magic,
+  IsMagic,
+  MagicMay,
+  IsPassedLabel,
+  PassedTook,
+  version,
+  version_in,
+  VersionTook,
+  IsPositiveReal,
+  IsUnit,
+  SpellsUnit,
+  UnitTook,
+  IsFlag,
+  flag_in,
+  start_in,
+  StartTook,
+  head_in,
+  ReadsHead,
+}
 use Rattle.oas_record.specs.Laws.HeadLaws.{OneFront-start_id, OneFront-flag}
 use Rattle.oas_num.specs.Laws.BegunLaws.{Begins-none, HasSome-exactly}
 
@@ -48,7 +67,19 @@ pub matched_none : (s : Script) → Matched s s 0
 matched_none s = record { front = []; rest = magic; is_magic = refl; len = refl; takes = Takes-none s }
 
 magic_small : IsOf (λ b. b < 256) magic
-magic_small = (omega arith, (omega arith, (omega arith, (omega arith, (omega arith, (omega arith, (omega arith, (omega arith, (omega arith, (omega arith, (omega arith, (omega arith, (omega arith, tt)))))))))))))
+magic_small = (
+  omega arith,
+  (
+    omega arith,
+    (
+      omega arith,
+      (
+        omega arith,
+        (omega arith, (omega arith, (omega arith, (omega arith, (omega arith, (omega arith, (omega arith, (omega arith, (omega arith, tt))))))))),
+      ),
+    ),
+  ),
+)
 
 rest_of_class : (class : ℕ → Type 0) (front rest : List ℕ) → IsOf class (front ++ rest) → IsOf class rest
 rest_of_class class [] rest h = h
@@ -104,11 +135,19 @@ module _ (old mid new : Script) (count : ℕ) (lt : count < 13) (m : Matched old
       record {
         bytes = m.front ++ byte ∷ [];
         takes = Takes-then old mid new m.front (byte ∷ []) m.takes (rw only at read.takes);
-        reason = record { front = []; last = m.front ++ byte ∷ []; joined = refl; begun = Begins-none IsMagic (HasSome-exactly magic); holds = record { front = m.front; wanted = left.0; rest = left.1; byte = byte; is_magic = is; joined = refl; other = isnt } };
+        reason = record {
+          front = [];
+          last = m.front ++ byte ∷ [];
+          joined = refl;
+          begun = Begins-none IsMagic (HasSome-exactly magic);
+          holds = record { front = m.front; wanted = left.0; rest = left.1; byte = byte; is_magic = is; joined = refl; other = isnt };
+        };
         format = λ _. record {
           none = λ v p r more s e.
               let same : (left.0 ∷ left.1) ++ r ≡ (byte ∷ []) ++ more =
-              append_cancel_left m.front ((left.0 ∷ left.1) ++ r) ((byte ∷ []) ++ more) (sym (append_assoc m.front (left.0 ∷ left.1) r) ∙ ap (λ (c : List ℕ). c ++ r) (sym is ∙ sym s) ∙ e ∙ append_assoc m.front (byte ∷ []) more) in
+              append_cancel_left m.front ((left.0 ∷ left.1) ++ r) ((byte ∷ []) ++ more)
+              (sym (append_assoc m.front (left.0 ∷ left.1) r) ∙ ap (λ (c : List ℕ). c ++ r) (sym is ∙ sym s) ∙ e
+              ∙ append_assoc m.front (byte ∷ []) more) in
               let head : left.0 ≡ byte = cc in
               isnt (sym head);
         };
@@ -141,18 +180,23 @@ version_length_fails {old = old} {new = new} {why = why} f =
     label_fails (keyed_fails length g)
 
 -- its bytes fail
-label_text_fails : {old mid new : Script} {n : ℕ} {why : Why} → ReadsValue IsUnsigned old n mid → FailsPiece (IsText IsLabelByte n) (PassedTook n) mid why new → FailsPiece (version_in Any) VersionTook old why new
+label_text_fails : {old mid new : Script} {n : ℕ} {why : Why} → ReadsValue IsUnsigned old n mid
+    → FailsPiece (IsText IsLabelByte n) (PassedTook n) mid why new → FailsPiece (version_in Any) VersionTook old why new
 label_text_fails {old = old} {new = new} {why = why} read f =
     let g : FailsPiece label_parts (PairTook IsUnsigned IntegerMay PassedTook) old why new = second_fails OneFront-IsUnsigned read f in
     label_fails (keyed_fails length g)
 
 -- the bytes of a text of another length fail
-pub version_pass_fails : {old mid new : Script} {n : ℕ} {why : Why} → ReadsValue IsUnsigned old n mid → FailsPiece (IsPassedLabel n) (PassedTook n) mid why new → FailsPiece (version_in Any) VersionTook old why new
+pub version_pass_fails : {old mid new : Script} {n : ℕ} {why : Why} → ReadsValue IsUnsigned old n mid
+    → FailsPiece (IsPassedLabel n) (PassedTook n) mid why new → FailsPiece (version_in Any) VersionTook old why new
 version_pass_fails {mid = mid} {n = n} read f =
-    label_text_fails read (fails_behind (IsText IsLabelByte n) (IsPassedLabel n) [] (λ _ h. h) (Takes-none mid) (record { wants = λ v p r rest s e. (tt, p, r, record { from = v; is = refl; spelled = s }, e) }) f)
+    label_text_fails read (fails_behind (IsText IsLabelByte n) (IsPassedLabel n) [] (λ _ h. h) (Takes-none mid)
+    (record { wants = λ v p r rest s e. (tt, p, r, record { from = v; is = refl; spelled = s }, e) }) f)
 
 -- a byte of a text of three bytes fails
-pub version_byte_fails : {old mid now new : Script} {n : ℕ} {why : Why} (text : List ℕ) → n ≡ 3 → ReadsValue IsUnsigned old n mid → Listed (IsSuch IsLabelByte IsByte) mid now text → length text < 3 → FailsPiece (IsSuch IsLabelByte IsByte) (ClassMay IsLabelByte) now why new → FailsPiece (version_in Any) VersionTook old why new
+pub version_byte_fails : {old mid now new : Script} {n : ℕ} {why : Why} (text : List ℕ) → n ≡ 3 → ReadsValue IsUnsigned old n mid
+    → Listed (IsSuch IsLabelByte IsByte) mid now text → length text < 3 → FailsPiece (IsSuch IsLabelByte IsByte) (ClassMay IsLabelByte) now why new
+    → FailsPiece (version_in Any) VersionTook old why new
 version_byte_fails text three read listed lt f = label_text_fails read (item_fails (OneFront-class IsLabelByte) (λ _ h. h) (omega (arith, lt, three)) listed f)
 
 -- the text as a label
@@ -166,7 +210,8 @@ as_label {old = old} {mid = mid} {new = new} {n = n} text read bytes =
     }
 
 -- another text was read
-pub version_wrong : {old mid new : Script} {n : ℕ} (text : List ℕ) → text ≢ version → ReadsValue IsUnsigned old n mid → ReadsValue (IsText IsLabelByte n) mid text new → FailsPiece (version_in Any) VersionTook old Version new
+pub version_wrong : {old mid new : Script} {n : ℕ} (text : List ℕ) → text ≢ version → ReadsValue IsUnsigned old n mid
+    → ReadsValue (IsText IsLabelByte n) mid text new → FailsPiece (version_in Any) VersionTook old Version new
 version_wrong {old = old} {new = new} text isnt read bytes =
     let label = as_label text read bytes in
     record {
@@ -180,26 +225,36 @@ version_wrong {old = old} {new = new} text isnt read bytes =
       too_long = λ is. absurd cc;
     }
 
-pub version_passed : {old mid new : Script} {n : ℕ} {v : Unit {0}} → n ≢ 3 → ReadsValue IsUnsigned old n mid → ReadsValue (IsPassedLabel n) mid v new → FailsPiece (version_in Any) VersionTook old Version new
+pub version_passed : {old mid new : Script} {n : ℕ} {v : Unit {0}} → n ≢ 3 → ReadsValue IsUnsigned old n mid → ReadsValue (IsPassedLabel n) mid v new
+    → FailsPiece (version_in Any) VersionTook old Version new
 version_passed {n = n} isnt read passed =
     let text = passed.spelled.from in
     version_wrong text (λ e. isnt (sym passed.spelled.spelled.len ∙ ap length e)) read (record { bytes = passed.bytes; spelled = passed.spelled.spelled; takes = passed.takes })
 
 -- three bytes were read
-pub three : {old mid1 mid2 new : Script} {a b c : ℕ} → ReadsValue (IsSuch IsLabelByte IsByte) old a mid1 → ReadsValue (IsSuch IsLabelByte IsByte) mid1 b mid2 → ReadsValue (IsSuch IsLabelByte IsByte) mid2 c new → Listed (IsSuch IsLabelByte IsByte) old new (a ∷ b ∷ c ∷ [])
-three {old = old} {mid1 = mid1} {mid2 = mid2} {new = new} {a = a} {b = b} {c = c} p q r = listed_more _ old mid2 new (a ∷ b ∷ []) c (listed_more _ old mid1 mid2 (a ∷ []) b (listed_more _ old old mid1 [] a (listed_none _ old) p) q) r
+pub three : {old mid1 mid2 new : Script} {a b c : ℕ} → ReadsValue (IsSuch IsLabelByte IsByte) old a mid1
+    → ReadsValue (IsSuch IsLabelByte IsByte) mid1 b mid2 → ReadsValue (IsSuch IsLabelByte IsByte) mid2 c new
+    → Listed (IsSuch IsLabelByte IsByte) old new (a ∷ b ∷ c ∷ [])
+three {old = old} {mid1 = mid1} {mid2 = mid2} {new = new} {a = a} {b = b} {c = c} p q r =
+    listed_more _ old mid2 new (a ∷ b ∷ []) c (listed_more _ old mid1 mid2 (a ∷ []) b (listed_more _ old old mid1 [] a (listed_none _ old) p) q) r
 
-pub two : {old mid1 new : Script} {a b : ℕ} → ReadsValue (IsSuch IsLabelByte IsByte) old a mid1 → ReadsValue (IsSuch IsLabelByte IsByte) mid1 b new → Listed (IsSuch IsLabelByte IsByte) old new (a ∷ b ∷ [])
+pub two : {old mid1 new : Script} {a b : ℕ} → ReadsValue (IsSuch IsLabelByte IsByte) old a mid1 → ReadsValue (IsSuch IsLabelByte IsByte) mid1 b new
+    → Listed (IsSuch IsLabelByte IsByte) old new (a ∷ b ∷ [])
 two {old = old} {mid1 = mid1} {new = new} {a = a} {b = b} p q = listed_more _ old mid1 new (a ∷ []) b (listed_more _ old old mid1 [] a (listed_none _ old) p) q
 
 pub one : {old new : Script} {a : ℕ} → ReadsValue (IsSuch IsLabelByte IsByte) old a new → Listed (IsSuch IsLabelByte IsByte) old new (a ∷ [])
 one {old = old} {new = new} {a = a} p = listed_more _ old old new [] a (listed_none _ old) p
 
-pub version_other : {old mid new : Script} {n a b c : ℕ} → n ≡ 3 → ((a ≡ 0x31) → ⊥) ⊎ (((a ≡ 0x31) × ((b ≡ 0x2E) → ⊥)) ⊎ ((a ≡ 0x31) × (b ≡ 0x2E) × ((c ≡ 0x30) → ⊥))) → ReadsValue IsUnsigned old n mid → Listed (IsSuch IsLabelByte IsByte) mid new (a ∷ b ∷ c ∷ []) → FailsPiece (version_in Any) VersionTook old Version new
+pub version_other : {old mid new : Script} {n a b c : ℕ} → n ≡ 3
+    → ((a ≡ 0x31) → ⊥) ⊎ (((a ≡ 0x31) × ((b ≡ 0x2E) → ⊥)) ⊎ ((a ≡ 0x31) × (b ≡ 0x2E) × ((c ≡ 0x30) → ⊥))) → ReadsValue IsUnsigned old n mid
+    → Listed (IsSuch IsLabelByte IsByte) mid new (a ∷ b ∷ c ∷ []) → FailsPiece (version_in Any) VersionTook old Version new
 version_other {mid = mid} {new = new} {n = n} {a = a} {b = b} {c = c} is isnt read listed =
-    version_wrong (a ∷ b ∷ c ∷ []) (λ e. let f : a ≡ 0x31 = cc in let g : b ≡ 0x2E = cc in let h : c ≡ 0x30 = cc in elim isnt [ inl m ↦ m f | inr m ↦ elim m [ inl k ↦ k.1 g | inr k ↦ k.2 h ] ]) read (listed_all (IsSuch IsLabelByte IsByte) n mid new (a ∷ b ∷ c ∷ []) (sym is) listed)
+    version_wrong (a ∷ b ∷ c ∷ []) (λ e. let f : a ≡ 0x31 = cc in let g : b ≡ 0x2E = cc in let h : c ≡ 0x30 = cc in
+    elim isnt [ inl m ↦ m f | inr m ↦ elim m [ inl k ↦ k.1 g | inr k ↦ k.2 h ] ]) read
+    (listed_all (IsSuch IsLabelByte IsByte) n mid new (a ∷ b ∷ c ∷ []) (sym is) listed)
 
-pub version_done : {old mid new : Script} {n a b c : ℕ} (v : Unit {0}) → n ≡ 3 → (a ≡ 0x31) × ((b ≡ 0x2E) × (c ≡ 0x30)) → ReadsValue IsUnsigned old n mid → Listed (IsSuch IsLabelByte IsByte) mid new (a ∷ b ∷ c ∷ []) → ReadsValue (version_in Any) old v new
+pub version_done : {old mid new : Script} {n a b c : ℕ} (v : Unit {0}) → n ≡ 3 → (a ≡ 0x31) × ((b ≡ 0x2E) × (c ≡ 0x30))
+    → ReadsValue IsUnsigned old n mid → Listed (IsSuch IsLabelByte IsByte) mid new (a ∷ b ∷ c ∷ []) → ReadsValue (version_in Any) old v new
 version_done {old = old} {mid = mid} {new = new} {n = n} {a = a} {b = b} {c = c} v is same read listed =
     let label = as_label (a ∷ b ∷ c ∷ []) read (listed_all (IsSuch IsLabelByte IsByte) n mid new (a ∷ b ∷ c ∷ []) (sym is) listed) in
     let f = same.0 in let g = same.1.0 in let h = same.1.1 in
@@ -212,7 +267,13 @@ product_some : (a b n : ℕ) → 0 < a → 0 < b → a * b ≡ n → 0 < n
 product_some a b n p q e = let m : 1 * 1 ≤ a * b = mul-le 1 1 a b p q in omega (arith, m, e)
 
 positive_unit : (r : Real) (unit : Ratio) → IsUnit r unit → IsPositiveReal r
-positive_unit r unit h = (h.positive, (product_some unit.num h.reduces.divisor r.num h.reduces.lowest.num_some h.reduces.some h.reduces.num_is, product_some unit.den h.reduces.divisor r.den h.reduces.lowest.den_some h.reduces.some h.reduces.den_is))
+positive_unit r unit h = (
+  h.positive,
+  (
+    product_some unit.num h.reduces.divisor r.num h.reduces.lowest.num_some h.reduces.some h.reduces.num_is,
+    product_some unit.den h.reduces.divisor r.den h.reduces.lowest.den_some h.reduces.some h.reduces.den_is,
+  ),
+)
 
 pub unit_fails : {old new : Script} {why : Why} → FailsPiece (real_in Any) RealTook old why new → FailsPiece SpellsUnit UnitTook old why new
 unit_fails {old = old} f = fails_behind SpellsUnit (real_in Any) [] (λ _ h. inl h) (Takes-none old) (record { wants = λ v p r rest s e. (s.real, p, r, s.spelled, e) }) f
@@ -222,7 +283,10 @@ unit_refused r isnt read = record {
   bytes = read.bytes;
   takes = read.takes;
   reason = record { front = []; last = read.bytes; joined = refl; begun = refl; holds = inr (r, read.spelled, (refl, isnt)) };
-  format = λ _. record { none = λ u p rest more s e. let one = (OneFront-real Any).one s.real r p read.bytes rest more s.spelled read.spelled e in isnt (subst IsPositiveReal one.1 (positive_unit s.real u s.is_unit)) };
+  format = λ _. record {
+    none = λ u p rest more s e. let one = (OneFront-real Any).one s.real r p read.bytes rest more s.spelled read.spelled e in
+        isnt (subst IsPositiveReal one.1 (positive_unit s.real u s.is_unit));
+  };
   cut = λ is. absurd cc;
   truncated = λ is. absurd cc;
   device = λ is. absurd cc;
@@ -251,7 +315,8 @@ other_flag large lt = omega (arith, lt, large)
 pub magic_refused : {old new : Script} {why : Why} → Fails IsMagic MagicMay old why new → ReadsHead old (Err (record { at = 0; why = why })) new
 magic_refused f = inl (record { at = refl; fails = f })
 
-pub start_refused : {old mid new : Script} {why : Why} {v : Unit {0}} → ReadsValue IsMagic old v mid → FailsPiece (start_in Any) StartTook mid why new → ReadsHead old (Err (record { at = 13; why = why })) new
+pub start_refused : {old mid new : Script} {why : Why} {v : Unit {0}} → ReadsValue IsMagic old v mid → FailsPiece (start_in Any) StartTook mid why new
+    → ReadsHead old (Err (record { at = 13; why = why })) new
 start_refused {old = old} {mid = mid} {new = new} read f = inr (record { at = refl; mid = mid; takes = let e : read.bytes ≡ magic = read.spelled in rw e at read.takes; fails = f })
 
 pub front_read : {old mid new : Script} {head : Head} {v : Unit {0}} → ReadsValue IsMagic old v mid → ReadsValue (start_in Any) mid head new → ReadsValue (head_in Any) old head new

@@ -13,11 +13,13 @@ use Rattle.oas_num.proofs.HalfwayLemmas.{Halfway, at_image, ◌▸◌, fails_at,
 
 module _ {U F : Type 0} {of : ℕ × F → U} {allowed : ℕ → Type 0} {fields : ℕ → F → List ℕ → Type 0} {took : ℕ → Why → List ℕ → Type 0} where
   -- the info byte fails
-  pub info_took : {old new : Script} {why : Why} → FailsPiece IsByte ByteMay old why new → FailsPiece (IsImage of (IsPair (IsSuch allowed IsByte) fields)) (PairTook (IsSuch allowed IsByte) (InfoTook allowed) took) old why new
+  pub info_took : {old new : Script} {why : Why} → FailsPiece IsByte ByteMay old why new
+      → FailsPiece (IsImage of (IsPair (IsSuch allowed IsByte) fields)) (PairTook (IsSuch allowed IsByte) (InfoTook allowed) took) old why new
   info_took {old = old} f = fails_at {second = took} (at_image old) (such_took f)
 
   -- it is refused
-  pub info_refused : {old new : Script} {info : ℕ} → ¬ allowed info → ReadsValue IsByte old info new → FailsPiece (IsImage of (IsPair (IsSuch allowed IsByte) fields)) (PairTook (IsSuch allowed IsByte) (InfoTook allowed) took) old InfoByte new
+  pub info_refused : {old new : Script} {info : ℕ} → ¬ allowed info → ReadsValue IsByte old info new
+      → FailsPiece (IsImage of (IsPair (IsSuch allowed IsByte) fields)) (PairTook (IsSuch allowed IsByte) (InfoTook allowed) took) old InfoByte new
   info_refused {old = old} isnt read = fails_at {second = took} (at_image old) (such_refused OneFront-byte refl isnt (refl, isnt) read)
 
   -- it was read

@@ -28,7 +28,8 @@ module _ {V : Type 0} (A : V → List ℕ → Type 0) where
     len = length_push _ _ ∙ ap (λ n. n + 1) p.len;
   }
 
-  pub passed_fails : {there : Why → List ℕ → Type 0} {old mid new : Script} {at count : ℕ} {why : Why} → OneFront A → at < count → Passed A old mid at → FailsPiece A there mid why new → FailsPiece (IsImage nothing (IsCount A count)) (CountTook A count there) old why new
+  pub passed_fails : {there : Why → List ℕ → Type 0} {old mid new : Script} {at count : ℕ} {why : Why} → OneFront A → at < count → Passed A old mid at
+      → FailsPiece A there mid why new → FailsPiece (IsImage nothing (IsCount A count)) (CountTook A count there) old why new
   passed_fails law lt p f = image_fails nothing (item_fails law (λ _ h. h) (omega (arith, p.len, lt)) p.listed f)
 
   pub passed_all : (old new : Script) (at count : ℕ) (v : Unit {0}) → at ≡ count → Passed A old new at → ReadsValue (IsImage nothing (IsCount A count)) old v new

@@ -38,7 +38,8 @@ pub id_fails : {old new : Script} {why : Why} (in_end : Bool) → FailsPiece IsU
 id_fails {old = old} in_end f = fails_behind (record_in Any in_end) IsUnsigned [] (λ _ h. inl (inl (inl h))) (Takes-none old) (record_wants in_end) f
 
 with_id : {old new : Script} {id : ℕ} (in_end : Bool) → HasSome (after_id Any in_end id) → ReadsValue IsUnsigned old id new → Midway (parts_in Any in_end) (after_id Any in_end id) (λ v. v) old new
-with_id {old = old} {new = new} {id = id} in_end some read = key_read (parts_in Any in_end) id_of IsUnsigned (after_id Any in_end) (λ v. v) old old new id OneFront-IsUnsigned (id_after in_end id) some (begins (parts_in Any in_end) (HasSome-parts in_end) old) read
+with_id {old = old} {new = new} {id = id} in_end some read = key_read (parts_in Any in_end) id_of IsUnsigned (after_id Any in_end) (λ v. v) old old
+    new id OneFront-IsUnsigned (id_after in_end id) some (begins (parts_in Any in_end) (HasSome-parts in_end) old) read
 
 -- no record has an id that is refused
 pub refused_unknown : (id : ℕ) (why : Why) → IsRefusedId id why → (¬ IsKnown id) × IsTrue (is_format why)
@@ -47,7 +48,8 @@ refused_unknown id (UnknownRecord n) h = (large_unknown id h.1, refl)
 refused_unknown id (RecordLeftOut n) h = (left_out_unknown id h.1, refl)
 refused_unknown id _ h = absurd h
 
-pub refused_by_id : {old new : Script} {id : ℕ} {why : Why} (in_end : Bool) → RefusesId id (Some why) → ReadsValue IsUnsigned old id new → FailsPiece (record_in Any in_end) (RecordTook in_end) old why new
+pub refused_by_id : {old new : Script} {id : ℕ} {why : Why} (in_end : Bool) → RefusesId id (Some why) → ReadsValue IsUnsigned old id new
+    → FailsPiece (record_in Any in_end) (RecordTook in_end) old why new
 refused_by_id {id = id} {why = why} in_end h read =
     let isnt = refused_unknown id why h in
     record {
@@ -78,7 +80,8 @@ after_wants {id = id} in_end read = record {
 }
 
 -- it goes wrong
-after_fails : {old mid new : Script} {id : ℕ} {why : Why} (in_end : Bool) → ReadsValue IsUnsigned old id mid → FailsPiece (after_id Any in_end id) (AfterTook in_end id) mid why new → FailsPiece (record_in Any in_end) (RecordTook in_end) old why new
+after_fails : {old mid new : Script} {id : ℕ} {why : Why} (in_end : Bool) → ReadsValue IsUnsigned old id mid
+    → FailsPiece (after_id Any in_end id) (AfterTook in_end id) mid why new → FailsPiece (record_in Any in_end) (RecordTook in_end) old why new
 after_fails {id = id} in_end read f =
     fails_behind (record_in Any in_end) (after_id Any in_end id) read.bytes
     (λ bytes h. inl (inr (record { value = id; front = read.bytes; last = bytes; spelled = read.spelled; holds = h; joined = refl }))) read.takes (after_wants in_end read) f
@@ -86,7 +89,8 @@ after_fails {id = id} in_end read f =
 -- ---- a record that isn't END
 
 -- its id was read
-inner_midway : {old mid : Script} {id : ℕ} (in_end : Bool) → id ≢ 2 → HasSome (after_id Any in_end id) → ReadsValue IsUnsigned old id mid → Midway (record_in Any in_end) (after_id Any in_end id) (λ v. v) old mid
+inner_midway : {old mid : Script} {id : ℕ} (in_end : Bool) → id ≢ 2 → HasSome (after_id Any in_end id) → ReadsValue IsUnsigned old id mid
+    → Midway (record_in Any in_end) (after_id Any in_end id) (λ v. v) old mid
 inner_midway {id = id} in_end isnt some read =
     let m = with_id in_end some read in
     record {
@@ -97,7 +101,8 @@ inner_midway {id = id} in_end isnt some read =
       some = some;
     }
 
-pub inner_done : (in_end : Bool) (id : ℕ) (old mid new : Script) (r : Result Record Why) → id ≢ 2 → ReadsValue IsUnsigned old id mid → ReadsPiece (after_id Any in_end id) (AfterTook in_end id) mid r new → ReadsPiece (record_in Any in_end) (RecordTook in_end) old r new
+pub inner_done : (in_end : Bool) (id : ℕ) (old mid new : Script) (r : Result Record Why) → id ≢ 2 → ReadsValue IsUnsigned old id mid
+    → ReadsPiece (after_id Any in_end id) (AfterTook in_end id) mid r new → ReadsPiece (record_in Any in_end) (RecordTook in_end) old r new
 inner_done in_end id old mid new (Ok v) isnt read rest = is_read (inner_midway in_end isnt (record { value = v; bytes = rest.bytes; spelled = rest.spelled }) read) rest
 inner_done in_end id old mid new (Err why) isnt read rest = after_fails in_end read rest
 
@@ -107,16 +112,19 @@ inner_done in_end id old mid new (Err why) isnt read rest = after_fails in_end r
 with_end : {old mid : Script} {id : ℕ} (in_end : Bool) → id ≡ 2 → ReadsValue IsUnsigned old id mid → Midway (parts_in Any in_end) (after_id Any in_end id) (λ v. v) old mid
 with_end {id = id} in_end is read = with_id in_end (subst (λ k. HasSome (after_id Any in_end k)) (sym is) (HasSome-image end (end_in Any in_end) (end_kind in_end).some)) read
 
-pub end_fails : {old mid new : Script} {id : ℕ} {why : Why} (in_end : Bool) → id ≡ 2 → ReadsValue IsUnsigned old id mid → FailsPiece (end_in Any in_end) (EndTook in_end) mid why new → FailsPiece (record_in Any in_end) (RecordTook in_end) old why new
+pub end_fails : {old mid new : Script} {id : ℕ} {why : Why} (in_end : Bool) → id ≡ 2 → ReadsValue IsUnsigned old id mid
+    → FailsPiece (end_in Any in_end) (EndTook in_end) mid why new → FailsPiece (record_in Any in_end) (RecordTook in_end) old why new
 end_fails {id = id} in_end is read f = after_fails in_end read (fails_2 in_end id is f)
 
-pub end_parts_read : {old mid new : Script} {id : ℕ} {v : Unit {0}} (in_end : Bool) → id ≡ 2 → ReadsValue IsUnsigned old id mid → ReadsValue (end_in Any in_end) mid v new → ReadsValue (parts_in Any in_end) old record_of.End new
+pub end_parts_read : {old mid new : Script} {id : ℕ} {v : Unit {0}} (in_end : Bool) → id ≡ 2 → ReadsValue IsUnsigned old id mid
+    → ReadsValue (end_in Any in_end) mid v new → ReadsValue (parts_in Any in_end) old record_of.End new
 end_parts_read {id = id} {v = v} in_end is read rest = is_read (with_end in_end is read) (read_2 in_end id v is rest)
 
 wrong_end : (in_end : Bool) (bytes : List ℕ) → parts_in Any in_end record_of.End bytes → length bytes ≢ 256 → IsWrongEnd in_end bytes
 wrong_end in_end bytes p wrong = record { id = p.front; back = p.back; is_end = p.first; parts = p.second.spelled; joined = p.joined; wrong = wrong }
 
-pub end_refused : {old new : Script} (in_end : Bool) → new.given ≢ old.given + 256 → ReadsValue (parts_in Any in_end) old record_of.End new → FailsPiece (record_in Any in_end) (RecordTook in_end) old EndLength new
+pub end_refused : {old new : Script} (in_end : Bool) → new.given ≢ old.given + 256 → ReadsValue (parts_in Any in_end) old record_of.End new
+    → FailsPiece (record_in Any in_end) (RecordTook in_end) old EndLength new
 end_refused {old = old} {new = new} in_end wrong read =
     let long : length read.bytes ≢ 256 = λ l. wrong (read.takes.given ∙ ap (λ n. old.given + n) l) in
     record {

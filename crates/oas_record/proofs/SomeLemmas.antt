@@ -46,7 +46,16 @@ pub HasSome-magic : HasSome IsMagic
 HasSome-magic = HasSome-exactly magic
 
 pub HasSome-version : HasSome (version_in Any)
-HasSome-version = record { value = tt; bytes = shortest 3 ++ version; spelled = IsWithin-label.within version (shortest 3 ++ version) (label_spelled version (record { fits = omega arith; class = ((omega arith, omega arith), ((omega arith, omega arith), ((omega arith, omega arith), tt))) })) }
+HasSome-version = record {
+  value = tt;
+  bytes = shortest 3 ++ version;
+  spelled = IsWithin-label.within version (shortest 3 ++ version)
+      (label_spelled version (record {
+        fits = omega arith;
+        class =
+            ((omega arith, omega arith), ((omega arith, omega arith), ((omega arith, omega arith), tt)));
+      }));
+}
 
 abbrev one_to_one : Ratio
 one_to_one = record { num = 1; den = 1 }
@@ -90,7 +99,11 @@ HasSome-head = HasSome-image head_after (IsPair IsMagic (λ _. start_in Any)) (H
 
 -- a PAD
 pub HasSome-parts : (in_end : Bool) → HasSome (parts_in Any in_end)
-HasSome-parts in_end = record { value = record_of.Pad; bytes = 0 ∷ []; spelled = record { front = 0 ∷ []; back = []; first = zero_spelled; second = record { from = tt; is = refl; spelled = refl }; joined = refl } }
+HasSome-parts in_end = record {
+  value = record_of.Pad;
+  bytes = 0 ∷ [];
+  spelled = record { front = 0 ∷ []; back = []; first = zero_spelled; second = record { from = tt; is = refl; spelled = refl }; joined = refl };
+}
 
 -- one of two by an id
 either_some : {V : Type 0} (id n : ℕ) (A B : V → List ℕ → Type 0) (test : Bool) → (id == n) ≡ test → HasSome A → (id ≢ n → HasSome B) → HasSome (IsEither test A B)
@@ -101,7 +114,8 @@ by_id : {V : Type 0} {A B : V → List ℕ → Type 0} (id n : ℕ) → HasSome 
 by_id {A = A} {B = B} id n first rest = either_some id n A B (id == n) refl first rest
 
 -- a known id is one of these
-none_other : (id : ℕ) → IsKnown id → id ≢ 0 → id ≢ 2 → id ≢ 3 → id ≢ 4 → id ≢ 5 → id ≢ 6 → id ≢ 13 → id ≢ 14 → id ≢ 15 → id ≢ 16 → id ≢ 17 → id ≢ 18 → id ≢ 19 → id ≢ 20 → id ≢ 21 → id ≢ 22 → id ≢ 27 → ⊥
+none_other : (id : ℕ) → IsKnown id → id ≢ 0 → id ≢ 2 → id ≢ 3 → id ≢ 4 → id ≢ 5 → id ≢ 6 → id ≢ 13 → id ≢ 14 → id ≢ 15 → id ≢ 16 → id ≢ 17 → id ≢ 18
+    → id ≢ 19 → id ≢ 20 → id ≢ 21 → id ≢ 22 → id ≢ 27 → ⊥
 none_other id known a b c d e f g h i j k l m n o p q =
     elim known [
       | inl is ↦ a is
@@ -147,7 +161,21 @@ offsets_end = twelve_zeros ++ ((240 ∷ 1 ∷ replicate 240 0) ++ (0 ∷ []))
 -- END, of 256 bytes
 end_record : (in_end : Bool) → HasRecord in_end 2
 unfolding end_bytes
-end_record false = (record_of.End, 2 ∷ end_bytes, record { whole = λ _. refl; parts = record { front = 2 ∷ []; back = end_bytes; first = two_spelled; second = record { from = tt; is = refl; spelled = (end_kind false).within.within tt end_bytes refl }; joined = refl } }, refl)
+end_record false = (
+  record_of.End,
+  2 ∷ end_bytes,
+  record {
+    whole = λ _. refl;
+    parts = record {
+      front = 2 ∷ [];
+      back = end_bytes;
+      first = two_spelled;
+      second = record { from = tt; is = refl; spelled = (end_kind false).within.within tt end_bytes refl };
+      joined = refl;
+    };
+  },
+  refl,
+)
 end_record true =
     let spelled : (end_parts true).any (tt, (record { length = 240 }, 0)) offsets_end = record {
       front = twelve_zeros;
@@ -158,11 +186,30 @@ end_record true =
         front = 240 ∷ 1 ∷ replicate 240 0;
         back = 0 ∷ [];
         joined = refl;
-        first = record { front = 240 ∷ 1 ∷ []; back = replicate 240 0; joined = refl; first = long_padding; second = record { from = replicate 240 0; is = refl; spelled = record { len = refl; each = zeros 240 } } };
+        first = record {
+          front = 240 ∷ 1 ∷ [];
+          back = replicate 240 0;
+          joined = refl;
+          first = long_padding;
+          second = record { from = replicate 240 0; is = refl; spelled = record { len = refl; each = zeros 240 } };
+        };
         second = record { holds = refl; spelled = zero_group };
       };
-    } in
-    (record_of.End, 2 ∷ offsets_end, record { whole = λ _. refl; parts = record { front = 2 ∷ []; back = offsets_end; first = two_spelled; second = record { from = tt; is = refl; spelled = record { from = (tt, (record { length = 240 }, 0)); is = refl; spelled = spelled } }; joined = refl } }, refl)
+    } in (
+      record_of.End,
+      2 ∷ offsets_end,
+      record {
+        whole = λ _. refl;
+        parts = record {
+          front = 2 ∷ [];
+          back = offsets_end;
+          first = two_spelled;
+          second = record { from = tt; is = refl; spelled = record { from = (tt, (record { length = 240 }, 0)); is = refl; spelled = spelled } };
+          joined = refl;
+        };
+      },
+      refl,
+    )
 
 known_small : (id : ℕ) → IsKnown id → id < 2 ^ 64
 known_small id known = elim known [
@@ -174,8 +221,15 @@ inner_record : (in_end : Bool) (id : ℕ) → id ≢ 2 → id < 2 ^ 64 → HasSo
 inner_record in_end id isnt small some =
     let same : id_of some.value ≡ id = id_after in_end id some.value some.bytes some.spelled in
     let first : IsUnsigned (id_of some.value) (shortest id) = subst (λ (k : ℕ). IsUnsigned k (shortest id)) (sym same) (unsigned_spelled Any id small) in
-    let second : after_id Any in_end (id_of some.value) some.value some.bytes = subst (λ (k : ℕ). after_id Any in_end k some.value some.bytes) (sym same) some.spelled in
-    (some.value, shortest id ++ some.bytes, record { whole = λ e. absurd (isnt (sym same ∙ ap id_of e)); parts = record { front = shortest id; back = some.bytes; first = first; second = second; joined = refl } }, same)
+    let second : after_id Any in_end (id_of some.value) some.value some.bytes = subst (λ (k : ℕ). after_id Any in_end k some.value some.bytes) (sym same) some.spelled in (
+      some.value,
+      shortest id ++ some.bytes,
+      record {
+        whole = λ e. absurd (isnt (sym same ∙ ap id_of e));
+        parts = record { front = shortest id; back = some.bytes; first = first; second = second; joined = refl };
+      },
+      same,
+    )
 
 pub record_some : (in_end : Bool) (id : ℕ) → IsKnown id → HasRecord in_end id
 record_some in_end id known = elim (eqb_tells id 2) [

@@ -2,7 +2,7 @@
 use Rattle.std.proofs.Common.{◌≡◌, ℕ, zero, suc, Bool, true, false, List, [], ◌∷◌, ◌++◌, replicate, inl, inr, refl, sym, ◌∙◌, arith}
 use Rattle.oas_num.specs.declared.refusals.Why.{Why}
 use Rattle.oas_num.specs.declared.refusals.Why.TheVariants.{ValidationScheme}
-use Rattle.oas_num.specs.declared.texts.Padding.{Padding}
+use Rattle.oas_num.specs.declared.padding.Padding.{Padding}
 use Rattle.oas_num.specs.Grammar.{IsImage, IsEach, IsByte}
 use Rattle.oas_num.specs.Combinators.{OneSpelling, IsWithin}
 use Rattle.oas_num.specs.Integers.{IsUnsigned}
@@ -91,7 +91,13 @@ end_within false v a p = record {
       front = 252 ∷ 1 ∷ no_padding;
       back = 0 ∷ [];
       joined = refl;
-      first = record { front = 252 ∷ 1 ∷ []; back = no_padding; joined = refl; first = two_groups; second = record { from = no_padding; is = refl; spelled = record { len = refl; each = zeros 252 } } };
+      first = record {
+        front = 252 ∷ 1 ∷ [];
+        back = no_padding;
+        joined = refl;
+        first = two_groups;
+        second = record { from = no_padding; is = refl; spelled = record { len = refl; each = zeros 252 } };
+      };
       second = record { holds = refl; spelled = zero_group };
     };
   };

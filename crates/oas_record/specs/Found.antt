@@ -52,7 +52,8 @@ pub record IsThat {V : Type 0} (v w : V) (a b x y : List ℕ) : Type 0 where
   pub front : a ≡ b
   pub rest : x ≡ y
 
-pub only : {V : Type 0} {A : V → List ℕ → Type 0} {left : List ℕ} → OneFront A → (s : Stands A left) (w : V) (front rest : List ℕ) → A w front → left ≡ front ++ rest → IsThat s.value w s.front front s.rest rest
+pub only : {V : Type 0} {A : V → List ℕ → Type 0} {left : List ℕ} → OneFront A → (s : Stands A left) (w : V) (front rest : List ℕ) → A w front
+    → left ≡ front ++ rest → IsThat s.value w s.front front s.rest rest
 only law s w front rest p e =
     let both = law.one s.value w s.front front s.rest rest s.spelled p (sym s.joined ∙ e) in
     record { value = both.1; front = both.0; rest = after_same s.front front s.rest rest both.0 (sym s.joined ∙ e) }
@@ -70,7 +71,13 @@ found_as A B to back f = record {
 }
 
 pub found_such : {V : Type 0} {A : V → List ℕ → Type 0} (P : V → Type 0) → ((v : V) → Settled (P v)) → IsFound A → IsFound (IsSuch P A)
-found_such {V = V} {A = A} P settle f = record { one = OneFront-such P A f.one; find = λ left. elim (f.find left) [ inl s ↦ here left s (settle s.value) | inr lacks ↦ inr (record { none = λ v front rest p e. lacks.none v front rest p.spelled e }) ] } where
+found_such {V = V} {A = A} P settle f = record {
+  one = OneFront-such P A f.one;
+  find = λ left. elim (f.find left) [
+    | inl s ↦ here left s (settle s.value)
+    | inr lacks ↦ inr (record { none = λ v front rest p e. lacks.none v front rest p.spelled e })
+  ];
+} where
   here : (left : List ℕ) (s : Stands A left) → Settled (P s.value) → Stands (IsSuch P A) left ⊎ NoneStands (IsSuch P A) left
   here left s (inl p) = inl (record { value = s.value; front = s.front; rest = s.rest; spelled = record { holds = p; spelled = s.spelled }; joined = s.joined })
   here left s (inr not) = inr (record { none = λ v front rest p e. not (subst P (sym (only f.one s v front rest p.spelled e).value) p.holds) })
@@ -87,7 +94,10 @@ found_image {A = A} f g = record {
 pub found_pair : {V W : Type 0} {A : V → List ℕ → Type 0} {B : V → W → List ℕ → Type 0} → IsFound A → ((v : V) → IsFound (B v)) → IsFound (IsPair A B)
 found_pair {V = V} {W = W} {A = A} {B = B} f g = record {
   one = OneFront-pair A B f.one (λ v. (g v).one);
-  find = λ left. elim (f.find left) [ inl s ↦ then left s ((g s.value).find s.rest) | inr lacks ↦ inr (record { none = λ v front rest p e. lacks.none v.0 p.front (p.back ++ rest) p.first (split left v front rest p e) }) ];
+  find = λ left. elim (f.find left) [
+    | inl s ↦ then left s ((g s.value).find s.rest)
+    | inr lacks ↦ inr (record { none = λ v front rest p e. lacks.none v.0 p.front (p.back ++ rest) p.first (split left v front rest p e) })
+  ];
 } where
   split : (left : List ℕ) (v : V × W) (front rest : List ℕ) (p : IsPair A B v front) → left ≡ front ++ rest → left ≡ p.front ++ (p.back ++ rest)
   split left v front rest p e = e ∙ ap (λ (c : List ℕ). c ++ rest) p.joined ∙ append_assoc p.front p.back rest
@@ -109,7 +119,10 @@ found_pair {V = V} {W = W} {A = A} {B = B} f g = record {
 pub found_keyed : {V : Type 0} {A : ℕ → List ℕ → Type 0} {B : ℕ → V → List ℕ → Type 0} (key : V → ℕ) → IsFound A → ((k : ℕ) → IsFound (B k)) → IsFound (IsKeyed key A B)
 found_keyed {V = V} {A = A} {B = B} key f g = record {
   one = OneFront-keyed key A B f.one (λ k. (g k).one);
-  find = λ left. elim (both.find left) [ inl s ↦ here left s (settled_number (key s.value.1) s.value.0) | inr lacks ↦ inr (record { none = λ v front rest p e. lacks.none (key v, v) front rest p e }) ];
+  find = λ left. elim (both.find left) [
+    | inl s ↦ here left s (settled_number (key s.value.1) s.value.0)
+    | inr lacks ↦ inr (record { none = λ v front rest p e. lacks.none (key v, v) front rest p e })
+  ];
 } where
   both : IsFound (IsPair A B)
   both = found_pair f g

@@ -18,12 +18,47 @@ use Rattle.oas_num.specs.Laws.DeltaLaws.{Delta1-one_front}
 use Rattle.oas_shape.specs.declared.list_use.ListUse.{ListUse}
 use Rattle.oas_shape.specs.declared.list_use.ListUse.TheVariants.{Polygon, Path}
 use Rattle.oas_shape.specs.declared.repetitions.RepField.TheVariants.{New}
-use Rattle.oas_shape.specs.Steps.{IsNear, IsPartialSum}
+use Rattle.oas_shape.specs.Steps.{IsBounded, IsPartialSum}
 use Rattle.oas_shape.specs.Offsets.{offsets_by}
 use Rattle.oas_shape.specs.ListUses.{IsFitting}
 use Rattle.oas_shape.specs.PointLists.{IsListKind, alternating, step2, step3, stepg, deltas_in, polyline_of, point_list_in}
-use Rattle.oas_shape.specs.Repetitions.{IsRepetitionKind, AreTwo, matrix_of, columns_of, rows_of, lattice_of, line_of, x_space, y_space, grid_of, listed_of, repetition_by, again, field_by, field_of, rep_field_in}
-use Rattle.oas_record.specs.Found.{NoneStands, Settled, settled_number, settled_both, settled_either, Stands, IsFound, only, found_as, found_such, found_image, found_pair, found_keyed, found_exactly, found_either, found_there, found_count}
+use Rattle.oas_shape.specs.Repetitions.{
+  IsRepetitionKind,
+  AreTwo,
+  matrix_of,
+  columns_of,
+  rows_of,
+  lattice_of,
+  line_of,
+  x_space,
+  y_space,
+  grid_of,
+  listed_of,
+  repetition_by,
+  again,
+  field_by,
+  field_of,
+  rep_field_in,
+}
+use Rattle.oas_record.specs.Found.{
+  NoneStands,
+  Settled,
+  settled_number,
+  settled_both,
+  settled_either,
+  Stands,
+  IsFound,
+  only,
+  found_as,
+  found_such,
+  found_image,
+  found_pair,
+  found_keyed,
+  found_exactly,
+  found_either,
+  found_there,
+  found_count,
+}
 
 -- ---- orders
 
@@ -80,7 +115,13 @@ found_closed = record { one = record { one = λ v w a b x y p q e. (closed_same 
 pub found_unsigned : IsFound IsUnsigned
 found_unsigned = record { one = OneFront-IsUnsigned; find = find } where
   fits : (left : List ℕ) (s : Stands Closed left) → Settled ((length s.front ≤ 10) × (value_of s.front < 2 ^ 64)) → Stands IsUnsigned left ⊎ NoneStands IsUnsigned left
-  fits left s (inl both) = inl (record { value = value_of s.front; front = s.front; rest = s.rest; spelled = record { closed = s.spelled; short = both.0; value = refl; fits = both.1 }; joined = s.joined })
+  fits left s (inl both) = inl (record {
+    value = value_of s.front;
+    front = s.front;
+    rest = s.rest;
+    spelled = record { closed = s.spelled; short = both.0; value = refl; fits = both.1 };
+    joined = s.joined;
+  })
   fits left s (inr not) = inr (record {
     none = λ v front rest p e.
         let same = (only found_closed.one s tt front rest p.closed e).front in
@@ -134,7 +175,8 @@ found_padding = found_keyed padding_length found_unsigned (λ count. found_image
 -- ---- reals and deltas
 
 pub found_real : IsFound SpellsReal
-found_real = found_image real_of (found_pair (found_such IsFraction (λ kind. settled_below kind 6) found_unsigned) (λ kind. found_pair (found_there (has_num kind) found_unsigned) (λ _. found_there (has_den kind) found_unsigned)))
+found_real = found_image real_of (found_pair (found_such IsFraction (λ kind. settled_below kind 6) found_unsigned)
+    (λ kind. found_pair (found_there (has_num kind) found_unsigned) (λ _. found_there (has_den kind) found_unsigned)))
 
 found_delta1 : IsFound SpellsDelta1
 found_delta1 = record {
@@ -146,7 +188,8 @@ found_delta1 = record {
 }
 
 pub found_gdelta : IsFound SpellsGDelta
-found_gdelta = found_as (IsImage gdelta_of IsNumbers) SpellsGDelta (λ v a p. p) (λ v a p. p) (found_image gdelta_of (found_pair found_unsigned (λ first. found_there (has_second first) found_unsigned)))
+found_gdelta = found_as (IsImage gdelta_of IsNumbers) SpellsGDelta (λ v a p. p) (λ v a p. p)
+    (found_image gdelta_of (found_pair found_unsigned (λ first. found_there (has_second first) found_unsigned)))
 
 -- ---- point lists
 
@@ -173,21 +216,23 @@ found_point_list purpose =
 found_two : IsFound AreTwo
 found_two = found_pair found_unsigned (λ _. found_unsigned)
 
-settled_near : (far : ℕ) (z : ℤ) → Settled (IsNear far z)
+settled_near : (far : ℕ) (z : ℤ) → Settled (IsBounded far z)
 settled_near far z = settled_both (settled_int _ z) (settled_int z (pos far))
 
 settled_sums : (ds : List GDelta) → Settled (AllByRecursion IsPartialSum ds)
 settled_sums [] = inl tt
 settled_sums (d ∷ ds) = settled_both (by (settled_both (settled_near (2 ^ 62) d.dx) (settled_near (2 ^ 62) d.dy))) (settled_sums ds) where
-  by : Settled (IsNear (2 ^ 62) d.dx × IsNear (2 ^ 62) d.dy) → Settled (IsPartialSum d)
+  by : Settled (IsBounded (2 ^ 62) d.dx × IsBounded (2 ^ 62) d.dy) → Settled (IsPartialSum d)
   by (inl both) = inl (record { x = both.0; y = both.1 })
   by (inr not) = inr (λ near. not (near.x, near.y))
 
 -- a list of displacements that are so spelled
 found_listed : {D : GDelta → List ℕ → Type 0} (has_grid : Bool) → IsFound D
-    → IsFound (IsImage listed_of (IsPair IsUnsigned (λ dim. IsPair (IsThere has_grid IsUnsigned) (λ grid. IsSuch (AllByRecursion IsPartialSum) (IsImage (offsets_by (grid_of grid)) (IsCount D (dim + 1)))))))
+    → IsFound (IsImage listed_of (IsPair IsUnsigned (λ dim. IsPair (IsThere has_grid IsUnsigned)
+    (λ grid. IsSuch (AllByRecursion IsPartialSum) (IsImage (offsets_by (grid_of grid)) (IsCount D (dim + 1)))))))
 found_listed has_grid f =
-    found_image listed_of (found_pair found_unsigned (λ dim. found_pair (found_there has_grid found_unsigned) (λ grid. found_such (AllByRecursion IsPartialSum) settled_sums (found_image (offsets_by (grid_of grid)) (found_count (dim + 1) f)))))
+    found_image listed_of (found_pair found_unsigned (λ dim. found_pair (found_there has_grid found_unsigned)
+    (λ grid. found_such (AllByRecursion IsPartialSum) settled_sums (found_image (offsets_by (grid_of grid)) (found_count (dim + 1) f)))))
 
 found_repetition : (kind : ℕ) → IsFound (repetition_by kind)
 found_repetition kind =

@@ -4,10 +4,27 @@ use Rattle.std.proofs.Common.{◌≡◌, ℕ, ℤ, ◌<◌, Bool, true, false, i
 use Rattle.oas_num.specs.declared.refusals.Why.{Why}
 use Rattle.oas_num.specs.declared.refusals.Why.TheVariants.{Write, InfoByte}
 use Rattle.oas_num.specs.declared.reals.Real.{Real}
-use Rattle.oas_num.specs.declared.texts.Padding.{Padding}
+use Rattle.oas_num.specs.declared.padding.Padding.{Padding}
 use Rattle.oas_num.specs.Grammar.{OneFront, IsPair, IsSuch, IsImage, IsThere, IsCount, IsByte}
 use Rattle.oas_num.specs.Combinators.{IsExactly, IsEither, IsNever, OneSpelling, IsWithin}
-use Rattle.oas_num.specs.Laws.CombinatorLaws.{OneFront-within, OneSpelling-exactly, OneSpelling-never, OneSpelling-either, OneSpelling-pair, OneSpelling-such, OneSpelling-byte, OneSpelling-there, OneSpelling-count, IsWithin-itself, IsWithin-either, IsWithin-pair, IsWithin-such, IsWithin-image, IsWithin-there, IsWithin-count}
+use Rattle.oas_num.specs.Laws.CombinatorLaws.{
+  OneFront-within,
+  OneSpelling-exactly,
+  OneSpelling-never,
+  OneSpelling-either,
+  OneSpelling-pair,
+  OneSpelling-such,
+  OneSpelling-byte,
+  OneSpelling-there,
+  OneSpelling-count,
+  IsWithin-itself,
+  IsWithin-either,
+  IsWithin-pair,
+  IsWithin-such,
+  IsWithin-image,
+  IsWithin-there,
+  IsWithin-count,
+}
 use Rattle.oas_num.specs.Begun.{HasSome}
 use Rattle.oas_num.specs.Laws.BegunLaws.{HasSome-pair, HasSome-image, HasSome-there, HasSome-such, HasSome-either, HasSome-exactly, HasSome-count}
 use Rattle.oas_num.specs.Integers.{IsUnsigned, IsSigned}
@@ -54,7 +71,8 @@ front_in Shortest A = OneFront-within A.shortest A.any A.within A.found.one
 
 -- ---- parts
 
-pub pair_never : {V : Type 0} {A : V → List ℕ → Type 0} {first : Why → List ℕ → Type 0} {second : V → Why → List ℕ → Type 0} → Never first → ((v : V) → Never (second v)) → Never (PairTook A first second)
+pub pair_never : {V : Type 0} {A : V → List ℕ → Type 0} {first : Why → List ℕ → Type 0} {second : V → Why → List ℕ → Type 0} → Never first
+    → ((v : V) → Never (second v)) → Never (PairTook A first second)
 pair_never f g = record { none = λ bytes h. elim h [ inl h ↦ f.none bytes h | inr b ↦ (g b.value).none b.last b.holds ] }
 
 pub there_never : (here : Bool) (took : Why → List ℕ → Type 0) → Never took → Never (ThereTook here took)

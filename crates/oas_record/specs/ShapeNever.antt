@@ -37,10 +37,13 @@ two_never : Never TwoTook
 two_never = pair_never number.never (λ _. number.never)
 
 -- after others, of which that holds
-next_never : {U V : Type 0} {A : U → List ℕ → Type 0} {B : V → List ℕ → Type 0} {P Q : U → Type 0} {took : Why → List ℕ → Type 0} {refuses : U → V → Why → Type 0} → Never took → ((before : U) (v : V) → refuses before v Write → ⊥) → Never (λ why bytes. IsBehind A (λ before last. P before × Q before × SuchTook B took (refuses before) why last) bytes)
+next_never : {U V : Type 0} {A : U → List ℕ → Type 0} {B : V → List ℕ → Type 0} {P Q : U → Type 0} {took : Why → List ℕ → Type 0}
+    {refuses : U → V → Why → Type 0} → Never took → ((before : U) (v : V) → refuses before v Write → ⊥)
+    → Never (λ why bytes. IsBehind A (λ before last. P before × Q before × SuchTook B took (refuses before) why last) bytes)
 next_never f other = record { none = λ bytes b. elim b.holds.2 [ inl h ↦ f.none b.last h | inr h ↦ other b.value h.0 h.2 ] }
 
-listed_never : (grid_there : Bool) {offsets : ℕ → Option ℕ → Why → List ℕ → Type 0} → ((dim : ℕ) (grid : Option ℕ) → Never (offsets dim grid)) → Never (PairTook IsUnsigned IntegerMay (λ dim. PairTook (IsThere grid_there IsUnsigned) (ThereTook grid_there IntegerMay) (offsets dim)))
+listed_never : (grid_there : Bool) {offsets : ℕ → Option ℕ → Why → List ℕ → Type 0} → ((dim : ℕ) (grid : Option ℕ) → Never (offsets dim grid))
+    → Never (PairTook IsUnsigned IntegerMay (λ dim. PairTook (IsThere grid_there IsUnsigned) (ThereTook grid_there IntegerMay) (offsets dim)))
 listed_never grid_there f = pair_never number.never (λ dim. pair_never (there_never grid_there IntegerMay number.never) (f dim))
 
 repetition_never : (kind : ℕ) → Never (RepetitionTook kind)

@@ -7,7 +7,7 @@ use oas_num::{Padding, Source, Spelled, Why, read_unsigned};
 use std::alloc::Global;
 
 /// Table-offsets, where they are there.
-pub(crate) fn pass_offsets_if<S: Source>(there: bool, source: &mut S) -> Result<(), Why>
+pub fn pass_offsets_if<S: Source>(there: bool, source: &mut S) -> Result<(), Why>
     ensures { ReadsPiece (offsets_if there) (OffsetsIfTook there) (S.script source.old) result (S.script source.new) }
 {
     if there {

@@ -27,7 +27,7 @@ pub struct Head {
 }
 
 /// The magic.
-fn read_magic<S: Source>(source: &mut S) -> Result<(), Why>
+pub fn read_magic<S: Source>(source: &mut S) -> Result<(), Why>
     ensures { Reads IsMagic MagicMay (S.script source.old) result (S.script source.new) }
 {
     for i in 0..13usize {
@@ -40,7 +40,7 @@ fn read_magic<S: Source>(source: &mut S) -> Result<(), Why>
 }
 
 /// The version, an a-string that has to be `1.0`. It is compared as it is read, so no memory is taken.
-fn read_version<S: Source>(source: &mut S) -> Result<(), Why>
+pub fn read_version<S: Source>(source: &mut S) -> Result<(), Why>
     ensures { ReadsPiece (version_in Any) VersionTook (S.script source.old) result (S.script source.new) }
 {
     let length = read_unsigned(source)?;

@@ -34,14 +34,15 @@ mod spots;
 mod texts;
 
 pub use circles::Circle;
-pub use heads::{Head, read_head};
+pub use ends::pass_offsets_if;
+pub use heads::{Head, read_head, read_magic, read_version};
 pub use paths::{Extension, Extensions, Path};
 pub use placements::{Placement, Turn};
 pub use polygons::Polygon;
 pub use records::Record;
 pub use rectangles::Rectangle;
 pub use references::{CellRef, TextRef};
-pub use spots::Spot;
+pub use spots::{Spot, read_layers, read_spot};
 pub use texts::Text;
 
 #[cfg(test)]

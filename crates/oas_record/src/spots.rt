@@ -21,10 +21,7 @@ pub struct Spot {
 }
 
 /// Layer and datatype, or textlayer and texttype: bits 0 and 1 of the info byte.
-pub(crate) fn read_layers<S: Source>(
-    info: u8,
-    source: &mut S,
-) -> Result<(Option<u64>, Option<u64>), Why>
+pub fn read_layers<S: Source>(info: u8, source: &mut S) -> Result<(Option<u64>, Option<u64>), Why>
     ensures { ReadsPiece (layers_in Any info) (LayersTook info) (S.script source.old) result (S.script source.new) }
 {
     let layer = read_unsigned_if(info & 1 != 0, source)?;
@@ -48,7 +45,7 @@ fn read_repetition_if<S: Source>(
 }
 
 /// x, y and the repetition, each where it is there.
-pub(crate) fn read_spot<S: Source>(
+pub fn read_spot<S: Source>(
     alloc: Global,
     x: bool,
     y: bool,

@@ -4,6 +4,8 @@ use std::alloc::{AllocError, Global};
 use std::process::Abort;
 use std::test::Fail;
 
+mod memory;
+
 /// A file in the style of a usual writer, with its names at the end.
 const COMPACT: &str =
     "MAGIC 0103312e3000e807010d0114db01000a00001410280d0011f80100000100003232137b00030000000403544f500004014101060248690002 00*12 f001 00*241";
@@ -247,81 +249,4 @@ fn extensions(rt: HostRuntime) {
         end: Extension::Flush,
     };
     assert!(rt; path.extensions == Some(want));
-}
-
-/// Takes all memory there is, in pieces from `most` bytes down to 16.
-fn fill(alloc: Global, most: usize, held: &mut Vec<Vec<u8>>) {
-    let mut size = most;
-    for _ in 0..40u32 {
-        for _ in 0..200_000u32 {
-            if held.len() >= held.capacity() || size < 16 {
-                break;
-            }
-            match Vec::with_capacity(alloc, size) {
-                Ok(piece) => {
-                    let _ = held.push(piece);
-                }
-                Err(AllocError) => break,
-            }
-        }
-        size /= 2;
-    }
-}
-
-/// What a read under little memory came to.
-#[derive(Clone, Copy, Debug, PartialEq, Eq)]
-enum Trial {
-    Done,
-    NoMemory,
-    Wrong,
-}
-
-/// Reads one record.
-fn try_record(alloc: Global, bytes: &[u8]) -> Trial {
-    let mut source = SliceSource::new(bytes, INPUT_MAX);
-    match Record::read(alloc, &mut source, false) {
-        Ok(_record) => Trial::Done,
-        Err(refusal) => {
-            if refusal.why == Why::Memory && refusal.at == 0 {
-                Trial::NoMemory
-            } else {
-                Trial::Wrong
-            }
-        }
-    }
-}
-
-/// Each growth is refused in turn, with a budget of memory that grows by one small piece, until all succeed.
-#[test]
-fn growths_are_refused(rt: HostRuntime) -> Result<(), AllocError> {
-    let alloc = rt.alloc();
-    // a name, a string, and a path with a list and a repetition that grow
-    let name: &[u8] = b"\x03\x14abcdefghijklmnopqrst";
-    let text: &[u8] = b"\x13\x40\x14abcdefghijklmnopqrst";
-    let path: &[u8] =
-        b"\x16\x24\x00\x09\x02\x02\x02\x02\x02\x02\x02\x02\x02\x04\x08\x01\x01\x01\x01\x01\x01\x01\x01\x01";
-    let mut held: Vec<Vec<u8>> = Vec::with_capacity(alloc, 300_000)?;
-    let room: Vec<u8> = Vec::with_capacity(alloc, 65536)?;
-    fill(alloc, 68_719_476_736, &mut held);
-    let large = held.len();
-    drop(room);
-    fill(alloc, 16, &mut held);
-    let is_full = Vec::<u8>::with_capacity(alloc, 16).is_err();
-    let mut refused = 0u32;
-    for _ in large..held.len() {
-        for bytes in [name, text, path] {
-            let trial = try_record(alloc, bytes);
-            assert!(rt; trial != Trial::Wrong);
-            if trial == Trial::NoMemory {
-                refused = refused.saturating_add(1);
-            }
-        }
-        let _ = held.pop();
-    }
-    held.clear();
-    assert!(rt; !is_full || refused > 0);
-    for bytes in [name, text, path] {
-        assert_eq!(rt; try_record(alloc, bytes), Trial::Done);
-    }
-    Ok(())
 }

@@ -5,6 +5,7 @@ use crate::{
     CountedRing, Point, Points, Reading, apply, as_box, least_reading, least_reading_over,
     same_ring,
 };
+use scarce_memory::Hoard;
 use std::alloc::{AllocError, Global};
 use std::process::Abort;
 use std::test::Fail;
@@ -174,60 +175,6 @@ fn points_are_ordered_as_lists(rt: HostRuntime) -> Result<(), Fail> {
     Ok(())
 }
 
-/// More bytes than any piece of memory that is there.
-const LARGEST: usize = 68_719_476_736;
-
-/// The bytes of the smallest piece.
-const SMALLEST: usize = 16;
-
-/// Takes pieces of memory, of `most` bytes and then ever smaller ones, until none is left or `held` is full.
-fn fill(alloc: Global, most: usize, held: &mut Vec<Vec<u8>>) {
-    let mut size = most;
-    for _ in 0..40u32 {
-        for _ in 0..200_000u32 {
-            if held.len() >= held.capacity() || size < SMALLEST {
-                break;
-            }
-            match Vec::with_capacity(alloc, size) {
-                Ok(piece) => {
-                    let _ = held.push(piece);
-                }
-                Err(AllocError) => break,
-            }
-        }
-        size /= 2;
-    }
-}
-
-/// All memory, kept from the calls that a test makes.
-#[derive(Drop)]
-struct Hoard {
-    /// What is given back, a small piece at a time.
-    pieces: Vec<Vec<u8>>,
-    /// All else.
-    rest: Vec<Vec<u8>>,
-    /// Whether the heap could be filled.
-    is_full: bool,
-}
-
-impl Hoard {
-    /// All memory that is there.
-    fn new(alloc: Global) -> Result<Hoard, AllocError> {
-        let mut pieces = Vec::with_capacity(alloc, 4096)?;
-        let mut rest = Vec::with_capacity(alloc, 300_000)?;
-        let room = Vec::<u8>::with_capacity(alloc, 65536)?;
-        fill(alloc, LARGEST, &mut rest);
-        drop(room);
-        fill(alloc, SMALLEST, &mut pieces);
-        let is_full = Vec::<u8>::with_capacity(alloc, SMALLEST).is_err();
-        Ok(Hoard {
-            pieces,
-            rest,
-            is_full,
-        })
-    }
-}
-
 /// Each growth of `apply` and `try_clone` is refused in turn, with a budget of memory that grows by one small
 /// piece, until both succeed. Where the heap cannot be filled, as under a checker of addresses, neither is refused.
 #[test]
@@ -239,7 +186,7 @@ fn growths_are_refused(rt: HostRuntime) -> Result<(), Fail> {
     let mut hoard = Hoard::new(alloc)?;
     let mut readings = 0u32;
     let mut copies = 0u32;
-    for _ in 0..hoard.pieces.len() {
+    for _ in 0..hoard.pieces() {
         match apply(alloc, &ring, least_reading(&ring)) {
             Ok(read) => assert!(rt; read.as_slice() == least.as_slice()),
             Err(AllocError) => readings = readings.saturating_add(1),
@@ -248,10 +195,10 @@ fn growths_are_refused(rt: HostRuntime) -> Result<(), Fail> {
             Ok(copy) => assert!(rt; copy == points),
             Err(AllocError) => copies = copies.saturating_add(1),
         }
-        let _ = hoard.pieces.pop();
+        hoard.give_back();
     }
-    assert!(rt; !hoard.is_full || readings > 0, "no reading was refused");
-    assert!(rt; !hoard.is_full || copies > 0, "no copy was refused");
+    assert!(rt; !hoard.is_full() || readings > 0, "no reading was refused");
+    assert!(rt; !hoard.is_full() || copies > 0, "no copy was refused");
     drop(hoard);
     assert!(rt; apply(alloc, &ring, least_reading(&ring))?.as_slice() == least.as_slice());
     assert!(rt; points.try_clone(alloc)? == points);

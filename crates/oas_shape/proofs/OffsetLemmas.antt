@@ -18,7 +18,7 @@ use Rattle.oas_num.proofs.GrammarLemmas.{Listed, listed_none, listed_more, liste
 use Rattle.oas_num.proofs.PieceLemmas.{fails_behind}
 use Rattle.oas_num.proofs.HalfwayLemmas.{such_took, such_refused}
 use Rattle.oas_shape.specs.declared.offsets.Along.{Along}
-use Rattle.oas_shape.specs.Steps.{still, added, times, sums_after, IsNear, IsPartialSum}
+use Rattle.oas_shape.specs.Steps.{still, added, times, sums_after, IsBounded, IsPartialSum}
 use Rattle.oas_shape.specs.Offsets.{offsets_by}
 use Rattle.oas_shape.specs.Repetitions.{displacement_in, IsOffsets, DisplacementTook, RefusesNext, OffsetsTook}
 use Rattle.oas_shape.specs.Laws.RepetitionLaws.{OneFront-displacement, still_is, still_near}
@@ -99,7 +99,8 @@ module _ {along : Along} {grid : ℕ} {old mid : Script} {offsets : List GDelta}
       ∙ ap (λ (e : GDelta). offsets ++ e ∷ []) (times-added grid (total still s.displacements) d ∙ ap (λ (e : GDelta). added e (times grid d)) (sym s.is_last))
 
   -- one displacement more
-  pub summed_more : {new : Script} {d next : GDelta} → ReadsValue (displacement_in along) mid d new → IsPartialSum (added last (times grid d)) → added last (times grid d) ≡ next → Summed along grid old new (offsets ++ next ∷ []) next (count + 1)
+  pub summed_more : {new : Script} {d next : GDelta} → ReadsValue (displacement_in along) mid d new → IsPartialSum (added last (times grid d))
+      → added last (times grid d) ≡ next → Summed along grid old new (offsets ++ next ∷ []) next (count + 1)
   summed_more {new = new} {d = d} {next = next} read near e = record {
     displacements = s.displacements ++ d ∷ [];
     listed = listed_more (displacement_in along) old mid new s.displacements d s.listed read;
@@ -121,7 +122,9 @@ module _ {along : Along} {grid : ℕ} {old mid : Script} {offsets : List GDelta}
   one_past d rest all_near =
       let e : offsets_by grid ((s.displacements ++ d ∷ []) ++ rest) ≡ (offsets ++ added last (times grid d) ∷ []) ++ map (times grid) (sums_after (total still (s.displacements ++ d ∷ [])) rest) =
       offsets-append grid (s.displacements ++ d ∷ []) rest ∙ ap (λ (xs : List GDelta). xs ++ map (times grid) (sums_after (total still (s.displacements ++ d ∷ [])) rest)) (offsets_more d) in
-      at_middle IsPartialSum offsets (added last (times grid d)) [] (at_front IsPartialSum (offsets ++ added last (times grid d) ∷ []) (map (times grid) (sums_after (total still (s.displacements ++ d ∷ [])) rest)) (subst (AllByRecursion IsPartialSum) e all_near))
+      at_middle IsPartialSum offsets (added last (times grid d)) []
+      (at_front IsPartialSum (offsets ++ added last (times grid d) ∷ [])
+      (map (times grid) (sums_after (total still (s.displacements ++ d ∷ [])) rest)) (subst (AllByRecursion IsPartialSum) e all_near))
 
   -- the next displacement, with which the sum is within the limit
   abbrev IsNext : GDelta → Type 0
@@ -131,7 +134,8 @@ module _ {along : Along} {grid : ℕ} {old mid : Script} {offsets : List GDelta}
   next_wanted all lt = record {
     wants = λ v p r rest spelled e.
         let counted = spelled.spelled.spelled in
-        let next = next_item (displacement_in along) (OneFront-displacement along) s.displacements spelled.spelled.from s.listed.bytes p r rest (omega (arith, s.len, counted.len, lt)) s.listed.each counted.each e in
+        let next = next_item (displacement_in along) (OneFront-displacement along) s.displacements spelled.spelled.from s.listed.bytes p r rest
+        (omega (arith, s.len, counted.len, lt)) s.listed.each counted.each e in
         let parted : spelled.spelled.from ≡ (s.displacements ++ next.0 ∷ []) ++ next.1 = next.6 ∙ sym (append_assoc s.displacements (next.0 ∷ []) next.1) in
         let near = subst (λ (xs : List GDelta). AllByRecursion IsPartialSum (offsets_by grid xs)) parted (subst (AllByRecursion IsPartialSum) (sym spelled.spelled.is) spelled.holds) in
         (next.0, next.2, next.3, record { holds = one_past next.0 next.1 near; spelled = next.4 }, next.5);
@@ -142,24 +146,36 @@ module _ {along : Along} {grid : ℕ} {old mid : Script} {offsets : List GDelta}
   NextTook = SuchTook (displacement_in along) (DisplacementTook along) (RefusesNext grid s.displacements)
 
   -- what fails after these displacements
-  next_fails : {new : Script} {why : Why} (all : ℕ) → count < all → FailsPiece (IsSuch IsNext (displacement_in along)) NextTook mid why new → FailsPiece (IsOffsets along grid all) (OffsetsTook along grid all) old why new
+  next_fails : {new : Script} {why : Why} (all : ℕ) → count < all → FailsPiece (IsSuch IsNext (displacement_in along)) NextTook mid why new
+      → FailsPiece (IsOffsets along grid all) (OffsetsTook along grid all) old why new
   next_fails all lt f =
       fails_behind (IsOffsets along grid all) (IsSuch IsNext (displacement_in along)) s.listed.bytes
-      (λ bytes h. record { value = s.displacements; front = s.listed.bytes; last = bytes; spelled = s.listed.each; holds = (omega (arith, s.len, lt), subst (AllByRecursion IsPartialSum) s.are s.within, h); joined = refl })
+      (λ bytes h. record {
+        value = s.displacements;
+        front = s.listed.bytes;
+        last = bytes;
+        spelled = s.listed.each;
+        holds = (omega (arith, s.len, lt), subst (AllByRecursion IsPartialSum) s.are s.within, h);
+        joined = refl;
+      })
       s.listed.takes (next_wanted all lt) f
 
   -- a displacement couldn't be read
-  pub summed_fails : {new : Script} {why : Why} (all : ℕ) → count < all → FailsPiece (displacement_in along) (DisplacementTook along) mid why new → FailsPiece (IsOffsets along grid all) (OffsetsTook along grid all) old why new
+  pub summed_fails : {new : Script} {why : Why} (all : ℕ) → count < all → FailsPiece (displacement_in along) (DisplacementTook along) mid why new
+      → FailsPiece (IsOffsets along grid all) (OffsetsTook along grid all) old why new
   summed_fails all lt f = next_fails all lt (such_took {refuses = RefusesNext grid s.displacements} f)
 
   -- a sum is past the limit
-  pub summed_past : {new : Script} {d : GDelta} (all : ℕ) → count < all → ReadsValue (displacement_in along) mid d new → ¬ IsPartialSum (added last (times grid d)) → FailsPiece (IsOffsets along grid all) (OffsetsTook along grid all) old CoordinateRange new
+  pub summed_past : {new : Script} {d : GDelta} (all : ℕ) → count < all → ReadsValue (displacement_in along) mid d new
+      → ¬ IsPartialSum (added last (times grid d)) → FailsPiece (IsOffsets along grid all) (OffsetsTook along grid all) old CoordinateRange new
   summed_past {d = d} all lt read past =
-      let reason : RefusesNext grid s.displacements d CoordinateRange = λ near. past (at_middle IsPartialSum offsets (added last (times grid d)) [] (subst (AllByRecursion IsPartialSum) (offsets_more d) near)) in
+      let reason : RefusesNext grid s.displacements d CoordinateRange =
+      λ near. past (at_middle IsPartialSum offsets (added last (times grid d)) [] (subst (AllByRecursion IsPartialSum) (offsets_more d) near)) in
       next_fails all lt (such_refused {took = DisplacementTook along} {refuses = RefusesNext grid s.displacements} (OneFront-displacement along) refl past reason read)
 
   -- there was no memory
-  pub summed_no_memory : {new : Script} {d : GDelta} (all : ℕ) → count < all → ReadsValue (displacement_in along) mid d new → IsPartialSum (added last (times grid d)) → FailsPiece (IsOffsets along grid all) (OffsetsTook along grid all) old Memory new
+  pub summed_no_memory : {new : Script} {d : GDelta} (all : ℕ) → count < all → ReadsValue (displacement_in along) mid d new
+      → IsPartialSum (added last (times grid d)) → FailsPiece (IsOffsets along grid all) (OffsetsTook along grid all) old Memory new
   summed_no_memory {new = new} {d = d} all lt read near =
       next_fails all lt
       (no_memory_piece (IsSuch IsNext (displacement_in along)) NextTook mid new read.bytes
@@ -176,8 +192,8 @@ pub summing_none : (along : Along) (grid : ℕ) (s : Script) (more : ℕ) → Su
 summing_none along grid s more = record { count = 0; summed = summed_none along grid s; left_is = omega arith }
 
 -- a sum of two
-pub near_sum : (a b r : ℤ) → IsNear (2 ^ 97) a → IsNear (2 ^ 97) b → r ≡ a +ℤ b → IsNear (2 ^ 98) r
-near_sum a b r p q e = subst (IsNear (2 ^ 98)) (sym e) (omega (arith, ints), omega (arith, ints))
+pub near_sum : (a b r : ℤ) → IsBounded (2 ^ 97) a → IsBounded (2 ^ 97) b → r ≡ a +ℤ b → IsBounded (2 ^ 98) r
+near_sum a b r p q e = subst (IsBounded (2 ^ 98)) (sym e) (omega (arith, ints), omega (arith, ints))
 
 -- one displacement more, which isn't the last
 pub summing_more : {along : Along} {grid : ℕ} {old mid new : Script} {offsets : List GDelta} {last : GDelta} {left more : ℕ} {d next : GDelta}

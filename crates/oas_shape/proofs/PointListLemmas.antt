@@ -18,7 +18,9 @@ module _ (purpose : ListUse) where
   starts s = at_image {f = polyline_of purpose} {A = IsPair (IsSuch IsListKind IsUnsigned) (after_kind purpose)} s
 
   -- the type was read
-  pub with_kind : {old new : Script} {kind : ℕ} → kind ≤ 5 → ReadsValue IsUnsigned old kind new → Halfway (IsPointList purpose) (after_kind purpose kind) (λ parts. polyline_of purpose (kind, parts)) (PointListTook purpose) (AfterKindTook purpose kind) old new
+  pub with_kind : {old new : Script} {kind : ℕ} → kind ≤ 5 → ReadsValue IsUnsigned old kind new
+      → Halfway (IsPointList purpose) (after_kind purpose kind) (λ parts. polyline_of purpose (kind, parts)) (PointListTook purpose)
+      (AfterKindTook purpose kind) old new
   with_kind {old = old} {new = new} {kind = kind} le read = starts old ▸ (OneFront-kind, such_read IsListKind IsUnsigned old new kind (omega arith) read)
 
   -- the count was read

@@ -29,7 +29,8 @@ next_item A law (v ∷ vs) (w ∷ ws) a p r rest lt e f same =
     (next.0, next.1, next.2, next.3, next.4, next.5, cc)
 
 -- there was no memory for what these bytes spell
-pub no_memory_piece : {V : Type 0} (A : V → List ℕ → Type 0) (took : Why → List ℕ → Type 0) (old new : Script) (bytes : List ℕ) → took Memory bytes → Takes old bytes new → FailsPiece A took old Memory new
+pub no_memory_piece : {V : Type 0} (A : V → List ℕ → Type 0) (took : Why → List ℕ → Type 0) (old new : Script) (bytes : List ℕ) → took Memory bytes
+    → Takes old bytes new → FailsPiece A took old Memory new
 no_memory_piece A took old new bytes holds takes = record {
   bytes = bytes;
   takes = takes;

@@ -15,7 +15,24 @@ use Rattle.oas_shape.specs.declared.offsets.Along.{Along}
 use Rattle.oas_shape.specs.declared.repetitions.Repetition.{Repetition}
 use Rattle.oas_shape.specs.declared.repetitions.RepField.{RepField}
 use Rattle.oas_shape.specs.declared.repetitions.RepField.TheVariants.{Again, New}
-use Rattle.oas_shape.specs.Repetitions.{IsRepetitionKind, IsOffsets, grid_of, listed_of, after_dim, IsListed, repetition_by, field_by, field_of, rep_field_in, OffsetsTook, AfterDimTook, ListedTook, RepetitionTook, FieldTook, RepFieldTook}
+use Rattle.oas_shape.specs.Repetitions.{
+  IsRepetitionKind,
+  IsOffsets,
+  grid_of,
+  listed_of,
+  after_dim,
+  IsListed,
+  repetition_by,
+  field_by,
+  field_of,
+  rep_field_in,
+  OffsetsTook,
+  AfterDimTook,
+  ListedTook,
+  RepetitionTook,
+  FieldTook,
+  RepFieldTook,
+}
 use Rattle.oas_shape.specs.Laws.RepetitionLaws.{OneFront-kind, OneFront-grid}
 use Rattle.oas_shape.proofs.ReadingLemmas.{image_read}
 
@@ -23,12 +40,15 @@ use Rattle.oas_shape.proofs.ReadingLemmas.{image_read}
 
 module _ (along : Along) (has_grid : Bool) where
   -- the dimension was read
-  pub with_dim : {old new : Script} {dim : ℕ} → ReadsValue IsUnsigned old dim new → Halfway (IsListed along has_grid) (after_dim along has_grid dim) (λ rest. listed_of (dim, rest)) (ListedTook along has_grid) (AfterDimTook along has_grid dim) old new
+  pub with_dim : {old new : Script} {dim : ℕ} → ReadsValue IsUnsigned old dim new
+      → Halfway (IsListed along has_grid) (after_dim along has_grid dim) (λ rest. listed_of (dim, rest)) (ListedTook along has_grid)
+      (AfterDimTook along has_grid dim) old new
   with_dim {old = old} read = at_image old ▸ (OneFront-IsUnsigned, read)
 
   -- the grid was read, where there is one
   pub with_grid : {old mid new : Script} {dim : ℕ} {grid : Option ℕ} → ReadsValue IsUnsigned old dim mid → ReadsValue (IsThere has_grid IsUnsigned) mid grid new
-      → Halfway (IsListed along has_grid) (IsOffsets along (grid_of grid) (dim + 1)) (λ offsets. listed_of (dim, (grid, offsets))) (ListedTook along has_grid) (OffsetsTook along (grid_of grid) (dim + 1)) old new
+      → Halfway (IsListed along has_grid) (IsOffsets along (grid_of grid) (dim + 1)) (λ offsets. listed_of (dim, (grid, offsets)))
+      (ListedTook along has_grid) (OffsetsTook along (grid_of grid) (dim + 1)) old new
   with_grid first read = with_dim first ▸ (OneFront-grid has_grid, read)
 
 -- ---- the whole field
@@ -38,7 +58,8 @@ pub starts : (s : Script) → Halfway (rep_field_in Any) (IsPair (IsSuch IsRepet
 starts s = at_image {f = field_of} {A = IsPair (IsSuch IsRepetitionKind IsUnsigned) field_by} s
 
 -- the type was read
-pub with_kind : {old new : Script} {kind : ℕ} → kind ≤ 11 → ReadsValue IsUnsigned old kind new → Halfway (rep_field_in Any) (field_by kind) (λ (field : RepField). field) RepFieldTook (FieldTook kind) old new
+pub with_kind : {old new : Script} {kind : ℕ} → kind ≤ 11 → ReadsValue IsUnsigned old kind new
+    → Halfway (rep_field_in Any) (field_by kind) (λ (field : RepField). field) RepFieldTook (FieldTook kind) old new
 with_kind {old = old} {new = new} {kind = kind} le read = starts old ▸ (OneFront-kind, such_read IsRepetitionKind IsUnsigned old new kind (omega arith) read)
 
 -- type 0 has no fields

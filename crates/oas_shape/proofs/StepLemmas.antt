@@ -28,7 +28,8 @@ turn-push : (along_x : Bool) (ds : List Delta1) (d : Delta1) → turn along_x (d
 turn-push along_x [] d = refl
 turn-push along_x (e ∷ ds) d = turn-push (not along_x) ds d
 
-alternating-push : (along_x : Bool) (ds : List Delta1) (d : Delta1) → alternating along_x (ds ++ d ∷ []) ≡ alternating along_x ds ++ (if turn along_x ds then step d.0 (pos 0) else step (pos 0) d.0) ∷ []
+alternating-push : (along_x : Bool) (ds : List Delta1) (d : Delta1)
+    → alternating along_x (ds ++ d ∷ []) ≡ alternating along_x ds ++ (if turn along_x ds then step d.0 (pos 0) else step (pos 0) d.0) ∷ []
 alternating-push along_x [] d = refl
 alternating-push along_x (e ∷ ds) d = ap (λ (rest : List GDelta). (if along_x then step e.0 (pos 0) else step (pos 0) e.0) ∷ rest) (alternating-push (not along_x) ds d)
 
@@ -64,9 +65,11 @@ module _ {x_first : Bool} {old mid : Script} {steps : List GDelta} {along_x : Bo
       (image_read (alternating x_first) (IsCount SpellsDelta1 count) (listed_all SpellsDelta1 count old mid a.deltas (a.len ∙ e) a.listed))
 
   -- a delta couldn't be read
-  pub alternated_fails : {new : Script} {why : Why} (count : ℕ) → read_so_far < count → FailsPiece SpellsDelta1 IntegerMay mid why new → FailsPiece (IsImage (alternating x_first) (IsCount SpellsDelta1 count)) (ListTook SpellsDelta1 count IntegerMay) old why new
+  pub alternated_fails : {new : Script} {why : Why} (count : ℕ) → read_so_far < count → FailsPiece SpellsDelta1 IntegerMay mid why new
+      → FailsPiece (IsImage (alternating x_first) (IsCount SpellsDelta1 count)) (ListTook SpellsDelta1 count IntegerMay) old why new
   alternated_fails count lt fails = image_took (item_fails Delta1-one_front (λ _ h. inl h) (omega (arith, a.len, lt)) a.listed fails)
 
   -- there was no memory
-  pub alternated_no_memory : {new : Script} {delta : Delta1} (count : ℕ) → read_so_far < count → ReadsValue SpellsDelta1 mid delta new → FailsPiece (IsImage (alternating x_first) (IsCount SpellsDelta1 count)) (ListTook SpellsDelta1 count IntegerMay) old Memory new
+  pub alternated_no_memory : {new : Script} {delta : Delta1} (count : ℕ) → read_so_far < count → ReadsValue SpellsDelta1 mid delta new
+      → FailsPiece (IsImage (alternating x_first) (IsCount SpellsDelta1 count)) (ListTook SpellsDelta1 count IntegerMay) old Memory new
   alternated_no_memory {delta = delta} count lt read = image_took (item_unkept (λ _ h. inr (delta, h, refl)) (omega (arith, a.len, lt)) a.listed read)

@@ -8,7 +8,7 @@ use Rattle.std.proofs.Math.Seq.{drop-cons}
 use Rattle.oas_num.specs.declared.deltas.GDelta.{GDelta}
 use Rattle.oas_num.specs.Deltas.{step}
 use Rattle.oas_ring.specs.declared.point.Point.{Point}
-use Rattle.oas_shape.specs.Steps.{still, added, sums_after, sums, moved, IsNear, IsInRange}
+use Rattle.oas_shape.specs.Steps.{still, added, sums_after, sums, moved, IsBounded, IsInRange}
 use Rattle.oas_shape.specs.declared.point_list.Closing.{Closing}
 use Rattle.oas_shape.specs.declared.point_list.Closing.TheVariants.{Listed, FirstX, FirstY}
 use Rattle.oas_shape.specs.Polylines.{Polyline, displacements, next_step, listed_vertices, last_after, left_out, left_out_count, vertices_of, VerticesMay}
@@ -56,8 +56,8 @@ pub record Walked (running : Bool) (deltas : List GDelta) (at : Point) (points :
   pub so_far : points ++ points_after last (displaced running by (drop index deltas)) ≡ listed_vertices running deltas at
   pub near : AllByRecursion IsInRange points
   pub last_near : IsInRange last
-  pub x_near : IsNear (2 ^ 63) by.dx
-  pub y_near : IsNear (2 ^ 63) by.dy
+  pub x_near : IsBounded (2 ^ 63) by.dx
+  pub y_near : IsBounded (2 ^ 63) by.dy
 
 -- at the position
 pub walked_none : (running : Bool) (deltas : List GDelta) (at : Point) → IsInRange at → Walked running deltas at (at ∷ []) at still 0
@@ -70,7 +70,7 @@ walked_none running deltas at near = record {
 }
 
 -- a component of a displacement from one vertex to another
-step_near : (from to far : ℤ) → IsNear (2 ^ 60) from → IsNear (2 ^ 60) to → to ≡ from +ℤ far → IsNear (2 ^ 63) far
+step_near : (from to far : ℤ) → IsBounded (2 ^ 60) from → IsBounded (2 ^ 60) to → to ≡ from +ℤ far → IsBounded (2 ^ 63) far
 step_near from to far p q e = (omega (arith, ints), omega (arith, ints))
 
 module _ {running : Bool} {deltas : List GDelta} {at : Point} {points : List Point} {last : Point} {by : GDelta} {index : ℕ} (w : Walked running deltas at points last by index) where
@@ -88,7 +88,9 @@ module _ {running : Bool} {deltas : List GDelta} {at : Point} {points : List Poi
   walked_more d next_by next lt same near e =
       let there = subst IsInRange (sym e) near in
       record {
-        so_far = rw (add-one, append_assoc) (subst (λ (q : Point). points ++ q ∷ points_after q (displaced running next_by (drop (suc index) deltas)) ≡ listed_vertices running deltas at) (sym e) (left d next_by lt same));
+        so_far = rw (add-one, append_assoc) (subst (λ (q : Point). points ++ q
+            ∷ points_after q (displaced running next_by (drop (suc index) deltas)) ≡ listed_vertices running deltas at) (sym e)
+            (left d next_by lt same));
         near = all_more IsInRange points next w.near there;
         last_near = there;
         x_near = step_near last.x next.x next_by.dx w.last_near.x there.x (ap (λ (q : Point). q.x) e);
@@ -96,7 +98,8 @@ module _ {running : Bool} {deltas : List GDelta} {at : Point} {points : List Poi
       }
 
   -- a vertex past the limits
-  pub walked_past : (d next_by : GDelta) → index < length deltas → next_by ≡ next_step running by (get_or deltas index d) → ¬ IsInRange (moved last next_by) → ¬ AllByRecursion IsInRange (listed_vertices running deltas at)
+  pub walked_past : (d next_by : GDelta) → index < length deltas → next_by ≡ next_step running by (get_or deltas index d)
+      → ¬ IsInRange (moved last next_by) → ¬ AllByRecursion IsInRange (listed_vertices running deltas at)
   walked_past d next_by lt same past all =
       past (at_middle IsInRange points (moved last next_by) (points_after (moved last next_by) (displaced running next_by (drop (suc index) deltas)))
       (subst (AllByRecursion IsInRange) (sym (left d next_by lt same)) all))
@@ -153,7 +156,8 @@ pub counted_by : (line made : Polyline) (at : Point) (n m : ℕ) → made ≡ li
 counted_by line made at n m e p q = subst (λ (l : Polyline). length (vertices_of l at) ≡ n + 1 + m) e (counted made at ∙ (λ i. sym p i + 1 + sym q i))
 
 -- what the listed vertices are refused by, all are
-pub may_whole : (line made : Polyline) (at : Point) (why : Why) (deltas : List GDelta) → made ≡ line → deltas ≡ made.deltas → VerticesMay why (listed_vertices made.running deltas at) → VerticesMay why (vertices_of line at)
+pub may_whole : (line made : Polyline) (at : Point) (why : Why) (deltas : List GDelta) → made ≡ line → deltas ≡ made.deltas
+    → VerticesMay why (listed_vertices made.running deltas at) → VerticesMay why (vertices_of line at)
 may_whole line made at CoordinateRange deltas e f h =
     let listed = listed_vertices made.running made.deltas at in
     subst (λ (l : Polyline). VerticesMay CoordinateRange (vertices_of l at)) e
@@ -162,7 +166,8 @@ may_whole line made at Memory deltas e f h = tt
 may_whole line made at _ deltas e f h = absurd h
 
 -- all vertices are those that are listed and the one that is left out
-pub given_whole : (line made : Polyline) (at last : Point) (points all more : List Point) (deltas : List GDelta) → made ≡ line → deltas ≡ made.deltas → points ≡ listed_vertices made.running deltas at → last ≡ last_after at points
+pub given_whole : (line made : Polyline) (at last : Point) (points all more : List Point) (deltas : List GDelta) → made ≡ line → deltas ≡ made.deltas
+    → points ≡ listed_vertices made.running deltas at → last ≡ last_after at points
     → more ≡ left_out made.closing at last → all ≡ points ++ more → all ≡ vertices_of line at
 given_whole line made at last points all more deltas e f g h m p =
     let listed = g ∙ ap (λ (ds : List GDelta). listed_vertices made.running ds at) f in

@@ -30,15 +30,15 @@ abbrev pub moved : Point → GDelta → Point
 moved p d = record { x = p.x +ℤ d.dx; y = p.y +ℤ d.dy }
 
 -- so far from 0 at most
-abbrev pub IsNear : ℕ → ℤ → Type 0
-IsNear far z = (neg_ℤ (pos far) ≤ℤ z) × (z ≤ℤ pos far)
+abbrev pub IsBounded : ℕ → ℤ → Type 0
+IsBounded far z = (neg_ℤ (pos far) ≤ℤ z) × (z ≤ℤ pos far)
 
 -- a point within the limits of coordinates
 pub record IsInRange (p : Point) : Type 0 where
-  pub x : IsNear (2 ^ 60) p.x
-  pub y : IsNear (2 ^ 60) p.y
+  pub x : IsBounded (2 ^ 60) p.x
+  pub y : IsBounded (2 ^ 60) p.y
 
 -- a sum of displacements that a repetition may have
 pub record IsPartialSum (d : GDelta) : Type 0 where
-  pub x : IsNear (2 ^ 62) d.dx
-  pub y : IsNear (2 ^ 62) d.dy
+  pub x : IsBounded (2 ^ 62) d.dx
+  pub y : IsBounded (2 ^ 62) d.dy

@@ -2,7 +2,7 @@
 ghost use Rattle.std.specs.Prelude.{◌≡◌, ◌+ℤ◌, ◌*ℤ◌, ◌+◌, ◌*◌, ◌/◌, ◌%◌, ◌^◌, ◌<◌, ℕ, pos, SomeIff};
 ghost use Rattle.oas_num.specs.Deltas.{step};
 ghost use Rattle.oas_num.specs.Reading.{ReadsPieceAs, ReadsPiece};
-ghost use Rattle.oas_shape.specs.Steps.{IsNear, IsPartialSum, added, times};
+ghost use Rattle.oas_shape.specs.Steps.{IsBounded, IsPartialSum, added, times};
 ghost use Rattle.oas_shape.specs.Offsets.{count_of, offset_of};
 ghost use Rattle.oas_shape.specs.Repetitions.{displacement_in, x_space, y_space, IsOffsets, OffsetsTook, DisplacementTook};
 
@@ -113,7 +113,7 @@ fn next_sum(before: GDelta, grid: u64, by: Displacement) -> Option<GDelta>
 
 /// One component of such a sum.
 fn component_sum(before: i64, grid: u64, by: i128) -> Option<i64>
-    ensures { SomeIff result (IsNear (2 ^ 62) (before +ℤ pos grid *ℤ by)) (before +ℤ pos grid *ℤ by) }
+    ensures { SomeIff result (IsBounded (2 ^ 62) (before +ℤ pos grid *ℤ by)) (before +ℤ pos grid *ℤ by) }
 {
     let far = scaled(grid, by)?;
     sum_within(before, far)
@@ -121,8 +121,8 @@ fn component_sum(before: i64, grid: u64, by: i128) -> Option<i64>
 
 /// A sum that isn't past the limit.
 fn sum_within(before: i64, far: i128) -> Option<i64>
-    requires { IsNear (2 ^ 64) far }
-    ensures { SomeIff result (IsNear (2 ^ 62) (before +ℤ far)) (before +ℤ far) }
+    requires { IsBounded (2 ^ 64) far }
+    ensures { SomeIff result (IsBounded (2 ^ 62) (before +ℤ far)) (before +ℤ far) }
 {
     let sum = i128::from(before) + far;
     if sum < -FURTHEST_SUM {
@@ -136,7 +136,7 @@ fn sum_within(before: i64, far: i128) -> Option<i64>
 
 /// The grid times one component of a displacement, where that isn't further than one sum can be from another.
 fn scaled(grid: u64, by: i128) -> Option<i128>
-    ensures { SomeIff result (IsNear (2 ^ 64) (pos grid *ℤ by)) (pos grid *ℤ by) }
+    ensures { SomeIff result (IsBounded (2 ^ 64) (pos grid *ℤ by)) (pos grid *ℤ by) }
 {
     let far = i128::from(grid).checked_mul(by)?;
     if far < -FURTHEST_STEP {
@@ -168,8 +168,8 @@ impl Repetition {
         requires below { i < count_of self.now }
         requires small { i < 2 ^ 32 }
         ensures place { step result.0 result.1 ≡ offset_of self.now i }
-        ensures x_near { IsNear (2 ^ 98) result.0 }
-        ensures y_near { IsNear (2 ^ 98) result.1 }
+        ensures x_near { IsBounded (2 ^ 98) result.0 }
+        ensures y_near { IsBounded (2 ^ 98) result.1 }
     {
         match self {
             Repetition::Matrix {
@@ -226,7 +226,7 @@ fn column_and_row(i: u64, dim: u64) -> (u64, u64)
 fn spaces(n: u64, space: u64) -> i128
     requires { n < 2 ^ 32 }
     ensures value { result ≡ pos (n * space) }
-    ensures near { IsNear (2 ^ 97) result }
+    ensures near { IsBounded (2 ^ 97) result }
 {
     i128::from(n) * i128::from(space)
 }
@@ -235,7 +235,7 @@ fn spaces(n: u64, space: u64) -> i128
 fn steps(n: u64, by: i64) -> i128
     requires { n < 2 ^ 32 }
     ensures value { result ≡ pos n *ℤ by }
-    ensures near { IsNear (2 ^ 97) result }
+    ensures near { IsBounded (2 ^ 97) result }
 {
     i128::from(n) * i128::from(by)
 }
@@ -245,7 +245,7 @@ fn two_steps(n: u64, by: i64, m: u64, other: i64) -> i128
     requires n { n < 2 ^ 32 }
     requires m { m < 2 ^ 32 }
     ensures value { result ≡ (pos n *ℤ by) +ℤ (pos m *ℤ other) }
-    ensures near { IsNear (2 ^ 98) result }
+    ensures near { IsBounded (2 ^ 98) result }
 {
     steps(n, by) + steps(m, other)
 }

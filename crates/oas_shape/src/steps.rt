@@ -1,14 +1,18 @@
 //! The deltas of a point list, read as steps.
-ghost use Rattle.std.specs.Prelude.{◌≡◌, ◌<◌, ◌+ℤ◌, pos, if◌then◌else◌};
+ghost use Rattle.std.specs.Prelude.{◌≡◌, ◌<◌, ◌+ℤ◌, pos, if◌then◌else◌, [], ◌∷◌, ◌++◌, OnOk, IfErr};
 ghost use Rattle.oas_num.specs.Grammar.{IsCount, IsImage};
 ghost use Rattle.oas_num.specs.Deltas.{SpellsDelta1, step};
 ghost use Rattle.oas_num.specs.Pieces.{ListTook};
 ghost use Rattle.oas_num.specs.Reading.{ReadsPieceAs, IntegerMay};
 ghost use Rattle.oas_num.specs.declared.deltas.GDelta.{GDelta};
+ghost use Rattle.oas_num.specs.declared.refusals.Why.TheVariants.{Memory};
 ghost use Rattle.oas_shape.specs.PointLists.{deltas_in, alternating, step2, step3, stepg, DeltasTook};
 
 use oas_num::{Delta1, Delta2, Delta3, GDelta, Source, Spelled, Why};
 use std::alloc::Global;
+
+/// For how many steps the first of a list makes room at most. Memory for more grows with them.
+const FIRST_ROOM: u64 = 32;
 
 /// A delta that is a step whatever stands before it.
 pub(crate) trait Step: Spelled + Drop {
@@ -49,7 +53,7 @@ impl Step for GDelta {
     }
 }
 
-/// Reads so many deltas of a list of that type. It takes no more memory than for what was read.
+/// Reads so many deltas of a list of that type. It takes no more memory than for what was read, or for `FIRST_ROOM` steps.
 pub(crate) fn read_deltas<S: Source>(
     alloc: Global,
     kind: u64,
@@ -67,6 +71,18 @@ pub(crate) fn read_deltas<S: Source>(
     }
 }
 
+/// Adds a step to those of a list of so many. The first makes room for all of a short list.
+fn keep(steps: &mut Vec<GDelta>, step: GDelta, count: u64) -> Result<(), Why>
+    ensures kept { OnOk result (steps.new.items ≡ steps.old.items ++ step ∷ []) }
+    ensures refused { IfErr result (λ why. why ≡ Memory) }
+{
+    if steps.is_empty() && steps.reserve_exact(count.min(FIRST_ROOM) as usize).is_err() {
+        return Err(Why::Memory);
+    }
+    steps.push(step)?;
+    Ok(())
+}
+
 /// Reads so many deltas that are steps.
 fn read_steps<D: Step, S: Source>(
     alloc: Global,
@@ -78,7 +94,7 @@ fn read_steps<D: Step, S: Source>(
     let mut steps = Vec::new(alloc);
     for _ in 0..count {
         let delta = D::read(alloc, source)?;
-        steps.push(delta.step())?;
+        keep(&mut steps, delta.step(), count)?;
     }
     Ok(steps)
 }
@@ -96,7 +112,7 @@ fn read_alternating<S: Source>(
     let mut along_x = x_first;
     for _ in 0..count {
         let delta = Delta1::read(alloc, source)?;
-        turns.push(along(along_x, delta))?;
+        keep(&mut turns, along(along_x, delta), count)?;
         along_x = !along_x;
     }
     Ok(turns)

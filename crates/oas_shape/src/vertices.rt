@@ -3,7 +3,7 @@ ghost use Rattle.std.specs.Prelude.{◌≡◌, ◌+ℤ◌, ◌^◌, IfOk, IfErr,
 ghost use Rattle.std.specs.List.{AllByRecursion};
 ghost use Rattle.std.specs.Option.{option_to_list};
 ghost use Rattle.oas_num.specs.Deltas.{step};
-ghost use Rattle.oas_shape.specs.Steps.{moved, IsNear, IsInRange};
+ghost use Rattle.oas_shape.specs.Steps.{moved, IsBounded, IsInRange};
 ghost use Rattle.oas_shape.specs.Polylines.{next_step, listed_vertices, left_out, vertices_of, VerticesMay};
 
 use crate::displacements::Displacement;
@@ -24,7 +24,7 @@ impl PointList {
         ensures near { IfOk result (λ points. AllByRecursion IsInRange points.items) }
         ensures refused { IfErr result (λ why. VerticesMay why (vertices_of self.now at)) }
     {
-        let mut points = walk(alloc, self.deltas.as_slice(), self.running, at)?;
+        let mut points = walk(alloc, self.deltas.as_slice(), self.running, at, self.len())?;
         let last = points[points.len() - 1];
         match point_left_out(self.closing, at, last) {
             Some(point) => {
@@ -36,14 +36,22 @@ impl PointList {
     }
 }
 
-/// The vertices that the deltas lead to, one after another.
-fn walk(alloc: Global, deltas: &[GDelta], running: bool, at: Point) -> Result<Vec<Point>, Why>
+/// The vertices that the deltas lead to, one after another, in memory that has room for so many.
+fn walk(
+    alloc: Global,
+    deltas: &[GDelta],
+    running: bool,
+    at: Point,
+    room: usize,
+) -> Result<Vec<Point>, Why>
     requires { IsInRange at }
     ensures given { IfOk result (λ points. points.items ≡ listed_vertices running deltas.now at) }
     ensures near { IfOk result (λ points. AllByRecursion IsInRange points.items) }
     ensures refused { IfErr result (λ why. VerticesMay why (listed_vertices running deltas.now at)) }
 {
-    let mut points = Vec::new(alloc);
+    let Ok(mut points) = Vec::with_capacity(alloc, room) else {
+        return Err(Why::Memory);
+    };
     points.push(at)?;
     let mut last = at;
     let mut by = Displacement { x: 0, y: 0 };
@@ -60,11 +68,11 @@ fn walk(alloc: Global, deltas: &[GDelta], running: bool, at: Point) -> Result<Ve
 
 /// The next displacement, which in a running list is on top of the one before.
 fn next_displacement(running: bool, before: Displacement, delta: GDelta) -> Displacement
-    requires x { IsNear (2 ^ 63) before.x }
-    requires y { IsNear (2 ^ 63) before.y }
+    requires x { IsBounded (2 ^ 63) before.x }
+    requires y { IsBounded (2 ^ 63) before.y }
     ensures value { step result.x result.y ≡ next_step running (step before.x before.y) delta }
-    ensures x_near { IsNear (2 ^ 64) result.x }
-    ensures y_near { IsNear (2 ^ 64) result.y }
+    ensures x_near { IsBounded (2 ^ 64) result.x }
+    ensures y_near { IsBounded (2 ^ 64) result.y }
 {
     if running {
         Displacement {
@@ -78,8 +86,8 @@ fn next_displacement(running: bool, before: Displacement, delta: GDelta) -> Disp
 
 /// The point so far from that one, where it is within the limits.
 fn point_from(from: Point, by: Displacement) -> Option<Point>
-    requires x { IsNear (2 ^ 64) by.x }
-    requires y { IsNear (2 ^ 64) by.y }
+    requires x { IsBounded (2 ^ 64) by.x }
+    requires y { IsBounded (2 ^ 64) by.y }
     ensures { SomeIff result (IsInRange (moved from (step by.x by.y))) (moved from (step by.x by.y)) }
 {
     let x = coordinate_from(from.x, by.x)?;
@@ -89,8 +97,8 @@ fn point_from(from: Point, by: Displacement) -> Option<Point>
 
 /// The coordinate so far from that one, where it is within the limits.
 fn coordinate_from(from: i64, far: i128) -> Option<i64>
-    requires { IsNear (2 ^ 64) far }
-    ensures { SomeIff result (IsNear (2 ^ 60) (from +ℤ far)) (from +ℤ far) }
+    requires { IsBounded (2 ^ 64) far }
+    ensures { SomeIff result (IsBounded (2 ^ 60) (from +ℤ far)) (from +ℤ far) }
 {
     let to = i128::from(from) + far;
     if to < -FURTHEST {

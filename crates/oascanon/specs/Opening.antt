@@ -1,6 +1,5 @@
--- Inputs by name, and what is said of one that can't be opened.
-use Rattle.std.specs.Prelude.{ℕ, List, ◌++◌, Bool, true, false, Option, Some, None, codes}
-use Rattle.std.specs.Borrow.{Bor}
+-- Inputs by name.
+use Rattle.std.specs.Prelude.{Bool, true, false}
 use Rattle.oascanon.specs.declared.opening.Input.{Input}
 use Rattle.oascanon.specs.declared.opening.Input.TheVariants.{Standard, Named}
 
@@ -8,12 +7,3 @@ use Rattle.oascanon.specs.declared.opening.Input.TheVariants.{Standard, Named}
 abbrev pub is_named : Input → Bool
 is_named (Standard stdin) = false
 is_named (Named file) = true
-
--- how messages name an input
-abbrev pub input_name : Option (Bor (List ℕ)) → List ℕ
-input_name None = codes "standard input"
-input_name (Some path) = path.now
-
--- NAME: cannot be opened, and the line's end
-abbrev pub unopened_line : List ℕ → List ℕ
-unopened_line name = name ++ codes ": cannot be opened\n"

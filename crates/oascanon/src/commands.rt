@@ -1,35 +1,21 @@
-//! The words of the command line: what they ask for, by `clap`.
+//! What the words of the command line ask for.
 
 ghost use Rattle.std.specs.Prelude.{◌≡◌, ◌^◌, true, false};
 ghost use Rattle.oas_layout.specs.Limits.{AreLimits};
 
+use crate::opening::file_meant;
+use crate::usage::oascanon;
 use clap::error::ErrorKind;
-use clap::{Arg, ArgAction, ArgMatches, Command, Error};
+use clap::{ArgMatches, Error};
 use oas_canon::Limits;
-use std::alloc::Global;
+use std::alloc::{AllocError, Global};
 use std::convert::AsStr;
 
 /// The status of a command line that isn't understood.
 const MISUSED: u8 = 2;
 
-/// What stands below each help text.
-const AFTER_HELP: &str = "Status:
-  0  done; for `check` canonical, for `same` the same layout
-  1  refused (one line on standard error: NAME: refused REASON at OFFSET), or can't be opened
-  2  the command line isn't understood
-  3  for `check` not canonical, for `same` different layouts, for `rekey` not canonical
-     by profile 1 (one line on standard error: NAME: not profile 1 canonical)
-
-Limits:
-  2^24 elements, a weight of 2^28, 2^36 bytes of input
-  with --large: 2^26 elements, a weight of 2^30, 2^38 bytes of input
-
-Profiles:
-  a polygon that goes round a rectangle is that rectangle by profile 2, by which each
-  command answers, and was a polygon by profile 1; `rekey` leads from the one to the other";
-
 /// What a command line asks for.
-#[derive(Clone, Copy, Debug, PartialEq, Eq)]
+#[derive(Debug, Drop, PartialEq, Eq)]
 pub struct Request<'a> {
     pub task: Task<'a>,
     /// Whether the large limits hold.
@@ -37,29 +23,54 @@ pub struct Request<'a> {
 }
 
 /// A command, and its files by name. Without a name an input is standard input, and an output standard output.
-#[derive(Clone, Copy, Debug, PartialEq, Eq)]
+#[derive(Debug, Drop, PartialEq, Eq)]
 pub enum Task<'a> {
     Canon {
         input: Option<&'a str>,
         output: Option<&'a str>,
     },
-    Check {
-        input: Option<&'a str>,
+    Ask {
+        question: Question,
+        inputs: Inputs<'a>,
     },
     Same {
-        first: &'a str,
-        second: &'a str,
+        first: Option<&'a str>,
+        second: Option<&'a str>,
+    },
+    Diff {
+        first: Option<&'a str>,
+        second: Option<&'a str>,
     },
     Show {
         input: Option<&'a str>,
     },
-    Key {
+    Keys {
         input: Option<&'a str>,
     },
     Rekey {
-        old: &'a str,
-        new: &'a str,
+        old: Option<&'a str>,
+        new: Option<&'a str>,
     },
+}
+
+/// What can be asked of many files.
+#[derive(Clone, Copy, Debug, PartialEq, Eq)]
+pub enum Question {
+    /// Whether it is canonical.
+    Check,
+    /// Its key.
+    Key,
+}
+
+/// The inputs of a question.
+#[derive(Debug, Drop, PartialEq, Eq)]
+pub enum Inputs<'a> {
+    /// One, whose answer has no name.
+    One(Option<&'a str>),
+    /// These: each answer has a name.
+    Named(Vec<Option<&'a str>>),
+    /// The files that the list of this name, or that on standard input, names.
+    Listed(Option<&'a str>),
 }
 
 /// The limits with the flag `--large` and without it.
@@ -96,115 +107,97 @@ pub fn end(rt: &HostRuntime, error: &Error) -> u8 {
 pub fn parse<'a, S: AsStr>(alloc: Global, words: &'a [S]) -> Result<Request<'a>, Error> {
     let mut command = oascanon(alloc)?;
     let matches = command.try_get_matches_from_mut(words)?;
-    match request_of(&matches) {
+    match request_of(alloc, &matches)? {
         Some(request) => Ok(request),
-        None => Err(command.error(ErrorKind::MissingSubcommand, "there is no such command")?),
+        None => Err(command.error(
+            ErrorKind::ArgumentConflict,
+            "standard input can be read for one file only",
+        )?),
     }
 }
 
-/// What these matches ask for.
-pub fn request_of<'a>(matches: &ArgMatches<'a>) -> Option<Request<'a>> {
-    let (name, found) = matches.subcommand()?;
-    let task = task_of(name, found)?;
+/// What these matches ask for. There is none where standard input would be read twice.
+pub fn request_of<'a>(
+    alloc: Global,
+    matches: &ArgMatches<'a>,
+) -> Result<Option<Request<'a>>, AllocError> {
+    let Some((name, found)) = matches.subcommand() else {
+        return Ok(None);
+    };
     let is_large = found.get_flag("large");
-    Some(Request { task, is_large })
+    let task = task_of(alloc, name, found)?;
+    Ok(task.map(|task| Request { task, is_large }))
 }
 
 /// The task of the command of this name.
-fn task_of<'a>(name: &str, found: &ArgMatches<'a>) -> Option<Task<'a>> {
-    let input = found.get_str("IN");
+fn task_of<'a>(
+    alloc: Global,
+    name: &str,
+    found: &ArgMatches<'a>,
+) -> Result<Option<Task<'a>>, AllocError> {
     match name {
-        "canon" => Some(Task::Canon {
-            input,
-            output: found.get_str("OUT"),
-        }),
-        "check" => Some(Task::Check { input }),
-        "same" => Some(Task::Same {
-            first: found.get_str("A")?,
-            second: found.get_str("B")?,
-        }),
-        "show" => Some(Task::Show { input }),
-        "key" => Some(Task::Key { input }),
-        "rekey" => Some(Task::Rekey {
-            old: found.get_str("OLD")?,
-            new: found.get_str("NEW")?,
-        }),
-        _ => None,
+        "check" => question_of(alloc, Question::Check, found),
+        "key" => question_of(alloc, Question::Key, found),
+        "canon" => Ok(Some(Task::Canon {
+            input: file_of(found, "IN"),
+            output: file_of(found, "OUT"),
+        })),
+        "show" => Ok(Some(Task::Show {
+            input: file_of(found, "IN"),
+        })),
+        "keys" => Ok(Some(Task::Keys {
+            input: file_of(found, "IN"),
+        })),
+        "same" => Ok(two_of(found).map(|(first, second)| Task::Same { first, second })),
+        "diff" => Ok(two_of(found).map(|(first, second)| Task::Diff { first, second })),
+        "rekey" => Ok(Some(Task::Rekey {
+            old: file_of(found, "OLD"),
+            new: file_of(found, "NEW"),
+        })),
+        _ => Ok(None),
     }
 }
 
-/// The program's command line.
-fn oascanon<'a>(alloc: Global) -> Result<Command<'a>, Error> {
-    let check = reader(
-        alloc,
-        "check",
-        "Says whether a file is canonical as it stands",
-    )?;
-    let show = reader(alloc, "show", "Lists the layout that a file means")?;
-    let key = reader(
-        alloc,
-        "key",
-        "Writes the SHA-256 of a file's canonical form",
-    )?;
-    Ok(
-        Command::new(alloc, "oascanon")
-            .about("The canonical form of OASIS mask layouts (SEMI P39)")
-            .after_help(AFTER_HELP)
-            .version("0.2.0")
-            .subcommand_required(true)
-            .subcommand(canon(alloc)?)?
-            .subcommand(check)?
-            .subcommand(same(alloc)?)?
-            .subcommand(show)?
-            .subcommand(key)?
-            .subcommand(rekey(alloc)?)?,
-    )
+/// The file of an argument, if it names one.
+fn file_of<'a>(found: &ArgMatches<'a>, argument: &str) -> Option<&'a str> {
+    file_meant(found.get_str(argument)?)
 }
 
-/// `canon [IN [OUT]]`
-fn canon<'a>(alloc: Global) -> Result<Command<'a>, Error> {
-    let about = "Writes the canonical form of a file";
-    let help =
-        "The file to write, created or replaced once IN was read whole [default: standard output]";
-    Ok(reader(alloc, "canon", about)?.arg(Arg::new(alloc, "OUT").help(help))?)
+/// The files A and B, unless both are standard input.
+fn two_of<'a>(found: &ArgMatches<'a>) -> Option<(Option<&'a str>, Option<&'a str>)> {
+    let (first, second) = (file_of(found, "A"), file_of(found, "B"));
+    if first.is_none() && second.is_none() {
+        return None;
+    }
+    Some((first, second))
 }
 
-/// `same A B`
-fn same<'a>(alloc: Global) -> Result<Command<'a>, Error> {
-    let about = "Says whether two files mean the same layout";
-    let a = Arg::new(alloc, "A").required(true).help("An OASIS file");
-    let b = Arg::new(alloc, "B").required(true).help("Another");
-    Ok(command_of(alloc, "same", about)?.arg(a)?.arg(b)?)
+/// The task of a question, unless two of its inputs are standard input.
+fn question_of<'a>(
+    alloc: Global,
+    question: Question,
+    found: &ArgMatches<'a>,
+) -> Result<Option<Task<'a>>, AllocError> {
+    let inputs = inputs_of(alloc, found)?;
+    Ok(inputs.map(|inputs| Task::Ask { question, inputs }))
 }
 
-/// `rekey OLD NEW`
-fn rekey<'a>(alloc: Global) -> Result<Command<'a>, Error> {
-    let about = "Writes the canonical form by profile 2 of a file that is canonical by profile 1";
-    let old = Arg::new(alloc, "OLD").required(true);
-    let new = Arg::new(alloc, "NEW").required(true);
-    Ok(
-        command_of(alloc, "rekey", about)?
-            .arg(old.help("An OASIS file that is canonical by profile 1"))?
-            .arg(new.help("The file to write, created or replaced once OLD was read whole"))?,
-    )
-}
-
-/// A command with `[IN]`.
-fn reader<'a>(alloc: Global, name: &'a str, about: &'a str) -> Result<Command<'a>, Error> {
-    let help = "The OASIS file to read [default: standard input]";
-    Ok(command_of(alloc, name, about)?.arg(Arg::new(alloc, "IN").help(help))?)
-}
-
-/// A command with the flag `--large`, without its files.
-fn command_of<'a>(alloc: Global, name: &'a str, about: &'a str) -> Result<Command<'a>, Error> {
-    let large = Arg::new(alloc, "large")
-        .long("large")
-        .action(ArgAction::SetTrue)
-        .help("Takes larger files (see Limits)");
-    Ok(
-        Command::new(alloc, name)
-            .about(about)
-            .after_help(AFTER_HELP)
-            .arg(large)?,
-    )
+/// The inputs of a question.
+fn inputs_of<'a>(alloc: Global, found: &ArgMatches<'a>) -> Result<Option<Inputs<'a>>, AllocError> {
+    if let Some(list) = found.get_str("files0-from") {
+        return Ok(Some(Inputs::Listed(file_meant(list))));
+    }
+    let words = found.get_strs("IN").unwrap_or(&[]);
+    if words.len() <= 1 && !found.get_flag("names") {
+        return Ok(Some(Inputs::One(file_of(found, "IN"))));
+    }
+    let mut inputs = Vec::with_capacity(alloc, words.len().max(1))?;
+    for word in words {
+        inputs.push(file_meant(word))?;
+    }
+    if inputs.is_empty() {
+        inputs.push(None)?;
+    }
+    let standard = inputs.iter().filter(|input| input.is_none()).count();
+    Ok((standard <= 1).then_some(Inputs::Named(inputs)))
 }

@@ -1,49 +1,39 @@
 //! The command `oascanon`: the canonical form of an OASIS file, and what can be asked of one.
 //!
-//! The words of the command line are read by [`commands`]. [`opening`] opens an input by its name, and [`creating`] has an
-//! output that is created at its first byte. The work is done by the `run_` functions, which are generic over their inputs
-//! and outputs, so that tests call them over memory; `main` opens the streams of the process and calls them. What they
-//! promise to `main`:
+//! The words of the command line are read by [`commands`], as [`usage`] has them. [`opening`] opens an input by its name,
+//! and [`creating`] has an output that is created at its first byte. [`many`] asks a question of many files, whose names may
+//! stand in a list ([`listing`]), and [`printing`] has each name in one line. The work is done by the runs of `oas_command`;
+//! `main` opens the streams of the process and calls them.
 //!
-//! - [`runs::run_canon`] answers status 0 where `oas_canon::canonicalize` answered Ok, and 1 where it refused. What was
-//!   read and written is all that the contract of that call says of its answer (`Canonicalizes`, specs/Calls.antt), the
-//!   offset and the reason of a refusal among it, and what the error output took is a front of that refusal's line, and
-//!   nothing after an Ok (`AppendsFront`, specs/Runs.antt).
-//! - [`runs::run_check`], [`runs::run_key`], [`runs::run_show`] and [`runs::run_same`] each hand on what the contract of
-//!   the call that they make says of what it found (`Judges`, `Keys`, `ReadsLayout`, `Compares`). The text of what was found
-//!   was written, or the writer failed after a front of it that is as long as the refusal says, and where nothing was found
-//!   nothing was written (`Delivers`). The status is 0, of a `check` and a `same` whose answer is no it is 3, and after a
-//!   refusal 1; the error output as above, in `same` under the name of the refused file.
-//! - [`runs::run_rekey`] answers status 0 where `oas_canon::rekey` re-keyed, 3 where it answered that the file isn't
-//!   canonical by profile one, and 1 where it refused, and hands on all that the contract of that call says
-//!   (`RekeysFile`); what the error output took is a front of the line of that answer (`rekey_said`, specs/Rekeying.antt).
-//! - [`runs::canon_telling`] and the like are the same over a sink for that line, whose contract counts failures: the line
-//!   was put, unless the sink failed (`Ends`, `EndsRekeying`).
-//! - [`lines::write_line`] writes a line to an output, or a front of it (`IsWritten`, `IsCutOff`).
-//! - [`messages::put_refusal`] puts the line `NAME: refused N at OFFSET` (`refusal_line`, specs/Lines.antt), and
-//!   [`opening::put_unopened`] the line `NAME: cannot be opened` (`unopened_line`, specs/Opening.antt). The line of a file
-//!   that isn't canonical by profile one is `NAME: not profile 1 canonical` (`not_profile_1_line`).
+//! - [`opening::Input`] opens a file by its name, or standard input without one (`is_named`, specs/Opening.antt).
+//!   [`opening::file_meant`] takes the word `-` for no file's name.
 //! - [`creating::NewFile`] creates nothing as long as no byte is written to it (`is_created`, specs/Creating.antt).
+//! - [`replacing::Replacement`] is in the place of the file that stood there once it is flushed, and not before (`Stage`).
+//! - [`commands::limits_of`] answers the limits with the flag `--large` and without it.
 //!
 //! Not under a contract: which words `clap` understands, and that `main` hands each run what it opened.
 #![tactic(auto)]
 
 mod commands;
 mod creating;
-mod lines;
-mod messages;
+mod listing;
+mod many;
 mod opening;
+mod printing;
 mod replacing;
-mod runs;
 #[cfg(test)]
 mod tests;
+mod usage;
 
 use commands::{Request, Task, limits_of};
 use creating::Output;
-use oas_canon::Limits;
-use oas_num::{ReaderSource, Refusal, Why};
-use opening::{Input, name_of, run_unopened};
-use runs::{run_canon, run_check, run_key, run_refused, run_rekey, run_same, run_show};
+use many::{ask, printed};
+use oas_canon::{Limits, ReaderSource, Refusal, Why};
+use oas_command::{
+    name_of, run_canon, run_diff, run_keys, run_refused, run_rekey, run_same, run_show,
+    run_unopened,
+};
+use opening::Input;
 use std::process::ExitCode;
 
 fn main(rt: HostRuntime) -> ExitCode {
@@ -62,10 +52,11 @@ fn answer(rt: &HostRuntime, request: Request<'_>) -> u8 {
     let limits = limits_of(request.is_large);
     let ended = match request.task {
         Task::Canon { input, output } => canon(rt, input, output, limits),
-        Task::Check { input } => check(rt, input, limits),
+        Task::Ask { question, inputs } => Ok(ask(rt, question, inputs, limits)),
         Task::Same { first, second } => same(rt, first, second, limits),
+        Task::Diff { first, second } => diff(rt, first, second, limits),
         Task::Show { input } => show(rt, input, limits),
-        Task::Key { input } => key(rt, input, limits),
+        Task::Keys { input } => keys(rt, input, limits),
         Task::Rekey { old, new } => rekey(rt, old, new, limits),
     };
     match ended {
@@ -74,28 +65,29 @@ fn answer(rt: &HostRuntime, request: Request<'_>) -> u8 {
     }
 }
 
-/// The source of an input, or the status where there is none, after its line on standard error.
+/// The source of an input, or the status where there is none, after its line on standard error under this name.
 fn source_of(
     rt: &HostRuntime,
     input: Option<&str>,
+    name: &str,
     limits: Limits,
 ) -> Result<ReaderSource<Input>, u8> {
     match Input::open(rt, input) {
-        Ok(opened) => reader_of(rt, input, opened, limits),
-        Err(_) => Err(run_unopened(name_of(input), &mut rt.stderr())),
+        Ok(opened) => reader_of(rt, name, opened, limits),
+        Err(_) => Err(run_unopened(name, &mut rt.stderr())),
     }
 }
 
 /// The source of an input that was opened, or the status where there is no memory for it.
 fn reader_of(
     rt: &HostRuntime,
-    input: Option<&str>,
+    name: &str,
     opened: Input,
     limits: Limits,
 ) -> Result<ReaderSource<Input>, u8> {
     ReaderSource::new(rt.alloc(), opened, limits.input()).map_err(|_| {
         let why = Why::Memory;
-        run_refused(name_of(input), Refusal { at: 0, why }, &mut rt.stderr())
+        run_refused(name, Refusal { at: 0, why }, &mut rt.stderr())
     })
 }
 
@@ -106,30 +98,58 @@ fn canon(
     output: Option<&str>,
     limits: Limits,
 ) -> Result<u8, u8> {
-    let mut from = source_of(rt, input, limits)?;
-    let mut out = Output::new(rt, output);
-    let (name, mut err) = (name_of(input), rt.stderr());
-    Ok(run_canon(rt.alloc(), name, &mut from, &mut out, &mut err, limits))
-}
-
-/// `check [IN]`
-fn check(rt: &HostRuntime, input: Option<&str>, limits: Limits) -> Result<u8, u8> {
-    let mut from = source_of(rt, input, limits)?;
-    let (mut out, mut err) = (rt.stdout(), rt.stderr());
-    let name = name_of(input);
-    Ok(run_check(rt.alloc(), name, &mut from, &mut out, &mut err, limits))
+    let name = printed(rt, name_of(input))?;
+    let mut from = source_of(rt, input, name.as_str(), limits)?;
+    let (mut out, mut err) = (Output::new(rt, output), rt.stderr());
+    Ok(run_canon(
+        rt.alloc(),
+        name.as_str(),
+        &mut from,
+        &mut out,
+        &mut err,
+        limits,
+    ))
 }
 
 /// `same A B`: both are opened before one is read.
-fn same(rt: &HostRuntime, first: &str, second: &str, limits: Limits) -> Result<u8, u8> {
-    let mut a = source_of(rt, Some(first), limits)?;
-    let mut b = source_of(rt, Some(second), limits)?;
+fn same(
+    rt: &HostRuntime,
+    first: Option<&str>,
+    second: Option<&str>,
+    limits: Limits,
+) -> Result<u8, u8> {
+    let (name_a, name_b) = (printed(rt, name_of(first))?, printed(rt, name_of(second))?);
+    let mut a = source_of(rt, first, name_a.as_str(), limits)?;
+    let mut b = source_of(rt, second, name_b.as_str(), limits)?;
     let (mut out, mut err) = (rt.stdout(), rt.stderr());
     Ok(run_same(
         rt.alloc(),
-        first,
+        name_a.as_str(),
         &mut a,
-        second,
+        name_b.as_str(),
+        &mut b,
+        &mut out,
+        &mut err,
+        limits,
+    ))
+}
+
+/// `diff A B`: both are opened before one is read.
+fn diff(
+    rt: &HostRuntime,
+    first: Option<&str>,
+    second: Option<&str>,
+    limits: Limits,
+) -> Result<u8, u8> {
+    let (name_a, name_b) = (printed(rt, name_of(first))?, printed(rt, name_of(second))?);
+    let mut a = source_of(rt, first, name_a.as_str(), limits)?;
+    let mut b = source_of(rt, second, name_b.as_str(), limits)?;
+    let (mut out, mut err) = (rt.stdout(), rt.stderr());
+    Ok(run_diff(
+        rt.alloc(),
+        name_a.as_str(),
+        &mut a,
+        name_b.as_str(),
         &mut b,
         &mut out,
         &mut err,
@@ -139,24 +159,45 @@ fn same(rt: &HostRuntime, first: &str, second: &str, limits: Limits) -> Result<u
 
 /// `show [IN]`
 fn show(rt: &HostRuntime, input: Option<&str>, limits: Limits) -> Result<u8, u8> {
-    let mut from = source_of(rt, input, limits)?;
+    let name = printed(rt, name_of(input))?;
+    let mut from = source_of(rt, input, name.as_str(), limits)?;
     let (mut out, mut err) = (rt.stdout(), rt.stderr());
-    let name = name_of(input);
-    Ok(run_show(rt.alloc(), name, &mut from, &mut out, &mut err, limits))
+    Ok(run_show(
+        rt.alloc(),
+        name.as_str(),
+        &mut from,
+        &mut out,
+        &mut err,
+        limits,
+    ))
 }
 
-/// `key [IN]`
-fn key(rt: &HostRuntime, input: Option<&str>, limits: Limits) -> Result<u8, u8> {
-    let mut from = source_of(rt, input, limits)?;
+/// `keys [IN]`
+fn keys(rt: &HostRuntime, input: Option<&str>, limits: Limits) -> Result<u8, u8> {
+    let name = printed(rt, name_of(input))?;
+    let mut from = source_of(rt, input, name.as_str(), limits)?;
     let (mut out, mut err) = (rt.stdout(), rt.stderr());
-    let name = name_of(input);
-    Ok(run_key(rt.alloc(), name, &mut from, &mut out, &mut err, limits))
+    Ok(run_keys(
+        rt.alloc(),
+        name.as_str(),
+        &mut from,
+        &mut out,
+        &mut err,
+        limits,
+    ))
 }
 
 /// `rekey OLD NEW`
-fn rekey(rt: &HostRuntime, old: &str, new: &str, limits: Limits) -> Result<u8, u8> {
-    let mut from = source_of(rt, Some(old), limits)?;
-    let mut out = Output::new(rt, Some(new));
-    let mut err = rt.stderr();
-    Ok(run_rekey(rt.alloc(), old, &mut from, &mut out, &mut err, limits))
+fn rekey(rt: &HostRuntime, old: Option<&str>, new: Option<&str>, limits: Limits) -> Result<u8, u8> {
+    let name = printed(rt, name_of(old))?;
+    let mut from = source_of(rt, old, name.as_str(), limits)?;
+    let (mut out, mut err) = (Output::new(rt, new), rt.stderr());
+    Ok(run_rekey(
+        rt.alloc(),
+        name.as_str(),
+        &mut from,
+        &mut out,
+        &mut err,
+        limits,
+    ))
 }

@@ -1,19 +1,18 @@
 //! Inputs by name.
-ghost use Rattle.std.specs.Prelude.{◌≡◌, None, IfOk, IsOk, is_some};
-ghost use Rattle.oas_num.specs.Writing.{Writes};
-ghost use Rattle.oascanon.specs.Opening.{is_named, input_name, unopened_line};
-ghost use Rattle.oascanon.specs.Runs.{Tells, AppendsFront};
+ghost use Rattle.std.specs.Prelude.{◌≡◌, ◌≢◌, None, Some, IfOk, IsOk, is_some, codes};
+ghost use Rattle.oascanon.specs.Opening.{is_named};
 
-use oas_num::{Outlet, Sink, SinkFault};
 use std::fs::File;
 use std::io;
-use std::io::{Read, Stdin, Write};
+use std::io::{Read, Stdin};
 
-/// The status of a run that could not open its input.
-const UNOPENED: u8 = 1;
-
-/// The name of standard input in messages.
-const STANDARD_INPUT: &str = "standard input";
+/// The file that a word of the command line means: `-` is none, but standard input or output. A file of that name is `./-`.
+pub fn file_meant<'a>(word: &'a str) -> Option<&'a str>
+    ensures dash { word.now ≡ codes "-" → result ≡ None }
+    ensures file { word.now ≢ codes "-" → result ≡ Some word.entry }
+{
+    if word == "-" { None } else { Some(word) }
+}
 
 /// Where a file is read from.
 #[derive(Drop)]
@@ -42,39 +41,4 @@ impl Read for Input {
             Input::Named(file) => file.read(buf),
         }
     }
-}
-
-/// How messages name an input.
-pub fn name_of<'a>(path: Option<&'a str>) -> &'a str
-    ensures { result.now ≡ input_name path.entry }
-{
-    path.unwrap_or(STANDARD_INPUT)
-}
-
-/// Ends a run whose input can't be opened: says so on `err`, and answers its status.
-pub fn run_unopened<E: Write>(name: &str, err: &mut E) -> u8
-    ensures status { result ≡ 1 }
-    ensures tells { AppendsFront (E.contents err.old) (E.contents err.new) (unopened_line name.now) }
-{
-    let mut told = Outlet::new(err);
-    let status = unopened(name, &mut told);
-    let _ = told.close();
-    status
-}
-
-/// As `run_unopened`, with a sink for the line.
-pub fn unopened<K: Sink>(name: &str, told: &mut K) -> u8
-    ensures status { result ≡ 1 }
-    ensures tells { Tells K.given K.failures told.old (unopened_line name.now) told.new }
-{
-    let _ = put_unopened(told, name);
-    UNOPENED
-}
-
-/// Puts the line of an input that can't be opened.
-pub fn put_unopened<K: Sink>(told: &mut K, name: &str) -> Result<(), SinkFault>
-    ensures { Writes K.given K.failures told.old (unopened_line name.now) result told.new }
-{
-    told.put_all(name.as_bytes())?;
-    told.put_all(b": cannot be opened\n")
 }

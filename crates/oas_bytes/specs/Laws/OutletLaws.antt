@@ -78,7 +78,9 @@ module _ {W : Type 0} (contents : W → Option (List ℕ)) (writer : MutBor W) w
   stays o p bytes h g = g.same_writer ∙ h.same_writer
 
   -- the same of the writer's value once the outlet is gone: all was put, and then it was closed
-  pub writer_has : (o m p : Outlet W) (bytes : List ℕ) (last : W) → Opens writer o → Puts (IsGiven contents) failures_of o bytes m → Puts (IsGiven contents) failures_of m [] p → IsSent p → (writer.ghost_name ≡ p.writer.ghost_name → last ≡ p.writer.now) → Appends (contents writer.now) (contents last) bytes
+  pub writer_has : (o m p : Outlet W) (bytes : List ℕ) (last : W) → Opens writer o → Puts (IsGiven contents) failures_of o bytes m
+      → Puts (IsGiven contents) failures_of m [] p → IsSent p → (writer.ghost_name ≡ p.writer.ghost_name → last ≡ p.writer.now)
+      → Appends (contents writer.now) (contents last) bytes
   writer_has o m p bytes last h puts closes done follows =
       let g : IsGiven contents o (bytes ++ []) p = closes.after o bytes (given_since o m bytes h puts) in
       let e : last ≡ p.writer.now = follows (sym (stays o p (bytes ++ []) h g)) in
@@ -86,7 +88,8 @@ module _ {W : Type 0} (contents : W → Option (List ℕ)) (writer : MutBor W) w
       rw e (rw append-nil at a)
 
   -- and where a fault was met while these bytes were put
-  pub writer_took : (o p : Outlet W) (bytes : List ℕ) (last : W) → Opens writer o → PutsFront (IsGiven contents) failures_of o bytes p → (writer.ghost_name ≡ p.writer.ghost_name → last ≡ p.writer.now) → TakesFront contents writer.now last bytes p.taken
+  pub writer_took : (o p : Outlet W) (bytes : List ℕ) (last : W) → Opens writer o → PutsFront (IsGiven contents) failures_of o bytes p
+      → (writer.ghost_name ≡ p.writer.ghost_name → last ≡ p.writer.now) → TakesFront contents writer.now last bytes p.taken
   writer_took o p bytes last h puts follows =
       let g = given_since o p puts.front h puts.puts in
       let e : last ≡ p.writer.now = follows (sym (stays o p puts.front h g)) in
@@ -100,7 +103,9 @@ module _ {W : Type 0} (contents : W → Option (List ℕ)) (writer : MutBor W) w
       })
 
   -- or while it was closed
-  pub writer_took_rest : (o m p : Outlet W) (bytes : List ℕ) (last : W) → Opens writer o → Puts (IsGiven contents) failures_of o bytes m → PutsFront (IsGiven contents) failures_of m [] p → (writer.ghost_name ≡ p.writer.ghost_name → last ≡ p.writer.now) → TakesFront contents writer.now last bytes p.taken
+  pub writer_took_rest : (o m p : Outlet W) (bytes : List ℕ) (last : W) → Opens writer o → Puts (IsGiven contents) failures_of o bytes m
+      → PutsFront (IsGiven contents) failures_of m [] p → (writer.ghost_name ≡ p.writer.ghost_name → last ≡ p.writer.now)
+      → TakesFront contents writer.now last bytes p.taken
   writer_took_rest o m p bytes last h puts fails follows =
       let g : IsGiven contents o (bytes ++ fails.front) p = fails.puts.after o bytes (given_since o m bytes h puts) in
       let e : last ≡ p.writer.now = follows (sym (stays o p (bytes ++ fails.front) h g)) in

@@ -5,12 +5,7 @@
 
 use super::rekeying::{Short, boxed};
 use super::*;
-
-/// More than any piece of memory that is there.
-const LARGEST: usize = 68_719_476_736;
-
-/// The smallest piece.
-const SMALLEST: usize = 16;
+use scarce_memory::Hoard;
 
 /// A call under test, and what it answers where memory is there.
 #[derive(Clone, Copy, Debug, PartialEq, Eq)]
@@ -19,25 +14,6 @@ enum Call {
     Key,
     SameFiles,
     Rekey,
-}
-
-/// Takes pieces of memory, of `most` bytes and less, until there is none or `held` is full.
-fn fill(alloc: Global, most: usize, held: &mut Vec<Vec<u8>>) {
-    let mut size = most;
-    for _ in 0..40u32 {
-        for _ in 0..200000u32 {
-            if held.len() >= held.capacity() || size < SMALLEST {
-                break;
-            }
-            match Vec::with_capacity(alloc, size) {
-                Ok(piece) => {
-                    let _ = held.push(piece);
-                }
-                Err(AllocError) => break,
-            }
-        }
-        size /= 2;
-    }
 }
 
 /// Runs the call once, and answers whether memory was refused. Any other refusal, and a wrong answer, is a failure.
@@ -75,24 +51,19 @@ fn expect_growths(
     file: &[u8],
     digest: &[u8; 32],
 ) -> Result<(), Fail> {
-    let mut held: Vec<Vec<u8>> = Vec::with_capacity(alloc, 300000)?;
-    let room: Vec<u8> = Vec::with_capacity(alloc, 65536)?;
-    fill(alloc, LARGEST, &mut held);
-    let large = held.len();
-    drop(room);
-    fill(alloc, SMALLEST, &mut held);
-    let is_full = held.len() < held.capacity();
+    let mut hoard = Hoard::new(alloc)?;
+    let is_full = hoard.is_full();
     let mut refused = 0u64;
     let mut done = 0u64;
-    for _ in large..held.len() {
+    for _ in 0..hoard.pieces() {
         if is_refused(rt, alloc, call, file, digest) {
             refused = refused.saturating_add(1);
         } else {
             done = done.saturating_add(1);
         }
-        let _ = held.pop();
+        hoard.give_back();
     }
-    held.clear();
+    drop(hoard);
     assert!(rt; !is_full || refused > 0, "nothing was refused");
     assert!(rt; !is_full || done > 0, "all was refused");
     Ok(())

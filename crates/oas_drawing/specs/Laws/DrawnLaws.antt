@@ -54,8 +54,10 @@ pub exact_drawn : CmpEqualImpliesEq drawn_cmp
 exact_drawn (Named e) (Named f) h = ap Named (exact_elements e f h)
 exact_drawn (PlacementBy number x y turns flip) (PlacementBy number' x' y' turns' flip') h =
     ap (λ (p : ℕ × (ℤ × (ℤ × (Turns × Bool)))). PlacementBy p.0 p.1.0 p.1.1.0 p.1.1.1.0 p.1.1.1.1)
-    (exact_pairs _ _ exact_unsigned (exact_pairs _ _ exact_signed (exact_pairs _ _ exact_signed (exact_pairs _ _ turns_exact bool_exact))) (number, (x, (y, (turns, flip)))) (number', (x', (y', (turns', flip')))) h)
+    (exact_pairs _ _ exact_unsigned (exact_pairs _ _ exact_signed (exact_pairs _ _ exact_signed (exact_pairs _ _ turns_exact bool_exact)))
+    (number, (x, (y, (turns, flip)))) (number', (x', (y', (turns', flip')))) h)
 exact_drawn (TextBy number textlayer texttype x y) (TextBy number' textlayer' texttype' x' y') h =
     ap (λ (p : ℕ × (ℕ × (ℕ × (ℤ × ℤ)))). TextBy p.0 p.1.0 p.1.1.0 p.1.1.1.0 p.1.1.1.1)
-    (exact_pairs _ _ exact_unsigned (exact_pairs _ _ exact_unsigned (exact_pairs _ _ exact_unsigned (exact_pairs _ _ exact_signed exact_signed))) (number, (textlayer, (texttype, (x, y)))) (number', (textlayer', (texttype', (x', y')))) h)
+    (exact_pairs _ _ exact_unsigned (exact_pairs _ _ exact_unsigned (exact_pairs _ _ exact_unsigned (exact_pairs _ _ exact_signed exact_signed)))
+    (number, (textlayer, (texttype, (x, y)))) (number', (textlayer', (texttype', (x', y')))) h)
 exact_drawn a b h = cc

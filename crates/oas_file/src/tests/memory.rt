@@ -6,45 +6,17 @@
 use super::{COMPACT, bytes_of, read};
 use oas_layout::Limits;
 use oas_num::Why;
-use std::alloc::{AllocError, Global};
+use scarce_memory::Hoard;
+use std::alloc::Global;
 use std::process::Abort;
 use std::test::Fail;
-
-/// Takes pieces of memory, from `most` bytes down to 16, until none is left or `held` is full.
-fn fill(alloc: Global, most: usize, held: &mut Vec<Vec<u8>>) {
-    let mut size = most;
-    for _ in 0..40u32 {
-        for _ in 0..200000u32 {
-            if held.len() >= held.capacity() || size < 16 {
-                break;
-            }
-            match Vec::with_capacity(alloc, size) {
-                Ok(piece) => {
-                    let _ = held.push(piece);
-                }
-                Err(AllocError) => break,
-            }
-        }
-        size /= 2;
-    }
-}
-
-/// All memory, but for some that can be had back a small piece at a time.
-fn take_all(alloc: Global) -> Result<Vec<Vec<u8>>, Fail> {
-    let mut held = Vec::with_capacity(alloc, 300000)?;
-    let room = Vec::<u8>::with_capacity(alloc, 65536)?;
-    fill(alloc, 68719476736, &mut held);
-    drop(room);
-    fill(alloc, 16, &mut held);
-    Ok(held)
-}
 
 /// Reads until there is a layout, and gives back a piece of memory after each refusal. The places that were refused.
 fn insist(
     rt: &impl Abort,
     alloc: Global,
     file: &[u8],
-    held: &mut Vec<Vec<u8>>,
+    hoard: &mut Hoard,
     refused: &mut Vec<u64>,
 ) -> bool {
     for _ in 0..4000u32 {
@@ -58,7 +30,7 @@ fn insist(
                 let _ = refused.push(refusal.at);
             }
         }
-        let _ = held.pop();
+        hoard.give_back();
     }
     false
 }
@@ -68,11 +40,10 @@ fn without_memory(rt: HostRuntime) -> Result<(), Fail> {
     let alloc = rt.alloc();
     let file = bytes_of(alloc, COMPACT)?;
     let mut refused = Vec::with_capacity(alloc, 4000)?;
-    let mut held = take_all(alloc)?;
-    let is_full = Vec::<u8>::with_capacity(alloc, 64).is_err();
-    let done = insist(&rt, alloc, file.as_slice(), &mut held, &mut refused);
-    held.clear();
-    drop(held);
+    let mut hoard = Hoard::new(alloc)?;
+    let is_full = hoard.is_full();
+    let done = insist(&rt, alloc, file.as_slice(), &mut hoard, &mut refused);
+    drop(hoard);
     assert!(rt; done, "a layout is never read");
     for at in [24, 68] {
         assert!(rt; !is_full || refused.contains(&at), "never refused at {at}");

@@ -2,9 +2,9 @@
 use Rattle.std.specs.Prelude.{◌≡◌, ◌≢◌, ◌↔◌, ℕ, List, ◌∷◌, ◌++◌, Option, None, Some, unwrap_or}
 use Rattle.oas_num.specs.declared.refusals.Why.TheVariants.{MixedNumbering, NumberTwice}
 use Rattle.oas_record.specs.declared.records.Record.{Record}
-use Rattle.oas_modal.specs.declared.names.Form.{Form}
-use Rattle.oas_modal.specs.declared.names.Form.TheVariants.{Implicit, Explicit}
-use Rattle.oas_modal.specs.Names.{same_string, form_given, form_of, next_number, named, name_of, name_reason, AllowedNames, Table, table_reason, with_name, NamesStand}
+use Rattle.oas_modal.specs.declared.names.Numbering.{Numbering}
+use Rattle.oas_modal.specs.declared.names.Numbering.TheVariants.{Implicit, Explicit}
+use Rattle.oas_modal.specs.Names.{same_string, numbering_given, numbering_of, next_number, named, name_of, name_reason, AllowedNames, Table, table_reason, with_name, NamesStand}
 use Rattle.oas_modal.specs.References.{IsUsed}
 
 -- one of the records gives the number to the string
@@ -17,8 +17,8 @@ pub record GivesName (given : Record → Option (List ℕ × Option ℕ)) (rs : 
   pub gave : given by ≡ Some (string, said)
   pub number_is : number ≡ unwrap_or said (next_number given before)
 
--- one of the records is a name record of this form
-pub record HasForm (given : Record → Option (List ℕ × Option ℕ)) (rs : List Record) (form : Form) : Type 0 where
+-- one of the records is a name record of this numbering
+pub record HasNumbering (given : Record → Option (List ℕ × Option ℕ)) (rs : List Record) (numbering : Numbering) : Type 0 where
   pub after : List Record
   pub by : Record
   pub before : List Record
@@ -26,11 +26,11 @@ pub record HasForm (given : Record → Option (List ℕ × Option ℕ)) (rs : Li
   pub said : Option ℕ
   pub split : rs ≡ after ++ by ∷ before
   pub gave : given by ≡ Some (string, said)
-  pub form_is : form_given said ≡ form
+  pub numbering_is : numbering_given said ≡ numbering
 
-abbrev pub other_form : Form → Form
-other_form Implicit = Explicit
-other_form Explicit = Implicit
+abbrev pub other_numbering : Numbering → Numbering
+other_numbering Implicit = Explicit
+other_numbering Explicit = Implicit
 
 -- a table that stands for the records refuses one more for the reason for which the records do
 abbrev pub RefusesAsRecords : (Record → Option (List ℕ × Option ℕ)) → Type 0
@@ -42,10 +42,10 @@ abbrev pub StandsForMore : (Record → Option (List ℕ × Option ℕ)) → Type
 StandsForMore given =
     (t : Table (List ℕ)) (before : List Record) (r : Record) → NamesStand given t before → name_reason same_string given before r ≡ None → NamesStand given (with_name t (given r)) (r ∷ before)
 
--- of records that are allowed, the form is that of each
-abbrev pub FormIsOfEach : (Record → Option (List ℕ × Option ℕ)) → Type 0
-FormIsOfEach given =
-    (rs : List Record) (form : Form) → AllowedNames same_string given rs → (form_of given rs ≡ Some form) ↔ HasForm given rs form
+-- of records that are allowed, the numbering is that of each
+abbrev pub NumberingIsOfEach : (Record → Option (List ℕ × Option ℕ)) → Type 0
+NumberingIsOfEach given =
+    (rs : List Record) (numbering : Numbering) → AllowedNames same_string given rs → (numbering_of given rs ≡ Some numbering) ↔ HasNumbering given rs numbering
 
 -- and the string of a number is the one to which some record gives it
 abbrev pub StringIsGiven : (Record → Option (List ℕ × Option ℕ)) → Type 0
@@ -57,18 +57,18 @@ abbrev pub NoStringIsGiven : (Record → Option (List ℕ × Option ℕ)) → Ty
 NoStringIsGiven given =
     (rs : List Record) (number : ℕ) → (name_of (named given rs) number ≡ None) ↔ ((string : List ℕ) → ¬ GivesName given rs number string)
 
--- a name record is refused by MixedNumbering exactly after a record of the other form
+-- a name record is refused by MixedNumbering exactly after a record of the other numbering
 abbrev pub MixedWhere : (Record → Option (List ℕ × Option ℕ)) → Type 0
 MixedWhere given =
     (before : List Record) (r : Record) (string : List ℕ) (number : Option ℕ) → AllowedNames same_string given before → given r ≡ Some (string, number) →
-    (name_reason same_string given before r ≡ Some MixedNumbering) ↔ HasForm given before (other_form (form_given number))
+    (name_reason same_string given before r ≡ Some MixedNumbering) ↔ HasNumbering given before (other_numbering (numbering_given number))
 
 -- and by NumberTwice exactly if there is no such record, and one gives its number to another string
 abbrev pub TwiceWhere : (Record → Option (List ℕ × Option ℕ)) → Type 0
 TwiceWhere given =
     (before : List Record) (r : Record) (string : List ℕ) (number : Option ℕ) → AllowedNames same_string given before → given r ≡ Some (string, number) →
     (name_reason same_string given before r ≡ Some NumberTwice) ↔
-    ((¬ HasForm given before (other_form (form_given number))) × ((had : List ℕ) × GivesName given before (unwrap_or number (next_number given before)) had × (had ≢ string)))
+    ((¬ HasNumbering given before (other_numbering (numbering_given number))) × ((had : List ℕ) × GivesName given before (unwrap_or number (next_number given before)) had × (had ≢ string)))
 
 -- the first of records that are allowed are allowed
 abbrev pub AllowedFront : (Record → Option (List ℕ × Option ℕ)) → Type 0

@@ -23,7 +23,9 @@ OneFront-keyed key A B f g = record {
       (both.0, ap (λ p. p.1) both.1);
 }
 
-until_one : {V W : Type 0} (A : V → List ℕ → Type 0) (E : W → List ℕ → Type 0) → OneFront A → OneFront E → IsApart A E → (vs ws : List V) (v w : W) (a b c d x y : List ℕ) → IsEach A vs a → IsEach A ws b → E v c → E w d → a ++ (c ++ x) ≡ b ++ (d ++ y) → (a ++ c ≡ b ++ d) × ◌≡◌ {A = List V × W} (vs, v) (ws, w)
+until_one : {V W : Type 0} (A : V → List ℕ → Type 0) (E : W → List ℕ → Type 0) → OneFront A → OneFront E → IsApart A E
+    → (vs ws : List V) (v w : W) (a b c d x y : List ℕ) → IsEach A vs a → IsEach A ws b → E v c → E w d → a ++ (c ++ x) ≡ b ++ (d ++ y)
+    → (a ++ c ≡ b ++ d) × ◌≡◌ {A = List V × W} (vs, v) (ws, w)
 until_one A E f g h [] [] v w a b c d x y p q r s e =
     let e1 : c ++ x ≡ d ++ y = after_same a b (c ++ x) (d ++ y) (p ∙ sym q) e in
     let one = g.one v w c d x y r s e1 in
@@ -127,7 +129,8 @@ IsWithin-pair A C B D f g = record {
   within = λ v a p. record { front = p.front; back = p.back; first = f.within v.0 p.front p.first; second = (g v.0).within v.1 p.back p.second; joined = p.joined };
 }
 
-pub IsWithin-keyed : {K V : Type 0} (key : V → K) (A C : K → List ℕ → Type 0) (B D : K → V → List ℕ → Type 0) → IsWithin A C → ((k : K) → IsWithin (B k) (D k)) → IsWithin (IsKeyed key A B) (IsKeyed key C D)
+pub IsWithin-keyed : {K V : Type 0} (key : V → K) (A C : K → List ℕ → Type 0) (B D : K → V → List ℕ → Type 0) → IsWithin A C
+    → ((k : K) → IsWithin (B k) (D k)) → IsWithin (IsKeyed key A B) (IsKeyed key C D)
 IsWithin-keyed key A C B D f g = record { within = λ v a p. (IsWithin-pair A C B D f g).within (key v, v) a p }
 
 pub IsWithin-such : {V : Type 0} (P : V → Type 0) (A B : V → List ℕ → Type 0) → IsWithin A B → IsWithin (IsSuch P A) (IsSuch P B)

@@ -35,7 +35,8 @@ part_same false n a b p q = p.0 ∙ sym q.0
 
 pub OneSpelling-real : OneSpelling (real_in Shortest)
 OneSpelling-real = OneSpelling-keyed kind_of IsShortest ShortestParts OneSpelling-unsigned (λ kind. record {
-  same = λ r a b p q. (OneSpelling-pair (IsPart (has_num kind)) (λ _. IsPart (has_den kind)) (record { same = part_same (has_num kind) }) (λ _. record { same = part_same (has_den kind) })).same (r.num, r.den) a b p q;
+  same = λ r a b p q. (OneSpelling-pair (IsPart (has_num kind)) (λ _. IsPart (has_den kind)) (record { same = part_same (has_num kind) })
+      (λ _. record { same = part_same (has_den kind) })).same (r.num, r.den) a b p q;
 })
 
 -- the part as it is there

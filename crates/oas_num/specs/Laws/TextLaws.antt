@@ -47,10 +47,13 @@ pub OneFront-name : (style : Style) → OneFront (name_in style)
 OneFront-name style = OneFront-keyed length (IsSuch IsPositive (unsigned_in style)) (λ count. IsText IsNameByte count) (OneFront-positive style) (OneFront-text IsNameByte)
 
 pub OneSpelling-name : OneSpelling (name_in Shortest)
-OneSpelling-name = OneSpelling-keyed length (IsSuch IsPositive (unsigned_in Shortest)) (λ count. IsText IsNameByte count) (OneSpelling-such IsPositive (unsigned_in Shortest) OneSpelling-unsigned) (OneSpelling-text IsNameByte)
+OneSpelling-name = OneSpelling-keyed length (IsSuch IsPositive (unsigned_in Shortest)) (λ count. IsText IsNameByte count)
+    (OneSpelling-such IsPositive (unsigned_in Shortest) OneSpelling-unsigned) (OneSpelling-text IsNameByte)
 
 pub IsWithin-name : IsWithin (name_in Shortest) (name_in Any)
-IsWithin-name = IsWithin-keyed length (IsSuch IsPositive (unsigned_in Shortest)) (IsSuch IsPositive (unsigned_in Any)) (λ count. IsText IsNameByte count) (λ count. IsText IsNameByte count) (IsWithin-such IsPositive (unsigned_in Shortest) (unsigned_in Any) IsWithin-unsigned) (λ count. IsWithin-itself (IsText IsNameByte count))
+IsWithin-name = IsWithin-keyed length (IsSuch IsPositive (unsigned_in Shortest)) (IsSuch IsPositive (unsigned_in Any))
+    (λ count. IsText IsNameByte count) (λ count. IsText IsNameByte count)
+    (IsWithin-such IsPositive (unsigned_in Shortest) (unsigned_in Any) IsWithin-unsigned) (λ count. IsWithin-itself (IsText IsNameByte count))
 
 -- a-strings
 pub OneFront-label : (style : Style) → OneFront (label_in style)
@@ -60,7 +63,8 @@ pub OneSpelling-label : OneSpelling (label_in Shortest)
 OneSpelling-label = OneSpelling-keyed length (unsigned_in Shortest) (λ count. IsText IsLabelByte count) OneSpelling-unsigned (OneSpelling-text IsLabelByte)
 
 pub IsWithin-label : IsWithin (label_in Shortest) (label_in Any)
-IsWithin-label = IsWithin-keyed length (unsigned_in Shortest) (unsigned_in Any) (λ count. IsText IsLabelByte count) (λ count. IsText IsLabelByte count) IsWithin-unsigned (λ count. IsWithin-itself (IsText IsLabelByte count))
+IsWithin-label = IsWithin-keyed length (unsigned_in Shortest) (unsigned_in Any) (λ count. IsText IsLabelByte count)
+    (λ count. IsText IsLabelByte count) IsWithin-unsigned (λ count. IsWithin-itself (IsText IsLabelByte count))
 
 -- the canonical spelling of a name, and of a label
 pub name_spelled : (name : List ℕ) → IsName name → name_in Shortest name (shortest (length name) ++ name)
@@ -126,4 +130,5 @@ pub HasSome-passed : (count : ℕ) → HasSome (IsPassed count)
 HasSome-passed count = HasSome-image padding_of (IsCount IsByte count) (HasSome-count IsByte count HasSome-byte)
 
 pub HasSome-padding : HasSome SpellsPadding
-HasSome-padding = HasSome-keyed padding_length (unsigned_in Any) IsPassed (record { length = 0 }) (shortest 0) [] (unsigned_spelled Any 0 (omega arith)) (record { from = []; is = refl; spelled = record { len = refl; each = refl } })
+HasSome-padding = HasSome-keyed padding_length (unsigned_in Any) IsPassed (record { length = 0 }) (shortest 0) []
+    (unsigned_spelled Any 0 (omega arith)) (record { from = []; is = refl; spelled = record { len = refl; each = refl } })

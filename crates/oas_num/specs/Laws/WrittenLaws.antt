@@ -10,14 +10,17 @@ use Rattle.oas_num.specs.Written.{IsWritten, IsCutOff}
 
 module _ {W : Type 0} (contents : W → Option (List ℕ)) {writer : MutBor W} {o p : Outlet W} {bytes : List ℕ} {last : W} where
   -- all was put, closing included
-  pub took_all : Opens writer o → Puts (IsGiven contents) failures_of o bytes p → IsSent p → (writer.ghost_name ≡ p.writer.ghost_name → last ≡ p.writer.now) → Appends (contents writer.now) (contents last) bytes
+  pub took_all : Opens writer o → Puts (IsGiven contents) failures_of o bytes p → IsSent p
+      → (writer.ghost_name ≡ p.writer.ghost_name → last ≡ p.writer.now) → Appends (contents writer.now) (contents last) bytes
   took_all h puts sent follows =
       let g = given_since contents writer o p bytes h puts in
       let e : last ≡ p.writer.now = follows (sym (stays contents writer o p bytes h g)) in
       rw e (takes_all contents writer o p bytes h g sent)
 
   -- and the outlet has counted it
-  pub written : {count : ℕ} → Opens writer o → Puts (IsGiven contents) failures_of o bytes p → IsSent p → (writer.ghost_name ≡ p.writer.ghost_name → last ≡ p.writer.now) → count ≡ p.taken → length bytes < 2 ^ 64 → IsWritten contents writer.now bytes last count
+  pub written : {count : ℕ} → Opens writer o → Puts (IsGiven contents) failures_of o bytes p → IsSent p
+      → (writer.ghost_name ≡ p.writer.ghost_name → last ≡ p.writer.now) → count ≡ p.taken → length bytes < 2 ^ 64
+      → IsWritten contents writer.now bytes last count
   written h puts sent follows counted short =
       let g = given_since contents writer o p bytes h puts in
       let none : length g.kept ≡ 0 = ap length (g.waits sent.works ∙ sent.none) in
@@ -25,7 +28,9 @@ module _ {W : Type 0} (contents : W → Option (List ℕ)) {writer : MutBor W} {
       record { count_is = omega (arith, counted, g.counted, h.none_taken, all, short); took = took_all h puts sent follows }
 
   -- a fault was met, and the outlet has counted what the writer took
-  pub cut_off : {at : ℕ} → Opens writer o → PutsFront (IsGiven contents) failures_of o bytes p → (writer.ghost_name ≡ p.writer.ghost_name → last ≡ p.writer.now) → at ≡ p.taken → length bytes < 2 ^ 64 → IsCutOff contents writer.now bytes last (record { at = at; why = NotWritten })
+  pub cut_off : {at : ℕ} → Opens writer o → PutsFront (IsGiven contents) failures_of o bytes p
+      → (writer.ghost_name ≡ p.writer.ghost_name → last ≡ p.writer.now) → at ≡ p.taken → length bytes < 2 ^ 64
+      → IsCutOff contents writer.now bytes last (record { at = at; why = NotWritten })
   cut_off h puts follows counted short =
       let t = writer_took contents writer o p bytes last h puts follows in
       record {

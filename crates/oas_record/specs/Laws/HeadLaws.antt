@@ -124,7 +124,8 @@ OneSpelling-start_parts =
     OneSpelling-pair (IsSuch (IsNumber 1) (unsigned_in Shortest)) (λ _. with_version Shortest) (OneSpelling-such (IsNumber 1) (unsigned_in Shortest) OneSpelling-unsigned) (λ _.
     OneSpelling-pair (version_in Shortest) (λ _. with_unit Shortest) OneSpelling-version (λ _.
     OneSpelling-pair (unit_in Shortest) (λ _. with_flag Shortest) OneSpelling-unit (λ _.
-    OneSpelling-pair (flag_in Shortest) (λ flag. offsets_in Shortest (flag == 0)) (OneSpelling-such (IsNumber 0) (unsigned_in Shortest) OneSpelling-unsigned) (λ flag. OneSpelling-exactly twelve_zeros))))
+    OneSpelling-pair (flag_in Shortest) (λ flag. offsets_in Shortest (flag == 0))
+    (OneSpelling-such (IsNumber 0) (unsigned_in Shortest) OneSpelling-unsigned) (λ flag. OneSpelling-exactly twelve_zeros))))
 
 abbrev parts_back : Head → StartParts
 parts_back head = (1, (tt, (head.unit, (0, tt))))
@@ -138,7 +139,8 @@ OneSpelling-start = OneSpelling-image_by head_of parts_back (start_parts Shortes
 pub IsWithin-start : IsWithin (start_in Shortest) (start_in Any)
 IsWithin-start =
     IsWithin-image head_of (start_parts Shortest) (start_parts Any)
-    (IsWithin-pair (IsSuch (IsNumber 1) (unsigned_in Shortest)) (IsSuch (IsNumber 1) (unsigned_in Any)) (λ _. with_version Shortest) (λ _. with_version Any) (IsWithin-such (IsNumber 1) (unsigned_in Shortest) (unsigned_in Any) IsWithin-unsigned) (λ _.
+    (IsWithin-pair (IsSuch (IsNumber 1) (unsigned_in Shortest)) (IsSuch (IsNumber 1) (unsigned_in Any)) (λ _. with_version Shortest)
+    (λ _. with_version Any) (IsWithin-such (IsNumber 1) (unsigned_in Shortest) (unsigned_in Any) IsWithin-unsigned) (λ _.
     IsWithin-pair (version_in Shortest) (version_in Any) (λ _. with_unit Shortest) (λ _. with_unit Any) IsWithin-version (λ _.
     IsWithin-pair (unit_in Shortest) (unit_in Any) (λ _. with_flag Shortest) (λ _. with_flag Any) IsWithin-unit (λ _. record { within = flags_within }))))
 
@@ -151,7 +153,9 @@ abbrev head_back : Head → Unit {0} × Head
 head_back head = (tt, head)
 
 pub OneSpelling-head : OneSpelling (head_in Shortest)
-OneSpelling-head = OneSpelling-image_by head_after head_back (IsPair IsMagic (λ _. start_in Shortest)) (λ u a p. refl) (OneSpelling-pair IsMagic (λ _. start_in Shortest) (OneSpelling-exactly magic) (λ _. OneSpelling-start))
+OneSpelling-head = OneSpelling-image_by head_after head_back (IsPair IsMagic (λ _. start_in Shortest)) (λ u a p. refl)
+    (OneSpelling-pair IsMagic (λ _. start_in Shortest) (OneSpelling-exactly magic) (λ _. OneSpelling-start))
 
 pub IsWithin-head : IsWithin (head_in Shortest) (head_in Any)
-IsWithin-head = IsWithin-image head_after (IsPair IsMagic (λ _. start_in Shortest)) (IsPair IsMagic (λ _. start_in Any)) (IsWithin-pair IsMagic IsMagic (λ _. start_in Shortest) (λ _. start_in Any) (IsWithin-itself IsMagic) (λ _. IsWithin-start))
+IsWithin-head = IsWithin-image head_after (IsPair IsMagic (λ _. start_in Shortest)) (IsPair IsMagic (λ _. start_in Any))
+    (IsWithin-pair IsMagic IsMagic (λ _. start_in Shortest) (λ _. start_in Any) (IsWithin-itself IsMagic) (λ _. IsWithin-start))

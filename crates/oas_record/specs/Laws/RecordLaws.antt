@@ -3,7 +3,19 @@ use Rattle.std.proofs.Common.{◌≡◌, ℕ, Bool, List, [], refl, ap, ◌∙�
 use Rattle.oas_num.specs.Grammar.{OneFront, IsSuch, IsEach}
 use Rattle.oas_num.specs.Laws.GrammarLaws.{OneFront-such}
 use Rattle.oas_num.specs.Combinators.{IsApart, OneSpelling, IsWithin}
-use Rattle.oas_num.specs.Laws.CombinatorLaws.{OneFront-keyed, OneFront-until, OneFront-within, OneSpelling-keyed, OneSpelling-pair, OneSpelling-each, OneSpelling-such, IsWithin-keyed, IsWithin-pair, IsWithin-each, IsWithin-such}
+use Rattle.oas_num.specs.Laws.CombinatorLaws.{
+  OneFront-keyed,
+  OneFront-until,
+  OneFront-within,
+  OneSpelling-keyed,
+  OneSpelling-pair,
+  OneSpelling-each,
+  OneSpelling-such,
+  IsWithin-keyed,
+  IsWithin-pair,
+  IsWithin-each,
+  IsWithin-such,
+}
 use Rattle.oas_num.specs.Style.{Style, Any, Shortest, unsigned_in}
 use Rattle.oas_num.specs.Laws.StyleLaws.{OneFront-unsigned, OneSpelling-unsigned, IsWithin-unsigned}
 use Rattle.oas_record.specs.declared.records.Record.{Record}
@@ -26,11 +38,18 @@ pub OneFront-record : (style : Style) (in_end : Bool) → OneFront (record_in st
 OneFront-record style in_end = record { one = λ v w a b x y p q e. (OneFront-parts style in_end).one v w a b x y p.parts q.parts e }
 
 pub OneSpelling-record : (in_end : Bool) → OneSpelling (record_in Shortest in_end)
-OneSpelling-record in_end = record { same = λ v a b p q. (OneSpelling-keyed id_of (unsigned_in Shortest) (after_id Shortest in_end) OneSpelling-unsigned (OneSpelling-after_id in_end)).same v a b p.parts q.parts }
+OneSpelling-record in_end = record {
+  same = λ v a b p q. (OneSpelling-keyed id_of (unsigned_in Shortest) (after_id Shortest in_end)
+      OneSpelling-unsigned (OneSpelling-after_id in_end)).same v a b p.parts q.parts;
+}
 
 pub IsWithin-record : (in_end : Bool) → IsWithin (record_in Shortest in_end) (record_in Any in_end)
 IsWithin-record in_end = record {
-  within = λ v a p. record { whole = p.whole; parts = (IsWithin-keyed id_of (unsigned_in Shortest) (unsigned_in Any) (after_id Shortest in_end) (after_id Any in_end) IsWithin-unsigned (IsWithin-after_id in_end)).within v a p.parts };
+  within = λ v a p. record {
+    whole = p.whole;
+    parts = (IsWithin-keyed id_of (unsigned_in Shortest) (unsigned_in Any) (after_id Shortest in_end)
+        (after_id Any in_end) IsWithin-unsigned (IsWithin-after_id in_end)).within v a p.parts;
+  };
 }
 
 -- ---- lists of records
@@ -49,16 +68,24 @@ IsApart-last style in_end = record {
 }
 
 pub OneFront-records : (style : Style) (in_end : Bool) → OneFront (records_in style in_end)
-OneFront-records style in_end = OneFront-until (IsSuch IsInner (record_in style in_end)) (IsSuch IsLast (record_in style in_end)) (OneFront-inner style in_end) (OneFront-last style in_end) (IsApart-last style in_end)
+OneFront-records style in_end = OneFront-until (IsSuch IsInner (record_in style in_end)) (IsSuch IsLast (record_in style in_end))
+    (OneFront-inner style in_end) (OneFront-last style in_end) (IsApart-last style in_end)
 
 pub OneSpelling-records : (in_end : Bool) → OneSpelling (records_in Shortest in_end)
-OneSpelling-records in_end = OneSpelling-pair (IsEach (IsSuch IsInner (record_in Shortest in_end))) (λ _. IsSuch IsLast (record_in Shortest in_end)) (OneSpelling-each (IsSuch IsInner (record_in Shortest in_end)) (OneSpelling-such IsInner (record_in Shortest in_end) (OneSpelling-record in_end))) (λ _. OneSpelling-such IsLast (record_in Shortest in_end) (OneSpelling-record in_end))
+OneSpelling-records in_end = OneSpelling-pair (IsEach (IsSuch IsInner (record_in Shortest in_end))) (λ _. IsSuch IsLast (record_in Shortest in_end))
+    (OneSpelling-each (IsSuch IsInner (record_in Shortest in_end)) (OneSpelling-such IsInner (record_in Shortest in_end) (OneSpelling-record in_end)))
+    (λ _. OneSpelling-such IsLast (record_in Shortest in_end) (OneSpelling-record in_end))
 
 pub IsWithin-records : (in_end : Bool) → IsWithin (records_in Shortest in_end) (records_in Any in_end)
-IsWithin-records in_end = IsWithin-pair (IsEach (IsSuch IsInner (record_in Shortest in_end))) (IsEach (IsSuch IsInner (record_in Any in_end))) (λ _. IsSuch IsLast (record_in Shortest in_end)) (λ _. IsSuch IsLast (record_in Any in_end)) (IsWithin-each (IsSuch IsInner (record_in Shortest in_end)) (IsSuch IsInner (record_in Any in_end)) (IsWithin-such IsInner (record_in Shortest in_end) (record_in Any in_end) (IsWithin-record in_end))) (λ _. IsWithin-such IsLast (record_in Shortest in_end) (record_in Any in_end) (IsWithin-record in_end))
+IsWithin-records in_end = IsWithin-pair (IsEach (IsSuch IsInner (record_in Shortest in_end))) (IsEach (IsSuch IsInner (record_in Any in_end)))
+    (λ _. IsSuch IsLast (record_in Shortest in_end)) (λ _. IsSuch IsLast (record_in Any in_end))
+    (IsWithin-each (IsSuch IsInner (record_in Shortest in_end)) (IsSuch IsInner (record_in Any in_end))
+    (IsWithin-such IsInner (record_in Shortest in_end) (record_in Any in_end) (IsWithin-record in_end)))
+    (λ _. IsWithin-such IsLast (record_in Shortest in_end) (record_in Any in_end) (IsWithin-record in_end))
 
 -- one byte list has at most one list of records
-pub one_list : (style : Style) (in_end : Bool) (rs ss : List Record) (r s : Record) (bytes : List ℕ) → records_in style in_end (rs, r) bytes → records_in style in_end (ss, s) bytes → (rs ≡ ss) × (r ≡ s)
+pub one_list : (style : Style) (in_end : Bool) (rs ss : List Record) (r s : Record) (bytes : List ℕ) → records_in style in_end (rs, r) bytes
+    → records_in style in_end (ss, s) bytes → (rs ≡ ss) × (r ≡ s)
 one_list style in_end rs ss r s bytes p q =
     let one = (OneFront-records style in_end).one (rs, r) (ss, s) bytes bytes [] [] p q refl in
     (ap (λ x. x.0) one.1, ap (λ x. x.1) one.1)

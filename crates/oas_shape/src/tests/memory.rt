@@ -6,63 +6,10 @@
 use crate::{ListUse, PointList, RepField};
 use oas_num::{SliceSource, Why};
 use oas_ring::Point;
-use std::alloc::{AllocError, Global};
+use scarce_memory::Hoard;
+use std::alloc::Global;
 use std::process::Abort;
 use std::test::Fail;
-
-/// More bytes than any piece of memory that is there.
-const LARGEST: usize = 68_719_476_736;
-
-/// The bytes of the smallest piece.
-const SMALLEST: usize = 16;
-
-/// Takes pieces of memory, of `most` bytes and then ever smaller ones, until none is left or `held` is full.
-fn fill(alloc: Global, most: usize, held: &mut Vec<Vec<u8>>) {
-    let mut size = most;
-    for _ in 0..40u32 {
-        for _ in 0..200_000u32 {
-            if held.len() >= held.capacity() || size < SMALLEST {
-                break;
-            }
-            match Vec::with_capacity(alloc, size) {
-                Ok(piece) => {
-                    let _ = held.push(piece);
-                }
-                Err(AllocError) => break,
-            }
-        }
-        size /= 2;
-    }
-}
-
-/// All memory, kept from the calls that a test makes.
-#[derive(Drop)]
-struct Hoard {
-    /// What is given back, a small piece at a time.
-    pieces: Vec<Vec<u8>>,
-    /// All else.
-    rest: Vec<Vec<u8>>,
-    /// Whether the heap could be filled.
-    is_full: bool,
-}
-
-impl Hoard {
-    /// All memory that is there.
-    fn new(alloc: Global) -> Result<Hoard, AllocError> {
-        let mut pieces = Vec::with_capacity(alloc, 4096)?;
-        let mut rest = Vec::with_capacity(alloc, 300_000)?;
-        let room = Vec::<u8>::with_capacity(alloc, 65536)?;
-        fill(alloc, LARGEST, &mut rest);
-        drop(room);
-        fill(alloc, SMALLEST, &mut pieces);
-        let is_full = Vec::<u8>::with_capacity(alloc, SMALLEST).is_err();
-        Ok(Hoard {
-            pieces,
-            rest,
-            is_full,
-        })
-    }
-}
 
 /// Reads a polygon of type 0 with 16 deltas.
 fn read_list(alloc: Global) -> Result<PointList, Why> {
@@ -132,15 +79,15 @@ fn lists_without_memory(rt: HostRuntime) -> Result<(), Fail> {
     let mut reads = 0u32;
     let mut copies = 0u32;
     let mut walks = 0u32;
-    for _ in 0..hoard.pieces.len() {
+    for _ in 0..hoard.pieces() {
         reads = reads.saturating_add(u32::from(is_list_refused(&rt, alloc)));
         copies = copies.saturating_add(u32::from(list.try_clone(alloc).is_err()));
         walks = walks.saturating_add(u32::from(are_vertices_refused(&rt, alloc, &list)));
-        let _ = hoard.pieces.pop();
+        hoard.give_back();
     }
-    assert!(rt; !hoard.is_full || reads > 0, "no list was refused");
-    assert!(rt; !hoard.is_full || copies > 0, "no copy was refused");
-    assert!(rt; !hoard.is_full || walks > 0, "no vertices were refused");
+    assert!(rt; !hoard.is_full() || reads > 0, "no list was refused");
+    assert!(rt; !hoard.is_full() || copies > 0, "no copy was refused");
+    assert!(rt; !hoard.is_full() || walks > 0, "no vertices were refused");
     drop(hoard);
     assert!(rt; !is_list_refused(&rt, alloc));
     assert!(rt; list.try_clone(alloc).is_ok());
@@ -157,13 +104,13 @@ fn repetitions_without_memory(rt: HostRuntime) -> Result<(), Fail> {
     let mut hoard = Hoard::new(alloc)?;
     let mut reads = 0u32;
     let mut copies = 0u32;
-    for _ in 0..hoard.pieces.len() {
+    for _ in 0..hoard.pieces() {
         reads = reads.saturating_add(u32::from(is_repetition_refused(&rt, alloc)));
         copies = copies.saturating_add(u32::from(repetition.try_clone(alloc).is_err()));
-        let _ = hoard.pieces.pop();
+        hoard.give_back();
     }
-    assert!(rt; !hoard.is_full || reads > 0, "no repetition was refused");
-    assert!(rt; !hoard.is_full || copies > 0, "no copy was refused");
+    assert!(rt; !hoard.is_full() || reads > 0, "no repetition was refused");
+    assert!(rt; !hoard.is_full() || copies > 0, "no copy was refused");
     drop(hoard);
     assert!(rt; !is_repetition_refused(&rt, alloc));
     assert!(rt; repetition.try_clone(alloc).is_ok());

@@ -1,18 +1,40 @@
 //! Files by name: inputs that can't be opened or read, and outputs that are created at their first byte.
 
-use super::rows::{RECTANGLE, bytes_of};
 use crate::creating::{NewFile, Output};
-use crate::opening::{Input, name_of, run_unopened};
+use crate::opening::Input;
 use crate::replacing::Replacement;
-use crate::runs::run_canon;
-use oas_canon::Limits;
-use oas_num::{INPUT_MAX, ReaderSource, SliceSource};
+use oas_canon::{INPUT_MAX, Limits, ReaderSource, SliceSource};
+use oas_command::{run_canon, run_rekey};
 use std::alloc::Global;
 use std::fs;
 use std::fs::Files;
 use std::io::{Read, Write};
 use std::process::Abort;
 use std::test::Fail;
+
+/// The magic, START with a unit of 1000, and the table offsets.
+const HEAD: &str = "2553454D492D4F415349530D0A0103312E3000E80700000000000000000000000000";
+
+/// A cell `A` with one rectangle.
+const RECTANGLE: &str = "0E0141147B01000A140000";
+
+/// The same in a polygon, which was canonical by profile one.
+const BOX: &str = "0E0141153B010004030128290001290000";
+
+/// The same with the cell's name by number, which is accepted, and canonical by no profile.
+const NUMBERED: &str = "0D00147B01000A140000030141";
+
+/// A record that is refused.
+const LEFT_OUT: &str = "0E014122";
+
+/// A file with this body.
+fn file_of(alloc: Global, body: &str) -> Result<Vec<u8>, Fail> {
+    let mut bytes = hex::decode(alloc, HEAD)?;
+    bytes.extend_from_slice(hex::decode(alloc, body)?.as_slice())?;
+    bytes.extend_from_slice(&[0x02, 0xFC, 0x01])?;
+    bytes.extend_from_slice(&[0; 253])?;
+    Ok(bytes)
+}
 
 /// Asserts that the file has these bytes.
 fn expect_file(
@@ -96,7 +118,7 @@ fn file_that_cannot_be_created(rt: HostRuntime) -> Result<(), Fail> {
     assert!(rt; file.write("abc".as_bytes()).is_err());
     file.flush()?;
     let mut out = Output::new(&rt, Some("nowhere/new"));
-    let bytes = bytes_of(rt.alloc(), RECTANGLE)?;
+    let bytes = file_of(rt.alloc(), RECTANGLE)?;
     let line = "a: refused 33 at 0\n";
     expect_canon(&rt, rt.alloc(), bytes.as_slice(), &mut out, 1, line);
     Ok(())
@@ -105,8 +127,8 @@ fn file_that_cannot_be_created(rt: HostRuntime) -> Result<(), Fail> {
 #[test]
 fn canonical_file_that_replaces_another(rt: HostRuntime) -> Result<(), Fail> {
     let alloc = rt.alloc();
-    let bytes = bytes_of(alloc, RECTANGLE)?;
-    let longer = bytes_of(alloc, "HEAD CELL RECT RECT 22 TAIL")?;
+    let bytes = file_of(alloc, RECTANGLE)?;
+    let longer = file_of(alloc, "0E0141147B01000A140000147B01000A14000022")?;
     fs::write(&rt, "replaced", longer.as_slice())?;
     let mut refused = Output::new(&rt, Some("replaced"));
     let line = "a: refused 11 at 53\n";
@@ -121,7 +143,7 @@ fn canonical_file_that_replaces_another(rt: HostRuntime) -> Result<(), Fail> {
 #[test]
 fn file_that_is_input_and_output(rt: HostRuntime) -> Result<(), Fail> {
     let alloc = rt.alloc();
-    let respelled = bytes_of(alloc, "HEAD 0000 CELL 147B01008A00140000 TAIL")?;
+    let respelled = file_of(alloc, "00000E0141147B01008A00140000")?;
     fs::write(&rt, "both", respelled.as_slice())?;
     let mut from = ReaderSource::new(alloc, Input::open(&rt, Some("both"))?, INPUT_MAX)?;
     let mut out = Output::new(&rt, Some("both"));
@@ -130,7 +152,7 @@ fn file_that_is_input_and_output(rt: HostRuntime) -> Result<(), Fail> {
     let status = run_canon(alloc, "both", &mut from, &mut out, &mut err, limits);
     assert_eq!(rt; status, 0);
     assert!(rt; err.is_empty());
-    let bytes = bytes_of(alloc, RECTANGLE)?;
+    let bytes = file_of(alloc, RECTANGLE)?;
     expect_file(&rt, rt.alloc(), "both", bytes.as_slice())?;
     Ok(fs::remove_file(&rt, "both")?)
 }
@@ -146,12 +168,56 @@ fn inputs(rt: HostRuntime) -> Result<(), Fail> {
     let mut text = Vec::new(alloc);
     Input::open(&rt, Some("in"))?.read_to_end(&mut text)?;
     assert_eq!(rt; text.as_slice(), "abc".as_bytes());
-    fs::remove_file(&rt, "in")?;
-    assert_eq!(rt; name_of(Some("in")), "in");
-    assert_eq!(rt; name_of(None), "standard input");
+    Ok(fs::remove_file(&rt, "in")?)
+}
+
+/// Re-keys a file by name into itself, and answers the status and what the file then has.
+fn rekey_in_place(rt: &HostRuntime, path: &str, file: &[u8]) -> Result<(u8, Vec<u8>), Fail> {
+    let alloc = rt.alloc();
+    fs::write(rt, path, file)?;
+    let mut from = ReaderSource::new(alloc, Input::open(rt, Some(path))?, INPUT_MAX)?;
+    let mut out = Output::new(rt, Some(path));
     let mut err: Vec<u8> = Vec::new(alloc);
-    assert_eq!(rt; run_unopened("missing", &mut err), 1);
-    let line = "missing: cannot be opened\n";
-    assert_eq!(rt; err.as_slice(), line.as_bytes());
+    let limits = Limits::standard();
+    let status = run_rekey(alloc, path, &mut from, &mut out, &mut err, limits);
+    let mut left = Vec::new(alloc);
+    fs::open(rt, path)?.read_to_end(&mut left)?;
+    fs::remove_file(rt, path)?;
+    Ok((status, left))
+}
+
+#[test]
+fn file_that_is_old_and_new(rt: HostRuntime) -> Result<(), Fail> {
+    let alloc = rt.alloc();
+    for (file, status, after) in [
+        (BOX, 0u8, RECTANGLE),
+        (NUMBERED, 3, NUMBERED),
+        (LEFT_OUT, 1, LEFT_OUT),
+    ] {
+        let bytes = file_of(alloc, file)?;
+        let (found, left) = rekey_in_place(&rt, "rekeyed", bytes.as_slice())?;
+        assert_eq!(rt; found, status, "of {file}");
+        assert_eq!(rt;
+            left.as_slice(),
+            file_of(alloc, after)?.as_slice(),
+            "of {file}"
+        );
+    }
+    Ok(())
+}
+
+#[test]
+fn file_that_is_not_created(rt: HostRuntime) -> Result<(), Fail> {
+    let alloc = rt.alloc();
+    for (file, status) in [(NUMBERED, 3u8), (LEFT_OUT, 1)] {
+        let bytes = file_of(alloc, file)?;
+        let mut from = SliceSource::new(bytes.as_slice(), INPUT_MAX);
+        let mut out = Output::new(&rt, Some("uncreated"));
+        let mut err: Vec<u8> = Vec::new(alloc);
+        let limits = Limits::standard();
+        let found = run_rekey(alloc, "a", &mut from, &mut out, &mut err, limits);
+        assert_eq!(rt; found, status, "of {file}");
+        assert!(rt; !fs::exists(&rt, "uncreated")?);
+    }
     Ok(())
 }

@@ -1,6 +1,6 @@
 //! Command lines: what they ask for, or with which status they end.
 
-use crate::commands::{Request, Task, parse};
+use crate::commands::{Inputs, Question, Request, Task, parse};
 use std::alloc::Global;
 use std::process::Abort;
 use std::test::Fail;
@@ -37,77 +37,107 @@ fn canon<'a>(input: Option<&'a str>, output: Option<&'a str>) -> Task<'a> {
     Task::Canon { input, output }
 }
 
+/// A question to one file.
+fn ask<'a>(question: Question, input: Option<&'a str>) -> Task<'a> {
+    let inputs = Inputs::One(input);
+    Task::Ask { question, inputs }
+}
+
+/// Asserts that `key` with these words asks these files, whose answers have names.
+fn expect_named(
+    rt: &impl Abort,
+    alloc: Global,
+    line: &str,
+    wanted: &[Option<&str>],
+) -> Result<(), Fail> {
+    let mut files = Vec::new(alloc);
+    for file in wanted {
+        files.push(*file)?;
+    }
+    let (question, inputs) = (Question::Key, Inputs::Named(files));
+    expect_task(rt, alloc, line, false, Task::Ask { question, inputs })
+}
+
 #[test]
 fn words_of_canon(rt: HostRuntime) -> Result<(), Fail> {
     let alloc = rt.alloc();
+    let none = canon(None, None);
+    expect_task(&rt, alloc, "oascanon canon", false, none)?;
     let one = canon(Some("a"), None);
-    let both = canon(Some("a"), Some("b"));
-    expect_task(&rt, alloc, "oascanon canon", false, canon(None, None))?;
     expect_task(&rt, alloc, "oascanon canon a", false, one)?;
+    let both = canon(Some("a"), Some("b"));
     expect_task(&rt, alloc, "oascanon canon a b", false, both)?;
-    expect_task(
-        &rt,
-        alloc,
-        "oascanon canon --large",
-        true,
-        canon(None, None),
-    )?;
+    let none = canon(None, None);
+    expect_task(&rt, alloc, "oascanon canon --large", true, none)?;
+    let one = canon(Some("a"), None);
     expect_task(&rt, alloc, "oascanon canon --large a", true, one)?;
+    let both = canon(Some("a"), Some("b"));
     expect_task(&rt, alloc, "oascanon canon a b --large", true, both)?;
-    let dash = canon(Some("-"), Some("-"));
-    expect_task(&rt, alloc, "oascanon canon - -", false, dash)?;
+    let dashes = canon(None, None);
+    expect_task(&rt, alloc, "oascanon canon - -", false, dashes)?;
+    let file = canon(Some("./-"), None);
+    expect_task(&rt, alloc, "oascanon canon ./- -", false, file)?;
     let flag = canon(Some("--large"), None);
     expect_task(&rt, alloc, "oascanon canon -- --large", false, flag)
 }
 
 #[test]
+fn words_of_questions(rt: HostRuntime) -> Result<(), Fail> {
+    let alloc = rt.alloc();
+    let none = ask(Question::Check, None);
+    expect_task(&rt, alloc, "oascanon check", false, none)?;
+    let dash = ask(Question::Check, None);
+    expect_task(&rt, alloc, "oascanon check -", false, dash)?;
+    let one = ask(Question::Check, Some("a"));
+    expect_task(&rt, alloc, "oascanon check --large a", true, one)?;
+    let none = ask(Question::Key, None);
+    expect_task(&rt, alloc, "oascanon key", false, none)?;
+    let one = ask(Question::Key, Some("a"));
+    expect_task(&rt, alloc, "oascanon key a --large", true, one)?;
+    let two = [Some("a"), Some("b")];
+    expect_named(&rt, alloc, "oascanon key a b", &two)?;
+    let three = [Some("a"), None, Some("a")];
+    expect_named(&rt, alloc, "oascanon key a - a", &three)?;
+    expect_named(&rt, alloc, "oascanon key --names a", &[Some("a")])?;
+    expect_named(&rt, alloc, "oascanon key --names", &[None])
+}
+
+#[test]
+fn words_of_lists(rt: HostRuntime) -> Result<(), Fail> {
+    let alloc = rt.alloc();
+    let (question, inputs) = (Question::Check, Inputs::Listed(Some("a")));
+    let file = Task::Ask { question, inputs };
+    expect_task(&rt, alloc, "oascanon check --files0-from=a", false, file)?;
+    let (question, inputs) = (Question::Key, Inputs::Listed(None));
+    let dash = Task::Ask { question, inputs };
+    let line = "oascanon key --large --files0-from -";
+    expect_task(&rt, alloc, line, true, dash)
+}
+
+#[test]
 fn words_of_the_others(rt: HostRuntime) -> Result<(), Fail> {
     let alloc = rt.alloc();
-    let (none, input) = (None, Some("a"));
-    expect_task(
-        &rt,
-        alloc,
-        "oascanon check",
-        false,
-        Task::Check { input: none },
-    )?;
-    expect_task(
-        &rt,
-        alloc,
-        "oascanon check --large a",
-        true,
-        Task::Check { input },
-    )?;
-    expect_task(
-        &rt,
-        alloc,
-        "oascanon show",
-        false,
-        Task::Show { input: none },
-    )?;
-    expect_task(
-        &rt,
-        alloc,
-        "oascanon show --large a",
-        true,
-        Task::Show { input },
-    )?;
-    expect_task(&rt, alloc, "oascanon key", false, Task::Key { input: none })?;
-    expect_task(
-        &rt,
-        alloc,
-        "oascanon key a --large",
-        true,
-        Task::Key { input },
-    )?;
-    let (first, second) = ("a", "b");
+    let input = None;
+    expect_task(&rt, alloc, "oascanon show", false, Task::Show { input })?;
+    let input = Some("a");
+    let show = Task::Show { input };
+    expect_task(&rt, alloc, "oascanon show --large a", true, show)?;
+    let keys = Task::Keys { input };
+    expect_task(&rt, alloc, "oascanon keys a", false, keys)?;
+    let (first, second) = (Some("a"), Some("b"));
+    let diff = Task::Diff { first, second };
+    expect_task(&rt, alloc, "oascanon diff a b", false, diff)?;
     let same = Task::Same { first, second };
     expect_task(&rt, alloc, "oascanon same a b", false, same)?;
-    expect_task(&rt, alloc, "oascanon same a --large b", true, same)?;
-    let (old, new) = ("a", "b");
+    let (first, second) = (None, Some("b"));
+    let same = Task::Same { first, second };
+    expect_task(&rt, alloc, "oascanon same - --large b", true, same)?;
+    let (old, new) = (Some("a"), Some("b"));
     let rekey = Task::Rekey { old, new };
     expect_task(&rt, alloc, "oascanon rekey a b", false, rekey)?;
-    expect_task(&rt, alloc, "oascanon rekey --large a b", true, rekey)
+    let (old, new) = (None, None);
+    let rekey = Task::Rekey { old, new };
+    expect_task(&rt, alloc, "oascanon rekey --large - -", true, rekey)
 }
 
 #[test]
@@ -119,15 +149,20 @@ fn words_that_are_refused(rt: HostRuntime) -> Result<(), Fail> {
         "oascanon --large",
         "oascanon --large canon",
         "oascanon canon a b c",
-        "oascanon check a b",
         "oascanon same",
         "oascanon same a",
         "oascanon same a b c",
+        "oascanon same - -",
         "oascanon rekey",
         "oascanon rekey a",
         "oascanon rekey a b c",
         "oascanon show a b",
-        "oascanon key a b",
+        "oascanon key a - -",
+        "oascanon check --names - -",
+        "oascanon key --files0-from a b",
+        "oascanon key --files0-from a --files0-from b",
+        "oascanon key --files0-from",
+        "oascanon show --names a",
         "oascanon canon --small",
         "oascanon canon --large --large",
         "oascanon canon --large=1",

@@ -32,4 +32,5 @@ pub returns : goal.returns
 returns g c =
     let num : c.as_bytes.result.now ≡ decimal c.args.unit.num = c.as_bytes.ensures.value ∙ c.format.ensures.text ∙ ap decimal c.num.ensures.value in
     let den : c.as_bytes-2.result.now ≡ decimal c.args.unit.den = c.as_bytes-2.ensures.value ∙ c.format-2.ensures.text ∙ ap decimal c.den.ensures.value in
-    rw (unit_fields c.args.unit.num c.args.unit.den, ← num, ← den) (ends _ _ (first _ c.in_ok-put_all.ensures ▸ c.in_ok-put_field.ensures ▸ c.in_ok-put.ensures ▸ c.in_ok-put_all-2.ensures) c.put-2.ensures)
+    rw (unit_fields c.args.unit.num c.args.unit.den, ← num, ← den)
+    (ends _ _ (first _ c.in_ok-put_all.ensures ▸ c.in_ok-put_field.ensures ▸ c.in_ok-put.ensures ▸ c.in_ok-put_all-2.ensures) c.put-2.ensures)

@@ -16,5 +16,9 @@ returns-in_err-put_start g c =
 pub returns : goal.returns
 returns g c =
     let points : c.as_slice.result.now ≡ c.args.points.now = c.as_slice.ensures in
-    rw (point_fields (codes "path") (decimal c.args.layer ∷ decimal c.args.datatype ∷ decimal c.args.half_width ∷ signed_decimal c.args.start ∷ signed_decimal c.args.end ∷ []) c.args.points.now, ← points)
+    rw (
+      point_fields (codes "path") (decimal c.args.layer ∷ decimal c.args.datatype ∷ decimal c.args.half_width ∷ signed_decimal c.args.start
+          ∷ signed_decimal c.args.end ∷ []) c.args.points.now,
+      ← points,
+    )
     (ends _ _ (first _ (simp (to_z-of_z w64 c.args.start (search rules), to_z-of_z w64 c.args.end (search rules)) at c.in_ok-put_start.ensures)) c.put_points.ensures)

@@ -1,8 +1,8 @@
-use Rattle.oas_modal.proofs.NameLemmas.{form_of_each, string_is_given, no_string_is_given}
+use Rattle.oas_modal.proofs.NameLemmas.{numbering_of_each, string_is_given, no_string_is_given}
 use Rattle.oas_modal.proofs.name_laws.one_string.Goals as goal
 
-pub returns-clause-form : goal.returns-clause-form
-returns-clause-form c = form_of_each
+pub returns-clause-numbering : goal.returns-clause-numbering
+returns-clause-numbering c = numbering_of_each
 
 pub returns-clause-string : goal.returns-clause-string
 returns-clause-string c = string_is_given

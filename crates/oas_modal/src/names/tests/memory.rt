@@ -10,38 +10,10 @@ use oas_drawing::Drawn;
 use oas_layout::Element;
 use oas_num::Why;
 use oas_record::CellRef;
-use std::alloc::{AllocError, Global};
+use scarce_memory::Hoard;
+use std::alloc::Global;
 use std::process::Abort;
 use std::test::Fail;
-
-/// Takes pieces of memory, from `most` bytes down to 16, until none is left or `held` is full.
-fn fill(alloc: Global, most: usize, held: &mut Vec<Vec<u8>>) {
-    let mut size = most;
-    for _ in 0..40u32 {
-        for _ in 0..200000u32 {
-            if held.len() >= held.capacity() || size < 16 {
-                break;
-            }
-            match Vec::with_capacity(alloc, size) {
-                Ok(piece) => {
-                    let _ = held.push(piece);
-                }
-                Err(AllocError) => break,
-            }
-        }
-        size /= 2;
-    }
-}
-
-/// All memory, but for some that can be had back a small piece at a time.
-pub(crate) fn take_all(alloc: Global) -> Result<Vec<Vec<u8>>, Fail> {
-    let mut held = Vec::with_capacity(alloc, 300000)?;
-    let room = Vec::<u8>::with_capacity(alloc, 65536)?;
-    fill(alloc, 68719476736, &mut held);
-    drop(room);
-    fill(alloc, 16, &mut held);
-    Ok(held)
-}
 
 /// Whether the numbers below `count` have the strings that they were given, and `count` has none.
 fn holds(names: &NameTable<u64>, count: u64) -> bool {
@@ -58,7 +30,7 @@ fn insist_on_name(
     rt: &impl Abort,
     names: &mut NameTable<u64>,
     number: u64,
-    held: &mut Vec<Vec<u8>>,
+    hoard: &mut Hoard,
 ) -> u32 {
     for refused in 0..4000u32 {
         match names.name(number / 2, None) {
@@ -67,7 +39,7 @@ fn insist_on_name(
                 assert!(rt; why == Why::Memory && holds(names, number));
             }
         }
-        let _ = held.pop();
+        hoard.give_back();
     }
     assert!(rt; false, "a name is never taken");
     0
@@ -77,15 +49,14 @@ fn insist_on_name(
 fn names_without_memory(rt: HostRuntime) -> Result<(), Fail> {
     let alloc = rt.alloc();
     let mut names = NameTable::new(alloc);
-    let mut held = take_all(alloc)?;
-    let is_full = Vec::<u8>::with_capacity(alloc, 16).is_err();
+    let mut hoard = Hoard::new(alloc)?;
+    let is_full = hoard.is_full();
     let mut refused = 0u32;
     for number in 0..100 {
-        let times = insist_on_name(&rt, &mut names, number, &mut held);
+        let times = insist_on_name(&rt, &mut names, number, &mut hoard);
         refused = refused.saturating_add(times);
     }
-    held.clear();
-    drop(held);
+    drop(hoard);
     assert!(rt; !is_full || refused > 0);
     assert!(rt; holds(&names, 100));
     assert!(rt; names.name(0, Some(0)) == Err(Why::MixedNumbering));
@@ -117,7 +88,7 @@ fn drawing(number: u64) -> Drawn
 }
 
 /// Draws it in a new cell, and gives back a piece of memory after each refusal. How many there were.
-fn insist_on_drawing(rt: &impl Abort, alloc: Global, number: u64, held: &mut Vec<Vec<u8>>) -> u32 {
+fn insist_on_drawing(rt: &impl Abort, alloc: Global, number: u64, hoard: &mut Hoard) -> u32 {
     for refused in 0..4000u32 {
         let mut cell = HeldCell::new(alloc, CellRef::Number(number));
         match cell.add(drawing(number), 5) {
@@ -126,7 +97,7 @@ fn insist_on_drawing(rt: &impl Abort, alloc: Global, number: u64, held: &mut Vec
                 assert!(rt; back == drawing(number));
             }
         }
-        let _ = held.pop();
+        hoard.give_back();
     }
     assert!(rt; false, "it is never drawn");
     0
@@ -134,11 +105,10 @@ fn insist_on_drawing(rt: &impl Abort, alloc: Global, number: u64, held: &mut Vec
 
 /// Draws it where there is no memory at first.
 fn draw_without_memory(rt: &impl Abort, alloc: Global, number: u64) -> Result<(), Fail> {
-    let mut held = take_all(alloc)?;
-    let is_full = Vec::<u8>::with_capacity(alloc, 64).is_err();
-    let refused = insist_on_drawing(rt, alloc, number, &mut held);
-    held.clear();
-    drop(held);
+    let mut hoard = Hoard::new(alloc)?;
+    let is_full = hoard.is_full();
+    let refused = insist_on_drawing(rt, alloc, number, &mut hoard);
+    drop(hoard);
     assert!(rt; !is_full || refused > 0);
     Ok(())
 }

@@ -6,11 +6,11 @@
 
 use super::unit;
 use crate::Reader;
-use crate::names::tests::memory::take_all;
 use crate::names::tests::name;
 use oas_layout::{Layout, Limits, Profile};
 use oas_num::{Fraction, Name, Refusal, Why};
 use oas_record::{CellRef, Record, Rectangle, Spot};
+use scarce_memory::Hoard;
 use std::alloc::Global;
 use std::process::Abort;
 use std::test::Fail;
@@ -62,7 +62,7 @@ fn insist(
     alloc: Global,
     unit: Fraction,
     names: Vec<(Name, Name)>,
-    held: &mut Vec<Vec<u8>>,
+    hoard: &mut Hoard,
     refused: &mut Vec<u64>,
 ) -> bool {
     for (first, second) in names {
@@ -77,7 +77,7 @@ fn insist(
                 let _ = refused.push(refusal.at);
             }
         }
-        let _ = held.pop();
+        hoard.give_back();
     }
     false
 }
@@ -90,11 +90,10 @@ fn reader_without_memory(rt: HostRuntime) -> Result<(), Fail> {
         names.push((name(alloc, "A")?, name(alloc, "B")?))?;
     }
     let mut refused = Vec::with_capacity(alloc, 2000)?;
-    let mut held = take_all(alloc)?;
-    let is_full = Vec::<u8>::with_capacity(alloc, 64).is_err();
-    let done = insist(&rt, alloc, unit()?, names, &mut held, &mut refused);
-    held.clear();
-    drop(held);
+    let mut hoard = Hoard::new(alloc)?;
+    let is_full = hoard.is_full();
+    let done = insist(&rt, alloc, unit()?, names, &mut hoard, &mut refused);
+    drop(hoard);
     assert!(rt; done, "a layout is never made");
     for at in [0, 5, END] {
         assert!(rt; !is_full || refused.contains(&at), "never refused at {at}");

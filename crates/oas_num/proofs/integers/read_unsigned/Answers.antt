@@ -21,7 +21,8 @@ overflow_add-value g c =
 pub returns-then-byte-lt128 : goal.returns-then-byte-lt128
 returns-then-byte-lt128 g c =
     let d = digit_fits _ _ _ _ _ c.loop.invariant c.in_ok-byte.byte c.loop-test.true in
-    found _ _ _ _ _ c.loop.invariant _ _ _ (omega arith) c.in_ok-byte.ensures c.if-byte-lt128.true (ap (λ (x : ℕ). c.loop.value + x * c.loop.weight) c.from.ensures) (rw c.from.ensures (omega (arith, d)))
+    found _ _ _ _ _ c.loop.invariant _ _ _ (omega arith) c.in_ok-byte.ensures c.if-byte-lt128.true
+    (ap (λ (x : ℕ). c.loop.value + x * c.loop.weight) c.from.ensures) (rw c.from.ensures (omega (arith, d)))
 
 pub overflow_mul-weight : goal.overflow_mul-weight
 overflow_mul-weight g c = omega (arith, weight_fits _ _ _ _ _ c.loop.invariant c.loop-test.true)
@@ -47,4 +48,5 @@ overflow_add-result g c =
 pub returns : goal.returns
 returns g c =
     let n = at_ninth _ _ _ _ _ c.loop.invariant c.loop-test.false (omega arith) in
-    rw c.from-2.ensures (found _ _ _ _ _ c.loop.invariant _ _ _ (omega arith) c.in_ok-last.ensures (omega (arith, c.if-last-gt1.false)) (small_digit _ _ _ c.if-last-gt1.false) (last_fits _ _ _ n.1 n.2 c.if-last-gt1.false))
+    rw c.from-2.ensures (found _ _ _ _ _ c.loop.invariant _ _ _ (omega arith) c.in_ok-last.ensures (omega (arith, c.if-last-gt1.false))
+    (small_digit _ _ _ c.if-last-gt1.false) (last_fits _ _ _ n.1 n.2 c.if-last-gt1.false))

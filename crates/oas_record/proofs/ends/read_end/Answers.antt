@@ -16,15 +16,21 @@ returns-in_err-pass_offsets_if g c =
 pub returns-in_err-read : goal.returns-in_err-read
 returns-in_err-read g c =
     let p = err_from_is_err_and c.from_residual-in_err-read.result c.from_residual-in_err-read.ensures.1 in
-    rw (p.1, p.2) (fails_at (at_image {f = nothing} {A = (end_parts c.args.in_end).any} {took = EndTook c.args.in_end} _ ▸ (OneFront-offsets_if _, c.in_ok-pass_offsets_if.ensures)) c.in_err-read.ensures)
+    rw (p.1, p.2) (fails_at (at_image {f = nothing} {A = (end_parts c.args.in_end).any} {took = EndTook c.args.in_end} _ ▸
+    (OneFront-offsets_if _, c.in_ok-pass_offsets_if.ensures)) c.in_err-read.ensures)
 
 pub returns-in_err-scheme : goal.returns-in_err-scheme
 returns-in_err-scheme g c =
     let p = err_from_is_err_and c.from_residual-in_err-scheme.result c.from_residual-in_err-scheme.ensures.1 in
-    rw (p.1, p.2) (fails_last (at_image {f = nothing} {A = (end_parts c.args.in_end).any} {took = EndTook c.args.in_end} _ ▸ (OneFront-offsets_if _, c.in_ok-pass_offsets_if.ensures) ▸ (OneFront-padding, c.in_ok-read.ensures)) (such_took c.in_err-scheme.ensures))
+    rw (p.1, p.2) (fails_last (at_image {f = nothing} {A = (end_parts c.args.in_end).any} {took = EndTook c.args.in_end} _ ▸
+    (OneFront-offsets_if _, c.in_ok-pass_offsets_if.ensures) ▸ (OneFront-padding, c.in_ok-read.ensures)) (such_took c.in_err-scheme.ensures))
 
 pub returns-then-scheme-gt0 : goal.returns-then-scheme-gt0
-returns-then-scheme-gt0 g c = fails_last (at_image {f = nothing} {A = (end_parts c.args.in_end).any} {took = EndTook c.args.in_end} _ ▸ (OneFront-offsets_if _, c.in_ok-pass_offsets_if.ensures) ▸ (OneFront-padding, c.in_ok-read.ensures)) (such_refused OneFront-IsUnsigned refl (other_scheme c.if-scheme-gt0.true) (refl, other_scheme c.if-scheme-gt0.true) c.in_ok-scheme.ensures)
+returns-then-scheme-gt0 g c = fails_last (at_image {f = nothing} {A = (end_parts c.args.in_end).any} {took = EndTook c.args.in_end} _ ▸
+    (OneFront-offsets_if _, c.in_ok-pass_offsets_if.ensures) ▸ (OneFront-padding, c.in_ok-read.ensures))
+    (such_refused OneFront-IsUnsigned refl (other_scheme c.if-scheme-gt0.true) (refl, other_scheme c.if-scheme-gt0.true) c.in_ok-scheme.ensures)
 
 pub returns : goal.returns
-returns g c = is_read (at_image {f = nothing} {A = (end_parts c.args.in_end).any} {took = EndTook c.args.in_end} _ ▸ (OneFront-offsets_if _, c.in_ok-pass_offsets_if.ensures) ▸ (OneFront-padding, c.in_ok-read.ensures)) (scheme_read c.if-scheme-gt0.false c.in_ok-scheme.ensures)
+returns g c = is_read (at_image {f = nothing} {A = (end_parts c.args.in_end).any} {took = EndTook c.args.in_end} _ ▸
+    (OneFront-offsets_if _, c.in_ok-pass_offsets_if.ensures) ▸ (OneFront-padding, c.in_ok-read.ensures))
+    (scheme_read c.if-scheme-gt0.false c.in_ok-scheme.ensures)

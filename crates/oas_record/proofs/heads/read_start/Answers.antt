@@ -29,15 +29,21 @@ returns-in_err-unit g c =
 pub returns-in_err-flag : goal.returns-in_err-flag
 returns-in_err-flag g c =
     let p = err_from_is_err_and c.from_residual-in_err-flag.result c.from_residual-in_err-flag.ensures.1 in
-    rw (p.1, p.2) (fails_at (at_image _ ▸ id_field c.if-id-ne1.false c.in_ok-id.ensures ▸ (OneFront-version Any, c.in_ok-read_version.ensures) ▸ (OneFront-unit Any, c.in_ok-unit.ensures)) (such_took c.in_err-flag.ensures))
+    rw (p.1, p.2) (fails_at (at_image _ ▸ id_field c.if-id-ne1.false c.in_ok-id.ensures ▸ (OneFront-version Any, c.in_ok-read_version.ensures) ▸
+    (OneFront-unit Any, c.in_ok-unit.ensures)) (such_took c.in_err-flag.ensures))
 
 pub returns-then-flag-gt1 : goal.returns-then-flag-gt1
-returns-then-flag-gt1 g c = fails_at (at_image _ ▸ id_field c.if-id-ne1.false c.in_ok-id.ensures ▸ (OneFront-version Any, c.in_ok-read_version.ensures) ▸ (OneFront-unit Any, c.in_ok-unit.ensures)) (such_refused OneFront-IsUnsigned refl (other_flag c.if-flag-gt1.true) (refl, other_flag c.if-flag-gt1.true) c.in_ok-flag.ensures)
+returns-then-flag-gt1 g c = fails_at (at_image _ ▸ id_field c.if-id-ne1.false c.in_ok-id.ensures ▸
+    (OneFront-version Any, c.in_ok-read_version.ensures) ▸ (OneFront-unit Any, c.in_ok-unit.ensures))
+    (such_refused OneFront-IsUnsigned refl (other_flag c.if-flag-gt1.true) (refl, other_flag c.if-flag-gt1.true) c.in_ok-flag.ensures)
 
 pub returns-in_err-pass_offsets_if : goal.returns-in_err-pass_offsets_if
 returns-in_err-pass_offsets_if g c =
     let p = err_from_is_err_and c.from_residual-in_err-pass_offsets_if.result c.from_residual-in_err-pass_offsets_if.ensures.1 in
-    rw (p.1, p.2) (fails_last (at_image _ ▸ id_field c.if-id-ne1.false c.in_ok-id.ensures ▸ (OneFront-version Any, c.in_ok-read_version.ensures) ▸ (OneFront-unit Any, c.in_ok-unit.ensures) ▸ flag_field c.if-flag-gt1.false c.in_ok-flag.ensures) c.in_err-pass_offsets_if.ensures)
+    rw (p.1, p.2) (fails_last (at_image _ ▸ id_field c.if-id-ne1.false c.in_ok-id.ensures ▸ (OneFront-version Any, c.in_ok-read_version.ensures) ▸
+    (OneFront-unit Any, c.in_ok-unit.ensures) ▸ flag_field c.if-flag-gt1.false c.in_ok-flag.ensures) c.in_err-pass_offsets_if.ensures)
 
 pub returns : goal.returns
-returns g c = is_read (at_image {took = StartTook} _ ▸ id_field c.if-id-ne1.false c.in_ok-id.ensures ▸ (OneFront-version Any, c.in_ok-read_version.ensures) ▸ (OneFront-unit Any, c.in_ok-unit.ensures) ▸ flag_field c.if-flag-gt1.false c.in_ok-flag.ensures) c.in_ok-pass_offsets_if.ensures
+returns g c = is_read (at_image {took = StartTook} _ ▸ id_field c.if-id-ne1.false c.in_ok-id.ensures ▸
+    (OneFront-version Any, c.in_ok-read_version.ensures) ▸ (OneFront-unit Any, c.in_ok-unit.ensures) ▸ flag_field c.if-flag-gt1.false
+    c.in_ok-flag.ensures) c.in_ok-pass_offsets_if.ensures

@@ -36,4 +36,5 @@ pub returns-then-one-ne49 : goal.returns-then-one-ne49
 returns-then-one-ne49 g c = version_other c.if-length-ne3.false c.then-one-ne49.either c.in_ok-length.ensures (three c.in_ok-one.ensures c.in_ok-point.ensures c.in_ok-zero.ensures)
 
 pub returns : goal.returns
-returns g c = version_done tt c.if-length-ne3.false (c.if-one-ne49.false, (c.if-point-ne46.false, c.if-zero-ne48.false)) c.in_ok-length.ensures (three c.in_ok-one.ensures c.in_ok-point.ensures c.in_ok-zero.ensures)
+returns g c = version_done tt c.if-length-ne3.false (c.if-one-ne49.false, (c.if-point-ne46.false, c.if-zero-ne48.false)) c.in_ok-length.ensures
+    (three c.in_ok-one.ensures c.in_ok-point.ensures c.in_ok-zero.ensures)

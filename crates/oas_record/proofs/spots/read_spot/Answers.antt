@@ -20,4 +20,5 @@ returns-in_err-repetition g c =
     rw (p.1, p.2) (fails_last (at_image _ ▸ (OneFront-signed_if _, c.in_ok-x.ensures) ▸ (OneFront-signed_if _, c.in_ok-y.ensures)) c.in_err-repetition.ensures)
 
 pub returns : goal.returns
-returns g c = is_read (at_image {took = SpotTook c.args.x c.args.y c.args.repetition} _ ▸ (OneFront-signed_if _, c.in_ok-x.ensures) ▸ (OneFront-signed_if _, c.in_ok-y.ensures)) c.in_ok-repetition.ensures
+returns g c = is_read (at_image {took = SpotTook c.args.x c.args.y c.args.repetition} _ ▸ (OneFront-signed_if _, c.in_ok-x.ensures) ▸
+    (OneFront-signed_if _, c.in_ok-y.ensures)) c.in_ok-repetition.ensures

@@ -11,13 +11,13 @@ returns-in_err-delta g c =
     let p = err_from_is_err_and c.from_residual.result c.from_residual.ensures.1 in
     rw (p.1, p.2) (alternated_fails c.loop.invariant _ (omega arith) c.in_err-delta.ensures)
 
-pub returns-in_err-push : goal.returns-in_err-push
-returns-in_err-push g c =
-    let p = err_from_is_err_and c.from_residual-in_err-push.result c.from_residual-in_err-push.ensures.1 in
-    rw (p.1, p.2) (alternated_no_memory c.loop.invariant _ (omega arith) c.in_ok-delta.ensures)
+pub returns-in_err-keep : goal.returns-in_err-keep
+returns-in_err-keep g c =
+    let p = err_from_is_err_and c.from_residual-in_err-keep.result c.from_residual-in_err-keep.ensures.1 in
+    rw (p.1, p.2, c.in_err-keep.ensures.refused) (alternated_no_memory c.loop.invariant _ (omega arith) c.in_ok-delta.ensures)
 
 pub loop-preserved : goal.loop-preserved
-loop-preserved g c = rw c.in_ok-push.ensures.items (alternated_more c.loop.invariant c.in_ok-delta.ensures c.along.ensures)
+loop-preserved g c = rw c.in_ok-keep.ensures.kept (alternated_more c.loop.invariant c.in_ok-delta.ensures c.along.ensures)
 
 pub returns : goal.returns
 returns g c = alternated_all c.loop.invariant _ (omega arith)

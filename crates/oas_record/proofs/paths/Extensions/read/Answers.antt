@@ -22,7 +22,9 @@ returns-in_err-start g c =
 pub returns-in_err-end : goal.returns-in_err-end
 returns-in_err-end g c =
     let p = err_from_is_err_and c.from_residual-in_err-end.result c.from_residual-in_err-end.ensures.1 in
-    rw (p.1, p.2) (fails_last (at_image _ ▸ scheme_field (omega (arith, c.if-scheme-ge16.false)) c.in_ok-scheme.ensures ▸ (OneFront-signed_if _, c.in_ok-start.ensures)) (signed_took _ c.in_err-end.ensures))
+    rw (p.1, p.2) (fails_last (at_image _ ▸ scheme_field (omega (arith, c.if-scheme-ge16.false)) c.in_ok-scheme.ensures ▸
+    (OneFront-signed_if _, c.in_ok-start.ensures)) (signed_took _ c.in_err-end.ensures))
 
 pub returns : goal.returns
-returns g c = rw (c.of.ensures, c.of-2.ensures) (is_read (at_image {took = ExtensionsTook} _ ▸ scheme_field (omega (arith, c.if-scheme-ge16.false)) c.in_ok-scheme.ensures ▸ (OneFront-signed_if _, c.in_ok-start.ensures)) c.in_ok-end.ensures)
+returns g c = rw (c.of.ensures, c.of-2.ensures) (is_read (at_image {took = ExtensionsTook} _ ▸ scheme_field (omega (arith, c.if-scheme-ge16.false))
+    c.in_ok-scheme.ensures ▸ (OneFront-signed_if _, c.in_ok-start.ensures)) c.in_ok-end.ensures)

@@ -26,17 +26,23 @@ returns-in_err-half_width g c =
 pub returns-in_err-extensions : goal.returns-in_err-extensions
 returns-in_err-extensions g c =
     let p = err_from_is_err_and c.from_residual-in_err-extensions.result c.from_residual-in_err-extensions.ensures.1 in
-    rw (p.1, p.2) (fails_at (info_read c.in_ok-info.ensures.spelled.small c.in_ok-info.ensures ▸ (OneFront-layers Any _, c.in_ok-layers.ensures) ▸ (OneFront-number_if _, c.in_ok-half_width.ensures)) c.in_err-extensions.ensures)
+    rw (p.1, p.2) (fails_at (info_read c.in_ok-info.ensures.spelled.small c.in_ok-info.ensures ▸ (OneFront-layers Any _, c.in_ok-layers.ensures) ▸
+    (OneFront-number_if _, c.in_ok-half_width.ensures)) c.in_err-extensions.ensures)
 
 pub returns-in_err-points : goal.returns-in_err-points
 returns-in_err-points g c =
     let p = err_from_is_err_and c.from_residual-in_err-points.result c.from_residual-in_err-points.ensures.1 in
-    rw (p.1, p.2) (fails_at (info_read c.in_ok-info.ensures.spelled.small c.in_ok-info.ensures ▸ (OneFront-layers Any _, c.in_ok-layers.ensures) ▸ (OneFront-number_if _, c.in_ok-half_width.ensures) ▸ (OneFront-extensions_if _, c.in_ok-extensions.ensures)) c.in_err-points.ensures)
+    rw (p.1, p.2) (fails_at (info_read c.in_ok-info.ensures.spelled.small c.in_ok-info.ensures ▸ (OneFront-layers Any _, c.in_ok-layers.ensures) ▸
+    (OneFront-number_if _, c.in_ok-half_width.ensures) ▸ (OneFront-extensions_if _, c.in_ok-extensions.ensures)) c.in_err-points.ensures)
 
 pub returns-in_err-spot : goal.returns-in_err-spot
 returns-in_err-spot g c =
     let p = err_from_is_err_and c.from_residual-in_err-spot.result c.from_residual-in_err-spot.ensures.1 in
-    rw (p.1, p.2) (fails_last (info_read c.in_ok-info.ensures.spelled.small c.in_ok-info.ensures ▸ (OneFront-layers Any _, c.in_ok-layers.ensures) ▸ (OneFront-number_if _, c.in_ok-half_width.ensures) ▸ (OneFront-extensions_if _, c.in_ok-extensions.ensures) ▸ (OneFront-points_if _ uses.Path, c.in_ok-points.ensures)) c.in_err-spot.ensures)
+    rw (p.1, p.2) (fails_last (info_read c.in_ok-info.ensures.spelled.small c.in_ok-info.ensures ▸ (OneFront-layers Any _, c.in_ok-layers.ensures) ▸
+    (OneFront-number_if _, c.in_ok-half_width.ensures) ▸ (OneFront-extensions_if _, c.in_ok-extensions.ensures) ▸
+    (OneFront-points_if _ uses.Path, c.in_ok-points.ensures)) c.in_err-spot.ensures)
 
 pub returns : goal.returns
-returns g c = is_read (info_read {took = λ info. (path_parts info).took} c.in_ok-info.ensures.spelled.small c.in_ok-info.ensures ▸ (OneFront-layers Any _, c.in_ok-layers.ensures) ▸ (OneFront-number_if _, c.in_ok-half_width.ensures) ▸ (OneFront-extensions_if _, c.in_ok-extensions.ensures) ▸ (OneFront-points_if _ uses.Path, c.in_ok-points.ensures)) c.in_ok-spot.ensures
+returns g c = is_read (info_read {took = λ info. (path_parts info).took} c.in_ok-info.ensures.spelled.small c.in_ok-info.ensures ▸
+    (OneFront-layers Any _, c.in_ok-layers.ensures) ▸ (OneFront-number_if _, c.in_ok-half_width.ensures) ▸
+    (OneFront-extensions_if _, c.in_ok-extensions.ensures) ▸ (OneFront-points_if _ uses.Path, c.in_ok-points.ensures)) c.in_ok-spot.ensures

@@ -54,7 +54,9 @@ returns-then-id-eq22 g c = λ in_end. read_22 in_end _ _ c.if-id-eq22.true c.in_
 pub returns-in_err-circle : goal.returns-in_err-circle
 returns-in_err-circle g c =
     let p = err_from_is_err_and c.from_residual-in_err-circle.result c.from_residual-in_err-circle.ensures.1 in
-    λ in_end. rw (p.1, p.2) (fails_27 in_end _ (twenty_seven _ c.requires.known c.requires.above c.if-id-eq17.false c.if-id-eq18.false c.if-id-eq19.false c.if-id-eq20.false c.if-id-eq21.false c.if-id-eq22.false) c.in_err-circle.ensures)
+    λ in_end. rw (p.1, p.2) (fails_27 in_end _ (twenty_seven _ c.requires.known c.requires.above c.if-id-eq17.false c.if-id-eq18.false
+    c.if-id-eq19.false c.if-id-eq20.false c.if-id-eq21.false c.if-id-eq22.false) c.in_err-circle.ensures)
 
 pub returns : goal.returns
-returns g c = λ in_end. read_27 in_end _ _ (twenty_seven _ c.requires.known c.requires.above c.if-id-eq17.false c.if-id-eq18.false c.if-id-eq19.false c.if-id-eq20.false c.if-id-eq21.false c.if-id-eq22.false) c.in_ok-circle.ensures
+returns g c = λ in_end. read_27 in_end _ _ (twenty_seven _ c.requires.known c.requires.above c.if-id-eq17.false c.if-id-eq18.false c.if-id-eq19.false
+    c.if-id-eq20.false c.if-id-eq21.false c.if-id-eq22.false) c.in_ok-circle.ensures

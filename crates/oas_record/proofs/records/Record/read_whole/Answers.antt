@@ -17,7 +17,8 @@ returns-in_err-read_end g c =
     rw (p.1, p.2) (end_fails _ c.if-id-eq2.true c.in_ok-id.ensures c.in_err-read_end.ensures)
 
 pub returns-then-length-ne-END_LENGTH : goal.returns-then-length-ne-END_LENGTH
-returns-then-length-ne-END_LENGTH g c = end_refused _ (λ e. c.if-length-ne-END_LENGTH.true (omega (arith, e, c.at-start.ensures, c.at.ensures))) (end_parts_read _ c.if-id-eq2.true c.in_ok-id.ensures c.in_ok-read_end.ensures)
+returns-then-length-ne-END_LENGTH g c = end_refused _ (λ e. c.if-length-ne-END_LENGTH.true (omega (arith, e, c.at-start.ensures, c.at.ensures)))
+    (end_parts_read _ c.if-id-eq2.true c.in_ok-id.ensures c.in_ok-read_end.ensures)
 
 pub returns-then-id-eq2 : goal.returns-then-id-eq2
 returns-then-id-eq2 g c = end_read _ (omega (arith, c.if-length-ne-END_LENGTH.false, c.at-start.ensures, c.at.ensures)) (end_parts_read _ c.if-id-eq2.true c.in_ok-id.ensures c.in_ok-read_end.ensures)

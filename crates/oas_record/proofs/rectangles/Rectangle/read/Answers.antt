@@ -23,17 +23,23 @@ returns-in_err-layers g c =
 pub returns-in_err-width : goal.returns-in_err-width
 returns-in_err-width g c =
     let p = err_from_is_err_and c.from_residual-in_err-width.result c.from_residual-in_err-width.ensures.1 in
-    rw (p.1, p.2) (fails_at (info_read (allowed_by c.is_rectangle_info.ensures c.if-not-is_rectangle_info.false) c.in_ok-info.ensures ▸ (OneFront-layers Any _, c.in_ok-layers.ensures)) (number_took _ c.in_err-width.ensures))
+    rw (p.1, p.2) (fails_at (info_read (allowed_by c.is_rectangle_info.ensures c.if-not-is_rectangle_info.false) c.in_ok-info.ensures ▸
+    (OneFront-layers Any _, c.in_ok-layers.ensures)) (number_took _ c.in_err-width.ensures))
 
 pub returns-in_err-height : goal.returns-in_err-height
 returns-in_err-height g c =
     let p = err_from_is_err_and c.from_residual-in_err-height.result c.from_residual-in_err-height.ensures.1 in
-    rw (p.1, p.2) (fails_at (info_read (allowed_by c.is_rectangle_info.ensures c.if-not-is_rectangle_info.false) c.in_ok-info.ensures ▸ (OneFront-layers Any _, c.in_ok-layers.ensures) ▸ (OneFront-number_if _, c.in_ok-width.ensures)) (number_took _ c.in_err-height.ensures))
+    rw (p.1, p.2) (fails_at (info_read (allowed_by c.is_rectangle_info.ensures c.if-not-is_rectangle_info.false) c.in_ok-info.ensures ▸
+    (OneFront-layers Any _, c.in_ok-layers.ensures) ▸ (OneFront-number_if _, c.in_ok-width.ensures)) (number_took _ c.in_err-height.ensures))
 
 pub returns-in_err-spot : goal.returns-in_err-spot
 returns-in_err-spot g c =
     let p = err_from_is_err_and c.from_residual-in_err-spot.result c.from_residual-in_err-spot.ensures.1 in
-    rw (p.1, p.2) (fails_last (info_read (allowed_by c.is_rectangle_info.ensures c.if-not-is_rectangle_info.false) c.in_ok-info.ensures ▸ (OneFront-layers Any _, c.in_ok-layers.ensures) ▸ (OneFront-number_if _, c.in_ok-width.ensures) ▸ (OneFront-number_if _, c.in_ok-height.ensures)) c.in_err-spot.ensures)
+    rw (p.1, p.2) (fails_last (info_read (allowed_by c.is_rectangle_info.ensures c.if-not-is_rectangle_info.false) c.in_ok-info.ensures ▸
+    (OneFront-layers Any _, c.in_ok-layers.ensures) ▸ (OneFront-number_if _, c.in_ok-width.ensures) ▸
+    (OneFront-number_if _, c.in_ok-height.ensures)) c.in_err-spot.ensures)
 
 pub returns : goal.returns
-returns g c = is_read (info_read {took = λ info. (rectangle_parts info).took} (allowed_by c.is_rectangle_info.ensures c.if-not-is_rectangle_info.false) c.in_ok-info.ensures ▸ (OneFront-layers Any _, c.in_ok-layers.ensures) ▸ (OneFront-number_if _, c.in_ok-width.ensures) ▸ (OneFront-number_if _, c.in_ok-height.ensures)) c.in_ok-spot.ensures
+returns g c = is_read (info_read {took = λ info. (rectangle_parts info).took}
+    (allowed_by c.is_rectangle_info.ensures c.if-not-is_rectangle_info.false) c.in_ok-info.ensures ▸ (OneFront-layers Any _, c.in_ok-layers.ensures) ▸
+    (OneFront-number_if _, c.in_ok-width.ensures) ▸ (OneFront-number_if _, c.in_ok-height.ensures)) c.in_ok-spot.ensures

@@ -28,7 +28,9 @@ returns-in_err-layers g c =
 pub returns-in_err-spot : goal.returns-in_err-spot
 returns-in_err-spot g c =
     let p = err_from_is_err_and c.from_residual-in_err-spot.result c.from_residual-in_err-spot.ensures.1 in
-    rw (p.1, p.2) (fails_last (info_read (allowed_by c.is_text_info.ensures c.if-not-is_text_info.false) c.in_ok-info.ensures ▸ (OneFront-text_if _ _, c.in_ok-string.ensures) ▸ (OneFront-layers Any _, c.in_ok-layers.ensures)) c.in_err-spot.ensures)
+    rw (p.1, p.2) (fails_last (info_read (allowed_by c.is_text_info.ensures c.if-not-is_text_info.false) c.in_ok-info.ensures ▸
+    (OneFront-text_if _ _, c.in_ok-string.ensures) ▸ (OneFront-layers Any _, c.in_ok-layers.ensures)) c.in_err-spot.ensures)
 
 pub returns : goal.returns
-returns g c = is_read (info_read {took = λ info. (text_parts info).took} (allowed_by c.is_text_info.ensures c.if-not-is_text_info.false) c.in_ok-info.ensures ▸ (OneFront-text_if _ _, c.in_ok-string.ensures) ▸ (OneFront-layers Any _, c.in_ok-layers.ensures)) c.in_ok-spot.ensures
+returns g c = is_read (info_read {took = λ info. (text_parts info).took} (allowed_by c.is_text_info.ensures c.if-not-is_text_info.false)
+    c.in_ok-info.ensures ▸ (OneFront-text_if _ _, c.in_ok-string.ensures) ▸ (OneFront-layers Any _, c.in_ok-layers.ensures)) c.in_ok-spot.ensures

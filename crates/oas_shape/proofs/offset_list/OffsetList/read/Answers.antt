@@ -24,7 +24,9 @@ returns-in_err-push-2 g c =
 
 pub returns-then-left-eq0 : goal.returns-then-left-eq0
 returns-then-left-eq0 g c =
-    rw (c.in_ok-push-2.ensures.items, c.in_ok-push.ensures.items) (summed_all (summed_more c.loop-items.invariant.summed c.in_ok-by.ensures c.in-Some.ensures.0 (sym c.in-Some.ensures.1)) _ (omega (arith, c.loop-items.invariant.left_is)))
+    rw (c.in_ok-push-2.ensures.items, c.in_ok-push.ensures.items)
+    (summed_all (summed_more c.loop-items.invariant.summed c.in_ok-by.ensures c.in-Some.ensures.0 (sym c.in-Some.ensures.1)) _
+    (omega (arith, c.loop-items.invariant.left_is)))
 
 pub loop-items-preserved : goal.loop-items-preserved
 loop-items-preserved g c =
@@ -32,5 +34,6 @@ loop-items-preserved g c =
 
 pub invariant_of-result : goal.invariant_of-result
 invariant_of-result g c =
-    let read = summed_all (summed_more c.loop-items.invariant.summed c.in_ok-by.ensures c.in-Some.ensures.0 (sym c.in-Some.ensures.1)) (c.args.more + 1) (omega (arith, c.loop-items.invariant.left_is)) in
+    let read = summed_all (summed_more c.loop-items.invariant.summed c.in_ok-by.ensures c.in-Some.ensures.0 (sym c.in-Some.ensures.1))
+    (c.args.more + 1) (omega (arith, c.loop-items.invariant.left_is)) in
     rw (c.in_ok-push-2.ensures.items, c.in_ok-push.ensures.items) (offsets_are _ _ _ _ _ read.spelled)

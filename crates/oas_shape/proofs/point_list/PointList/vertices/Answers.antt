@@ -12,5 +12,5 @@ returns-in_err-points-clause-refused c =
 pub returns-in_ok-push-in-Some-clause-given : goal.returns-in_ok-push-in-Some-clause-given
 returns-in_ok-push-in-Some-clause-given c =
     given_whole c.args.self.now _ c.args.at c.index-last.result.now c.in_ok-points.points.items _ _ _ c.self.view_is c.as_slice.ensures.value c.in_ok-points.ensures.given
-    (last_is c.args.at c.index-last.result.now c.in_ok-points.points.items c.len.result (omega (arith, ap length c.in_ok-points.ensures.given)) (omega arith) c.index-last.ensures)
+    (last_is c.args.at c.index-last.result.now c.in_ok-points.points.items c.len-2.result (omega (arith, ap length c.in_ok-points.ensures.given)) (omega arith) c.index-last.ensures)
     (ap option_to_list (sym c.in-Some.is) ∙ c.point_left_out.ensures) c.in_ok-push-in-Some.ensures.items

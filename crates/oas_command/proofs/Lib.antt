@@ -1,0 +1,3 @@
+pub mod DiffLemmas
+pub mod MessageLemmas
+pub mod RunLemmas

@@ -1,0 +1,21 @@
+//! The run of each command: what it reads, what it writes, and the status with which the process is to end.
+
+mod canon;
+mod check;
+mod diff;
+mod ends;
+mod key;
+mod keys;
+mod rekey;
+mod same;
+mod show;
+
+pub use canon::{canon_telling, run_canon};
+pub use check::{check_telling, named_check_telling, run_check, run_named_check};
+pub use diff::{diff_telling, run_diff};
+pub use ends::{run_refused, worse};
+pub use key::{key_telling, named_key_telling, run_key, run_named_key};
+pub use keys::{keys_telling, run_keys};
+pub use rekey::{rekey_telling, run_rekey};
+pub use same::{run_same, same_telling};
+pub use show::{run_show, show_telling};

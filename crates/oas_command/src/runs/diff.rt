@@ -1,0 +1,96 @@
+//! The command `diff`.
+
+ghost use Rattle.std.specs.Prelude.{◌≡◌, Result, IfOk};
+ghost use Rattle.oas_num.specs.declared.refusals.Refusal.{Refusal as Refused};
+ghost use Rattle.oas_layout.specs.Contents.{Contents};
+ghost use Rattle.oas_canon.specs.declared.sameness.Which.{Which as WhichFile};
+ghost use Rattle.oas_command.specs.Diff.{ReadsBoth, diff_text, diff_status, length_status};
+ghost use Rattle.oas_command.specs.Runs.{Delivers, found_in, blamed, said, Ends, AppendsFront};
+
+use super::ends::{DONE, NO, conclude, refuse};
+use oas_canon::{Layout, Limits, PROFILE, Which, read_layout};
+use oas_difference::write_difference;
+use oas_num::{Outlet, Refusal, Sink, Source};
+use std::alloc::Global;
+use std::io::Write;
+
+/// Writes the difference of the layout that all that `a` gives within these limits means, and of what `b` gives, to `out`,
+/// and answers the status of the command: 0 where there is no line, 3 where there is, or 1 after a refusal, which is named
+/// on `err` in a line that begins with the name of the refused file. `a` is read whole before `b` is begun. A fault of
+/// `out` is the refusal `Why::Write`, under the name of `a`; a fault of `err` changes nothing.
+pub fn run_diff<S: Source, T: Source, W: Write, E: Write>(
+    alloc: Global,
+    name_a: &str,
+    a: &mut S,
+    name_b: &str,
+    b: &mut T,
+    out: &mut W,
+    err: &mut E,
+    limits: Limits,
+) -> u8
+    ensures { (found : Result (Contents × Contents) (WhichFile × Refused)) × (answer : Result (Contents × Contents) Refused) × (result ≡ diff_status answer)
+        × ReadsBoth T.script limits (S.script a.old) (S.script a.new) b.old b.new found
+        × Delivers W.contents diff_text out.old (found_in found) answer out.new
+        × AppendsFront (E.contents err.old) (E.contents err.new) (said (blamed name_a.now name_b.now found) answer) }
+{
+    let mut told = Outlet::new(err);
+    let status = diff_telling(alloc, name_a, a, name_b, b, out, &mut told, limits);
+    let _ = told.close();
+    status
+}
+
+/// As `run_diff`, with a sink for the line of a refusal.
+pub fn diff_telling<S: Source, T: Source, W: Write, K: Sink>(
+    alloc: Global,
+    name_a: &str,
+    a: &mut S,
+    name_b: &str,
+    b: &mut T,
+    out: &mut W,
+    told: &mut K,
+    limits: Limits,
+) -> u8
+    ensures { (found : Result (Contents × Contents) (WhichFile × Refused)) × (answer : Result (Contents × Contents) Refused) × (result ≡ diff_status answer)
+        × ReadsBoth T.script limits (S.script a.old) (S.script a.new) b.old b.new found
+        × Delivers W.contents diff_text out.old (found_in found) answer out.new
+        × Ends K.given K.failures (blamed name_a.now name_b.now found) told.old answer told.new }
+{
+    match read_both(alloc, a, b, limits) {
+        Ok((before, after)) => {
+            let written = write_difference(&before, &after, out);
+            conclude(name_a, written, status_of_length(written), told)
+        }
+        Err((Which::First, refusal)) => refuse(name_a, refusal, told),
+        Err((Which::Second, refusal)) => refuse(name_b, refusal, told),
+    }
+}
+
+/// The status of a run that wrote a difference of so many bytes.
+fn status_of_length(written: Result<u64, Refusal>) -> u8
+    ensures { IfOk written (λ n. result ≡ length_status n) }
+{
+    match written {
+        Ok(0) | Err(_) => DONE,
+        Ok(_) => NO,
+    }
+}
+
+/// The layouts of two sources. The first is read whole before the second is begun, and where it is refused nothing is read
+/// of the second.
+fn read_both<S: Source, T: Source>(
+    alloc: Global,
+    a: &mut S,
+    b: &mut T,
+    limits: Limits,
+) -> Result<(Layout, Layout), (Which, Refusal)>
+    ensures { ReadsBoth T.script limits (S.script a.old) (S.script a.new) b.old b.new result }
+{
+    let before = match read_layout(alloc, a, limits, PROFILE) {
+        Ok(layout) => layout,
+        Err(refusal) => return Err((Which::First, refusal)),
+    };
+    match read_layout(alloc, b, limits, PROFILE) {
+        Ok(after) => Ok((before, after)),
+        Err(refusal) => Err((Which::Second, refusal)),
+    }
+}

@@ -1,0 +1,144 @@
+//! The command `key`.
+
+ghost use Rattle.std.specs.Prelude.{◌≡◌, ℕ, List, Result, IfOk, IfErr};
+ghost use Rattle.hex.specs.Hex.{encode_lower};
+ghost use Rattle.oas_num.specs.declared.refusals.Refusal.{Refusal as Refused};
+ghost use Rattle.oas_num.specs.Written.{IsWritten, IsCutOff};
+ghost use Rattle.oas_command.specs.Calls.{Keys};
+ghost use Rattle.oas_command.specs.Lines.{key_line, escape_mark, named_key_line};
+ghost use Rattle.oas_command.specs.Runs.{status_of, Delivers, said, Ends, AppendsFront};
+
+use super::ends::{DONE, conclude, refuse};
+use crate::lines::{Pieces, write_line, write_pieces};
+use hex::encode_to_slice;
+use oas_canon::{Limits, key};
+use oas_num::{Outlet, Refusal, Sink, Source};
+use std::alloc::Global;
+use std::io::Write;
+
+/// Writes the key of all that `from` gives within these limits, as a line of 64 lower-case hex digits to `out`, and answers
+/// the status of the command: 0, or 1 after a refusal, which is named on `err` in a line that begins with `name`. A fault of
+/// `out` is the refusal `Why::Write`; a fault of `err` changes nothing.
+pub fn run_key<S: Source, W: Write, E: Write>(
+    alloc: Global,
+    name: &str,
+    from: &mut S,
+    out: &mut W,
+    err: &mut E,
+    limits: Limits,
+) -> u8
+    ensures { (found : Result (List ℕ) Refused) × (answer : Result (List ℕ) Refused) × (result ≡ status_of answer)
+        × Keys limits (S.script from.old) found (S.script from.new)
+        × Delivers W.contents key_line out.old found answer out.new
+        × AppendsFront (E.contents err.old) (E.contents err.new) (said name.now answer) }
+{
+    let mut told = Outlet::new(err);
+    let status = key_telling(alloc, name, from, out, &mut told, limits);
+    let _ = told.close();
+    status
+}
+
+/// As `run_key`, with a sink for the line of a refusal.
+pub fn key_telling<S: Source, W: Write, K: Sink>(
+    alloc: Global,
+    name: &str,
+    from: &mut S,
+    out: &mut W,
+    told: &mut K,
+    limits: Limits,
+) -> u8
+    ensures { (found : Result (List ℕ) Refused) × (answer : Result (List ℕ) Refused) × (result ≡ status_of answer)
+        × Keys limits (S.script from.old) found (S.script from.new)
+        × Delivers W.contents key_line out.old found answer out.new
+        × Ends K.given K.failures name.now told.old answer told.new }
+{
+    match key(alloc, from, limits) {
+        Ok(digest) => {
+            let written = write_line(out, &hex_text(&digest));
+            conclude(name, written, DONE, told)
+        }
+        Err(refusal) => refuse(name, refusal, told),
+    }
+}
+
+/// As `run_key`, and the line ends with the name, as `sha256sum` prints it: `HEX  NAME`, with a backslash before it where
+/// the name was escaped.
+pub fn run_named_key<S: Source, W: Write, E: Write>(
+    alloc: Global,
+    name: &str,
+    is_escaped: bool,
+    from: &mut S,
+    out: &mut W,
+    err: &mut E,
+    limits: Limits,
+) -> u8
+    ensures { (found : Result (List ℕ) Refused) × (answer : Result (List ℕ) Refused) × (result ≡ status_of answer)
+        × Keys limits (S.script from.old) found (S.script from.new)
+        × Delivers W.contents (named_key_line is_escaped name.now) out.old found answer out.new
+        × AppendsFront (E.contents err.old) (E.contents err.new) (said name.now answer) }
+{
+    let mut told = Outlet::new(err);
+    let status = named_key_telling(alloc, name, is_escaped, from, out, &mut told, limits);
+    let _ = told.close();
+    status
+}
+
+/// As `run_named_key`, with a sink for the line of a refusal.
+pub fn named_key_telling<S: Source, W: Write, K: Sink>(
+    alloc: Global,
+    name: &str,
+    is_escaped: bool,
+    from: &mut S,
+    out: &mut W,
+    told: &mut K,
+    limits: Limits,
+) -> u8
+    ensures { (found : Result (List ℕ) Refused) × (answer : Result (List ℕ) Refused) × (result ≡ status_of answer)
+        × Keys limits (S.script from.old) found (S.script from.new)
+        × Delivers W.contents (named_key_line is_escaped name.now) out.old found answer out.new
+        × Ends K.given K.failures name.now told.old answer told.new }
+{
+    match key(alloc, from, limits) {
+        Ok(digest) => {
+            let written = write_named(out, name, is_escaped, &digest);
+            conclude(name, written, DONE, told)
+        }
+        Err(refusal) => refuse(name, refusal, told),
+    }
+}
+
+/// Writes the line of a key with the name behind it.
+fn write_named<W: Write>(
+    out: &mut W,
+    name: &str,
+    is_escaped: bool,
+    digest: &[u8; 32],
+) -> Result<u64, Refusal>
+    ensures written { IfOk result (IsWritten W.contents out.old (named_key_line is_escaped name.now digest.now) out.new) }
+    ensures refused { IfErr result (IsCutOff W.contents out.old (named_key_line is_escaped name.now digest.now) out.new) }
+{
+    let text = hex_text(digest);
+    let pieces = Pieces {
+        first: mark(is_escaped),
+        second: text.as_slice(),
+        third: b"  ",
+        fourth: name.as_bytes(),
+    };
+    write_pieces(out, pieces)
+}
+
+/// What stands before a key.
+fn mark(is_escaped: bool) -> &'static [u8]
+    ensures { result.now ≡ escape_mark is_escaped }
+{
+    if is_escaped { b"\\" } else { b"" }
+}
+
+/// The hex digits of a digest.
+fn hex_text(digest: &[u8; 32]) -> [u8; 64]
+    ensures { result ≡ encode_lower digest.now }
+{
+    let mut text = [0; 64];
+    let _ = encode_to_slice(digest.as_slice(), &mut text);
+    text
+}

@@ -1,0 +1,73 @@
+//! The command `same`.
+
+ghost use Rattle.std.specs.Prelude.{◌≡◌, Bool, Result};
+ghost use Rattle.oas_num.specs.declared.refusals.Refusal.{Refusal as Refused};
+ghost use Rattle.oas_canon.specs.declared.sameness.Which.{Which as WhichFile};
+ghost use Rattle.oas_command.specs.Calls.{Compares};
+ghost use Rattle.oas_command.specs.Lines.{same_text, same_line};
+ghost use Rattle.oas_command.specs.Runs.{verdict_status, Delivers, found_in, blamed, said, Ends, AppendsFront};
+
+use super::ends::{conclude, refuse, status_of_verdict};
+use crate::lines::write_line;
+use oas_canon::{Limits, Which, same_files};
+use oas_num::{Outlet, Sink, Source};
+use std::alloc::Global;
+use std::io::Write;
+
+/// Writes whether all that `a` gives within these limits, and all that `b` gives, mean the same layout, as a line to `out`,
+/// `same` or `different`, and answers the status of the command: 0 or 3, or 1 after a refusal, which is named on `err` in a
+/// line that begins with the name of the refused file. `a` is read whole before `b` is begun. A fault of `out` is the
+/// refusal `Why::Write`, under the name of `a`; a fault of `err` changes nothing.
+pub fn run_same<S: Source, T: Source, W: Write, E: Write>(
+    alloc: Global,
+    name_a: &str,
+    a: &mut S,
+    name_b: &str,
+    b: &mut T,
+    out: &mut W,
+    err: &mut E,
+    limits: Limits,
+) -> u8
+    ensures { (found : Result Bool (WhichFile × Refused)) × (answer : Result Bool Refused) × (result ≡ verdict_status answer)
+        × Compares T.script limits (S.script a.old) (S.script a.new) b.old b.new found
+        × Delivers W.contents same_line out.old (found_in found) answer out.new
+        × AppendsFront (E.contents err.old) (E.contents err.new) (said (blamed name_a.now name_b.now found) answer) }
+{
+    let mut told = Outlet::new(err);
+    let status = same_telling(alloc, name_a, a, name_b, b, out, &mut told, limits);
+    let _ = told.close();
+    status
+}
+
+/// As `run_same`, with a sink for the line of a refusal.
+pub fn same_telling<S: Source, T: Source, W: Write, K: Sink>(
+    alloc: Global,
+    name_a: &str,
+    a: &mut S,
+    name_b: &str,
+    b: &mut T,
+    out: &mut W,
+    told: &mut K,
+    limits: Limits,
+) -> u8
+    ensures { (found : Result Bool (WhichFile × Refused)) × (answer : Result Bool Refused) × (result ≡ verdict_status answer)
+        × Compares T.script limits (S.script a.old) (S.script a.new) b.old b.new found
+        × Delivers W.contents same_line out.old (found_in found) answer out.new
+        × Ends K.given K.failures (blamed name_a.now name_b.now found) told.old answer told.new }
+{
+    match same_files(alloc, a, b, limits) {
+        Ok(same) => {
+            let written = write_line(out, sameness(same));
+            conclude(name_a, written, status_of_verdict(same), told)
+        }
+        Err((Which::First, refusal)) => refuse(name_a, refusal, told),
+        Err((Which::Second, refusal)) => refuse(name_b, refusal, told),
+    }
+}
+
+/// What is answered.
+fn sameness(same: bool) -> &'static [u8]
+    ensures { result.now ≡ same_text same }
+{
+    if same { b"same" } else { b"different" }
+}

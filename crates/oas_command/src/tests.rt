@@ -1,0 +1,13 @@
+//! The worked rows, and what no contract says: readers and writers that cut, fail or never end, and want of memory.
+
+mod answers;
+mod devices;
+mod faults;
+mod memory;
+mod modal_table;
+mod readings;
+mod readings_table;
+mod rekeying;
+mod rows;
+mod table;
+mod unopened;

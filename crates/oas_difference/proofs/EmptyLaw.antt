@@ -1,0 +1,235 @@
+-- The difference is empty exactly if the layouts are the same.
+use Rattle.std.proofs.Common.{◌≡◌, ℕ, ◌<◌, ◌+◌, List, [], ◌∷◌, ◌++◌, flat_map, Bool, true, false, cond, Option, None, Some, is_some, unwrap_or, ◌⊎◌, inl, inr, refl, sym, ◌∙◌, ap, subst, arith}
+use Rattle.std.specs.Prelude.{◌==◌, ◌&&◌, ◌-◌, nat_lt, count_by, if◌then◌else◌}
+use Rattle.std.proofs.lemmas.Bool.{ltb-true, eqb-true, eq-eqb}
+use Rattle.std.proofs.lemmas.Bool.Decides.{nat_tests}
+use Rattle.std.proofs.lemmas.List.Sums.{sum_by-cons}
+use Rattle.std.specs.Cmp.Lexicographic.{pointwise, texts_ties}
+use Rattle.std.specs.Ordering.{match_ordering, nat_cmp, is_eq, eq_by_cmp}
+use Rattle.std.specs.Cmp.{Equal-is}
+use Rattle.std.specs.Cmp.Lexicographic.{slice_cmp}
+use Rattle.std.specs.declared.cmp.Ordering.{Ordering}
+use Rattle.std.specs.declared.cmp.Ordering.TheVariants.{Less, Equal, Greater}
+use Rattle.std.specs.List.{AllByRecursion}
+use Rattle.std.specs.Map.{keys_of, lookup}
+use Rattle.std.specs.BTreeSet.{insert_key}
+use Rattle.std.proofs.lemmas.Map.Lookups.{CmpEqualImpliesEq, exact_bytes}
+use Rattle.oas_num.specs.Ratio.{Ratio}
+use Rattle.oas_layout.specs.declared.profile.Profile.{Profile}
+use Rattle.oas_layout.specs.declared.element.Element.{Element}
+use Rattle.oas_layout.specs.Element.{element_cmp}
+use Rattle.oas_layout.specs.Same.{same_element, normal}
+use Rattle.oas_layout.specs.Laws.ElementLaws.{exact_elements}
+use Rattle.oas_layout.specs.Laws.SameLaws.{same_element-is, same_element-Decides, normal-alike}
+use Rattle.oas_layout.specs.Meaning.{Meaning, SameLayout, elements_of, count_of}
+use Rattle.oas_listing.specs.Listing.{element_line}
+use Rattle.oas_difference.specs.Ascending.{ascending}
+use Rattle.oas_difference.specs.Difference.{change, signed, unit_line, same_ratio, unit_changes, element_changes, cell_line, place_line, below_name, cell_changes, difference}
+use Rattle.oas_difference.specs.Laws.DifferenceLaws.{EmptyIfSame}
+
+-- ---- lists without a line
+
+none_twice : (xs ys : List ℕ) → xs ++ ys ≡ [] → (xs ≡ []) × (ys ≡ [])
+none_twice [] ys e = (refl, e)
+none_twice (x ∷ xs) ys e = let no : ⊥ = cc in absurd no
+
+module _ {K : Type 0} (f : K → List ℕ) where
+  none_of_all : ((x : K) → f x ≡ []) → (xs : List K) → flat_map f xs ≡ []
+  none_of_all h [] = refl
+  none_of_all h (x ∷ xs) = λ i. h x i ++ none_of_all h xs i
+
+  none_inserted : (R : K → K → Ordering) → CmpEqualImpliesEq R → (ks : List K) (k : K) → flat_map f (insert_key R ks k) ≡ [] → (f k ≡ []) × (flat_map f ks ≡ [])
+  none_inserted R exact [] k e = none_twice (f k) [] e
+  none_inserted R exact (x ∷ xs) k e =
+      elim (R k x) as (λ r. R k x ≡ r → flat_map f (match_ordering r (k ∷ x ∷ xs) (x ∷ xs) (x ∷ insert_key R xs k)) ≡ [] → (f k ≡ []) × (flat_map f (x ∷ xs) ≡ [])) [
+        | Less ↦ λ q h. none_twice (f k) (flat_map f (x ∷ xs)) h
+        | Equal ↦ λ q h. (ap f (exact k x q) ∙ (none_twice (f x) (flat_map f xs) h).0, h)
+        | Greater ↦ λ q h.
+            let parts = none_twice (f x) (flat_map f (insert_key R xs k)) h in
+            let rest = none_inserted R exact xs k parts.1 in
+            (rest.0, λ i. parts.0 i ++ rest.1 i)
+      ] refl e
+
+  none_of_each : (R : K → K → Ordering) → CmpEqualImpliesEq R → (xs : List K) → flat_map f (ascending R xs) ≡ [] → AllByRecursion (λ x. f x ≡ []) xs
+  none_of_each R exact [] e = tt
+  none_of_each R exact (x ∷ xs) e =
+      let parts = none_inserted R exact (ascending R xs) x e in
+      (parts.0, none_of_each R exact xs parts.1)
+
+all_front : {K : Type 0} (P : K → Type 0) (xs ys : List K) → AllByRecursion P (xs ++ ys) → AllByRecursion P xs × AllByRecursion P ys
+all_front P [] ys h = (tt, h)
+all_front P (x ∷ xs) ys h = let rest = all_front P xs ys h.1 in ((h.0, rest.0), rest.1)
+
+-- ---- a change
+
+not_below_itself : (n : ℕ) → nat_lt n n ≡ false
+not_below_itself n = by_cases (nat_lt n n) refl where
+  by_cases : (b : Bool) → nat_lt n n ≡ b → nat_lt n n ≡ false
+  by_cases true e = absurd (omega (arith, ltb-true n n e))
+  by_cases false e = e
+
+pub same_count : (n m : ℕ) (text : List ℕ) → n ≡ m → change n m text ≡ []
+same_count n m text e =
+    ap (λ (k : ℕ). change n k text) (sym e) ∙ ap (λ b. if b then signed 45 (n - n) text else if b then signed 43 (n - n) text else []) (not_below_itself n)
+
+pub neither_below : (n m : ℕ) → nat_lt m n ≡ false → nat_lt n m ≡ false → n ≡ m
+neither_below n m e f = grind (arith, nat_tests)
+
+counts_alike : (n m : ℕ) (text : List ℕ) → change n m text ≡ [] → n ≡ m
+counts_alike n m text e = by_cases (nat_lt m n) (nat_lt n m) refl refl e where
+  by_cases : (a b : Bool) → nat_lt m n ≡ a → nat_lt n m ≡ b → (if a then signed 45 (n - m) text else if b then signed 43 (m - n) text else []) ≡ [] → n ≡ m
+  by_cases true b p q h = let no : ⊥ = cc in absurd no
+  by_cases false true p q h = let no : ⊥ = cc in absurd no
+  by_cases false false p q h = neither_below n m p q
+
+-- ---- the unit
+
+one_ratio : (u : Ratio) → same_ratio u u ≡ true
+one_ratio u = ap (λ b. b && (u.den == u.den)) (eq-eqb u.num u.num refl) ∙ eq-eqb u.den u.den refl
+
+ratios_alike : (u v : Ratio) → same_ratio u v ≡ true → u ≡ v
+ratios_alike u v e = by_cases (u.num == v.num) refl e where
+  by_cases : (b : Bool) → (u.num == v.num) ≡ b → (b && (u.den == v.den)) ≡ true → u ≡ v
+  by_cases true p h = λ i. record { num = eqb-true u.num v.num p i; den = eqb-true u.den v.den h i }
+  by_cases false p h = let no : ⊥ = cc in absurd no
+
+units_alike : (u v : Ratio) → unit_changes u v ≡ [] → u ≡ v
+units_alike u v e = by_cases (same_ratio u v) refl e where
+  by_cases : (b : Bool) → same_ratio u v ≡ b → (if b then [] else change 1 0 (unit_line u) ++ change 0 1 (unit_line v)) ≡ [] → u ≡ v
+  by_cases true p h = ratios_alike u v p
+  by_cases false p h = let no : ⊥ = cc in absurd no
+
+pub one_unit : (u v : Ratio) → u ≡ v → unit_changes u v ≡ []
+one_unit u v e = ap (λ w. unit_changes u w) (sym e) ∙ ap (λ b. if b then [] else change 1 0 (unit_line u) ++ change 0 1 (unit_line u)) (one_ratio u)
+
+-- ---- elements
+
+module _ (profile : Profile) where
+  -- an element that is the same as another is the same as what that is
+  same_tests : (e x : Element) → same_element profile e x ≡ true → same_element profile e ≡ same_element profile x
+  same_tests e x h =
+      let alike : normal profile e ≡ normal profile x = normal-alike profile e x ((same_element-Decides profile e x).0 h) in
+      λ i q. (same_element-is profile e q ∙ ap (λ k. eq_by_cmp element_cmp k (normal profile q)) alike ∙ sym (same_element-is profile x q)) i
+
+  -- none of the elements is the same as e, or one is, of which P holds
+  Seen : (Element → Type 0) → Element → List Element → Type 0
+  Seen P e xs = (count_of profile e xs ≡ 0) ⊎ ((x : Element) × (same_element profile e x ≡ true) × P x)
+
+  seen : (P : Element → Type 0) (e : Element) (xs : List Element) → AllByRecursion P xs → Seen P e xs
+  unfolding Seen
+  seen P e [] h = inl refl
+  seen P e (x ∷ xs) h = by_cases (same_element profile e x) refl (seen P e xs h.1) where
+    by_cases : (b : Bool) → same_element profile e x ≡ b → Seen P e xs → Seen P e (x ∷ xs)
+    by_cases true q later = inr (x, q, h.0)
+    by_cases false q (inl none) = inl (sum_by-cons (λ y. cond (same_element profile e y) 1 0) x xs ∙ rw q (omega (arith, none)))
+    by_cases false q (inr some) = inr some
+
+  -- elements of which no count has changed
+  module _ (xs ys : List Element) where
+    AreAlike : Element → Type 0
+    AreAlike e = count_of profile e xs ≡ count_of profile e ys
+
+    from_same : (e x : Element) → same_element profile e x ≡ true → AreAlike x → AreAlike e
+    unfolding AreAlike
+    from_same e x h k = let tests = same_tests e x h in ap (λ t. count_by t xs) tests ∙ k ∙ ap (λ t. count_by t ys) (sym tests)
+
+    all_alike : AllByRecursion AreAlike (xs ++ ys) → (e : Element) → AreAlike e
+    unfolding AreAlike Seen
+    all_alike h e =
+        let parts = all_front AreAlike xs ys h in
+        elim (seen AreAlike e xs parts.0) [
+          | inr some ↦ from_same e some.0 some.1 some.2
+          | inl none ↦ elim (seen AreAlike e ys parts.1) [
+            | inr some ↦ from_same e some.0 some.1 some.2
+            | inl neither ↦ none ∙ sym neither
+          ]
+        ]
+
+    each_alike : (es : List Element) → AllByRecursion (λ e. change (count_of profile e xs) (count_of profile e ys) (element_line e) ≡ []) es → AllByRecursion AreAlike es
+    unfolding AreAlike
+    each_alike [] h = tt
+    each_alike (e ∷ es) h = (counts_alike _ _ (element_line e) h.0, each_alike es h.1)
+
+    elements_alike : element_changes profile xs ys ≡ [] → (e : Element) → count_of profile e xs ≡ count_of profile e ys
+    unfolding AreAlike
+    elements_alike h = all_alike (each_alike (xs ++ ys) (none_of_each (λ e. change (count_of profile e xs) (count_of profile e ys) (element_line e)) element_cmp exact_elements (xs ++ ys) h))
+
+    same_elements : ((e : Element) → count_of profile e xs ≡ count_of profile e ys) → element_changes profile xs ys ≡ []
+    same_elements h = none_of_all (λ e. change (count_of profile e xs) (count_of profile e ys) (element_line e)) (λ e. same_count _ _ (element_line e) (h e)) (ascending element_cmp (xs ++ ys))
+
+  -- ---- cells
+
+  record OneCell (o p : Option (List Element)) : Type 0 where
+    both : is_some o ≡ is_some p
+    counts : (e : Element) → count_of profile e (unwrap_or o []) ≡ count_of profile e (unwrap_or p [])
+
+  no_line : (name changes : List ℕ) → below_name true true name changes ≡ [] → changes ≡ []
+  no_line name [] h = refl
+  no_line name (b ∷ bs) h = let no : ⊥ = cc in absurd no
+
+  cell_alike : (name : List ℕ) (o p : Option (List Element)) → cell_changes profile name o p ≡ [] → OneCell o p
+  cell_alike name None None h = record { both = refl; counts = λ e. refl }
+  cell_alike name (Some xs) None h = let no : ⊥ = cc in absurd no
+  cell_alike name None (Some ys) h = let no : ⊥ = cc in absurd no
+  cell_alike name (Some xs) (Some ys) h = record { both = refl; counts = elements_alike xs ys (no_line name (element_changes profile xs ys) h) }
+
+  nothing_below : (b : Bool) (name : List ℕ) → below_name b b name [] ≡ []
+  nothing_below true name = refl
+  nothing_below false name = refl
+
+  same_cell : (name : List ℕ) (o p : Option (List Element)) → OneCell o p → cell_changes profile name o p ≡ []
+  same_cell name o p one =
+      ap (below_name (is_some o) (is_some p) name) (same_elements (unwrap_or o []) (unwrap_or p []) one.counts)
+      ∙ ap (λ b. below_name (is_some o) b name []) (sym one.both) ∙ nothing_below (is_some o) name
+
+  -- a name stands in the list, and P holds of it, or has no elements there
+  named : (P : List ℕ → Type 0) (name : List ℕ) (cs : List (List ℕ × List Element)) → AllByRecursion P (keys_of cs) → P name ⊎ (elements_of name cs ≡ None)
+  named P name [] h = inr refl
+  named P name (c ∷ cs) h = by_cases (pointwise ◌==◌ name c.0) refl (named P name cs h.1) where
+    by_cases : (b : Bool) → pointwise ◌==◌ name c.0 ≡ b → P name ⊎ (elements_of name cs ≡ None) → P name ⊎ (cond b (Some c.1) (elements_of name cs) ≡ None)
+    by_cases true q later = inl (subst P (sym (exact_bytes name c.0 ((Equal-is (slice_cmp nat_cmp name c.0)).0 (sym (texts_ties name c.0) ∙ q)))) h.0)
+    by_cases false q later = later
+
+  module _ (a b : Meaning) where
+    OneOf : List ℕ → Type 0
+    OneOf name = OneCell (elements_of name a.cells) (elements_of name b.cells)
+
+    of_each : (names : List (List ℕ)) → AllByRecursion (λ name. cell_changes profile name (elements_of name a.cells) (elements_of name b.cells) ≡ []) names → AllByRecursion OneOf names
+    unfolding OneOf
+    of_each [] h = tt
+    of_each (name ∷ names) h = (cell_alike name _ _ h.0, of_each names h.1)
+
+    in_neither : (o p : Option (List Element)) → o ≡ None → p ≡ None → OneCell o p
+    in_neither o p e f = record { both = ap is_some e ∙ sym (ap is_some f); counts = λ x. ap (λ q. count_of profile x (unwrap_or q [])) e ∙ sym (ap (λ q. count_of profile x (unwrap_or q [])) f) }
+
+    of_all : AllByRecursion OneOf (keys_of a.cells ++ keys_of b.cells) → (name : List ℕ) → OneOf name
+    unfolding OneOf
+    of_all h name =
+        let parts = all_front OneOf (keys_of a.cells) (keys_of b.cells) h in
+        elim (named OneOf name a.cells parts.0) [
+          | inl one ↦ one
+          | inr none ↦ elim (named OneOf name b.cells parts.1) [
+            | inl one ↦ one
+            | inr neither ↦ in_neither _ _ none neither
+          ]
+        ]
+
+    lines_of : List ℕ → List ℕ
+    lines_of name = cell_changes profile name (elements_of name a.cells) (elements_of name b.cells)
+
+    -- no line makes them the same
+    same_from_none : difference profile a b ≡ [] → SameLayout profile a b
+    unfolding OneOf lines_of
+    same_from_none h =
+        let parts = none_twice (unit_changes a.unit b.unit) _ h in
+        let one = of_all (of_each (keys_of a.cells ++ keys_of b.cells) (none_of_each lines_of (slice_cmp nat_cmp) exact_bytes (keys_of a.cells ++ keys_of b.cells) parts.1)) in
+        record { unit = units_alike a.unit b.unit parts.0; cells = λ name. (one name).both; counts = λ name. (one name).counts }
+
+    -- and the same have no line
+    none_from_same : SameLayout profile a b → difference profile a b ≡ []
+    unfolding lines_of
+    none_from_same s =
+        λ i. one_unit a.unit b.unit s.unit i ++ none_of_all lines_of (λ name. same_cell name _ _ (record { both = s.cells name; counts = s.counts name })) (ascending (slice_cmp nat_cmp) (keys_of a.cells ++ keys_of b.cells)) i
+
+pub empty_if_same : (profile : Profile) → EmptyIfSame profile
+empty_if_same profile a b = (same_from_none profile a b, none_from_same profile a b)

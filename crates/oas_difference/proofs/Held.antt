@@ -1,0 +1,111 @@
+-- The difference of two layouts is that of what they hold.
+use Rattle.std.proofs.Common.{◌≡◌, ℕ, ◌<◌, List, [], ◌∷◌, ◌++◌, map, flat_map, Bool, true, false, cond, Option, None, Some, is_some, unwrap_or, refl, sym, ◌∙◌, ap, subst}
+use Rattle.std.specs.Prelude.{◌==◌, option_map, IfSome}
+use Rattle.std.specs.Ordering.{nat_cmp}
+use Rattle.std.specs.Cmp.Lexicographic.{slice_cmp, pointwise, texts_ties}
+use Rattle.std.specs.List.{AllByRecursion}
+use Rattle.std.specs.List.Sorted.{IsStrictlySortedBy}
+use Rattle.std.specs.Map.{keys_of, lookup}
+use Rattle.std.specs.BTreeMap.{is_at}
+use Rattle.std.proofs.lemmas.List.Folds.{flat_map-map}
+use Rattle.oas_layout.specs.declared.profile.Profile.{Profile}
+use Rattle.oas_layout.specs.declared.element.Element.{Element}
+use Rattle.oas_layout.specs.Element.{element_cmp}
+use Rattle.oas_layout.specs.Laws.ElementLaws.{element_total}
+use Rattle.oas_layout.specs.Same.{IsNormal}
+use Rattle.oas_layout.specs.Bag.{items, count_at, IsBag}
+use Rattle.oas_layout.specs.Meaning.{elements_of, count_of}
+use Rattle.oas_layout.specs.Contents.{Cell, Contents, expanded, meaning_of, IsCell, IsLayout}
+use Rattle.oas_layout.proofs.LawProofs.{held}
+use Rattle.oas_listing.specs.Listing.{element_line}
+use Rattle.oas_difference.specs.Ascending.{ascending}
+use Rattle.oas_difference.specs.Pairs.{found, side_by_side}
+use Rattle.oas_difference.specs.Difference.{change, unit_changes, element_changes, below_name, cell_changes, difference}
+use Rattle.oas_difference.specs.Held.{pair_line, held_changes, held_cell, held_cells}
+use Rattle.oas_difference.proofs.Ascending.{all_append, all_ascending, items_keys}
+
+flat_map_alike : {A : Type 0} (f g : A → List ℕ) (xs : List A) → AllByRecursion (λ x. f x ≡ g x) xs → flat_map f xs ≡ flat_map g xs
+flat_map_alike f g [] h = refl
+flat_map_alike f g (x ∷ xs) h = λ i. h.0 i ++ flat_map_alike f g xs h.1 i
+
+module _ (profile : Profile) where
+  keys_normal : (es : List (Element × ℕ)) → AllByRecursion (λ p. IsNormal profile p.0) es → AllByRecursion (IsNormal profile) (keys_of es)
+  keys_normal [] h = tt
+  keys_normal (e ∷ es) h = (h.0, keys_normal es h.1)
+
+  -- ---- the elements of a cell
+
+  module _ (es fs : List (Element × ℕ)) (b : IsBag profile es) (c : IsBag profile fs) where
+    both : List Element
+    both = ascending element_cmp (keys_of es ++ keys_of fs)
+
+    count_held : (gs : List (Element × ℕ)) (e : Element) → IsBag profile gs → IsNormal profile e → count_of profile e (items gs) ≡ unwrap_or (found element_cmp gs e) 0
+    count_held gs e g n = held profile gs e g ∙ ap (count_at gs) n
+
+    line_held : (xs : List Element) → AllByRecursion (IsNormal profile) xs → AllByRecursion (λ e. change (count_of profile e (items es)) (count_of profile e (items fs)) (element_line e) ≡ pair_line (e, (found element_cmp es e, found element_cmp fs e))) xs
+    line_held [] h = tt
+    line_held (x ∷ xs) h = (λ i. change (count_held es x b h.0 i) (count_held fs x c h.0 i) (element_line x), line_held xs h.1)
+
+    changes_held : element_changes profile (items es) (items fs) ≡ held_changes es fs
+    unfolding both
+    changes_held =
+        ap (flat_map (λ e. change (count_of profile e (items es)) (count_of profile e (items fs)) (element_line e))) (items_keys element_total es fs b.tally.positive c.tally.positive)
+        ∙ flat_map_alike _ (λ e. pair_line (e, (found element_cmp es e, found element_cmp fs e))) both (line_held both (all_ascending (IsNormal profile) element_cmp (keys_of es ++ keys_of fs) (all_append (IsNormal profile) (keys_of es) (keys_of fs) (keys_normal es b.normal) (keys_normal fs c.normal))))
+        ∙ sym (flat_map-map pair_line (λ e. (e, (found element_cmp es e, found element_cmp fs e))) both)
+
+  -- ---- a cell
+
+  empty_bag : IsBag profile []
+  unfolding IsStrictlySortedBy
+  empty_bag = record { tally = record { ascending = tt; positive = tt }; normal = tt }
+
+  bag_of : (o : Option (List (Element × ℕ))) → IfSome o (IsBag profile) → IsBag profile (unwrap_or o [])
+  bag_of None b = empty_bag
+  bag_of (Some es) b = b
+
+  there : (o : Option (List (Element × ℕ))) → is_some (option_map items o) ≡ is_some o
+  there None = refl
+  there (Some es) = refl
+
+  the_items : (o : Option (List (Element × ℕ))) → unwrap_or (option_map items o) [] ≡ items (unwrap_or o [])
+  the_items None = refl
+  the_items (Some es) = refl
+
+  cell_held : (name : List ℕ) (o p : Option (List (Element × ℕ))) → IfSome o (IsBag profile) → IfSome p (IsBag profile) → cell_changes profile name (option_map items o) (option_map items p) ≡ held_cell (name, (o, p))
+  cell_held name o p b c =
+      (λ i. below_name (there o i) (there p i) name (element_changes profile (the_items o i) (the_items p i)))
+      ∙ ap (below_name (is_some o) (is_some p) name) (changes_held (unwrap_or o []) (unwrap_or p []) (bag_of o b) (bag_of p c))
+
+  -- ---- the cells
+
+  bag_at : (test : List ℕ → Bool) (cs : List Cell) → AllByRecursion (IsCell profile) cs → IfSome (lookup test cs) (IsBag profile)
+  bag_at test [] h = tt
+  bag_at test (c ∷ cs) h = elim (test c.0) as (λ b. IfSome (cond b (Some c.1) (lookup test cs)) (IsBag profile)) [ true ↦ h.0.bag | false ↦ bag_at test cs h.1 ]
+
+elements_held : (name : List ℕ) (cs : List Cell) → elements_of name (expanded cs) ≡ option_map items (lookup (pointwise ◌==◌ name) cs)
+elements_held name [] = refl
+elements_held name (c ∷ cs) =
+    elim (pointwise ◌==◌ name c.0) as (λ b. cond b (Some (items c.1)) (elements_of name (expanded cs)) ≡ option_map items (cond b (Some c.1) (lookup (pointwise ◌==◌ name) cs))) [ true ↦ refl | false ↦ elements_held name cs ]
+
+elements_found : (name : List ℕ) (cs : List Cell) → elements_of name (expanded cs) ≡ option_map items (found (slice_cmp nat_cmp) cs name)
+elements_found name cs = elements_held name cs ∙ (λ i. option_map items (lookup (λ k. texts_ties name k i) cs))
+
+keys_held : (cs : List Cell) → keys_of (expanded cs) ≡ keys_of cs
+keys_held [] = refl
+keys_held (c ∷ cs) = λ i. c.0 ∷ keys_held cs i
+
+module _ (profile : Profile) (cs ds : List Cell) (p : AllByRecursion (IsCell profile) cs) (q : AllByRecursion (IsCell profile) ds) where
+  name_held : (name : List ℕ) → cell_changes profile name (elements_of name (expanded cs)) (elements_of name (expanded ds)) ≡ held_cell (name, (found (slice_cmp nat_cmp) cs name, found (slice_cmp nat_cmp) ds name))
+  name_held name =
+      (λ i. cell_changes profile name (elements_found name cs i) (elements_found name ds i))
+      ∙ cell_held profile name (found (slice_cmp nat_cmp) cs name) (found (slice_cmp nat_cmp) ds name) (bag_at profile (is_at (slice_cmp nat_cmp name)) cs p) (bag_at profile (is_at (slice_cmp nat_cmp name)) ds q)
+
+  cells_held : flat_map (λ name. cell_changes profile name (elements_of name (expanded cs)) (elements_of name (expanded ds))) (ascending (slice_cmp nat_cmp) (keys_of (expanded cs) ++ keys_of (expanded ds))) ≡ held_cells cs ds
+  cells_held =
+      (λ i. flat_map (λ name. name_held name i) (ascending (slice_cmp nat_cmp) (keys_held cs i ++ keys_held ds i)))
+      ∙ sym (flat_map-map held_cell (λ name. (name, (found (slice_cmp nat_cmp) cs name, found (slice_cmp nat_cmp) ds name))) (ascending (slice_cmp nat_cmp) (keys_of cs ++ keys_of ds)))
+
+-- the lines of the units, and then those of the cells that are held
+pub difference_held : (a b : Contents) → IsLayout a → IsLayout b → a.profile ≡ b.profile → difference a.profile (meaning_of a) (meaning_of b) ≡ unit_changes a.unit b.unit ++ held_cells a.cells b.cells
+difference_held a b k l alike =
+    ap (λ (text : List ℕ). unit_changes a.unit b.unit ++ text) (cells_held a.profile a.cells b.cells k.cells (subst (λ p. AllByRecursion (IsCell p) b.cells) (sym alike) l.cells))

@@ -1,0 +1,25 @@
+use Rattle.std.proofs.Common.{◌≡◌, ◌∙◌, decimal}
+use Rattle.std.proofs.lemmas.Result.{err_from_is_err_and}
+use Rattle.oas_num.proofs.PuttingLemmas.{first, begins, fails_at, ends, ◌▸◌}
+use Rattle.oas_difference.proofs.changes.put_sign.Goals as goal
+
+pub returns-in_err-put : goal.returns-in_err-put
+returns-in_err-put g c =
+    let p = err_from_is_err_and c.from_residual.result c.from_residual.ensures.1 in
+    rw p.1 (fails_at _ (begins _ _) c.in_err-put.ensures)
+
+pub returns-in_err-put-2 : goal.returns-in_err-put-2
+returns-in_err-put-2 g c =
+    let p = err_from_is_err_and c.from_residual-in_err-put-2.result c.from_residual-in_err-put-2.ensures.1 in
+    rw p.1 (fails_at _ (first _ c.in_ok-put.ensures) c.in_err-put-2.ensures)
+
+pub returns-in_err-put_all : goal.returns-in_err-put_all
+returns-in_err-put_all g c =
+    let p = err_from_is_err_and c.from_residual-in_err-put_all.result c.from_residual-in_err-put_all.ensures.1 in
+    let t : c.as_bytes.result.now ≡ decimal c.args.count = c.as_bytes.ensures.value ∙ c.format.ensures.text in
+    rw (p.1, ← t) (fails_at _ (first _ c.in_ok-put.ensures ▸ c.in_ok-put-2.ensures) c.in_err-put_all.ensures)
+
+pub returns : goal.returns
+returns g c =
+    let t : c.as_bytes.result.now ≡ decimal c.args.count = c.as_bytes.ensures.value ∙ c.format.ensures.text in
+    rw (← t) (ends _ _ (first _ c.in_ok-put.ensures ▸ c.in_ok-put-2.ensures ▸ c.in_ok-put_all.ensures) c.put-3.ensures)

@@ -1,0 +1,29 @@
+-- The difference of what two layouts hold: cells and elements beside their counts.
+use Rattle.std.specs.Prelude.{ℕ, List, [], ◌∷◌, ◌++◌, flat_map, Option, None, Some, is_some, unwrap_or}
+use Rattle.std.specs.Borrow.{Bor}
+use Rattle.std.specs.Ordering.{nat_cmp}
+use Rattle.std.specs.Cmp.Lexicographic.{slice_cmp}
+use Rattle.oas_layout.specs.declared.element.Element.{Element}
+use Rattle.oas_layout.specs.Element.{element_cmp}
+use Rattle.oas_layout.specs.Bag.{counted}
+use Rattle.oas_layout.specs.Contents.{Cell}
+use Rattle.oas_listing.specs.Listing.{element_line}
+use Rattle.oas_difference.specs.Pairs.{side_by_side}
+use Rattle.oas_difference.specs.Difference.{change, below_name}
+
+-- the first element, if there is one, and the rest
+abbrev pub in_hand : Option (Bor Element × ℕ) → List (Element × ℕ) → List (Element × ℕ)
+in_hand None rest = []
+in_hand (Some p) rest = counted p ∷ rest
+
+abbrev pub pair_line : Element × (Option ℕ × Option ℕ) → List ℕ
+pair_line p = change (unwrap_or p.1.0 0) (unwrap_or p.1.1 0) (element_line p.0)
+
+abbrev pub held_changes : List (Element × ℕ) → List (Element × ℕ) → List ℕ
+held_changes es fs = flat_map pair_line (side_by_side element_cmp es fs)
+
+abbrev pub held_cell : List ℕ × (Option (List (Element × ℕ)) × Option (List (Element × ℕ))) → List ℕ
+held_cell p = below_name (is_some p.1.0) (is_some p.1.1) p.0 (held_changes (unwrap_or p.1.0 []) (unwrap_or p.1.1 []))
+
+abbrev pub held_cells : List Cell → List Cell → List ℕ
+held_cells cs ds = flat_map held_cell (side_by_side (slice_cmp nat_cmp) cs ds)

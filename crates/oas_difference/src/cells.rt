@@ -1,0 +1,181 @@
+//! What has changed in each cell.
+
+ghost use Rattle.std.specs.Prelude.{◌≡◌, true, unwrap_or, option_map, IfSome};
+ghost use Rattle.std.specs.Ordering.{nat_cmp};
+ghost use Rattle.std.specs.Cmp.Lexicographic.{slice_cmp};
+ghost use Rattle.std.specs.List.Sorted.{IsStrictlySortedBy};
+ghost use Rattle.std.specs.Map.{keys_of};
+ghost use Rattle.std.specs.Map.Iter.{deref};
+ghost use Rattle.oas_num.specs.Writing.{Writes};
+ghost use Rattle.oas_layout.specs.Bag.{IsTally};
+ghost use Rattle.oas_layout.specs.Contents.{IsLayout};
+ghost use Rattle.oas_layout.specs.Element.{element_cmp};
+ghost use Rattle.oas_difference.specs.Difference.{cell_line, place_line, signed, below_name};
+ghost use Rattle.oas_difference.specs.Pairs.{head_key, least, taken};
+ghost use Rattle.oas_difference.specs.Held.{held_cell, held_cells, held_changes};
+
+use crate::changes::{next_change, put_change, put_changes, put_sign};
+use crate::elements::Side;
+use oas_layout::{Elements, Layout};
+use oas_listing::put_name;
+use oas_num::{Name, Sink, SinkFault};
+use std::cmp::Ordering;
+use std::marker::Model;
+
+/// The cells of a layout from one on, seen as the list of them.
+#[derive(Drop)]
+pub(crate) struct Cells<'a> {
+    layout: &'a Layout,
+    count: usize,
+    next: usize,
+}
+
+impl<'a> Model for Cells<'a> {
+    ghost use Rattle.std.specs.Prelude.{◌≡◌, List, length, drop};
+    ghost use Rattle.oas_layout.specs.Contents.{Cell};
+
+    ghost Value = { List Cell };
+
+    ghost view = { λ c. drop c.next c.layout.now.cells };
+
+    ghost invariant = { λ c. c.count ≡ length c.layout.now.cells };
+}
+
+impl<'a> Cells<'a> {
+    /// All of them.
+    pub(crate) fn new(layout: &'a Layout) -> Cells<'a>
+        ensures cells { result ≡ layout.now.cells }
+        ensures layout { IsLayout layout.now }
+    {
+        let count = layout.cells();
+        Cells {
+            layout,
+            count,
+            next: 0,
+        }
+    }
+
+    /// The name of the first.
+    fn name(&self) -> Option<&'a Name>
+        ensures { option_map deref result ≡ head_key self.now }
+    {
+        if self.next < self.count {
+            Some(self.layout.cell_name(self.next))
+        } else {
+            None
+        }
+    }
+
+    /// The elements of the cell of that name, where it is the first, and leaves it.
+    fn take(&mut self, name: &Name) -> Option<Elements<'a>>
+        ensures elements { result ≡ (taken (slice_cmp nat_cmp) name.now self.old).0 }
+        ensures rest { self.new ≡ (taken (slice_cmp nat_cmp) name.now self.old).1 }
+        ensures tally { IfSome result IsTally }
+    {
+        if self.next >= self.count {
+            return None;
+        }
+        let first = self.layout.cell_name(self.next);
+        match name.as_bytes().cmp(first.as_bytes()) {
+            Ordering::Equal => {
+                let elements = self.layout.elements(self.next);
+                self.next += 1;
+                Some(elements)
+            }
+            _ => None,
+        }
+    }
+}
+
+/// The lesser of two names, or the one that is there.
+fn first_name<'a>(left: Option<&'a Name>, right: Option<&'a Name>) -> Option<&'a Name>
+    ensures { option_map deref result ≡ least (slice_cmp nat_cmp) (option_map deref left.entry) (option_map deref right.entry) }
+{
+    match (left, right) {
+        (None, last) | (last, None) => last,
+        (Some(name), Some(other)) => match name.as_bytes().cmp(other.as_bytes()) {
+            Ordering::Greater => Some(other),
+            _ => Some(name),
+        },
+    }
+}
+
+/// Puts the line of a cell that only one layout has.
+fn put_alone<K: Sink>(sink: &mut K, sign: u8, name: &Name) -> Result<(), SinkFault>
+    ensures { Writes K.given K.failures sink.old (signed sign 1 (cell_line name.now)) result sink.new }
+{
+    put_sign(sink, sign, 1)?;
+    put_name(sink, name.as_bytes())
+}
+
+/// Puts the line above the changes of a cell that both layouts have.
+fn put_place<K: Sink>(sink: &mut K, name: &Name) -> Result<(), SinkFault>
+    ensures { Writes K.given K.failures sink.old (place_line name.now) result sink.new }
+{
+    sink.put_all(b"@ ")?;
+    put_name(sink, name.as_bytes())
+}
+
+/// Puts what has changed in a cell that both layouts have, below its name if that is anything.
+fn put_both<'a, K: Sink>(
+    sink: &mut K,
+    name: &Name,
+    mut before: Side<'a>,
+    mut after: Side<'a>,
+) -> Result<(), SinkFault>
+    requires before { IsStrictlySortedBy element_cmp (keys_of before) }
+    requires after { IsStrictlySortedBy element_cmp (keys_of after) }
+    ensures { Writes K.given K.failures sink.old (below_name true true name.now (held_changes before.entry after.entry)) result sink.new }
+{
+    let Some(first) = next_change(&mut before, &mut after) else {
+        return Ok(());
+    };
+    put_place(sink, name)?;
+    put_change(sink, first)?;
+    put_changes(sink, before, after)
+}
+
+/// Puts what has changed in a cell, of which the elements are given where it is there.
+fn put_cell<'a, K: Sink>(
+    sink: &mut K,
+    name: &Name,
+    before: Option<Elements<'a>>,
+    after: Option<Elements<'a>>,
+) -> Result<(), SinkFault>
+    requires before { IfSome before IsTally }
+    requires after { IfSome after IsTally }
+    ensures { Writes K.given K.failures sink.old (held_cell (name.now, (before.entry, after.entry))) result sink.new }
+{
+    let there = (before.is_some(), after.is_some());
+    let before = Side::new(before);
+    let after = Side::new(after);
+    match there {
+        (true, true) => put_both(sink, name, before, after),
+        (true, false) => {
+            put_alone(sink, b'-', name)?;
+            put_changes(sink, before, after)
+        }
+        (false, true) => {
+            put_alone(sink, b'+', name)?;
+            put_changes(sink, before, after)
+        }
+        (false, false) => Ok(()),
+    }
+}
+
+/// Puts what has changed in each cell.
+pub(crate) fn put_cells<'a, K: Sink>(
+    sink: &mut K,
+    mut before: Cells<'a>,
+    mut after: Cells<'a>,
+) -> Result<(), SinkFault>
+    requires before { IsStrictlySortedBy (slice_cmp nat_cmp) (keys_of before) }
+    requires after { IsStrictlySortedBy (slice_cmp nat_cmp) (keys_of after) }
+    ensures { Writes K.given K.failures sink.old (held_cells before.entry after.entry) result sink.new }
+{
+    while let Some(name) = first_name(before.name(), after.name()) {
+        let (left, right) = (before.take(name), after.take(name));
+        put_cell(sink, name, left, right)?;
+    }
+    Ok(())
+}

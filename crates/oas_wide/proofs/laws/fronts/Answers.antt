@@ -1,0 +1,24 @@
+use Rattle.oas_wide.specs.Blocks.{block_head}
+use Rattle.oas_wide.specs.Ends.{wide_end}
+use Rattle.oas_wide.specs.Extensions.{extension_geometry}
+use Rattle.oas_wide.specs.Heads.{wide_start}
+use Rattle.oas_wide.specs.LayerNames.{layer_name}
+use Rattle.oas_wide.specs.Properties.{property, property_value}
+use Rattle.oas_wide.specs.Strings.{string_kind, attributed}
+use Rattle.oas_wide.specs.Trapezoids.{trapezoid, named_trapezoid}
+use Rattle.oas_wide.proofs.laws.fronts.Goals as goal
+
+pub returns : goal.returns
+returns c = record {
+  start = wide_start.found.one;
+  end = λ in_end. (wide_end in_end).found.one;
+  string = λ numbered. (string_kind numbered).found.one;
+  value = property_value.found.one;
+  property = property.found.one;
+  layer_name = layer_name.found.one;
+  attributed = λ numbered. (attributed numbered).found.one;
+  geometry = extension_geometry.found.one;
+  block = block_head.found.one;
+  trapezoid = λ a b. (trapezoid a b).found.one;
+  named = named_trapezoid.found.one;
+}

@@ -1,0 +1,10 @@
+pub mod Little
+pub mod Reals
+pub mod Heads
+pub mod Ends
+pub mod Strings
+pub mod Properties
+pub mod LayerNames
+pub mod Extensions
+pub mod Blocks
+pub mod Trapezoids

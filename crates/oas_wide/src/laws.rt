@@ -1,0 +1,42 @@
+//! The laws of the grammar: the function's contract is them, and its body is empty.
+ghost use Rattle.std.specs.Prelude.{Bool};
+ghost use Rattle.oas_num.specs.Begun.{HasSome};
+ghost use Rattle.oas_num.specs.Grammar.{OneFront};
+ghost use Rattle.oas_wide.specs.Blocks.{SpellsBlockHead};
+ghost use Rattle.oas_wide.specs.Ends.{SpellsWideEnd};
+ghost use Rattle.oas_wide.specs.Extensions.{SpellsGeometry};
+ghost use Rattle.oas_wide.specs.Heads.{SpellsWideStart};
+ghost use Rattle.oas_wide.specs.LayerNames.{SpellsLayerName};
+ghost use Rattle.oas_wide.specs.Properties.{SpellsProperty, SpellsValue};
+ghost use Rattle.oas_wide.specs.Strings.{SpellsString, SpellsAttributed};
+ghost use Rattle.oas_wide.specs.Trapezoids.{SpellsTrapezoid, SpellsNamedTrapezoid};
+
+/// Of what follows an id, and of START, no spelling begins another, and none spells two values.
+pub fn fronts()
+    ensures start { OneFront SpellsWideStart }
+    ensures end { (in_end : Bool) → OneFront (SpellsWideEnd in_end) }
+    ensures string { (numbered : Bool) → OneFront (SpellsString numbered) }
+    ensures value { OneFront SpellsValue }
+    ensures property { OneFront SpellsProperty }
+    ensures layer_name { OneFront SpellsLayerName }
+    ensures attributed { (numbered : Bool) → OneFront (SpellsAttributed numbered) }
+    ensures geometry { OneFront SpellsGeometry }
+    ensures block { OneFront SpellsBlockHead }
+    ensures trapezoid { (a b : Bool) → OneFront (SpellsTrapezoid a b) }
+    ensures named { OneFront SpellsNamedTrapezoid }
+{}
+
+/// Each has a spelling.
+pub fn some()
+    ensures start { HasSome SpellsWideStart }
+    ensures end { (in_end : Bool) → HasSome (SpellsWideEnd in_end) }
+    ensures string { (numbered : Bool) → HasSome (SpellsString numbered) }
+    ensures value { HasSome SpellsValue }
+    ensures property { HasSome SpellsProperty }
+    ensures layer_name { HasSome SpellsLayerName }
+    ensures attributed { (numbered : Bool) → HasSome (SpellsAttributed numbered) }
+    ensures geometry { HasSome SpellsGeometry }
+    ensures block { HasSome SpellsBlockHead }
+    ensures trapezoid { (a b : Bool) → HasSome (SpellsTrapezoid a b) }
+    ensures named { HasSome SpellsNamedTrapezoid }
+{}

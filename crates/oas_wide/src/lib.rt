@@ -1,0 +1,61 @@
+//! What a file of the standard may have and the profile leaves out: its grammar, and reading it. The parts of records that
+//! both have are those of `oas_record`, and sources those of `oas_num`.
+//!
+//! What this crate promises:
+//!
+//! - Each read takes exactly a spelling of the value that it answers, or is refused: by a reason of format only where no
+//!   spelling is a front of the bytes that stand there, however they go on. The contract is `ReadsPiece` of `oas_num`.
+//! - What is read is one tree a kind of record (`Kind` of `oas_record`, in the file of the same name in specs/): from it come
+//!   the spellings, the table of what goes wrong where (`took`), and that no spelling begins another ([`laws::fronts`]).
+//!
+//! Reads are of what follows a record's id; [`WideStart`] reads its id too. They ask for no memory but what a repetition
+//! takes: strings and lists of values are passed over, and of both only the length is kept.
+//!
+//! | Ids | What | Read |
+//! |---|---|---|
+//! | 1 | START, with a unit of any type | [`WideStart`] |
+//! | 2 | END, with any validation | [`WideEnd`] |
+//! | 7 to 10 | PROPNAME, PROPSTRING | [`read_string`] |
+//! | 11, 12 | LAYERNAME | [`LayerName`] |
+//! | 23, 24, 25 | TRAPEZOID | [`Trapezoid`] |
+//! | 26 | CTRAPEZOID | [`NamedTrapezoid`] |
+//! | 28 | PROPERTY | [`Property`], [`PropertyValue`] |
+//! | 30, 31, 32 | XNAME, XELEMENT | [`read_attributed`] |
+//! | 33 | XGEOMETRY | [`ExtensionGeometry`] |
+//! | 34 | CBLOCK, what stands before its bytes | [`BlockHead`] |
+//!
+//! Where the standard is silent, it is so (own rules):
+//!
+//! - A float is the fraction that its bits are. Infinities, and what is no number, are refused by `FloatReal`.
+//! - What bytes a string has that is passed over isn't looked at.
+//! - In a property, V = 1 goes with UUUU = 0 alone; else, as for bits 7 to 5 of an XGEOMETRY, `InfoByte`.
+//! - Of types that the standard doesn't have, that of a value is refused by `RealType`, since the types of reals are the first
+//!   of them; those of intervals and of a CTRAPEZOID by `InfoByte`. That of a CBLOCK is left to the caller.
+//! - END's length, whether a signature is that of the file, and whether a trapezoid's corners enclose anything are left to the
+//!   caller too.
+#![tactic(auto)]
+
+mod blocks;
+mod ends;
+mod extensions;
+mod heads;
+pub mod laws;
+mod layer_names;
+mod little;
+mod properties;
+mod reals;
+mod strings;
+mod trapezoids;
+
+pub use blocks::BlockHead;
+pub use ends::{Validation, WideEnd};
+pub use extensions::ExtensionGeometry;
+pub use heads::WideStart;
+pub use layer_names::{Interval, LayerName};
+pub use properties::{Property, PropertyName, PropertyValue};
+pub use reals::WideReal;
+pub use strings::{read_attributed, read_string};
+pub use trapezoids::{NamedTrapezoid, Trapezoid};
+
+#[cfg(test)]
+mod tests;

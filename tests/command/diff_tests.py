@@ -1,0 +1,69 @@
+"""What differs between two files."""
+import subprocess, time
+
+from layouts import RESPELLED, SMALL, cell, file_of, large, rectangle
+
+
+def run(*words, **more):
+    return subprocess.run([str(word) for word in words], capture_output=True, **more)
+
+
+def diff(program, folder, before, after, *flags):
+    (folder / "a").write_bytes(before)
+    (folder / "b").write_bytes(after)
+    return run(program, "diff", *flags, folder / "a", folder / "b")
+
+
+def answer(program, folder, before, after, *flags):
+    done = diff(program, folder, before, after, *flags)
+    assert done.stderr == b""
+    return done.returncode, done.stdout.decode()
+
+
+def test_the_same(program, folder):
+    assert answer(program, folder, SMALL, RESPELLED) == (0, "")
+
+
+def test_elements_and_cells(program, folder):
+    before = file_of(cell(b"A") + 2 * rectangle(1, 0, 10, 20, 0, 0) + rectangle(3, 0, 1, 1, 0, 0) + cell(b"B"))
+    after = file_of(cell(b"C") + rectangle(2, 0, 5, 5, 0, 0) + cell(b"A") + rectangle(3, 0, 1, 1, 0, 0) + rectangle(4, 0, 1, 1, 7, 8))
+    assert answer(program, folder, before, after) == (3, """@ cell A
+- 2 rectangle 1 0 10 20 0 0
++ 1 rectangle 4 0 1 1 7 8
+- 1 cell B
++ 1 cell C
++ 1 rectangle 2 0 5 5 0 0
+""")
+
+
+def test_units(program, folder):
+    other = SMALL.replace(b"\x00\xe8\x07", b"\x00\xd0\x0f", 1)
+    assert answer(program, folder, SMALL, other) == (3, "- 1 unit 1000/1\n+ 1 unit 2000/1\n")
+
+
+def test_refused(program, folder):
+    done = diff(program, folder, SMALL, SMALL[:-1])
+    assert (done.returncode, done.stdout, done.stderr) == (1, b"", f"{folder}/b: refused 2 at 45\n".encode())
+    done = diff(program, folder, SMALL[:-1], SMALL[:-1])
+    assert (done.returncode, done.stdout, done.stderr) == (1, b"", f"{folder}/a: refused 2 at 45\n".encode())
+
+
+def test_no_such_file(program, folder):
+    (folder / "a").write_bytes(SMALL)
+    done = run(program, "diff", folder / "a", folder / "b")
+    assert (done.returncode, done.stdout, done.stderr) == (1, b"", f"{folder}/b: cannot be opened\n".encode())
+
+
+def test_full_device(program, folder):
+    (folder / "a").write_bytes(SMALL)
+    (folder / "b").write_bytes(file_of(b""))
+    with open("/dev/full", "wb") as full:
+        done = subprocess.run([program, "diff", folder / "a", folder / "b"], stdout=full, stderr=subprocess.PIPE)
+    assert done.returncode == 1 and b"refused 33 at 0" in done.stderr
+
+
+def test_many(program, folder):
+    begun = time.monotonic()
+    code, text = answer(program, folder, large(200_000), file_of(cell(b"A")))
+    assert code == 3 and text.startswith("@ cell A\n- 1 rectangle 1 0 10 20 0 0\n") and text.count("\n") == 200_001
+    assert time.monotonic() - begun < 20
