@@ -28,7 +28,7 @@ install-built:
 	if [ -e $(LIBRARY)/liboascanon.a ]; then $(MAKE) --no-print-directory install-lib; fi
 
 # The library that is there, its header, and its pkg-config file.
-VERSION = $(shell sed -n 's/.*\.version("\([0-9.]*\)").*/\1/p' crates/oascanon/src/commands.rt)
+VERSION = $(shell sed -n 's/^const VERSION.*"\([0-9.]*\) .*/\1/p' crates/oascanon/src/usage.rt)
 install-lib:
 	install -D -m 644 include/oascanon.h $(DESTDIR)$(PREFIX)/include/oascanon.h
 	install -D -m 644 $(LIBRARY)/liboascanon.a $(DESTDIR)$(PREFIX)/lib/liboascanon.a

@@ -1,17 +1,18 @@
 -- Filling room, a byte at a time.
-use Rattle.std.proofs.Common.{◌≡◌, ℕ, suc, ◌+◌, ◌-◌, ◌^◌, ◌<◌, ◌≤◌, min, List, [], ◌∷◌, ◌++◌, length, take, drop, set, get_or, Result, Ok, Err, Bool, true, false, MutBor, refl, sym, ◌∙◌, ap, subst, append_assoc, append-nil, length-append, arith}
+use Rattle.std.proofs.Common.{◌≡◌, ℕ, suc, ◌+◌, ◌-◌, ◌^◌, ◌<◌, ◌≤◌, min, List, [], ◌∷◌, ◌++◌, length, take, drop, set, get_or, Result, Ok, Err, Bool, true, false, MutBor, refl, sym, ◌∙◌, ap, subst, append_assoc, length-append, arith}
 use Rattle.std.specs.Prelude.{nat_lt, if◌then◌else◌}
 use Rattle.std.proofs.lemmas.List.{length-take, length-drop, take_all, take-append-le, drop_all}
 use Rattle.std.proofs.Math.Seq.{drop-cons, set-append_seam}
 use Rattle.std.proofs.lemmas.Bool.{ltb-true, ltb-false}
 use Rattle.oas_num.specs.SinkFault.{SinkFault}
-use Rattle.oas_num.specs.Writing.{Puts, PutsFront, Writes}
+use Rattle.oas_num.specs.Writing.{Puts, Writes}
 use Rattle.oas_form.specs.Putting.{Counts}
 use Rattle.oascanon_c.specs.declared.answers.Answer.{Answer}
 use Rattle.oascanon_c.specs.declared.answers.Answer.TheVariants.{Done, TooSmall}
 use Rattle.oascanon_c.specs.declared.filling.Filler.{Filler}
 use Rattle.oascanon_c.specs.Rooms.{filled_with, answer_of, Puts as PutsInto}
-use Rattle.oascanon_c.specs.Filling.{HasPut, Fills, Fills-none}
+use Rattle.oascanon_c.specs.Filling.{HasPut, Fills}
+use Rattle.oascanon_c.specs.Laws.FillingLaws.{Fills-none}
 
 pub filled_length : (start m : List ℕ) → length (filled_with start m) ≡ length start
 filled_length start m = omega (arith, length-append (take (length start) m) (drop (length m) start), length-take (length start) m, length-drop (length m) start)
@@ -38,11 +39,11 @@ no_more start m b h =
 
 module _ (s : Filler) (byte : ℕ) where
   -- a byte more stands in the room, or there was no place for it
-  pub record Holds (t : Filler) : Type 0 where
-    pub same : t.room.ghost_name ≡ s.room.ghost_name
-    pub given : t.given ≡ s.given
-    pub filled : (start m : List ℕ) → HasPut s start m → t.filled ≡ min (length (m ++ byte ∷ [])) (length start)
-    pub room : (start m : List ℕ) → HasPut s start m → t.room.now ≡ filled_with start (m ++ byte ∷ [])
+  pub record Holds (room : MutBor (List ℕ)) (filled given : ℕ) : Type 0 where
+    pub same : room.ghost_name ≡ s.room.ghost_name
+    pub counted : given ≡ s.given
+    pub fills : (start m : List ℕ) → HasPut s start m → filled ≡ min (length (m ++ byte ∷ [])) (length start)
+    pub holds : (start m : List ℕ) → HasPut s start m → room.now ≡ filled_with start (m ++ byte ∷ [])
 
   pub room_put : s.filled < length s.room.now → (start m : List ℕ) → HasPut s start m → set s.room.now s.filled byte ≡ filled_with start (m ++ byte ∷ [])
   room_put lt start m h =
@@ -68,19 +69,19 @@ module _ (s : Filler) (byte : ℕ) where
       omega (arith, h.filled, all, le, length-append m (byte ∷ []))
 
   -- and it was counted
-  pub put_more : (mid t : Filler) → Holds mid → t.room ≡ mid.room → t.filled ≡ mid.filled → t.given ≡ min (mid.given + 1) (2 ^ 64 - 1) → Puts Fills (λ _. 0) s (byte ∷ []) t
-  put_more mid t holds room filled given = record {
+  pub put_more : (room : MutBor (List ℕ)) (filled given : ℕ) → Holds room filled given → (t : Filler) → t.room ≡ room → t.filled ≡ filled → t.given ≡ min (given + 1) (2 ^ 64 - 1) → Puts Fills (λ _. 0) s (byte ∷ []) t
+  put_more room filled given h t same fills counts = record {
     after = λ start before f. record {
-      same = ap (λ (r : MutBor (List ℕ)). r.ghost_name) room ∙ holds.same ∙ f.same;
-      puts = λ old m h. subst (HasPut t old) (append_assoc m before (byte ∷ [])) (one old (m ++ before) (f.puts old m h));
+      same = ap (λ (r : MutBor (List ℕ)). r.ghost_name) same ∙ h.same ∙ f.same;
+      puts = λ old m p. subst (HasPut t old) (append_assoc m before (byte ∷ [])) (one old (m ++ before) (f.puts old m p));
     };
     no_fewer = omega arith;
   } where
     one : (old m : List ℕ) → HasPut s old m → HasPut t old (m ++ byte ∷ [])
-    one old m h = record {
-      filled = filled ∙ holds.filled old m h;
-      count = omega (arith, given, holds.given, h.count, length-append m (byte ∷ []));
-      room = ap (λ (r : MutBor (List ℕ)). r.now) room ∙ holds.room old m h;
+    one old m p = record {
+      filled = fills ∙ h.fills old m p;
+      count = omega (arith, counts, h.counted, p.count, length-append m (byte ∷ []));
+      room = ap (λ (r : MutBor (List ℕ)). r.now) same ∙ h.holds old m p;
     }
 
 -- ---- all bytes
@@ -98,17 +99,16 @@ module _ (end : Filler) (old whole : List ℕ) (h : HasPut end old whole) (short
   told : PutsInto whole old (answer_of end.given end.room.now) end.room.now
   told = by_cases (nat_lt (length end.room.now) end.given) refl
 
-module _ (room : MutBor (List ℕ)) (start end : Filler) (whole last : List ℕ) (answer : Answer) (same : start.room.now ≡ room.now) (named : start.room.ghost_name ≡ room.ghost_name) (h : HasPut start room.now []) (is : answer ≡ answer_of end.given end.room.now) (follows : room.ghost_name ≡ end.room.ghost_name → last ≡ end.room.now) (short : length whole < 2 ^ 64) where
-  filled : Fills start whole end → PutsInto whole room.now answer last
+module _ (start end : Filler) (old whole last : List ℕ) (answer : Answer) (h : HasPut start old []) (is : answer ≡ answer_of end.given end.room.now) (follows : start.room.ghost_name ≡ end.room.ghost_name → last ≡ end.room.now) (short : length whole < 2 ^ 64) where
+  filled : Fills start whole end → PutsInto whole old answer last
   filled f =
-      let name : room.ghost_name ≡ end.room.ghost_name = sym named ∙ sym f.same in
-      let stands : last ≡ end.room.now = follows name in
-      subst (λ (a : Answer). PutsInto whole room.now a last) (sym is) (subst (λ (x : List ℕ). PutsInto whole room.now (answer_of end.given end.room.now) x) (sym stands) (told end room.now whole (f.puts room.now [] h) short))
+      let stands : last ≡ end.room.now = follows (sym f.same) in
+      subst (λ (a : Answer). PutsInto whole old a last) (sym is) (subst (λ (x : List ℕ). PutsInto whole old (answer_of end.given end.room.now) x) (sym stands) (told end old whole (f.puts old [] h) short))
 
-  pub counted : (r : Result ℕ SinkFault) → Counts Fills (λ _. 0) start whole r end → PutsInto whole room.now answer last
+  pub counted : (r : Result ℕ SinkFault) → Counts Fills (λ _. 0) start whole r end → PutsInto whole old answer last
   counted (Ok n) p = filled (p.puts.after start [] (Fills-none start))
   counted (Err fault) p = absurd (omega (arith, p.failed))
 
-  pub written : (r : Result Unit SinkFault) → Writes Fills (λ _. 0) start whole r end → PutsInto whole room.now answer last
+  pub written : (r : Result Unit SinkFault) → Writes Fills (λ _. 0) start whole r end → PutsInto whole old answer last
   written (Ok done) p = filled (p.after start [] (Fills-none start))
   written (Err fault) p = absurd (omega (arith, p.failed))

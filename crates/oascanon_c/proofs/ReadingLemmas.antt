@@ -1,5 +1,5 @@
 -- What is read of bytes that are at hand.
-use Rattle.std.proofs.Common.{◌≡◌, ℕ, ◌≤◌, ◌⊎◌, inl, inr, Bool, true, false, List, length, drop, take, Option, Some, None, Result, Ok, Err, IfOk, IfErr, IsTrue, ◌↔◌, refl, sym, ◌∙◌, ap, subst, arith}
+use Rattle.std.proofs.Common.{◌≡◌, ℕ, ◌≤◌, ◌⊎◌, inr, Bool, true, false, List, length, drop, take, Option, Some, None, Result, Ok, Err, IfOk, IfErr, IsTrue, ◌↔◌, refl, sym, ◌∙◌, subst}
 use Rattle.std.specs.Prelude.{nat_lt}
 use Rattle.std.proofs.lemmas.Bool.{le-ltb, ltb-false}
 use Rattle.std.proofs.lemmas.List.{take_all}
@@ -22,7 +22,7 @@ use Rattle.oas_form.specs.Bytes.{canonical_bytes}
 use Rattle.oas_form.specs.Canonical.{CanonicalForm, IsCanonicalOf}
 use Rattle.oas_form.proofs.Held.{form_is_bytes}
 use Rattle.oas_form.proofs.Written.{canonical_form}
-use Rattle.oas_canon.specs.Run.{IsTaken, IsKeyed}
+use Rattle.oas_canon.specs.Run.{IsKeyed}
 use Rattle.oas_canon.proofs.Whole.{all_given, Cause, Bytes, End, Device, Limit, Writer, Room, cause_of, front_not, within_not}
 use Rattle.oascanon_c.specs.declared.answers.Answer.{Answer}
 use Rattle.oascanon_c.specs.declared.answers.Answer.TheVariants.{Done, No, TooSmall, NotLimits, Refused}
@@ -39,16 +39,16 @@ goes_off : (bytes : List ℕ) (rest : Rest) (new : Option Rest) → Gave (Some r
 goes_off bytes rest None g n = absurd g
 goes_off bytes rest (Some r) g n = sym g.1 ∙ n.1
 
-module _ {limits : Limits} {bytes : List ℕ} {new : Script} where
-  -- what was taken to the end is all of them
-  pub all_taken : (taken : List ℕ) → Takes (over limits bytes) taken new → IsAtEnd new → taken ≡ bytes
-  all_taken taken t e =
-      let off : nat_lt limits.input (length bytes) ≡ false = goes_off taken (whole limits bytes) new.rest t.rest e.none in
-      all_given taken (whole limits bytes) new.rest t.rest e.none ∙ take_all limits.input bytes (ltb-false limits.input (length bytes) off)
+-- what was taken to the end is all of them
+all_taken : (limits : Limits) (bytes taken : List ℕ) (new : Script) → Takes (over limits bytes) taken new → IsAtEnd new → taken ≡ bytes
+all_taken limits bytes taken new t e =
+    let off : nat_lt limits.input (length bytes) ≡ false = goes_off taken (whole limits bytes) new.rest t.rest e.none in
+    all_given taken (whole limits bytes) new.rest t.rest e.none ∙ take_all limits.input bytes (ltb-false limits.input (length bytes) off)
 
+module _ {limits : Limits} {bytes : List ℕ} {new : Script} where
   pub read_from : {l : Contents} → IsRead limits Two (over limits bytes) l new → IsReadFrom limits bytes l
   read_from r =
-      let same : r.bytes ≡ bytes = all_taken r.bytes r.takes r.ended in
+      let same : r.bytes ≡ bytes = all_taken limits bytes r.bytes new r.takes r.ended in
       record {
         accepted = subst (Accepted limits) same r.accepted;
         meaning = r.meaning;
@@ -75,7 +75,7 @@ module _ {limits : Limits} {bytes : List ℕ} {new : Script} where
 
   pub keyed_from : {digest : List ℕ} → IsKeyed limits Two (over limits bytes) new digest → Accepted limits bytes × ((canonical : List ℕ) × IsCanonicalOf limits Two bytes canonical × (digest ≡ sha256 canonical))
   keyed_from k =
-      let same : k.bytes ≡ bytes = all_taken k.bytes k.taken.takes k.taken.ended in
+      let same : k.bytes ≡ bytes = all_taken limits bytes k.bytes new k.taken.takes k.taken.ended in
       (subst (Accepted limits) same k.taken.accepted, (k.canonical, subst (λ (b : List ℕ). IsCanonicalOf limits Two b k.canonical) same k.is, k.hashed))
 
 module _ (limits : Limits) (bytes : List ℕ) (new : Script) where
@@ -127,7 +127,7 @@ module _ (b : Bounds) {limits : Limits} (are : AreLimits limits b.elements b.wei
 -- ---- two files
 
 module _ {limits : Limits} {one other : List ℕ} {l k : Contents} (first : IsReadFrom limits one l) (second : IsReadFrom limits other k) where
-  pub are_read : AreRead limits one other
+  abbrev are_read : AreRead limits one other
   are_read = record {
     accepted_one = first.accepted;
     accepted_other = second.accepted;

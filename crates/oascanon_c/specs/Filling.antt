@@ -1,6 +1,5 @@
 -- What stands in a room that is filled as far as bytes fit.
-use Rattle.std.specs.Prelude.{◌≡◌, ℕ, ◌-◌, ◌^◌, min, List, [], ◌++◌, length}
-use Rattle.std.proofs.Common.{append-nil}
+use Rattle.std.specs.Prelude.{◌≡◌, ℕ, ◌-◌, ◌^◌, min, List, ◌++◌, length}
 use Rattle.oascanon_c.specs.declared.filling.Filler.{Filler}
 use Rattle.oascanon_c.specs.Rooms.{filled_with}
 
@@ -14,7 +13,3 @@ pub record HasPut (s : Filler) (start : List ℕ) (bytes : List ℕ) : Type 0 wh
 pub record Fills (old : Filler) (bytes : List ℕ) (new : Filler) : Type 0 where
   pub same : new.room.ghost_name ≡ old.room.ghost_name
   pub puts : (start before : List ℕ) → HasPut old start before → HasPut new start (before ++ bytes)
-
--- what nothing was put to was given nothing
-pub Fills-none : (s : Filler) → Fills s [] s
-Fills-none s = record { same = λ i. s.room.ghost_name; puts = λ start before h. rw append-nil h }

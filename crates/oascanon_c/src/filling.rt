@@ -43,7 +43,8 @@ impl<'a> Filler<'a> {
 }
 
 impl Sink for Filler<'_> {
-    ghost use Rattle.oascanon_c.specs.Filling.{Fills, Fills-none};
+    ghost use Rattle.oascanon_c.specs.Filling.{Fills};
+    ghost use Rattle.oascanon_c.specs.Laws.FillingLaws.{Fills-none};
 
     ghost given = { Fills };
 
