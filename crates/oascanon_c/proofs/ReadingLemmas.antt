@@ -1,5 +1,5 @@
 -- What is read of bytes that are at hand.
-use Rattle.std.proofs.Common.{◌≡◌, ℕ, ◌≤◌, ◌⊎◌, inr, Bool, true, false, List, length, drop, take, Option, Some, None, Result, Ok, Err, IfOk, IfErr, IsTrue, ◌↔◌, refl, sym, ◌∙◌, subst}
+use Rattle.std.proofs.Common.{◌≡◌, ℕ, ◌≤◌, Bool, true, false, List, length, drop, take, Option, Some, None, Result, Ok, Err, IfOk, IfErr, IsTrue, ◌↔◌, refl, sym, ◌∙◌, subst}
 use Rattle.std.specs.Prelude.{nat_lt}
 use Rattle.std.proofs.lemmas.Bool.{le-ltb, ltb-false}
 use Rattle.std.proofs.lemmas.List.{take_all}
@@ -58,7 +58,7 @@ module _ {limits : Limits} {bytes : List ℕ} {new : Script} where
         by = r.by;
       }
 
-  pub refused_for : (refusal : Refusal) → IsRefused limits (over limits bytes) refusal.why new → IsPlaced limits (over limits bytes) refusal new → (refusal.why ≡ Memory) ⊎ IsReasoned limits (over limits bytes) refusal new → IsRefusedFor limits bytes refusal
+  pub refused_for : (refusal : Refusal) → IsRefused limits (over limits bytes) refusal.why new → IsPlaced limits (over limits bytes) refusal new → IsReasoned limits (over limits bytes) refusal new → IsRefusedFor limits bytes refusal
   refused_for refusal f p r = record { left = new; refused = f; placed = p; reasoned = r; rightly = rightly } where
     rightly : length bytes ≤ limits.input → Accepted limits bytes → refusal.why ≡ Memory
     rightly h a = by_cause (cause_of refusal.why) where
@@ -85,7 +85,7 @@ module _ (limits : Limits) (bytes : List ℕ) (new : Script) where
 
   pub outcome_refused : (r : Result Contents Refusal) → ReadsLayout limits Two (over limits bytes) r new → IfErr r (IsRefusedFor limits bytes)
   outcome_refused (Ok l) r = tt
-  outcome_refused (Err refusal) r = refused_for refusal r.0 r.1 (inr r.2)
+  outcome_refused (Err refusal) r = refused_for refusal r.0 r.1 r.2
 
 -- ---- the form of what was read
 

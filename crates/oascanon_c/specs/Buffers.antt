@@ -1,5 +1,5 @@
 -- What each call promises of the bytes that it was given.
-use Rattle.std.specs.Prelude.{◌≡◌, ◌⊎◌, ℕ, ◌≤◌, Bool, true, false, List, length, ⊤}
+use Rattle.std.specs.Prelude.{◌≡◌, ℕ, ◌≤◌, Bool, true, false, List, length, ⊤}
 use Rattle.sha2.specs.Sha256.{sha256}
 use Rattle.oas_num.specs.declared.refusals.Refusal.{Refusal}
 use Rattle.oas_num.specs.declared.refusals.Why.TheVariants.{Memory}
@@ -30,7 +30,7 @@ pub record IsRefusedFor (limits : Limits) (bytes : List ℕ) (refusal : Refusal)
   pub left : Script
   pub refused : IsRefused limits (over limits bytes) refusal.why left
   pub placed : IsPlaced limits (over limits bytes) refusal left
-  pub reasoned : (refusal.why ≡ Memory) ⊎ IsReasoned limits (over limits bytes) refusal left
+  pub reasoned : IsReasoned limits (over limits bytes) refusal left
   pub rightly : length bytes ≤ limits.input → Accepted limits bytes → refusal.why ≡ Memory
 
 -- what is read of bytes that are accepted

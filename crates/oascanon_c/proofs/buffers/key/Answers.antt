@@ -1,4 +1,4 @@
-use Rattle.std.proofs.Common.{inr, refl}
+use Rattle.std.proofs.Common.{refl}
 use Rattle.oascanon_c.proofs.ReadingLemmas.{keyed_from, refused_for}
 use Rattle.oascanon_c.proofs.buffers.key.Goals as goal
 
@@ -12,7 +12,7 @@ returns-in-Err c = (
   (
     c.in-Some.limits,
     c.in-Some.ensures.limits,
-    refused_for {limits = c.in-Some.limits} {bytes = c.args.bytes.now} c.in-Err.refusal (rw (c.new-source.ensures, c.input.ensures) at c.in-Err.ensures.refused) (rw (c.new-source.ensures, c.input.ensures) at c.in-Err.ensures.placed) (inr (rw (c.new-source.ensures, c.input.ensures) at c.in-Err.ensures.decided)),
+    refused_for {limits = c.in-Some.limits} {bytes = c.args.bytes.now} c.in-Err.refusal (rw (c.new-source.ensures, c.input.ensures) at c.in-Err.ensures.refused) (rw (c.new-source.ensures, c.input.ensures) at c.in-Err.ensures.placed) (rw (c.new-source.ensures, c.input.ensures) at c.in-Err.ensures.decided),
   ),
   refl,
 )
