@@ -3,14 +3,20 @@
 PREFIX ?= /usr/local
 JOBS ?= 2
 
-.PHONY: all install install-built dist test test-large test-reference test-readings test-reading test-inflate test-command test-workflows test-klayout bench clean
+.PHONY: all lib install install-built install-lib dist test test-c test-large test-reference test-readings test-reading test-inflate test-command test-workflows test-klayout bench clean
 
 # The program: proves every crate that it stands on, builds it, and leaves it as ./oascanon.
 all:
 	cd crates/oascanon && rt run --jobs $(JOBS) -- --help >/dev/null
 	cp crates/oascanon/out/oascanon oascanon
 
-install: all install-built
+# The library for C: proves crates/oascanon_c and all that it stands on, and leaves lib/liboascanon.a and lib/liboascanon.so.
+LIBRARY ?= lib
+lib:
+	cd crates/oascanon_c && rt lib --jobs $(JOBS) >/dev/null
+	scripts/library crates/oascanon_c/out/liboascanon_c.a lib
+
+install: all lib install-built
 
 # The same of the ./oascanon that is there.
 install-built:
@@ -19,10 +25,25 @@ install-built:
 	install -D -m 644 completions/oascanon.bash $(DESTDIR)$(PREFIX)/share/bash-completion/completions/oascanon
 	install -D -m 644 completions/_oascanon $(DESTDIR)$(PREFIX)/share/zsh/site-functions/_oascanon
 	install -D -m 644 completions/oascanon.fish $(DESTDIR)$(PREFIX)/share/fish/vendor_completions.d/oascanon.fish
+	if [ -e $(LIBRARY)/liboascanon.a ]; then $(MAKE) --no-print-directory install-lib; fi
+
+# The library that is there, its header, and its pkg-config file.
+VERSION = $(shell sed -n 's/^const VERSION.*"\([0-9.]*\) .*/\1/p' crates/oascanon/src/usage.rt)
+install-lib:
+	install -D -m 644 include/oascanon.h $(DESTDIR)$(PREFIX)/include/oascanon.h
+	install -D -m 644 $(LIBRARY)/liboascanon.a $(DESTDIR)$(PREFIX)/lib/liboascanon.a
+	install -D -m 755 $(LIBRARY)/liboascanon.so $(DESTDIR)$(PREFIX)/lib/liboascanon.so.0
+	ln -sf liboascanon.so.0 $(DESTDIR)$(PREFIX)/lib/liboascanon.so
+	mkdir -p $(DESTDIR)$(PREFIX)/lib/pkgconfig
+	sed -e 's|@PREFIX@|$(PREFIX)|' -e 's|@VERSION@|$(VERSION)|' oascanon.pc.in >$(DESTDIR)$(PREFIX)/lib/pkgconfig/oascanon.pc
 
 # The gate: every proof from nothing, the edits that must fail, the tests, the stored runs.
 test:
 	rt ci
+
+# The worked rows through the library for C, from C and from Python.
+test-c: lib
+	tests/c/run lib
 
 # Files at the limits, given to the built program: too large for the gate.
 test-large: all
@@ -74,4 +95,4 @@ bench: all
 	bench/canon ./oascanon
 
 clean:
-	rm -rf crates/*/out oascanon
+	rm -rf crates/*/out oascanon lib

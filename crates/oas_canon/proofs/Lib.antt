@@ -2,4 +2,4 @@ mod KeptLemmas
 mod RekeyLemmas
 mod HashingLemmas
 mod CellKeyLemmas
-mod Whole
+pub mod Whole

@@ -51,8 +51,8 @@ fn put_cell<K: Sink>(sink: &mut K, name: &[u8], elements: Elements<'_>) -> Resul
     put_elements(sink, elements)
 }
 
-/// Puts the listing of a layout.
-pub(crate) fn put_listing<K: Sink>(layout: &Layout, sink: &mut K) -> Result<(), SinkFault>
+/// Puts the listing of a layout into a sink. At a fault a front of it was put.
+pub fn put_listing<K: Sink>(layout: &Layout, sink: &mut K) -> Result<(), SinkFault>
     ensures writes { Writes K.given K.failures sink.old (listing (meaning_of layout.now)) result sink.new }
     ensures short { length (listing (meaning_of layout.now)) ≤ 136 + 512 * 2 ^ 30 }
 {

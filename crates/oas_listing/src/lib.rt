@@ -29,7 +29,7 @@ mod fields;
 pub mod laws;
 mod writing;
 
-pub use cells::{put_name, put_unit};
+pub use cells::{put_listing, put_name, put_unit};
 pub use elements::put_element;
 pub use writing::write_listing;
 

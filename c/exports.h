@@ -1,0 +1,13 @@
+/* What the proved library exports (crates/oascanon_c). A slice is a pointer, which is never NULL, and a length. */
+#ifndef OASCANON_EXPORTS_H
+#define OASCANON_EXPORTS_H
+
+#include "oascanon.h"
+
+oascanon_outcome oascanon_c_canonicalize(const uint8_t *bytes, size_t count, const oascanon_limits *limits, uint8_t *room, size_t size);
+oascanon_outcome oascanon_c_list(const uint8_t *bytes, size_t count, const oascanon_limits *limits, uint8_t *room, size_t size);
+oascanon_outcome oascanon_c_key(const uint8_t *bytes, size_t count, const oascanon_limits *limits, uint8_t digest[32]);
+oascanon_outcome oascanon_c_check(const uint8_t *bytes, size_t count, const oascanon_limits *limits);
+oascanon_outcome oascanon_c_same(const uint8_t *bytes, size_t count, const uint8_t *others, size_t other_count, const oascanon_limits *limits);
+
+#endif

@@ -1,0 +1,2 @@
+mod FillingLemmas
+mod ReadingLemmas

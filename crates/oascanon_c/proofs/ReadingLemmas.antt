@@ -1,0 +1,153 @@
+-- What is read of bytes that are at hand.
+use Rattle.std.proofs.Common.{◌≡◌, ℕ, ◌≤◌, Bool, true, false, List, length, drop, take, Option, Some, None, Result, Ok, Err, IfOk, IfErr, IsTrue, ◌↔◌, refl, sym, ◌∙◌, subst}
+use Rattle.std.specs.Prelude.{nat_lt}
+use Rattle.std.proofs.lemmas.Bool.{le-ltb, ltb-false}
+use Rattle.std.proofs.lemmas.List.{take_all}
+use Rattle.sha2.specs.Sha256.{sha256}
+use Rattle.oas_num.specs.declared.refusals.Why.TheVariants.{Memory}
+use Rattle.oas_num.specs.declared.refusals.Refusal.{Refusal}
+use Rattle.oas_num.specs.Script.{Script, Rest, Gave, NoneLeft, Takes, IsAtEnd}
+use Rattle.oas_layout.specs.declared.limits.Limits.{Limits}
+use Rattle.oas_layout.specs.declared.profile.Profile.{Profile}
+use Rattle.oas_layout.specs.declared.profile.Profile.TheVariants.{Two}
+use Rattle.oas_layout.specs.Contents.{Contents, IsLayout, meaning_of}
+use Rattle.oas_layout.specs.Limits.{AreLimits}
+use Rattle.oas_layout.specs.Meaning.{SameLayout}
+use Rattle.oas_layout.proofs.LawProofs.{symmetric, transitive}
+use Rattle.oas_listing.specs.Listing.{listing}
+use Rattle.oas_file.specs.Acceptance.{Accepted, Means}
+use Rattle.oas_file.specs.Deciding.{IsReasoned}
+use Rattle.oas_file.specs.Reading.{IsRead, IsRefused, IsPlaced, ReadsLayout}
+use Rattle.oas_form.specs.Bytes.{canonical_bytes}
+use Rattle.oas_form.specs.Canonical.{CanonicalForm, IsCanonicalOf}
+use Rattle.oas_form.proofs.Held.{form_is_bytes}
+use Rattle.oas_form.proofs.Written.{canonical_form}
+use Rattle.oas_canon.specs.Run.{IsKeyed}
+use Rattle.oas_canon.proofs.Whole.{all_given, Cause, Bytes, End, Device, Limit, Writer, Room, cause_of, front_not, within_not}
+use Rattle.oascanon_c.specs.declared.answers.Answer.{Answer}
+use Rattle.oascanon_c.specs.declared.answers.Answer.TheVariants.{Done, No, TooSmall, NotLimits, Refused}
+use Rattle.oascanon_c.specs.declared.bounds.Bounds.{Bounds}
+use Rattle.oascanon_c.specs.Rooms.{Puts}
+use Rattle.oascanon_c.specs.Buffers.{over, IsReadFrom, IsRefusedFor, Canonicalizes, Lists, Judges, Compares, AreRead, answered}
+
+-- all that the source is to give
+abbrev whole : Limits → List ℕ → Rest
+whole limits bytes = record { bytes = drop 0 (take limits.input bytes); goes_on = nat_lt limits.input (length bytes) }
+
+-- where the bytes end, none stands after the limit
+goes_off : (bytes : List ℕ) (rest : Rest) (new : Option Rest) → Gave (Some rest) bytes new → NoneLeft new false → rest.goes_on ≡ false
+goes_off bytes rest None g n = absurd g
+goes_off bytes rest (Some r) g n = sym g.1 ∙ n.1
+
+-- what was taken to the end is all of them
+all_taken : (limits : Limits) (bytes taken : List ℕ) (new : Script) → Takes (over limits bytes) taken new → IsAtEnd new → taken ≡ bytes
+all_taken limits bytes taken new t e =
+    let off : nat_lt limits.input (length bytes) ≡ false = goes_off taken (whole limits bytes) new.rest t.rest e.none in
+    all_given taken (whole limits bytes) new.rest t.rest e.none ∙ take_all limits.input bytes (ltb-false limits.input (length bytes) off)
+
+module _ {limits : Limits} {bytes : List ℕ} {new : Script} where
+  pub read_from : {l : Contents} → IsRead limits Two (over limits bytes) l new → IsReadFrom limits bytes l
+  read_from r =
+      let same : r.bytes ≡ bytes = all_taken limits bytes r.bytes new r.takes r.ended in
+      record {
+        accepted = subst (Accepted limits) same r.accepted;
+        meaning = r.meaning;
+        means = subst (λ (b : List ℕ). Means b r.meaning) same r.means;
+        same = r.same;
+        within = r.within;
+        by = r.by;
+      }
+
+  pub refused_for : (refusal : Refusal) → IsRefused limits (over limits bytes) refusal.why new → IsPlaced limits (over limits bytes) refusal new → IsReasoned limits (over limits bytes) refusal new → IsRefusedFor limits bytes refusal
+  refused_for refusal f p r = record { left = new; refused = f; placed = p; reasoned = r; rightly = rightly } where
+    rightly : length bytes ≤ limits.input → Accepted limits bytes → refusal.why ≡ Memory
+    rightly h a = by_cause (cause_of refusal.why) where
+      all : Accepted limits (whole limits bytes).bytes
+      all = subst (Accepted limits) (sym (take_all limits.input bytes h)) a
+
+      by_cause : Cause refusal.why → refusal.why ≡ Memory
+      by_cause (Bytes is) = absurd (front_not f.bytes (whole limits bytes) new.rest f.takes.rest (f.decided is) all)
+      by_cause (End e) = let t = f.truncated e in absurd (t.0 (subst (Accepted limits) (sym (all_given f.bytes (whole limits bytes) new.rest f.takes.rest t.1.none)) all))
+      by_cause (Device e) = let no = sym f.takes.reliable ∙ (f.device e).unreliable in cc
+      by_cause (Limit e) = absurd (within_not f.bytes (whole limits bytes) new.rest f.takes.rest (f.too_long e).none (le-ltb limits.input (length bytes) h))
+      by_cause (Writer e) = absurd (f.reading e)
+      by_cause (Room e) = e
+
+  pub keyed_from : {digest : List ℕ} → IsKeyed limits Two (over limits bytes) new digest → Accepted limits bytes × ((canonical : List ℕ) × IsCanonicalOf limits Two bytes canonical × (digest ≡ sha256 canonical))
+  keyed_from k =
+      let same : k.bytes ≡ bytes = all_taken limits bytes k.bytes new k.taken.takes k.taken.ended in
+      (subst (Accepted limits) same k.taken.accepted, (k.canonical, subst (λ (b : List ℕ). IsCanonicalOf limits Two b k.canonical) same k.is, k.hashed))
+
+module _ (limits : Limits) (bytes : List ℕ) (new : Script) where
+  pub outcome_read : (r : Result Contents Refusal) → ReadsLayout limits Two (over limits bytes) r new → IfOk r (IsReadFrom limits bytes)
+  outcome_read (Ok l) r = read_from r
+  outcome_read (Err refusal) r = tt
+
+  pub outcome_refused : (r : Result Contents Refusal) → ReadsLayout limits Two (over limits bytes) r new → IfErr r (IsRefusedFor limits bytes)
+  outcome_refused (Ok l) r = tt
+  outcome_refused (Err refusal) r = refused_for refusal r.0 r.1 r.2
+
+-- ---- the form of what was read
+
+module _ {limits : Limits} {bytes : List ℕ} {l : Contents} (read : IsReadFrom limits bytes l) (held : IsLayout l) where
+  pub form : CanonicalForm limits Two (canonical_bytes (meaning_of l))
+  form = subst (λ (p : Limits × Profile). CanonicalForm p.0 p.1 (canonical_bytes (meaning_of l))) (λ i. (read.within i, read.by i)) (canonical_form l held).0
+
+  pub is_form : IsCanonicalOf limits Two bytes (canonical_bytes (meaning_of l))
+  is_form = record { form = form; source = read.meaning; target = meaning_of l; means = read.means; becomes = (canonical_form l held).1; same = read.same }
+
+  -- whether the bytes are that form
+  pub spelled : (says : Bool) → (IsTrue says ↔ (canonical_bytes (meaning_of l) ≡ bytes)) → IsTrue says ↔ CanonicalForm limits Two bytes
+  spelled says h = (
+    λ t. subst (CanonicalForm limits Two) (h.0 t) form,
+    λ f. h.1 (sym (form_is_bytes limits bytes read.meaning l (subst (λ (p : Profile). CanonicalForm limits p bytes) (sym read.by) f) read.means held (subst (λ (p : Profile). SameLayout p read.meaning (meaning_of l)) (sym read.by) read.same))),
+  )
+
+-- ---- what is told
+
+module _ (b : Bounds) {limits : Limits} (are : AreLimits limits b.elements b.weight b.input) {bytes : List ℕ} {l : Contents} (read : IsReadFrom limits bytes l) where
+  pub form_told : (old new : List ℕ) → IsLayout l → (a : Answer) → Puts (canonical_bytes (meaning_of l)) old a new → Canonicalizes b bytes old a new
+  form_told old new held (Done n) p = (limits, are, (read.accepted, (canonical_bytes (meaning_of l), is_form read held, p)))
+  form_told old new held (TooSmall n) p = (limits, are, (read.accepted, (canonical_bytes (meaning_of l), is_form read held, p)))
+  form_told old new held No p = absurd p
+  form_told old new held NotLimits p = absurd p
+  form_told old new held (Refused which refusal) p = absurd p
+
+  pub lines_told : (old new : List ℕ) (a : Answer) → Puts (listing (meaning_of l)) old a new → Lists b bytes old a new
+  lines_told old new (Done n) p = (limits, are, (read.accepted, (read.meaning, meaning_of l, read.means, read.same, p)))
+  lines_told old new (TooSmall n) p = (limits, are, (read.accepted, (read.meaning, meaning_of l, read.means, read.same, p)))
+  lines_told old new No p = absurd p
+  lines_told old new NotLimits p = absurd p
+  lines_told old new (Refused which refusal) p = absurd p
+
+  pub judged : IsLayout l → (says : Bool) → (IsTrue says ↔ (canonical_bytes (meaning_of l) ≡ bytes)) → Judges b bytes (answered says)
+  judged held true h = (limits, are, (read.accepted, ((spelled read held true h).0 refl, refl)))
+  judged held false h = (limits, are, (read.accepted, λ f. let no = (spelled read held false h).1 f in cc))
+
+-- ---- two files
+
+module _ {limits : Limits} {one other : List ℕ} {l k : Contents} (first : IsReadFrom limits one l) (second : IsReadFrom limits other k) where
+  abbrev are_read : AreRead limits one other
+  are_read = record {
+    accepted_one = first.accepted;
+    accepted_other = second.accepted;
+    first = first.meaning;
+    second = second.meaning;
+    means_first = first.means;
+    means_second = second.means;
+  }
+
+  -- the answer of the layouts is that of the meanings
+  pub compared : (says : Bool) → (IsTrue says ↔ SameLayout l.profile (meaning_of l) (meaning_of k)) → IsTrue says ↔ SameLayout Two first.meaning second.meaning
+  compared says h = (
+    λ t.
+        let s : SameLayout Two (meaning_of l) (meaning_of k) = subst (λ (p : Profile). SameLayout p (meaning_of l) (meaning_of k)) first.by (h.0 t) in
+        transitive Two first.meaning (meaning_of l) second.meaning first.same (transitive Two (meaning_of l) (meaning_of k) second.meaning s (symmetric Two second.meaning (meaning_of k) second.same)),
+    λ s.
+        let t : SameLayout Two (meaning_of l) (meaning_of k) = transitive Two (meaning_of l) first.meaning (meaning_of k) (symmetric Two first.meaning (meaning_of l) first.same) (transitive Two first.meaning second.meaning (meaning_of k) s second.same) in
+        h.1 (subst (λ (p : Profile). SameLayout p (meaning_of l) (meaning_of k)) (sym first.by) t),
+  )
+
+  pub compares : (b : Bounds) → AreLimits limits b.elements b.weight b.input → (says : Bool) → (IsTrue says ↔ SameLayout l.profile (meaning_of l) (meaning_of k)) → Compares b one other (answered says)
+  compares b are true h = ((limits, are, (are_read, (compared true h).0 refl)), refl)
+  compares b are false h = (limits, are, (are_read, λ s. let no = (compared false h).1 s in cc))

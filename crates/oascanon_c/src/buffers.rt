@@ -1,0 +1,123 @@
+//! The calls, over bytes and room.
+ghost use Rattle.std.specs.Prelude.{◌≡◌, IfOk, IfErr};
+ghost use Rattle.oas_layout.specs.Contents.{meaning_of, IsLayout};
+ghost use Rattle.oas_listing.specs.Listing.{listing};
+ghost use Rattle.oas_form.specs.Bytes.{canonical_bytes};
+ghost use Rattle.oascanon_c.specs.Buffers.{answered, Canonicalizes, Compares, IsReadFrom, IsRefusedFor, Judges, Keys, Lists};
+ghost use Rattle.oascanon_c.specs.Rooms.{Puts};
+
+use crate::answers::Answer;
+use crate::bounds::Bounds;
+use crate::filling::Filler;
+use oas_canon::{Layout, Limits, PROFILE, Refusal, SliceSource, Which, put_canonical, read_layout};
+use oas_form::has_canonical_bytes;
+use oas_listing::put_listing;
+use std::alloc::Global;
+
+/// The layout that bytes mean.
+fn read(alloc: Global, bytes: &[u8], limits: Limits) -> Result<Layout, Refusal>
+    ensures read { IfOk result (IsReadFrom limits bytes.now) }
+    ensures refused { IfErr result (IsRefusedFor limits bytes.now) }
+{
+    let mut source = SliceSource::new(bytes, limits.input());
+    read_layout(alloc, &mut source, limits, PROFILE)
+}
+
+/// What is said of a question's answer.
+fn yes_or_no(yes: bool) -> Answer
+    ensures { result ≡ answered yes }
+{
+    if yes { Answer::Done(0) } else { Answer::No }
+}
+
+/// Puts the canonical file of a layout into the room, as far as it fits.
+fn put_form(layout: &Layout, room: &mut [u8]) -> Answer
+    ensures puts { Puts (canonical_bytes (meaning_of layout.now)) room.old result room.new }
+    ensures layout { IsLayout layout.now }
+{
+    let mut filler = Filler::new(room);
+    let _ = put_canonical(layout, &mut filler);
+    filler.answer()
+}
+
+/// Puts the listing of a layout into the room, as far as it fits.
+fn put_lines(layout: &Layout, room: &mut [u8]) -> Answer
+    ensures { Puts (listing (meaning_of layout.now)) room.old result room.new }
+{
+    let mut filler = Filler::new(room);
+    let _ = put_listing(layout, &mut filler);
+    filler.answer()
+}
+
+/// Puts the canonical file of what bytes mean into the room.
+pub(crate) fn canonicalize(alloc: Global, bytes: &[u8], bounds: &Bounds, room: &mut [u8]) -> Answer
+    ensures { Canonicalizes bounds.now bytes.now room.old result room.new }
+{
+    let Some(limits) = bounds.limits() else {
+        return Answer::NotLimits;
+    };
+    match read(alloc, bytes, limits) {
+        Ok(layout) => put_form(&layout, room),
+        Err(refusal) => Answer::Refused(Which::First, refusal),
+    }
+}
+
+/// Puts the listing of what bytes mean into the room.
+pub(crate) fn list(alloc: Global, bytes: &[u8], bounds: &Bounds, room: &mut [u8]) -> Answer
+    ensures { Lists bounds.now bytes.now room.old result room.new }
+{
+    let Some(limits) = bounds.limits() else {
+        return Answer::NotLimits;
+    };
+    match read(alloc, bytes, limits) {
+        Ok(layout) => put_lines(&layout, room),
+        Err(refusal) => Answer::Refused(Which::First, refusal),
+    }
+}
+
+/// Whether bytes are the canonical file of what they mean.
+pub(crate) fn is_canonical(alloc: Global, bytes: &[u8], bounds: &Bounds) -> Answer
+    ensures { Judges bounds.now bytes.now result }
+{
+    let Some(limits) = bounds.limits() else {
+        return Answer::NotLimits;
+    };
+    match read(alloc, bytes, limits) {
+        Ok(layout) => yes_or_no(has_canonical_bytes(&layout, bytes)),
+        Err(refusal) => Answer::Refused(Which::First, refusal),
+    }
+}
+
+/// Puts the SHA-256 of the canonical file of what bytes mean.
+pub(crate) fn key(alloc: Global, bytes: &[u8], bounds: &Bounds, digest: &mut [u8; 32]) -> Answer
+    ensures { Keys bounds.now bytes.now digest.old result digest.new }
+{
+    let Some(limits) = bounds.limits() else {
+        return Answer::NotLimits;
+    };
+    let mut source = SliceSource::new(bytes, limits.input());
+    match oas_canon::key(alloc, &mut source, limits) {
+        Ok(found) => {
+            *digest = found;
+            Answer::Done(32)
+        }
+        Err(refusal) => Answer::Refused(Which::First, refusal),
+    }
+}
+
+/// Whether two files' bytes mean the same layout.
+pub(crate) fn same(alloc: Global, one: &[u8], other: &[u8], bounds: &Bounds) -> Answer
+    ensures { Compares bounds.now one.now other.now result }
+{
+    let Some(limits) = bounds.limits() else {
+        return Answer::NotLimits;
+    };
+    let first = match read(alloc, one, limits) {
+        Ok(layout) => layout,
+        Err(refusal) => return Answer::Refused(Which::First, refusal),
+    };
+    match read(alloc, other, limits) {
+        Ok(second) => yes_or_no(first.same(&second)),
+        Err(refusal) => Answer::Refused(Which::Second, refusal),
+    }
+}

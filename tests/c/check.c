@@ -1,0 +1,261 @@
+/*
+ * Runs the worked rows through the library, and then what no row has: room that is too small, callbacks that fail, memory
+ * that is refused, NULL, nothing. Rows come on standard input, one a line: a name, the file in hex, and its canonical file in
+ * hex or its refusal as NUMBER@OFFSET; `-` is no byte. The last line says how many held.
+ */
+#include <stdio.h>
+#include <stdlib.h>
+#include <string.h>
+
+#include "oascanon.h"
+
+#define MOST (1 << 20)
+
+static const oascanon_limits standard = OASCANON_STANDARD;
+static unsigned held, failed;
+
+static void expect(int holds, const char *name, const char *what) {
+    if (holds) {
+        held++;
+    } else {
+        failed++;
+        printf("%s: %s\n", name, what);
+    }
+}
+
+/* A caller's reader, writer and memory. Each fails once `left` of it is 0; below 0 it never does. */
+typedef struct {
+    const uint8_t *bytes;
+    size_t count, at, piece;
+    long reads_left, writes_left, blocks_left;
+    uint8_t *out;
+    size_t put;
+    long blocks;
+} device;
+
+static ptrdiff_t device_read(void *context, uint8_t *buffer, size_t size) {
+    device *d = context;
+    size_t n = d->count - d->at;
+    if (d->reads_left == 0)
+        return -1;
+    d->reads_left--;
+    n = n < size ? n : size;
+    n = n < d->piece ? n : d->piece;
+    if (n > 0)
+        memcpy(buffer, d->bytes + d->at, n);
+    d->at += n;
+    return (ptrdiff_t)n;
+}
+
+static ptrdiff_t device_write(void *context, const uint8_t *bytes, size_t size) {
+    device *d = context;
+    size_t n = size < d->piece ? size : d->piece;
+    if (d->writes_left == 0)
+        return -1;
+    d->writes_left--;
+    memcpy(d->out + d->put, bytes, n);
+    d->put += n;
+    return (ptrdiff_t)n;
+}
+
+static void *device_resize(void *context, void *block, size_t old_size, size_t new_size) {
+    device *d = context;
+    if (new_size == 0) {
+        if (block != NULL)
+            d->blocks--;
+        free(block);
+        return NULL;
+    }
+    if (d->blocks_left == 0)
+        return NULL;
+    d->blocks_left--;
+    if (block == NULL)
+        d->blocks++;
+    (void)old_size;
+    return realloc(block, new_size);
+}
+
+static device device_over(const uint8_t *bytes, size_t count, uint8_t *out) {
+    device d = {bytes, count, 0, 7, -1, -1, -1, out, 0, 0};
+    return d;
+}
+
+static oascanon_callbacks callbacks_of(device *d) {
+    oascanon_callbacks c = {device_read, device_write, device_resize, d};
+    return c;
+}
+
+static size_t unhex(const char *text, uint8_t *bytes) {
+    size_t n = 0;
+    if (text[0] == '-')
+        return 0;
+    for (; text[0] != '\0' && text[1] != '\0'; text += 2) {
+        char two[3] = {text[0], text[1], '\0'};
+        bytes[n++] = (uint8_t)strtoul(two, NULL, 16);
+    }
+    return n;
+}
+
+static int is_refusal(oascanon_outcome o, unsigned number, unsigned long at) {
+    return o.status == number && o.at == at && o.file == 1 && o.length == 0;
+}
+
+static int is_filled(const uint8_t *bytes, size_t count, uint8_t with) {
+    size_t i;
+    for (i = 0; i < count && bytes[i] == with; i++)
+        ;
+    return i == count;
+}
+
+static void refused_row(const char *name, const uint8_t *in, size_t count, unsigned number, unsigned long at) {
+    static uint8_t room[4096], digest[32];
+    device d = device_over(in, count, room);
+    oascanon_callbacks c = callbacks_of(&d);
+    memset(room, 0xEE, sizeof room);
+    memset(digest, 0xEE, sizeof digest);
+    expect(is_refusal(oascanon_canonicalize(in, count, &standard, room, sizeof room), number, at), name, "canonicalize refuses");
+    expect(is_refusal(oascanon_list(in, count, &standard, room, sizeof room), number, at), name, "list refuses");
+    expect(is_filled(room, sizeof room, 0xEE), name, "the room is as it was");
+    expect(is_refusal(oascanon_key(in, count, &standard, digest), number, at), name, "key refuses");
+    expect(is_filled(digest, sizeof digest, 0xEE), name, "the digest is as it was");
+    expect(is_refusal(oascanon_check(in, count, &standard), number, at), name, "check refuses");
+    expect(is_refusal(oascanon_same(in, count, in, count, &standard), number, at), name, "same refuses");
+    expect(is_refusal(oascanon_canonicalize_callbacks(&c, &standard), number, at), name, "callbacks refuse");
+    expect(d.put == 0 && d.blocks == 0, name, "nothing was written or kept");
+}
+
+static void accepted_row(const char *name, const uint8_t *in, size_t count, const uint8_t *out, size_t length) {
+    static uint8_t room[MOST], digest[32], other[32];
+    int own = count == length && memcmp(in, out, count) == 0;
+    oascanon_outcome o;
+    device d = device_over(in, count, room);
+    oascanon_callbacks c = callbacks_of(&d);
+    memset(room, 0xEE, length + 9);
+    o = oascanon_canonicalize(in, count, &standard, room, length + 9);
+    expect(o.status == OASCANON_DONE && o.length == length && o.at == 0 && o.file == 0, name, "canonicalize answers");
+    expect(memcmp(room, out, length) == 0 && is_filled(room + length, 9, 0xEE), name, "the canonical bytes stand in the room");
+    memset(room, 0xEE, length + 9);
+    o = oascanon_canonicalize(in, count, &standard, room, length);
+    expect(o.status == OASCANON_DONE && memcmp(room, out, length) == 0 && is_filled(room + length, 9, 0xEE), name, "just enough room");
+    memset(room, 0xEE, length + 9);
+    o = oascanon_canonicalize(in, count, &standard, room, length - 1);
+    expect(o.status == OASCANON_TOO_SMALL && o.length == length, name, "one byte too few");
+    expect(memcmp(room, out, length - 1) == 0 && is_filled(room + length - 1, 10, 0xEE), name, "as much as fits");
+    o = oascanon_canonicalize(in, count, &standard, NULL, 0);
+    expect(o.status == OASCANON_TOO_SMALL && o.length == length, name, "no room");
+    expect(oascanon_check(in, count, &standard).status == (own ? OASCANON_DONE : OASCANON_NO), name, "check answers");
+    expect(oascanon_check(out, length, &standard).status == OASCANON_DONE, name, "the canonical file is canonical");
+    expect(oascanon_same(in, count, out, length, &standard).status == OASCANON_DONE, name, "same answers");
+    expect(oascanon_key(in, count, &standard, digest).status == OASCANON_DONE, name, "key answers");
+    expect(oascanon_key(out, length, &standard, other).status == OASCANON_DONE && memcmp(digest, other, 32) == 0, name, "keys are equal");
+    o = oascanon_canonicalize_callbacks(&c, &standard);
+    expect(o.status == OASCANON_DONE && o.length == length && d.put == length, name, "callbacks answer");
+    expect(memcmp(room, out, length) == 0 && d.blocks == 0, name, "the canonical bytes were written");
+}
+
+static void rows(void) {
+    static char line[4 * MOST];
+    static uint8_t in[MOST], out[MOST];
+    while (fgets(line, sizeof line, stdin) != NULL) {
+        char *name = strtok(line, " \n");
+        char *file = strtok(NULL, " \n");
+        char *answer = strtok(NULL, " \n");
+        size_t count = unhex(file, in);
+        char *at = strchr(answer, '@');
+        if (at != NULL) {
+            refused_row(name, in, count, (unsigned)strtoul(answer, NULL, 10), strtoul(at + 1, NULL, 10));
+        } else {
+            accepted_row(name, in, count, out, unhex(answer, out));
+        }
+    }
+}
+
+/* One cell with one rectangle. */
+static size_t rectangle(uint8_t *file) {
+    return unhex("2553454D492D4F415349530D0A0103312E3000E80700000000000000000000000000" "0E0141147B01000A14000002FC01", file) + 253;
+}
+
+static void edges(void) {
+    static uint8_t file[512], out[4096], digest[32];
+    size_t count = rectangle(file);
+    oascanon_limits none = {1, 1, 1};
+    oascanon_limits few = {0, 1024, 1 << 20};
+    oascanon_limits small = {16, 0, 320};
+    oascanon_outcome o;
+    device d, e;
+    oascanon_callbacks c, f;
+    long i;
+    static const char listing[] = "unit 1000/1\ncell A\nrectangle 1 0 10 20 0 0\n";
+
+    o = oascanon_list(file, count, &standard, out, sizeof out);
+    expect(o.status == OASCANON_DONE && o.length == strlen(listing) && memcmp(out, listing, o.length) == 0, "edges", "the listing");
+    expect(is_refusal(oascanon_canonicalize(NULL, 0, &standard, out, sizeof out), 2, 0), "edges", "no bytes");
+    expect(is_refusal(oascanon_check(NULL, 0, &standard), 2, 0), "edges", "no bytes to check");
+    expect(is_refusal(oascanon_same(NULL, 0, NULL, 0, &standard), 2, 0), "edges", "no bytes to compare");
+    expect(oascanon_canonicalize(NULL, 1, &standard, out, 1).status == OASCANON_NULL, "edges", "NULL bytes");
+    expect(oascanon_canonicalize(file, count, NULL, out, 1).status == OASCANON_NULL, "edges", "NULL limits");
+    expect(oascanon_canonicalize(file, count, &standard, NULL, 1).status == OASCANON_NULL, "edges", "NULL room");
+    expect(oascanon_list(file, count, &standard, NULL, 1).status == OASCANON_NULL, "edges", "NULL room for a listing");
+    expect(oascanon_key(file, count, &standard, NULL).status == OASCANON_NULL, "edges", "NULL digest");
+    expect(oascanon_check(NULL, 1, &standard).status == OASCANON_NULL, "edges", "NULL bytes to check");
+    expect(oascanon_same(file, count, NULL, 1, &standard).status == OASCANON_NULL, "edges", "NULL bytes to compare");
+    expect(oascanon_canonicalize_callbacks(NULL, &standard).status == OASCANON_NULL, "edges", "NULL callbacks");
+    expect(oascanon_check(file, count, &none).status == OASCANON_NOT_LIMITS, "edges", "no limits");
+    expect(oascanon_key(file, count, &none, digest).status == OASCANON_NOT_LIMITS, "edges", "no limits for a key");
+    expect(oascanon_check(file, count, &few).status == 24, "edges", "too many elements");
+    expect(oascanon_check(file, count, &small).status == 25, "edges", "too heavy");
+    o = oascanon_same(file, count, file, 12, &standard);
+    expect(o.status == 2 && o.file == 2 && o.at == 0, "edges", "the second of two is refused");
+
+    /* Each read fails in turn, and what was given before it is told. */
+    for (i = 0; i < 43; i++) {
+        d = device_over(file, count, out);
+        c = callbacks_of(&d);
+        d.reads_left = i;
+        o = oascanon_canonicalize_callbacks(&c, &standard);
+        expect(is_refusal(o, OASCANON_READ, (unsigned long)(7 * i)), "edges", "a failing read");
+        expect(d.put == 0 && d.blocks == 0, "edges", "nothing was written");
+    }
+    /* Each write fails in turn, after the first bytes of the canonical file. */
+    for (i = 0; i < 43; i++) {
+        d = device_over(file, count, out);
+        c = callbacks_of(&d);
+        d.writes_left = i;
+        o = oascanon_canonicalize_callbacks(&c, &standard);
+        expect(is_refusal(o, OASCANON_WRITE, (unsigned long)(7 * i)), "edges", "a failing write");
+        expect(d.put == (size_t)(7 * i) && memcmp(out, file, d.put) == 0 && d.blocks == 0, "edges", "a front was written");
+    }
+    /* Each block is refused in turn. */
+    for (i = 0; i < 2; i++) {
+        d = device_over(file, count, out);
+        c = callbacks_of(&d);
+        d.blocks_left = i;
+        o = oascanon_canonicalize_callbacks(&c, &standard);
+        expect(o.status == OASCANON_MEMORY && d.put == 0 && d.blocks == 0, "edges", "a block is refused");
+    }
+    d = device_over(file, count, out);
+    c = callbacks_of(&d);
+    c.write = NULL;
+    expect(oascanon_key_callbacks(&c, &standard, digest).status == OASCANON_DONE, "edges", "a key by callbacks");
+    expect(oascanon_key(file, count, &standard, out).status == OASCANON_DONE && memcmp(out, digest, 32) == 0, "edges", "is that of the buffer");
+    d = device_over(file, count, out);
+    expect(oascanon_check_callbacks(&c, &standard).status == OASCANON_DONE, "edges", "check by callbacks");
+    d = device_over(file, count, out);
+    e = device_over(file, count - 1, out);
+    f = callbacks_of(&e);
+    o = oascanon_same_callbacks(&c, &f, &standard);
+    expect(o.status == 2 && o.file == 2, "edges", "the second of two callbacks is refused");
+    d = device_over(file, count, out);
+    c = callbacks_of(&d);
+    c.resize = NULL;
+    o = oascanon_list_callbacks(&c, &standard);
+    expect(o.status == OASCANON_DONE && o.length == strlen(listing) && memcmp(out, listing, o.length) == 0, "edges", "a listing by callbacks");
+    expect(strcmp(oascanon_status_name(23), "CoordinateRange") == 0 && strcmp(oascanon_status_name(99), "Unknown") == 0, "edges", "names");
+}
+
+int main(void) {
+    rows();
+    edges();
+    printf("%u held, %u failed\n", held, failed);
+    return failed != 0;
+}
