@@ -82,7 +82,8 @@ fn a_writer_that_fails(rt: HostRuntime) -> Result<(), Fail> {
         assert!(rt;
             matches!(write_cell_keys(&layout, &mut out), Err(refusal) if refusal.why == Why::Write && refusal.at == room as u64)
         );
-        assert_eq!(rt; out.took.as_slice(), &LINES.as_bytes()[..room]);
+        assert_eq!(rt; out.took.len(), room);
+        assert!(rt; LINES.as_bytes().starts_with(out.took.as_slice()));
     }
     Ok(())
 }
