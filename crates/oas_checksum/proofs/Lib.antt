@@ -1,0 +1,2 @@
+mod CrcLemmas
+mod DivisionLemmas
