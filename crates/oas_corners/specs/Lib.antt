@@ -1,0 +1,4 @@
+pub mod Corners
+pub mod Deltas
+pub mod Named
+pub mod Sides
