@@ -13,13 +13,6 @@ use std::time::{Duration, Instant};
 /// How many bytes a packet may stand for: 2^28.
 const LIMIT: usize = 268_435_456;
 
-/// What a packet stands for: how many bytes, and their digest; or why it is refused.
-#[derive(Drop)]
-enum Outcome {
-    Given(usize, u64),
-    Refused(Fault),
-}
-
 /// A digest of bytes: each times a prime, and the next one added, modulo 2^64.
 fn digest(bytes: &[u8]) -> u64 {
     let mut sum: u64 = 0;
@@ -32,12 +25,9 @@ fn digest(bytes: &[u8]) -> u64 {
 }
 
 /// What a packet stands for.
-fn inflate_packet(alloc: Global, packet: &[u8]) -> Outcome {
+fn inflate_packet(alloc: Global, packet: &[u8]) -> Result<Vec<u8>, Fault> {
     let mut bits = Bits::new(SliceSource::new(packet, u64::MAX));
-    match inflate(alloc, &mut bits, LIMIT) {
-        Ok(bytes) => Outcome::Given(bytes.len(), digest(bytes.as_slice())),
-        Err(fault) => Outcome::Refused(fault),
-    }
+    inflate(alloc, &mut bits, LIMIT)
 }
 
 /// A length in four bytes, the lowest first.
@@ -80,8 +70,12 @@ fn main(rt: HostRuntime) -> io::Result<()> {
         }
         taken = taken.saturating_add(start.elapsed(&rt)?);
         match found {
-            Outcome::Given(count, digest) => println!(rt; "{count} {digest}")?,
-            Outcome::Refused(fault) => println!(rt; "refused: {fault}")?,
+            Ok(bytes) => {
+                let count = bytes.len();
+                let digest = digest(bytes.as_slice());
+                println!(rt; "{count} {digest}")?;
+            }
+            Err(fault) => println!(rt; "refused: {fault}")?,
         }
         rest = others;
     }
