@@ -1,7 +1,8 @@
 -- How the head of a compressed block is spelled, after its id (SEMI P39, CBLOCK record).
 use Rattle.std.specs.Prelude.{ℕ, List}
 use Rattle.oas_num.specs.declared.refusals.Why.{Why}
-use Rattle.oas_record.specs.Kinds.{Kind, number, pair, image_any}
+use Rattle.oas_record.specs.Kinds.{Kind, number}
+use Rattle.oas_record.specs.Trees.{pair, image_any}
 use Rattle.oas_wide.specs.declared.blocks.BlockHead.{BlockHead}
 
 abbrev pub head_of : ℕ × (ℕ × ℕ) → BlockHead

@@ -7,7 +7,8 @@ use Rattle.oas_num.specs.declared.padding.Padding.{Padding}
 use Rattle.oas_num.specs.Pieces.{Unless}
 use Rattle.oas_record.specs.Ends.{offsets_part}
 use Rattle.oas_record.specs.FoundParts.{settled_below}
-use Rattle.oas_record.specs.Kinds.{Kind, IsTest, number, padding, pair, there, such, image_any, number_test}
+use Rattle.oas_record.specs.Kinds.{Kind, number, padding}
+use Rattle.oas_record.specs.Trees.{IsTest, pair, there, such, image_any, number_test}
 use Rattle.oas_wide.specs.declared.ends.WideEnd.{WideEnd}
 use Rattle.oas_wide.specs.declared.ends.Validation.{Validation}
 use Rattle.oas_wide.specs.declared.ends.Validation.TheVariants.{Unvalidated, Crc32, Checksum32}

@@ -6,7 +6,8 @@ use Rattle.oas_record.specs.declared.spots.Spot.{Spot}
 use Rattle.oas_record.specs.Fields.{Layers, layers, spot}
 use Rattle.oas_record.specs.FoundParts.{settled_below}
 use Rattle.oas_record.specs.Info.{has}
-use Rattle.oas_record.specs.Kinds.{Kind, number, padding, pair, image_any, info_byte}
+use Rattle.oas_record.specs.Kinds.{Kind, number, padding}
+use Rattle.oas_record.specs.Trees.{pair, image_any, info_byte}
 use Rattle.oas_wide.specs.declared.extensions.ExtensionGeometry.{ExtensionGeometry}
 
 -- bits 7 to 5 are 0

@@ -19,7 +19,8 @@ use Rattle.oas_record.specs.Found.{Settled, IsFound, Stands, NoneStands, only, s
 use Rattle.oas_record.specs.FoundParts.{settled_below, found_label}
 use Rattle.oas_record.specs.Heads.{IsFlag, IsOtherId, version, version_in, VersionTook}
 use Rattle.oas_record.specs.Laws.HeadLaws.{OneFront-version}
-use Rattle.oas_record.specs.Kinds.{Kind, IsTest, number, pair, such, image_any, number_test, such_never, pair_never}
+use Rattle.oas_record.specs.Kinds.{Kind, number, pair_never}
+use Rattle.oas_record.specs.Trees.{IsTest, pair, such, image_any, number_test, such_never}
 use Rattle.oas_wide.specs.declared.heads.WideStart.{WideStart}
 use Rattle.oas_wide.specs.declared.reals.WideReal.{WideReal}
 use Rattle.oas_wide.specs.Reals.{wide_real}

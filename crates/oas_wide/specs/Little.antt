@@ -1,7 +1,8 @@
 -- Numbers in a fixed number of bytes, the least significant first.
 use Rattle.std.proofs.Common.{ℕ, ◌+◌, ◌*◌, ◌^◌, List, [], ◌∷◌, ◌++◌, refl}
 use Rattle.oas_num.specs.declared.refusals.Why.{Why}
-use Rattle.oas_record.specs.Kinds.{Kind, byte, pair, image_any, zero_byte}
+use Rattle.oas_record.specs.Kinds.{Kind, byte, zero_byte}
+use Rattle.oas_record.specs.Trees.{pair, image_any}
 
 abbrev pub FourBytes : Type 0
 FourBytes = ℕ × (ℕ × (ℕ × ℕ))

@@ -16,7 +16,8 @@ use Rattle.oas_record.specs.Ends.{nothing}
 use Rattle.oas_record.specs.Found.{IsFound, settled_either, settled_number}
 use Rattle.oas_record.specs.FoundParts.{found_signed, settled_below}
 use Rattle.oas_record.specs.Info.{has}
-use Rattle.oas_record.specs.Kinds.{Kind, IsTest, number, padding, pair, there, either, items, exactly, such, image_any, number_test, info_byte}
+use Rattle.oas_record.specs.Kinds.{Kind, number, padding}
+use Rattle.oas_record.specs.Trees.{IsTest, pair, there, either, items, exactly, such, image_any, number_test, info_byte}
 use Rattle.oas_wide.specs.declared.properties.Property.{Property}
 use Rattle.oas_wide.specs.declared.properties.PropertyName.{PropertyName}
 use Rattle.oas_wide.specs.declared.properties.PropertyName.TheVariants as names

@@ -8,7 +8,8 @@ use Rattle.oas_num.specs.Grammar.{IsSuch}
 use Rattle.oas_num.specs.Pieces.{Unless}
 use Rattle.oas_num.specs.Reals.{has_num, has_den, part_of, Parts}
 use Rattle.oas_record.specs.FoundParts.{settled_below}
-use Rattle.oas_record.specs.Kinds.{Kind, IsTest, number, pair, there, either, such, image_any, number_test}
+use Rattle.oas_record.specs.Kinds.{Kind, number}
+use Rattle.oas_record.specs.Trees.{IsTest, pair, there, either, such, image_any, number_test}
 use Rattle.oas_wide.specs.declared.reals.WideReal.{WideReal}
 use Rattle.oas_wide.specs.Little.{four, eight, four_zeros, zero_four, zero_eight}
 

@@ -3,7 +3,8 @@
 use Rattle.std.specs.Prelude.{ℕ, Bool, List, Option}
 use Rattle.oas_num.specs.declared.refusals.Why.{Why}
 use Rattle.oas_num.specs.declared.padding.Padding.{Padding}
-use Rattle.oas_record.specs.Kinds.{Kind, number, padding, pair, there}
+use Rattle.oas_record.specs.Kinds.{Kind, number, padding}
+use Rattle.oas_record.specs.Trees.{pair, there}
 
 -- a string, and its number where it is there
 abbrev pub string_kind : Bool → Kind (Padding × Option ℕ)

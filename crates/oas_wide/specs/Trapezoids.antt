@@ -7,7 +7,8 @@ use Rattle.oas_record.specs.declared.spots.Spot.{Spot}
 use Rattle.oas_record.specs.Fields.{Layers, layers, spot}
 use Rattle.oas_record.specs.FoundParts.{settled_below}
 use Rattle.oas_record.specs.Info.{has}
-use Rattle.oas_record.specs.Kinds.{Kind, IsTest, byte, number, signed, pair, there, such, image_any, number_test}
+use Rattle.oas_record.specs.Kinds.{Kind, byte, number, signed}
+use Rattle.oas_record.specs.Trees.{IsTest, pair, there, such, image_any, number_test}
 use Rattle.oas_wide.specs.declared.trapezoids.Trapezoid.{Trapezoid}
 use Rattle.oas_wide.specs.declared.trapezoids.NamedTrapezoid.{NamedTrapezoid}
 

@@ -1,6 +1,6 @@
 ghost use Rattle.oas_num.specs.Reading.{ReadsPiece};
 ghost use Rattle.std.specs.Prelude.{◌≡◌};
-ghost use Rattle.oas_record.specs.Kinds.{there};
+ghost use Rattle.oas_record.specs.Trees.{there};
 ghost use Rattle.oas_wide.specs.Little.{four};
 ghost use Rattle.oas_wide.specs.Ends.{validation_of, SpellsValidation, ValidationTook, SpellsWideEnd, WideEndTook};
 

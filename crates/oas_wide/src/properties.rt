@@ -1,6 +1,6 @@
 ghost use Rattle.std.specs.Prelude.{◌↔◌, IsTrue};
 ghost use Rattle.oas_num.specs.Reading.{ReadsPiece};
-ghost use Rattle.oas_record.specs.Kinds.{there};
+ghost use Rattle.oas_record.specs.Trees.{there};
 ghost use Rattle.oas_wide.specs.Properties.{IsPropertyInfo, property_name, value_after, value_count, value_list, values};
 
 use crate::reals::{WideReal, read_real_after};

@@ -1,6 +1,6 @@
 ghost use Rattle.oas_num.specs.Reading.{ReadsPiece};
 ghost use Rattle.oas_wide.specs.Trapezoids.{deltas, shape_kind, SpellsTrapezoid, TrapezoidTook, SpellsNamedTrapezoid, NamedTrapezoidTook};
-ghost use Rattle.oas_record.specs.Kinds.{there};
+ghost use Rattle.oas_record.specs.Trees.{there};
 
 use oas_num::{Source, Why, next_byte, read_signed_if, read_unsigned, read_unsigned_if};
 use oas_record::{Spot, read_layers, read_spot};

@@ -1,6 +1,6 @@
 use Rattle.std.proofs.lemmas.Result.{err_from_is_err_and}
 use Rattle.oas_num.proofs.HalfwayLemmas.{◌▸◌, fails_at, fails_last, is_read}
-use Rattle.oas_record.specs.Kinds.{there}
+use Rattle.oas_record.specs.Trees.{there}
 use Rattle.oas_record.proofs.ElementLemmas.{allowed_by, refused_by}
 use Rattle.oas_record.proofs.InfoLemmas.{info_took, info_refused, info_read}
 use Rattle.oas_wide.specs.Properties.{property_name, property_parts}

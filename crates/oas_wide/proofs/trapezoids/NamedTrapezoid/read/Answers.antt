@@ -3,7 +3,7 @@ use Rattle.oas_num.specs.Style.{Any}
 use Rattle.oas_num.specs.Laws.GrammarLaws.{OneFront-byte}
 use Rattle.oas_record.proofs.ElementLemmas.{OneFront-number_if}
 use Rattle.oas_record.proofs.FieldLemmas.{OneFront-layers}
-use Rattle.oas_record.specs.Kinds.{there}
+use Rattle.oas_record.specs.Trees.{there}
 use Rattle.oas_wide.specs.Trapezoids.{shape_kind, NamedTrapezoidTook}
 use Rattle.oas_num.proofs.HalfwayLemmas.{◌▸◌, at_image, fails_at, fails_last, is_read, number_took}
 use Rattle.oas_wide.proofs.trapezoids.NamedTrapezoid.read.Goals as goal
