@@ -1,0 +1,47 @@
+-- What the parts of a store come to.
+use Rattle.std.specs.Prelude.{◌≡◌, ℕ, ◌<◌, ◌^◌, List, [], ◌∷◌, ◌++◌, ◌==◌, cond}
+use Rattle.std.specs.List.{AllByRecursion}
+use Rattle.std.specs.declared.cmp.Ordering.{Ordering}
+use Rattle.std.specs.declared.cmp.Ordering.TheVariants.{Less, Equal}
+use Rattle.oas_store.specs.Tally.{copies, IsRun}
+
+-- one list after another
+abbrev pub joined : {X : Type 0} → List (List X) → List X
+joined [] = []
+joined (xs ∷ xss) = xs ++ joined xss
+
+-- an entry that waits; a count of 0 says that there is none
+abbrev pub waiting : {K : Type 0} → K → ℕ → List (K × ℕ)
+waiting key times = cond (times == 0) [] ((key, times) ∷ [])
+
+-- none of them is empty
+abbrev pub NoneEmpty : {X : Type 0} → List (List X) → Type 0
+NoneEmpty xss = AllByRecursion (λ xs. xs ≡ [] → ⊥) xss
+
+module _ {K : Type 0} where
+  -- everything that is held, in no order
+  abbrev pub contents : List (K × ℕ) → List (K × ℕ) → List (List (K × ℕ)) → List (K × ℕ)
+  contents rising loose rs = rising ++ loose ++ joined rs
+
+  -- each is a run
+  abbrev pub AreRuns : (K → K → Ordering) → List (List (K × ℕ)) → Type 0
+  AreRuns R rs = AllByRecursion (λ r. IsRun R r) rs
+
+  -- no key is there too often to be counted
+  abbrev pub CountsFit : (K → K → Ordering) → List (K × ℕ) → Type 0
+  CountsFit R es = (k : K) → copies R k es < 2 ^ 64
+
+  -- the parts are runs, and all counts fit, also once they are summed
+  pub record AreParts (R : K → K → Ordering) (rising loose : List (K × ℕ)) (rs : List (List (K × ℕ))) : Type 0 where
+    pub ascends : IsRun R rising
+    pub waits : IsRun R loose
+    pub runs : AreRuns R rs
+    pub fits : CountsFit R (contents rising loose rs)
+
+  -- the last key is below k
+  abbrev pub IsBelow : (K → K → Ordering) → List (K × ℕ) → K → Type 0
+  IsBelow R es k = (ps : List (K × ℕ)) (p : K × ℕ) → es ≡ ps ++ p ∷ [] → R p.0 k ≡ Less
+
+  -- the last key ties with k
+  abbrev pub EndsWith : (K → K → Ordering) → List (K × ℕ) → K → Type 0
+  EndsWith R es k = (ps : List (K × ℕ)) × (p : K × ℕ) × (es ≡ ps ++ p ∷ []) × (R p.0 k ≡ Equal)

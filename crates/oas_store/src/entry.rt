@@ -1,0 +1,134 @@
+//! An entry as bytes: the length of its key, its count, and the key.
+
+ghost use Rattle.std.specs.Prelude.{◌≡◌, ◌≢◌, ◌+◌, ◌<◌, ◌≤◌, [], ◌∷◌, ◌++◌, OnOk, OnErr, IsTrue, IsFalse, IfSome, IfNone, length, take, drop, slice_index};
+ghost use Rattle.oas_store.specs.Entries.{number_bytes, entry_bytes, number_at, number_size, entry_at, entry_end, entries, IsBlock};
+
+use std::alloc::AllocError;
+
+/// What a byte says before a number of eight bytes. Numbers below it are one byte.
+const LONG: u8 = 255;
+
+/// Puts a number at the end, or a part of it.
+fn push_number(bytes: &mut Vec<u8>, number: u64) -> Result<(), AllocError>
+    ensures ok { OnOk result (bytes.new.items ≡ bytes.old.items ++ number_bytes number) }
+    ensures err { OnErr result (take (length bytes.old.items) bytes.new.items ≡ bytes.old.items) }
+{
+    if number < u64::from(LONG) {
+        if bytes.push(number as u8).is_err() {
+            return Err(AllocError);
+        }
+        return Ok(());
+    }
+    if bytes.push(LONG).is_err() {
+        return Err(AllocError);
+    }
+    bytes.extend_from_slice(&number.to_le_bytes())
+}
+
+/// Puts an entry at the end, or a part of it.
+fn push_parts(bytes: &mut Vec<u8>, key: &[u8], times: u64) -> Result<(), AllocError>
+    ensures ok { OnOk result (bytes.new.items ≡ bytes.old.items ++ entry_bytes (key.now, times)) }
+    ensures err { OnErr result (take (length bytes.old.items) bytes.new.items ≡ bytes.old.items) }
+{
+    push_number(bytes, key.len() as u64)?;
+    push_number(bytes, times)?;
+    bytes.extend_from_slice(key)
+}
+
+/// Puts an entry at the end, or nothing.
+pub(crate) fn push_entry(bytes: &mut Vec<u8>, key: &[u8], times: u64) -> Result<(), AllocError>
+    ensures ok { OnOk result (bytes.new.items ≡ bytes.old.items ++ entry_bytes (key.now, times)) }
+    ensures err { OnErr result (bytes.new.items ≡ bytes.old.items) }
+{
+    let before = bytes.len();
+    let pushed = push_parts(bytes, key, times);
+    if pushed.is_err() {
+        bytes.truncate(before);
+    }
+    pushed
+}
+
+/// A number that was read, and how many bytes it takes.
+#[derive(Drop)]
+struct Number {
+    value: u64,
+    size: usize,
+}
+
+/// Reads the number that stands first.
+fn read_number(bytes: &[u8]) -> Number
+    requires some { 0 < length bytes.now }
+    requires long { slice_index bytes.now 0 ≡ 255 → 9 ≤ length bytes.now }
+    ensures value { result.value ≡ number_at bytes.now }
+    ensures size { result.size ≡ number_size bytes.now }
+{
+    let first = bytes[0];
+    if first < LONG {
+        return Number {
+            value: u64::from(first),
+            size: 1,
+        };
+    }
+    let value = u64::from_le_bytes([
+        bytes[1], bytes[2], bytes[3], bytes[4], bytes[5], bytes[6], bytes[7], bytes[8],
+    ]);
+    Number { value, size: 9 }
+}
+
+/// The bytes after so many.
+pub(crate) fn after(bytes: &[u8], skipped: usize) -> &[u8]
+    requires { skipped ≤ length bytes.now }
+    ensures { result.now ≡ drop skipped bytes.now }
+{
+    &bytes[skipped..]
+}
+
+/// So many bytes after so many.
+fn part(bytes: &[u8], skipped: usize, len: usize) -> &[u8]
+    requires { skipped + len ≤ length bytes.now }
+    ensures { result.now ≡ take len (drop skipped bytes.now) }
+{
+    &bytes[skipped..skipped + len]
+}
+
+/// An entry that was read, and where it ends.
+#[derive(Drop)]
+pub struct Entry<'a> {
+    pub(crate) key: &'a [u8],
+    pub(crate) times: u64,
+    pub(crate) end: usize,
+}
+
+/// Whether no entry stands there.
+pub(crate) fn is_over(bytes: &[u8]) -> bool
+    ensures over { IsTrue result → entries bytes.now ≡ [] }
+    ensures left { IsFalse result → entries bytes.now ≡ [] → ⊥ }
+{
+    if bytes.is_empty() {
+        return true;
+    }
+    false
+}
+
+/// Reads the entry that stands first.
+pub(crate) fn read_entry(bytes: &[u8]) -> Option<Entry<'_>>
+    requires { IsBlock bytes.now }
+    ensures none { IfNone result (entries bytes.now ≡ []) }
+    ensures some { IfSome result (λ e. entries bytes.now ≡ (e.key.now, e.times) ∷ entries (drop e.end bytes.now)) }
+    ensures rest { IfSome result (λ e. IsBlock (drop e.end bytes.now)) }
+    ensures within { IfSome result (λ e. e.end ≤ length bytes.now) }
+    ensures end { IfSome result (λ e. 0 < e.end) }
+{
+    if bytes.is_empty() {
+        return None;
+    }
+    let size = read_number(bytes);
+    let times = read_number(after(bytes, size.size));
+    let start = size.size + times.size;
+    let len = size.value as usize;
+    Some(Entry {
+        key: part(bytes, start, len),
+        times: times.value,
+        end: start + len,
+    })
+}
