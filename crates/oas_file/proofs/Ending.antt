@@ -19,6 +19,7 @@ use Rattle.oas_layout.specs.declared.limits.Limits.{Limits}
 use Rattle.oas_layout.specs.declared.profile.Profile.{Profile}
 use Rattle.oas_layout.specs.Contents.{Contents, meaning_of}
 use Rattle.oas_layout.specs.Meaning.{Meaning, SameLayout}
+use Rattle.oas_modal.specs.Stores.{Store}
 use Rattle.oas_modal.specs.Stands.{ReaderState, StandsFor, records_mean, end_refusal}
 use Rattle.oas_file.specs.Files.{Parts, FileOf, FrontOf}
 use Rattle.oas_file.specs.Laws.FileLaws.{OneFront-file}
@@ -32,7 +33,7 @@ use Rattle.oas_file.proofs.Refusing.{Judges, ForMemory, Decided, judged_refused,
 
 -- ---- the head
 
-abbrev pub begun : {old now : Script} {head : Head} {first : ReaderState} → ReadsValue (head_in Any) old head now → StandsFor first [] → HasBegun head now first
+abbrev pub begun : {C : Type 0} {t : Store C} {old now : Script} {head : Head} {first : ReaderState C} → ReadsValue (head_in Any) old head now → StandsFor t first [] → HasBegun t head now first
 begun {old = old} read stands = record {
   origin = old;
   bytes = read.bytes;
@@ -59,7 +60,8 @@ file_all {last = last} f end = record {
 }
 
 -- no file goes on after END
-none_after : {head first : Head} {rs ss : List Record} {bytes last : List ℕ} (byte : ℕ) (more : List ℕ) → FrontOf head rs bytes → record_in Any head.flag_in_end End last → FileOf first ss ((bytes ++ last) ++ (byte ∷ more)) → ⊥
+none_after : {head first : Head} {rs ss : List Record} {bytes last : List ℕ} (byte : ℕ) (more : List ℕ) → FrontOf head rs bytes → record_in Any head.flag_in_end End last →
+    FileOf first ss ((bytes ++ last) ++ (byte ∷ more)) → ⊥
 none_after {head = head} {first = first} {rs = rs} {ss = ss} {bytes = bytes} {last = last} byte more f end file = absurd (not_nil tails) where
   tails : byte ∷ more ≡ []
   tails =
@@ -71,7 +73,7 @@ none_after {head = head} {first = first} {rs = rs} {ss = ss} {bytes = bytes} {la
   not_nil : byte ∷ more ≡ [] → ⊥
   not_nil e = cc
 
-module _ {old mid : Script} {head : Head} {first s : ReaderState} {end_at : ℕ} (m : HasAll old head first end_at mid s) where
+module _ {C : Type 0} {t : Store C} {old mid : Script} {head : Head} {first s : ReaderState C} {end_at : ℕ} (m : HasAll t old head first end_at mid s) where
   abbrev all : List ℕ
   all = m.bytes ++ m.last
 
@@ -135,12 +137,32 @@ module _ {old mid : Script} {head : Head} {first s : ReaderState} {end_at : ℕ}
   tail_refuses : {new : Script} (at : ℕ) (why : Why) → at ≡ mid.given → MissesEnd mid why new → Refuses first.limits old (record { at = at; why = why }) new
   tail_refuses at TrailingBytes is h = (byte_refused h.0 h.1, byte_placed at h.0 is h.1, tail_reasoned at TrailingBytes (h.0 ∷ []) is h.1 (h.0, refl))
   tail_refuses at Read is h = (
-    record { bytes = all; takes = taken_all h.0; decided = λ d. absurd cc; cut = λ _ whole rest e a. all_taken whole rest e a.file; truncated = λ e. cc; device = λ _. h.1; too_long = λ e. cc; reading = λ e. cc },
+    record {
+      bytes = all;
+      takes = taken_all h.0;
+      decided = λ d. absurd cc;
+      cut = λ _ whole rest e a. all_taken whole rest e a.file;
+      truncated = λ e. cc;
+      device = λ _. h.1;
+      too_long =
+          λ e. cc;
+      reading = λ e. cc;
+    },
     record { bytes = all; takes = taken_all h.0; placed = λ fresh of_file. absurd cc },
     tail_reasoned at Read [] is h.0 refl,
   )
   tail_refuses at InputTooLong is h = (
-    record { bytes = all; takes = taken_all h.0; decided = λ d. absurd cc; cut = λ _ whole rest e a. all_taken whole rest e a.file; truncated = λ e. cc; device = λ e. cc; too_long = λ _. h.1; reading = λ e. cc },
+    record {
+      bytes = all;
+      takes = taken_all h.0;
+      decided = λ d. absurd cc;
+      cut = λ _ whole rest e a. all_taken whole rest e a.file;
+      truncated = λ e. cc;
+      device = λ e. cc;
+      too_long =
+          λ _. h.1;
+      reading = λ e. cc;
+    },
     record { bytes = all; takes = taken_all h.0; placed = λ fresh of_file. absurd cc },
     tail_reasoned at InputTooLong [] is h.0 refl,
   )
@@ -206,12 +228,14 @@ module _ {old mid : Script} {head : Head} {first s : ReaderState} {end_at : ℕ}
     same_back profile a b same = record { unit = sym same.unit; cells = λ name. sym (same.cells name); counts = λ name e. sym (same.counts name e) }
 
     -- the layout is that of the file
-    whole_read : {l : Contents} {limits : Limits} {profile : Profile} → first.limits ≡ limits → first.profile ≡ profile → first.unit ≡ head.unit → end_refusal s.limits m.records ≡ None → SameLayout s.profile (meaning_of l) (records_mean s.unit m.records) → l.limits ≡ s.limits → l.profile ≡ s.profile
+    whole_read : {l : Contents} {limits : Limits} {profile : Profile} → first.limits ≡ limits → first.profile ≡ profile → first.unit ≡ head.unit → end_refusal s.limits m.records ≡ None →
+        SameLayout s.profile (meaning_of l) (records_mean s.unit m.records) → l.limits ≡ s.limits → l.profile ≡ s.profile
         → IsRead limits profile old l new
     whole_read {l = l} {limits = limits} {profile = profile} within by unit none same limits_kept profile_kept =
         let kept = m.taken.same in
         let there : SameLayout profile (meaning_of l) (records_mean s.unit m.records) = subst (λ (p : Profile). SameLayout p (meaning_of l) (records_mean s.unit m.records)) (kept.profile ∙ by) same in
-        let means : SameLayout profile (meaning_of l) (records_mean head.unit m.records) = subst (λ (u : Ratio). SameLayout profile (meaning_of l) (records_mean u m.records)) (kept.unit ∙ unit) there in
+        let means : SameLayout profile (meaning_of l) (records_mean head.unit m.records) = subst (λ (u : Ratio). SameLayout profile (meaning_of l) (records_mean u m.records))
+        (kept.unit ∙ unit) there in
         record {
           bytes = all;
           takes = taken_all takes;
@@ -231,7 +255,8 @@ module _ {old mid : Script} {head : Head} {first s : ReaderState} {end_at : ℕ}
         }
 
     -- what finishing answers
-    pub finished : {limits : Limits} {profile : Profile} (result : Result Contents Refusal) → first.unit ≡ head.unit → first.limits ≡ limits → first.profile ≡ profile → OnOk result (end_refusal s.limits m.records ≡ None)
+    pub finished : {limits : Limits} {profile : Profile} (result : Result Contents Refusal) → first.unit ≡ head.unit → first.limits ≡ limits → first.profile ≡ profile →
+        OnOk result (end_refusal s.limits m.records ≡ None)
         → IfOk result (λ l. SameLayout s.profile (meaning_of l) (records_mean s.unit m.records)) → IfOk result (λ l. l.limits ≡ s.limits) → IfOk result (λ l. l.profile ≡ s.profile)
         → IfErr result (λ e. (e.at ≡ end_at) × ((e.why ≡ Memory) ⊎ (end_refusal s.limits m.records ≡ Some e.why))) → ReadsLayout limits profile old result new
     finished (Ok l) unit within by none same limits_kept profile_kept refused = whole_read within by unit none same limits_kept profile_kept

@@ -70,7 +70,8 @@ pub record Fronts (head first : Head) (rs ss : List Record) (left right : List �
   pub records : Compared head.flag_in_end rs ss left right
 
 -- two fronts of the same bytes have one START, and records that compare
-pub fronts : {head first : Head} {rs ss : List Record} {one other : List ℕ} (left right : List ℕ) → FrontOf head rs one → FrontOf first ss other → one ++ left ≡ other ++ right → Fronts head first rs ss left right
+pub fronts : {head first : Head} {rs ss : List Record} {one other : List ℕ} (left right : List ℕ) → FrontOf head rs one → FrontOf first ss other → one ++ left ≡ other ++ right →
+    Fronts head first rs ss left right
 fronts {head = head} {first = first} {rs = rs} {ss = ss} left right f g e =
     let e1 = sym (front_is left f) ∙ e ∙ front_is right g in
     let one = (OneFront-head Any).one head first f.start g.start (f.body ++ left) (g.body ++ right) f.begun g.begun e1 in

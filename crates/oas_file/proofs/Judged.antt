@@ -88,7 +88,8 @@ kind_in limits count weight m kind repeated =
 draw_in : (limits : Limits) (count weight : ℕ) (m : ModalState) (kind : Option Kind) (repeated : Bool) → InBytes (reason_if limits count weight m kind repeated)
 draw_in limits count weight m None repeated = none_in
 draw_in limits count weight m (Some kind) repeated =
-    or_in (kind_reason limits count weight m kind repeated) (first_of ((not (all_fit m kind repeated), CoordinateRange) ∷ [])) (kind_in limits count weight m kind repeated) (if_in (not (all_fit m kind repeated)) _ _ refl none_in)
+    or_in (kind_reason limits count weight m kind repeated) (first_of ((not (all_fit m kind repeated), CoordinateRange) ∷ [])) (kind_in limits count weight m kind repeated)
+    (if_in (not (all_fit m kind repeated)) _ _ refl none_in)
 
 element_in : (limits : Limits) (s : Standing) (m : ModalState) (r : Record) → InBytes (element_reason limits s m r)
 element_in limits s m r = by s.in_cell where
@@ -104,7 +105,8 @@ record_in : (limits : Limits) (before : List Record) (r : Record) → InBytes (r
 record_in limits before record_of.Pad = none_in
 record_in limits before record_of.End = some_in _ refl
 record_in limits before (record_of.CellName name number) = name_in same_string (numbering_of cell_names before) (next_number cell_names before) (named cell_names before) (Some (name, number))
-record_in limits before (record_of.TextString label number) = name_in same_string (numbering_of text_strings before) (next_number text_strings before) (named text_strings before) (Some (label, number))
+record_in limits before (record_of.TextString label number) = name_in same_string (numbering_of text_strings before) (next_number text_strings before) (named text_strings before)
+    (Some (label, number))
 record_in limits before (record_of.Cell c) = if_in (nat_lt limits.weight ((seen before).weight + cell_weight c)) _ _ refl none_in
 record_in limits before record_of.XyAbsolute = none_in
 record_in limits before record_of.XyRelative = none_in

@@ -38,7 +38,8 @@ read_refused {next = next} {old = old} {mid = mid} {new = new} {why = why} limit
   bytes = front ++ f.bytes;
   takes = Takes-then old mid new front f.bytes takes f.takes;
   decided = λ is more a.
-      (NoneFits-after (file_in Any) next front f.bytes wants (f.format (decides_format why is))).none (a.head, (a.records, End)) ((front ++ f.bytes) ++ more) [] more a.file.spelled (append-nil ((front ++ f.bytes) ++ more));
+      (NoneFits-after (file_in Any) next front f.bytes wants (f.format (decides_format why is))).none (a.head, (a.records, End)) ((front ++ f.bytes) ++ more) [] more a.file.spelled
+      (append-nil ((front ++ f.bytes) ++ more));
   cut = λ is whole rest e a. absurd ((NoneWithin-after (file_in Any) next front f.bytes wants (f.cut is)).none (a.head, (a.records, End)) whole rest a.file.spelled e);
   truncated = λ is. (
     λ a. (NoneWithin-after (file_in Any) next front f.bytes wants (f.cut (ended_cut why is))).none (a.head, (a.records, End)) (front ++ f.bytes) [] a.file.spelled (append-nil (front ++ f.bytes)),
@@ -50,7 +51,8 @@ read_refused {next = next} {old = old} {mid = mid} {new = new} {why = why} limit
 }
 
 -- where a read fails stands no spelling
-pub none_stands : {V : Type 0} {piece : Bool} {spells : V → List ℕ → Type 0} {may : Why → List ℕ → Type 0} {old new : Script} {why : Why} (f : FailsBy piece spells may old why new) → IsTrue (is_of_file why)
+pub none_stands : {V : Type 0} {piece : Bool} {spells : V → List ℕ → Type 0} {may : Why → List ℕ → Type 0} {old new : Script} {why : Why} (f : FailsBy piece spells may old why new) →
+    IsTrue (is_of_file why)
     → (more : List ℕ) → (IsAtEnd new → more ≡ []) → (v : V) (front rest : List ℕ) → spells v front → f.bytes ++ more ≢ front ++ rest
 none_stands {why = why} f is more ended v front rest s e =
     elim (format_or_end why is) [

@@ -95,7 +95,18 @@ module _ (limits : Limits) (b : List ℕ) where
         | inl end ↦ at_end s.front s.rest (subst (λ (r : Record). record_in Any head.flag_in_end r s.front) end s.spelled) s.joined
         | inr inner ↦ elim (settled_none (refusal limits records s.value)) [ inl none ↦ more s inner none | inr refused ↦ not_next s inner refused ]
       ]
-      | inr lacks ↦ inr (at, ByRecord (record { left = left; head = head; records = records; before = i; no_end = lacks.none End; no_record = record { none = λ r front rest q e. lacks.none r front rest q.spelled e } }))
+      | inr lacks ↦ inr (
+        at,
+        ByRecord (record {
+          left = left;
+          head = head;
+          records = records;
+          before = i;
+          no_end = lacks.none End;
+          no_record =
+              record { none = λ r front rest q e. lacks.none r front rest q.spelled e };
+        }),
+      )
     ]
 
   -- record by record, each of which takes a byte

@@ -15,6 +15,7 @@ use Rattle.oas_record.specs.Laws.RecordLaws.{OneFront-record}
 use Rattle.oas_record.specs.Refusals.{RecordTook}
 use Rattle.oas_layout.specs.declared.limits.Limits.{Limits}
 use Rattle.oas_modal.specs.Standing.{MayWant}
+use Rattle.oas_modal.specs.Stores.{Store}
 use Rattle.oas_modal.specs.Stands.{ReaderState, StandsFor, refusal as refusal_of}
 use Rattle.oas_file.specs.Files.{FrontOf}
 use Rattle.oas_file.specs.Acceptance.{Allowed}
@@ -26,7 +27,7 @@ use Rattle.oas_file.proofs.Fronts.{allowed_last, allowed_more, front_allowed, fr
 use Rattle.oas_file.proofs.Judged.{refusal_decides}
 use Rattle.oas_file.proofs.Refusing.{record_refuses, Judges, ForMemory, Decided, judged_refused, memory_placed}
 
-pub gathered_none : {head : Head} {now : Script} {first : ReaderState} (b : HasBegun head now first) → HasGathered b.origin head first now first
+pub gathered_none : {C : Type 0} {t : Store C} {head : Head} {now : Script} {first : ReaderState C} (b : HasBegun t head now first) → HasGathered t b.origin head first now first
 gathered_none b = record {
   records = [];
   bytes = b.bytes;
@@ -35,9 +36,10 @@ gathered_none b = record {
   taken = record { stands = b.stands; allowed = tt; same = record { unit = refl; limits = refl; profile = refl } };
 }
 
-module _ {origin mid new : Script} {head : Head} {first s : ReaderState} (m : HasGathered origin head first mid s) where
+module _ {C : Type 0} {t : Store C} {origin mid new : Script} {head : Head} {first s : ReaderState C} (m : HasGathered t origin head first mid s) where
   -- a record can't be read
-  pub gather_fails : (refusal : Refusal) → refusal.at ≡ mid.given → FailsPiece (record_in Any head.flag_in_end) (RecordTook head.flag_in_end) mid refusal.why new → Refuses first.limits origin refusal new
+  pub gather_fails : (refusal : Refusal) → refusal.at ≡ mid.given → FailsPiece (record_in Any head.flag_in_end) (RecordTook head.flag_in_end) mid refusal.why new →
+      Refuses first.limits origin refusal new
   gather_fails refusal at f = record_refuses refusal m.front m.taken.allowed m.takes at f
 
   module _ {r : Record} (read : ReadsValue (inner_in head.flag_in_end) mid r new) where
@@ -48,9 +50,9 @@ module _ {origin mid new : Script} {head : Head} {first s : ReaderState} (m : Ha
     front = front_more m.front read.spelled
 
     -- a record is read and taken
-    pub gather_more : (t : ReaderState) → (refusal_of s.limits m.records r ≡ None) × StandsFor t (m.records ++ r ∷ []) → t.unit ≡ s.unit → t.limits ≡ s.limits → t.profile ≡ s.profile
-        → HasGathered origin head first new t
-    gather_more t h unit limits profile =
+    pub gather_more : (after : ReaderState C) → (refusal_of s.limits m.records r ≡ None) × StandsFor t after (m.records ++ r ∷ []) → after.unit ≡ s.unit → after.limits ≡ s.limits → after.profile ≡ s.profile
+        → HasGathered t origin head first new after
+    gather_more after h unit limits profile =
         let same = m.taken.same in
         record {
           records = m.records ++ r ∷ [];
@@ -118,7 +120,7 @@ module _ {origin mid new : Script} {head : Head} {first s : ReaderState} (m : Ha
         next_refuses refusal (e.0 ∙ is) (subst (λ (l : Limits). Reasons l refusal.why) m.taken.same.limits e.1)
 
   -- END is read
-  pub gather_ends : (at : ℕ) → at ≡ mid.given → ReadsValue (record_in Any head.flag_in_end) mid End new → HasAll origin head first at new s
+  pub gather_ends : (at : ℕ) → at ≡ mid.given → ReadsValue (record_in Any head.flag_in_end) mid End new → HasAll t origin head first at new s
   gather_ends at is read = record {
     records = m.records;
     bytes = m.bytes;

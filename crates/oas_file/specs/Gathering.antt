@@ -12,6 +12,7 @@ use Rattle.oas_record.specs.declared.records.Record.{Record}
 use Rattle.oas_record.specs.declared.records.Record.TheVariants.{End}
 use Rattle.oas_record.specs.Records.{record_in, IsInner}
 use Rattle.oas_record.specs.Refusals.{RecordTook}
+use Rattle.oas_modal.specs.Stores.{Store}
 use Rattle.oas_modal.specs.Stands.{ReaderState, StandsFor}
 use Rattle.oas_file.specs.Acceptance.{Allowed}
 use Rattle.oas_file.specs.Files.{FrontOf}
@@ -31,48 +32,49 @@ TakesNext in_end old (Err refusal) new = (refusal.at ≡ old.given) × FailsPiec
 
 -- ---- all records
 
--- a read that began at an origin has taken the head, and the reader has no records yet
-pub record HasBegun (head : Head) (now : Script) (s : ReaderState) : Type 0 where
-  pub origin : Script
-  pub bytes : List ℕ
-  pub takes : Takes origin bytes now
-  pub front : FrontOf head [] bytes
-  pub stands : StandsFor s []
+module _ {C : Type 0} where
+  -- a read that began at an origin has taken the head, and the reader has no records yet
+  pub record HasBegun (t : Store C) (head : Head) (now : Script) (s : ReaderState C) : Type 0 where
+    pub origin : Script
+    pub bytes : List ℕ
+    pub takes : Takes origin bytes now
+    pub front : FrontOf head [] bytes
+    pub stands : StandsFor t s []
 
--- what is for the whole file stays
-pub record SameFile (s t : ReaderState) : Type 0 where
-  pub unit : t.unit ≡ s.unit
-  pub limits : t.limits ≡ s.limits
-  pub profile : t.profile ≡ s.profile
+  -- what is for the whole file stays
+  pub record SameFile (first s : ReaderState C) : Type 0 where
+    pub unit : s.unit ≡ first.unit
+    pub limits : s.limits ≡ first.limits
+    pub profile : s.profile ≡ first.profile
 
--- the reader stands for records that are allowed
-pub record HasTaken (first : ReaderState) (s : ReaderState) (records : List Record) : Type 0 where
-  pub stands : StandsFor s records
-  pub allowed : Allowed first.limits records
-  pub same : SameFile first s
+  -- the reader stands for records that are allowed
+  pub record HasTaken (t : Store C) (first s : ReaderState C) (records : List Record) : Type 0 where
+    pub stands : StandsFor t s records
+    pub allowed : Allowed first.limits records
+    pub same : SameFile first s
 
--- the head and some records were taken
-pub record HasGathered (origin : Script) (head : Head) (first : ReaderState) (now : Script) (s : ReaderState) : Type 0 where
-  pub records : List Record
-  pub bytes : List ℕ
-  pub takes : Takes origin bytes now
-  pub front : FrontOf head records bytes
-  pub taken : HasTaken first s records
+  -- the head and some records were taken
+  pub record HasGathered (t : Store C) (origin : Script) (head : Head) (first : ReaderState C) (now : Script) (s : ReaderState C) : Type 0 where
+    pub records : List Record
+    pub bytes : List ℕ
+    pub takes : Takes origin bytes now
+    pub front : FrontOf head records bytes
+    pub taken : HasTaken t first s records
 
--- the head, all records and END were taken, which begins at that offset
-pub record HasAll (origin : Script) (head : Head) (first : ReaderState) (at : ℕ) (now : Script) (s : ReaderState) : Type 0 where
-  pub records : List Record
-  pub bytes : List ℕ
-  pub last : List ℕ
-  pub takes : Takes origin (bytes ++ last) now
-  pub front : FrontOf head records bytes
-  pub end : record_in Any head.flag_in_end End last
-  pub place : at ≡ origin.given + length bytes
-  pub taken : HasTaken first s records
+  -- the head, all records and END were taken, which begins at that offset
+  pub record HasAll (t : Store C) (origin : Script) (head : Head) (first : ReaderState C) (at : ℕ) (now : Script) (s : ReaderState C) : Type 0 where
+    pub records : List Record
+    pub bytes : List ℕ
+    pub last : List ℕ
+    pub takes : Takes origin (bytes ++ last) now
+    pub front : FrontOf head records bytes
+    pub end : record_in Any head.flag_in_end End last
+    pub place : at ≡ origin.given + length bytes
+    pub taken : HasTaken t first s records
 
-abbrev pub Gathers : Head → Script → ReaderState → Result ℕ Refusal → Script → ReaderState → Type 0
-Gathers head old first (Ok at) new s = (b : HasBegun head old first) → HasAll b.origin head first at new s
-Gathers head old first (Err refusal) new s = (b : HasBegun head old first) → Refuses first.limits b.origin refusal new
+  abbrev pub Gathers : Store C → Head → Script → ReaderState C → Result ℕ Refusal → Script → ReaderState C → Type 0
+  Gathers t head old first (Ok at) new s = (b : HasBegun t head old first) → HasAll t b.origin head first at new s
+  Gathers t head old first (Err refusal) new s = (b : HasBegun t head old first) → Refuses first.limits b.origin refusal new
 
 -- ---- the end of the input
 

@@ -3,7 +3,7 @@ ghost use Rattle.oas_file.specs.Gathering.{TakesNext, Gathers, FindsEnd};
 ghost use Rattle.oas_file.specs.Reading.{ReadsLayout};
 
 use oas_layout::{Layout, Limits, Profile};
-use oas_modal::Reader;
+use oas_modal::{CellStore, Reader};
 use oas_num::{Refusal, Source, SourceFault, Why};
 use oas_record::{Head, Record, read_head};
 use std::alloc::Global;
@@ -23,13 +23,13 @@ fn take_record<S: Source>(
 }
 
 /// Has the reader take the records up to END, and answers END's offset.
-fn take_records<S: Source>(
+fn take_records<S: Source, C: CellStore>(
     alloc: Global,
     source: &mut S,
     head: Head,
-    reader: &mut Reader,
+    reader: &mut Reader<C>,
 ) -> Result<u64, Refusal>
-    ensures { Gathers head (S.script source.old) reader.old result (S.script source.new) reader.new }
+    ensures { Gathers C.store head (S.script source.old) reader.old result (S.script source.new) reader.new }
 {
     let mut at = source.at();
     while let Some(record) = take_record(alloc, source, head.flag_in_end)? {

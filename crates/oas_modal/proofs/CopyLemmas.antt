@@ -1,7 +1,6 @@
 -- the copies of a record that are held, one by one
 use Rattle.std.proofs.Common.{◌≡◌, ℕ, zero, suc, ◌+◌, ◌*◌, ◌<◌, ◌≤◌, List, [], ◌∷◌, ◌++◌, map, length, refl, sym, ap, ◌∙◌, subst, arith, Bool, true, false, append_assoc, length-append}
 use Rattle.std.specs.Prelude.{Option, None, Some, replicate, nat_lt, ◌^◌}
-use Rattle.std.proofs.lemmas.List.{length-replicate}
 use Rattle.std.proofs.lemmas.Nat.{mul-le}
 use Rattle.std.proofs.lemmas.Bool.Decides.{nat_tests}
 use Rattle.oas_drawing.specs.Reasons.{weight_if, fault_of}
@@ -10,23 +9,17 @@ use Rattle.std.specs.List.{range_with_len}
 use Rattle.std.proofs.lemmas.List.FromFn.{map-range_with_len_more}
 use Rattle.oas_num.specs.declared.deltas.GDelta.{GDelta}
 use Rattle.oas_shape.specs.Steps.{still}
-use Rattle.oas_record.specs.declared.references.CellRef.{CellRef}
 use Rattle.oas_record.specs.declared.records.Record.{Record}
-use Rattle.oas_layout.specs.Bag.{items}
-use Rattle.oas_layout.specs.Laws.BagLaws.{total, total-put_more}
 use Rattle.oas_drawing.specs.declared.drawn.Drawn.{Drawn}
 use Rattle.oas_drawing.specs.declared.kinds.Kind.{Kind}
 use Rattle.oas_drawing.specs.Modal.{ModalState}
-use Rattle.oas_drawing.specs.Drawn.{drawn_cmp, weight_so_far}
+use Rattle.oas_drawing.specs.Drawn.{weight_so_far}
 use Rattle.oas_drawing.specs.Drawing.{kind_of, repeats, drawn_if, copies_at, offset_if, number_if, offsets_of, drawn_by}
-use Rattle.oas_modal.specs.Held.{Held, with_drawn}
-use Rattle.oas_modal.specs.Standing.{put_all, drew, drawn_of}
+use Rattle.oas_modal.specs.Standing.{drawn_of}
+use Rattle.oas_modal.specs.Stores.{Store, Draws}
 use Rattle.oas_modal.specs.Copying.{copies_by, first_copies}
 use Rattle.oas_modal.proofs.PlaceLemmas.{drawn_alike}
-
-pub put_all-append : (held : List (Drawn × ℕ)) (xs ys : List Drawn) → put_all held (xs ++ ys) ≡ put_all (put_all held xs) ys
-put_all-append held [] ys = refl
-put_all-append held (x ∷ xs) ys = put_all-append (with_drawn held x 1) xs ys
+use Rattle.oas_modal.proofs.StoreLemmas.{draws_then}
 
 copies_by-append : (m : ModalState) (kind : Kind) (xs ys : List GDelta) → copies_by m kind (xs ++ ys) ≡ copies_by m kind xs ++ copies_by m kind ys
 copies_by-append m kind [] ys = refl
@@ -46,14 +39,10 @@ next_copy m kind repeated n =
 one_copy : (m : ModalState) (kind : Kind) (repeated : Bool) (n : ℕ) (d : Drawn) → drawn_by m kind (offset_if repeated m.repetition n) ≡ Some d → first_copies m kind repeated (n + 1) ≡ first_copies m kind repeated n ++ d ∷ []
 one_copy m kind repeated n d e = next_copy m kind repeated n ∙ ap (λ (o : Option Drawn). first_copies m kind repeated n ++ option_to_list o) e
 
-abbrev held_pair : CellRef → List (Drawn × ℕ) → Held
-held_pair c ps = (c, ps)
-
--- and held
-pub held_next : (m : ModalState) (kind : Kind) (repeated : Bool) (n : ℕ) (d : Drawn) (before now after : Held) → drawn_by m kind (offset_if repeated m.repetition n) ≡ Some d → now ≡ drew before (first_copies m kind repeated n) → after ≡ held_pair now.0 (with_drawn now.1 d 1) → after ≡ drew before (first_copies m kind repeated (n + 1))
-held_next m kind repeated n d before now after e is then =
-    then ∙ (ap (λ (h : Held). held_pair h.0 (with_drawn h.1 d 1)) is
-    ∙ ap (held_pair before.0) (sym (put_all-append before.1 (first_copies m kind repeated n) (d ∷ [])) ∙ ap (put_all before.1) (sym (one_copy m kind repeated n d e))))
+-- and drawn
+pub draws_next : {S : Type 0} (t : Store S) (m : ModalState) (kind : Kind) (repeated : Bool) (n : ℕ) (d : Drawn) (before now after : S) → drawn_by m kind (offset_if repeated m.repetition n) ≡ Some d → Draws t before (first_copies m kind repeated n) now → Draws t now (replicate 1 d) after → Draws t before (first_copies m kind repeated (n + 1)) after
+draws_next t m kind repeated n d before now after e f g =
+    subst (λ (ds : List Drawn). Draws t before ds after) (sym (one_copy m kind repeated n d e)) (draws_then t before now after (first_copies m kind repeated n) (d ∷ []) f g)
 
 -- the copies of a record are those of its kind
 copies_at-kind : (m : ModalState) (r : Record) (kind : Kind) (ds : List GDelta) → kind_of r ≡ Some kind → copies_at m r ds ≡ copies_by m kind ds
@@ -62,18 +51,6 @@ copies_at-kind m r kind (d ∷ ds) e = (λ i. option_to_list (drawn_if m (e i) d
 
 pub drawn_of-kind : (m : ModalState) (r : Record) (kind : Kind) → kind_of r ≡ Some kind → drawn_of m r ≡ first_copies m kind (repeats r) (number_if (repeats r) m.repetition)
 drawn_of-kind m r kind e = copies_at-kind m r kind (offsets_of m r) e
-
--- how many things are held
-pub length-items_all : (ps : List (Drawn × ℕ)) → length (items ps) ≡ total (λ _. 1) ps
-length-items_all [] = refl
-length-items_all (p ∷ ps) = omega (arith, length-append (replicate p.1 p.0) (items ps), length-replicate p.1 p.0, length-items_all ps)
-
-length-with_drawn : (ps : List (Drawn × ℕ)) (d : Drawn) → length (items (with_drawn ps d 1)) ≡ length (items ps) + 1
-length-with_drawn ps d = omega (arith, length-items_all (with_drawn ps d 1), length-items_all ps, total-put_more drawn_cmp (λ _. 1) ps d 1 (λ x _. refl))
-
-pub length-put_all : (ps : List (Drawn × ℕ)) (ds : List Drawn) → length (items (put_all ps ds)) ≡ length (items ps) + length ds
-length-put_all ps [] = omega arith
-length-put_all ps (d ∷ ds) = omega (arith, length-put_all (with_drawn ps d 1) ds, length-with_drawn ps d)
 
 at_most_one : (o : Option Drawn) → length (option_to_list o) ≤ 1
 at_most_one None = omega arith
@@ -87,8 +64,8 @@ few_copies m kind repeated (suc n) =
     omega (arith, ap (λ (k : ℕ). length (first_copies m kind repeated k)) n1, ap length (next_copy m kind repeated n), length-append (first_copies m kind repeated n) (option_to_list (drawn_by m kind (offset_if repeated m.repetition n))), at_most_one (drawn_by m kind (offset_if repeated m.repetition n)), few_copies m kind repeated n)
 
 -- there is room for one more
-pub room_next : (m : ModalState) (kind : Kind) (repeated : Bool) (n : ℕ) (before now : Held) → now ≡ drew before (first_copies m kind repeated n) → length (items before.1) ≤ 2 ^ 26 → n ≤ 2 ^ 26 → length (items now.1) + 1 < 2 ^ 64
-room_next m kind repeated n before now is room small = omega (arith, ap (λ (h : Held). length (items h.1)) is, length-put_all before.1 (first_copies m kind repeated n), few_copies m kind repeated n, room, small)
+pub room_next : {S : Type 0} (t : Store S) (m : ModalState) (kind : Kind) (repeated : Bool) (n : ℕ) (before now : S) → Draws t before (first_copies m kind repeated n) now → t.count before ≤ 2 ^ 26 → n ≤ 2 ^ 26 → t.count now + 1 < 2 ^ 64
+room_next t m kind repeated n before now f room small = omega (arith, f.count, few_copies m kind repeated n, room, small)
 
 -- and it lies within the grid
 pub fit_next : (m : ModalState) (kind : Kind) (repeated : Bool) (n : ℕ) → ((i : ℕ) → i < n → fault_of (drawn_by m kind (offset_if repeated m.repetition i)) ≡ None) → fault_of (drawn_by m kind (offset_if repeated m.repetition n)) ≡ None → (i : ℕ) → i < n + 1 → fault_of (drawn_by m kind (offset_if repeated m.repetition i)) ≡ None

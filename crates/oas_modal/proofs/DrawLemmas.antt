@@ -5,8 +5,6 @@ use Rattle.std.proofs.lemmas.List.Sums.{sum_by-append}
 use Rattle.std.specs.Prelude.{Option, None, Some, is_some, is_none, nat_lt, not, cond, sum_by}
 use Rattle.std.specs.Option.{option_or, option_to_list}
 use Rattle.std.specs.List.{AllByRecursion}
-use Rattle.std.specs.Ordering.{match_ordering}
-use Rattle.std.specs.declared.cmp.Ordering.TheVariants.{Less, Equal, Greater}
 use Rattle.oas_num.specs.declared.refusals.Why.{Why}
 use Rattle.oas_num.specs.declared.refusals.Why.TheVariants.{OutOfPlace, Memory, ModalUndefined, Magnification, Angle, TooManyElements, TooHeavy, PointCount, CoordinateRange}
 use Rattle.oas_shape.specs.Steps.{still}
@@ -14,7 +12,6 @@ use Rattle.oas_record.specs.declared.records.Record.{Record}
 use Rattle.oas_record.specs.declared.records.Record.TheVariants as record_of
 use Rattle.oas_record.specs.Records.{id_of}
 use Rattle.oas_layout.specs.declared.limits.Limits.{Limits}
-use Rattle.oas_layout.specs.Bag.{items}
 use Rattle.oas_drawing.specs.declared.drawn.Drawn.{Drawn}
 use Rattle.oas_drawing.specs.declared.drawn.Drawn.TheVariants.{Named, PlacementBy, TextBy}
 use Rattle.oas_drawing.specs.declared.kinds.Kind.{Kind}
@@ -23,36 +20,38 @@ use Rattle.oas_drawing.specs.Positions.{IsNear}
 use Rattle.oas_drawing.specs.declared.positions.Position.{Position}
 use Rattle.oas_drawing.specs.Modal.{ModalState, stepped}
 use Rattle.oas_modal.specs.Names.{cell_names, text_strings, with_name, table_reason, same_string}
-use Rattle.oas_drawing.specs.Drawn.{drawn_cmp, weight_so_far}
+use Rattle.oas_drawing.specs.Drawn.{weight_so_far}
 use Rattle.oas_drawing.specs.Drawing.{kind_of, repeats, drawn_by, place_of, offset_if, number_if, lacks_repetition}
 use Rattle.oas_drawing.specs.Reasons.{first_of, is_magnified, is_askew, weight_if, lacks_if, fault_of, kind_reason, all_fit, reason_if, draw_reason}
-use Rattle.oas_modal.specs.Held.{Held, with_drawn}
-use Rattle.oas_modal.specs.Finish.{IsFit, AllFit, drawn_cells, drawn_total}
-use Rattle.oas_modal.specs.Standing.{Standing, drawn_of, weight_with, open_after, element_reason, reason, MayWant, put_all, drew, drew_last, held_after}
+use Rattle.oas_modal.specs.Finish.{IsFit}
+use Rattle.oas_modal.specs.Meaning.{DrawnCell, in_last}
+use Rattle.oas_modal.specs.Stores.{Store, Draws, total_count, HoldCells}
+use Rattle.oas_modal.specs.Standing.{Standing, drawn_of, weight_with, open_after, element_reason, reason, MayWant, drawn_after}
 use Rattle.oas_modal.specs.Parts.{standing, cells, reason_of, Sound, Took}
 use Rattle.oas_modal.specs.Copying.{first_copies}
 use Rattle.oas_drawing.proofs.Copies.{drawn_defined, refused_before, refused_at, allowed_all}
-use Rattle.oas_modal.proofs.CopyLemmas.{next_copy, drawn_of-kind, length-put_all}
+use Rattle.oas_modal.proofs.CopyLemmas.{next_copy, drawn_of-kind}
 use Rattle.oas_modal.proofs.PlaceLemmas.{drawn_alike, no_fault}
-use Rattle.oas_modal.proofs.TakeLemmas.{standing_of, all_append, total_append}
+use Rattle.oas_modal.proofs.StoreLemmas.{total_append, hold_drawn}
+use Rattle.oas_modal.proofs.TakeLemmas.{standing_of, all_append}
 
 -- ---- what all element records have in common
 
 pub record IsElement (r : Record) : Type 0 where
   pub judged : (limits : Limits) (names strings : Record → Option Why) (s : Standing) → reason limits names strings s r ≡ element_reason limits s (stepped s.modal r) r
-  pub held : (hs : List Held) (m : ModalState) → held_after hs m r ≡ drew_last (drawn_of m r) hs
+  pub draws : (ds : List DrawnCell) (m : ModalState) → drawn_after ds m r ≡ in_last (drawn_of m r) ds
   pub inside : (b : Bool) → open_after b r ≡ b
   pub weighs : (ds : List Drawn) → weight_with r ds ≡ sum_by weight_so_far ds
   pub no_name : cell_names r ≡ None
   pub no_string : text_strings r ≡ None
 
 pub is_element : (r : Record) (kind : Kind) → kind_of r ≡ Some kind → IsElement r
-is_element (record_of.Placement p) kind e = record { judged = λ l n t s. refl; held = λ hs m. refl; inside = λ b. refl; weighs = λ ds. refl; no_name = refl; no_string = refl }
-is_element (record_of.Text p) kind e = record { judged = λ l n t s. refl; held = λ hs m. refl; inside = λ b. refl; weighs = λ ds. refl; no_name = refl; no_string = refl }
-is_element (record_of.Rectangle p) kind e = record { judged = λ l n t s. refl; held = λ hs m. refl; inside = λ b. refl; weighs = λ ds. refl; no_name = refl; no_string = refl }
-is_element (record_of.Polygon p) kind e = record { judged = λ l n t s. refl; held = λ hs m. refl; inside = λ b. refl; weighs = λ ds. refl; no_name = refl; no_string = refl }
-is_element (record_of.Path p) kind e = record { judged = λ l n t s. refl; held = λ hs m. refl; inside = λ b. refl; weighs = λ ds. refl; no_name = refl; no_string = refl }
-is_element (record_of.Circle p) kind e = record { judged = λ l n t s. refl; held = λ hs m. refl; inside = λ b. refl; weighs = λ ds. refl; no_name = refl; no_string = refl }
+is_element (record_of.Placement p) kind e = record { judged = λ l n t s. refl; draws = λ ds m. refl; inside = λ b. refl; weighs = λ ds. refl; no_name = refl; no_string = refl }
+is_element (record_of.Text p) kind e = record { judged = λ l n t s. refl; draws = λ ds m. refl; inside = λ b. refl; weighs = λ ds. refl; no_name = refl; no_string = refl }
+is_element (record_of.Rectangle p) kind e = record { judged = λ l n t s. refl; draws = λ ds m. refl; inside = λ b. refl; weighs = λ ds. refl; no_name = refl; no_string = refl }
+is_element (record_of.Polygon p) kind e = record { judged = λ l n t s. refl; draws = λ ds m. refl; inside = λ b. refl; weighs = λ ds. refl; no_name = refl; no_string = refl }
+is_element (record_of.Path p) kind e = record { judged = λ l n t s. refl; draws = λ ds m. refl; inside = λ b. refl; weighs = λ ds. refl; no_name = refl; no_string = refl }
+is_element (record_of.Circle p) kind e = record { judged = λ l n t s. refl; draws = λ ds m. refl; inside = λ b. refl; weighs = λ ds. refl; no_name = refl; no_string = refl }
 is_element record_of.Pad kind e = cc
 is_element record_of.End kind e = cc
 is_element (record_of.CellName name number) kind e = cc
@@ -172,48 +171,30 @@ copy_fit m kind repeated i d is fits points =
 
 -- ---- what is held
 
-fit_more : (ps : List (Drawn × ℕ)) (d : Drawn) → AllFit ps → IsFit d → AllFit (with_drawn ps d 1)
-fit_more [] d a f = (f, tt)
-fit_more (p ∷ ps) d a f =
-    elim (drawn_cmp d p.0) as (λ r. AllFit (match_ordering r ((d, 1) ∷ p ∷ ps) ((p.0, p.1 + 1) ∷ ps) (p ∷ with_drawn ps d 1))) [
-      | Less ↦ (f, a)
-      | Equal ↦ (a.0, a.1)
-      | Greater ↦ (a.0, fit_more ps d a.1 f)
-    ]
-
-fit_put_all : (ps : List (Drawn × ℕ)) (ds : List Drawn) → AllFit ps → AllByRecursion IsFit ds → AllFit (put_all ps ds)
-fit_put_all ps [] a f = a
-fit_put_all ps (d ∷ ds) a f = fit_put_all (with_drawn ps d 1) ds (fit_more ps d a f.0) f.1
-
-drew_end : (hs : List Held) (h : Held) (ds : List Drawn) → drew_last ds (hs ++ h ∷ []) ≡ hs ++ drew h ds ∷ []
-drew_end [] h ds = refl
-drew_end (g ∷ []) h ds = refl
-drew_end (g ∷ f ∷ hs) h ds = ap (λ (gs : List Held). g ∷ gs) (drew_end (f ∷ hs) h ds)
-
 all_front : {A : Type 0} (P : A → Type 0) (xs ys : List A) → AllByRecursion P (xs ++ ys) → AllByRecursion P xs × AllByRecursion P ys
 all_front P [] ys a = (tt, a)
 all_front P (x ∷ xs) ys a = let b = all_front P xs ys a.1 in ((a.0, b.0), b.1)
 
--- no more is held in the open cell than there is in all
-pub held_room : (p : Parts) (held : Held) → Sound p → p.cell ≡ Some held → length (items held.1) ≤ p.limits.elements
-held_room p held s is = omega (arith, s.few, s.total, ap (λ (o : Option Held). drawn_total (drawn_cells (p.done.items ++ option_to_list o))) is, total_append p.done.items (held ∷ []))
+-- no more is drawn in the open cell than there is in all
+pub held_room : {S : Type 0} (t : Store S) (p : Parts S) (held : S) → Sound t p → p.cell ≡ Some held → t.count held ≤ p.limits.elements
+held_room {S} t p held s is = omega (arith, s.few, s.total, ap (λ (o : Option S). total_count t (p.done.items ++ option_to_list o)) is, total_append t p.done.items (held ∷ []))
 
 -- ---- why it is refused
 
 -- an element record in the open cell
-pub record InCell (p : Parts) (r : Record) (kind : Kind) (held : Held) (m : ModalState) (repeated : Bool) : Type 0 where
+pub record InCell {S : Type 0} (t : Store S) (p : Parts S) (r : Record) (kind : Kind) (held : S) (m : ModalState) (repeated : Bool) : Type 0 where
   pub kind_is : kind_of r ≡ Some kind
   pub held_is : p.cell ≡ Some held
   pub modal_is : m ≡ stepped p.modal r
   pub repeats_is : repeated ≡ repeats r
-  pub sound : Sound p
+  pub sound : Sound t p
 
 -- what is left once its copies are looked at is the grid
 grid_left : (fit : Bool) → MayWant (first_of ((not fit, CoordinateRange) ∷ []))
 grid_left true = inl refl
 grid_left false = inr refl
 
-module _ (p : Parts) (r : Record) (kind : Kind) (held : Held) (m : ModalState) (repeated : Bool) (c : InCell p r kind held m repeated) where
+module _ {S : Type 0} (t : Store S) (p : Parts S) (r : Record) (kind : Kind) (held : S) (m : ModalState) (repeated : Bool) (c : InCell t p r kind held m repeated) where
   abbrev judged_with : Bool → ModalState → Option Why
   judged_with b v = cond b (draw_reason p.limits p.count p.weight v r) (Some (OutOfPlace (id_of r)))
 
@@ -252,7 +233,7 @@ module _ (p : Parts) (r : Record) (kind : Kind) (held : Held) (m : ModalState) (
 
   -- ---- what is kept after it
 
-  abbrev drew_with : Held → ℕ → ℕ → Parts
+  abbrev drew_with : S → ℕ → ℕ → Parts S
   drew_with held' n w = record p { modal = m; cell = Some held'; count = p.count + n; weight = p.weight + w }
 
   -- what the record draws
@@ -260,7 +241,13 @@ module _ (p : Parts) (r : Record) (kind : Kind) (held : Held) (m : ModalState) (
   drawn_is n number =
       ap (first_copies m kind repeated) number ∙ ap (λ (b : Bool). first_copies m kind b (number_if b m.repetition)) c.repeats_is ∙ sym (drawn_of-kind m r kind c.kind_is)
 
-  pub took_draw : (held' : Held) (n w : ℕ) → kind_reason p.limits p.count p.weight m kind repeated ≡ None → n ≡ number_if repeated m.repetition → w ≡ n * weight_if (drawn_by m kind still) → held' ≡ drew held (first_copies m kind repeated n) → Took p r (drew_with held' n w)
+  -- and may stand for
+  holds_drawn : (held' : S) → Draws t held (drawn_of m r) held' → (ds : List DrawnCell) → HoldCells t (cells p) ds → HoldCells t (p.done.items ++ held' ∷ []) (drawn_after ds m r)
+  holds_drawn held' drawn ds h =
+      let open_one : HoldCells t (p.done.items ++ held ∷ []) ds = subst (λ (o : Option S). HoldCells t (p.done.items ++ option_to_list o) ds) c.held_is h in
+      subst (λ (es : List DrawnCell). HoldCells t (p.done.items ++ held' ∷ []) es) (sym ((is_element r kind c.kind_is).draws ds m)) (hold_drawn t held held' (drawn_of m r) drawn p.done.items ds open_one)
+
+  pub took_draw : (held' : S) (n w : ℕ) → kind_reason p.limits p.count p.weight m kind repeated ≡ None → n ≡ number_if repeated m.repetition → w ≡ n * weight_if (drawn_by m kind still) → Draws t held (first_copies m kind repeated n) held' → Took t p r (drew_with held' n w)
   took_draw held' n w none number weighs drawn =
       let all : IsElement r = is_element r kind c.kind_is in
       let there = (is_passed p.limits p.count p.weight m kind repeated none).there in
@@ -274,9 +261,7 @@ module _ (p : Parts) (r : Record) (kind : Kind) (held : Held) (m : ModalState) (
         standing = (λ i. standing_of (c.modal_is i) (inside i) (p.count + count i) (p.weight + weight i));
         names = ap (with_name p.names) (sym all.no_name);
         strings = ap (with_name p.strings) (sym all.no_string);
-        cells =
-            ap (λ (h : Held). p.done.items ++ h ∷ []) (drawn ∙ ap (drew held) (drawn_is n number)) ∙ (sym (drew_end p.done.items held (drawn_of m r))
-            ∙ (ap (λ (o : Option Held). drew_last (drawn_of m r) (p.done.items ++ option_to_list o)) (sym c.held_is) ∙ sym (all.held (cells p) m)));
+        cells = holds_drawn held' (subst (λ (ds : List Drawn). Draws t held ds held') (drawn_is n number) drawn);
       }
 
   -- the numbers that the code works with
@@ -285,29 +270,27 @@ module _ (p : Parts) (r : Record) (kind : Kind) (held : Held) (m : ModalState) (
       let passes : IsPassed p.limits p.count p.weight m kind repeated = is_passed p.limits p.count p.weight m kind repeated none in
       (omega (arith, passes.few, number), subst (λ (k : ℕ). p.weight + k * weight_if (drawn_by m kind still) ≤ p.limits.weight) (sym number) passes.light)
 
-  pub sound_draw : (held' : Held) (n w : ℕ) → kind_reason p.limits p.count p.weight m kind repeated ≡ None → n ≡ number_if repeated m.repetition → w ≡ n * weight_if (drawn_by m kind still) → IsNear (place_of m kind) → AllIn repeated n → held' ≡ drew held (first_copies m kind repeated n) → Sound (drew_with held' n w)
-  sound_draw held' n w none number weighs place fit drawn =
-      let s : Sound p = c.sound in
+  pub sound_draw : (held' : S) (n w : ℕ) → kind_reason p.limits p.count p.weight m kind repeated ≡ None → n ≡ number_if repeated m.repetition → w ≡ n * weight_if (drawn_by m kind still) → IsNear (place_of m kind) → Draws t held (first_copies m kind repeated n) held' → Sound t (drew_with held' n w)
+  sound_draw held' n w none number weighs place drawn =
+      let s : Sound t p = c.sound in
       let passes : IsPassed p.limits p.count p.weight m kind repeated = is_passed p.limits p.count p.weight m kind repeated none in
       let fits = number_fits n none number in
       let near : AllNear m = near_after p.modal m r kind c.kind_is c.modal_is (s.placement, s.text, s.geometry) place in
-      let before = all_front (λ (g : Held). AllFit g.1) p.done.items (held ∷ []) (subst (λ (o : Option Held). AllByRecursion (λ (g : Held). AllFit g.1) (p.done.items ++ option_to_list o)) c.held_is s.fit) in
-      let copies = fit_copies m kind repeated passes.points n fit in
+      let before = all_front t.IsSound p.done.items (held ∷ []) (subst (λ (o : Option S). AllByRecursion t.IsSound (p.done.items ++ option_to_list o)) c.held_is s.sound) in
       record {
         placement = near.0;
         text = near.1;
         geometry = near.2;
         few = fits.0;
         light = subst (λ (k : ℕ). p.weight + k ≤ p.limits.weight) (sym weighs) fits.1;
-        fit = all_append (λ (g : Held). AllFit g.1) p.done.items (held' ∷ []) before.0 (subst (λ (g : Held). AllFit g.1) (sym drawn) (fit_put_all held.1 (first_copies m kind repeated n) before.1.0 copies), tt);
+        sound = all_append t.IsSound p.done.items (held' ∷ []) before.0 (drawn.sound before.1.0, tt);
         total = omega (
           arith,
           s.total,
-          total_append p.done.items (held' ∷ []),
-          total_append p.done.items (held ∷ []),
-          ap (λ (o : Option Held). drawn_total (drawn_cells (p.done.items ++ option_to_list o))) c.held_is,
-          ap (λ (h : Held). length (items h.1)) drawn,
-          length-put_all held.1 (first_copies m kind repeated n),
+          total_append t p.done.items (held' ∷ []),
+          total_append t p.done.items (held ∷ []),
+          ap (λ (o : Option S). total_count t (p.done.items ++ option_to_list o)) c.held_is,
+          drawn.count,
           copy_number m kind repeated passes.there n,
         );
       }

@@ -23,10 +23,14 @@ use Rattle.oas_drawing.specs.Reasons.{first_of}
 use Rattle.oas_modal.specs.Names.{name_of, named, cell_names, text_strings}
 use Rattle.oas_modal.specs.References.{cell_by}
 use Rattle.oas_modal.specs.Meaning.{DrawnCell, element_by, with_element, elements_meant, with_named, cells_meant, meaning_by, lacks_name, has_twice, end_reason, cells_drawn}
+use Rattle.oas_modal.specs.Held.{Held}
 use Rattle.oas_modal.specs.Finish.{drawn_cells, IsWithinLimits}
+use Rattle.oas_modal.specs.Stores.{held_store}
 use Rattle.oas_modal.specs.Parts.{cells, Sound}
 use Rattle.oas_modal.specs.Stands.{ReaderState, StandsFor, records_mean, end_refusal}
+use Rattle.oas_modal.specs.Alike.{AlikeCells}
 use Rattle.oas_modal.proofs.Alike.{alike_meanings}
+use Rattle.oas_modal.proofs.StoreLemmas.{held_total, held_alike}
 use Rattle.oas_modal.proofs.ReaderLemmas.{seen_as, KeptFor, kept_of}
 
 module _ (n n' s s' : List (ℕ × List ℕ)) (cs_agree : (k : ℕ) → name_of n k ≡ name_of n' k) (ts_agree : (k : ℕ) → name_of s k ≡ name_of s' k) where
@@ -60,18 +64,21 @@ module _ (n n' s s' : List (ℕ × List ℕ)) (cs_agree : (k : ℕ) → name_of 
 same_twice : (profile : Profile) (a b c : Meaning) → SameLayout profile a b → SameLayout profile b c → SameLayout profile a c
 same_twice profile a b c f g = record { unit = f.unit ∙ g.unit; cells = λ name. f.cells name ∙ g.cells name; counts = λ name e. f.counts name e ∙ g.counts name e }
 
-pub within_limits : (p : Parts) → Sound p → IsWithinLimits p.limits (cells p)
-within_limits p s = record { fit = s.fit; few = omega (arith, s.total, s.few) }
+pub within_limits : (p : Parts Held) → Sound held_store p → IsWithinLimits p.limits (cells p)
+within_limits p s = record { fit = s.sound; few = omega (arith, s.total, s.few, held_total (cells p)) }
 
-module _ (failed : Option OneRefusal) (p : Parts) (t : ReaderState) (rs : List Record) (view : ◌≡◌ {A = ReaderState} (seen_as failed p) t) (h : StandsFor t rs) where
-  kept : KeptFor p (reverse rs)
-  kept = kept_of failed p t rs view h
+module _ (failed : Option OneRefusal) (p : Parts Held) (t : ReaderState Held) (rs : List Record) (view : ◌≡◌ {A = ReaderState Held} (seen_as failed p) t) (h : StandsFor held_store t rs) where
+  kept : KeptFor held_store p (reverse rs)
+  kept = kept_of held_store failed p t rs view h
+
+  alike : AlikeCells (drawn_cells (cells p)) (cells_drawn elements_at (reverse rs))
+  alike = held_alike (cells p) (cells_drawn elements_at (reverse rs)) kept.holds
 
   ended_as : end_reason p.names.named p.strings.named p.limits (drawn_cells (cells p)) ≡ end_refusal t.limits rs
   ended_as =
-      (alike_meanings p.names.named p.strings.named p.limits p.unit p.profile (drawn_cells (cells p)) (cells_drawn elements_at (reverse rs)) kept.holds).refused
+      (alike_meanings p.names.named p.strings.named p.limits p.unit p.profile (drawn_cells (cells p)) (cells_drawn elements_at (reverse rs)) alike).refused
       ∙ (end_same p.names.named (named cell_names (reverse rs)) p.strings.named (named text_strings (reverse rs)) kept.named.agrees kept.strung.agrees p.limits (cells_drawn elements_at (reverse rs))
-      ∙ ap (λ (v : ReaderState). end_refusal v.limits rs) view)
+      ∙ ap (λ (v : ReaderState Held). end_refusal v.limits rs) view)
 
   pub finish_accepted : end_reason p.names.named p.strings.named p.limits (drawn_cells (cells p)) ≡ None → end_refusal t.limits rs ≡ None
   finish_accepted none = sym ended_as ∙ none
@@ -82,8 +89,8 @@ module _ (failed : Option OneRefusal) (p : Parts) (t : ReaderState) (rs : List R
 
   pub finish_means : (l : Meaning) → SameLayout p.profile l (meaning_by p.names.named p.strings.named p.unit (drawn_cells (cells p))) → SameLayout t.profile l (records_mean t.unit rs)
   finish_means l same =
-      let alike = alike_meanings p.names.named p.strings.named p.limits p.unit p.profile (drawn_cells (cells p)) (cells_drawn elements_at (reverse rs)) kept.holds in
+      let means = alike_meanings p.names.named p.strings.named p.limits p.unit p.profile (drawn_cells (cells p)) (cells_drawn elements_at (reverse rs)) alike in
       let there : SameLayout p.profile l (records_mean p.unit rs) =
       subst (λ (m : Meaning). SameLayout p.profile l m) (meaning_same p.names.named (named cell_names (reverse rs)) p.strings.named (named text_strings (reverse rs)) kept.named.agrees kept.strung.agrees p.unit (cells_drawn elements_at (reverse rs)))
-      (same_twice p.profile l _ _ same alike.same) in
-      subst (λ (v : ReaderState). SameLayout v.profile l (records_mean v.unit rs)) view there
+      (same_twice p.profile l _ _ same means.same) in
+      subst (λ (v : ReaderState Held). SameLayout v.profile l (records_mean v.unit rs)) view there

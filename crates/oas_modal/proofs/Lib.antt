@@ -8,6 +8,7 @@ pub mod Filling
 pub mod FillingAll
 pub mod Twice
 pub mod Alike
+pub mod StoreLemmas
 pub mod StandingSteps
 pub mod CopyLemmas
 pub mod PlaceLemmas

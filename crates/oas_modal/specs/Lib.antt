@@ -4,6 +4,7 @@ pub mod References
 pub mod Meaning
 pub mod Finish
 pub mod Alike
+pub mod Stores
 pub mod Standing
 pub mod Stands
 pub mod Parts

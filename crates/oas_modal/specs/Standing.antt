@@ -13,7 +13,7 @@ use Rattle.oas_drawing.specs.Modal.{ModalState, stepped}
 use Rattle.oas_drawing.specs.Drawn.{weight_so_far}
 use Rattle.oas_drawing.specs.Drawing.{copies_at, offsets_of}
 use Rattle.oas_drawing.specs.Reasons.{first_of, draw_reason}
-use Rattle.oas_modal.specs.Held.{Held, with_drawn}
+use Rattle.oas_modal.specs.Meaning.{DrawnCell, in_last}
 
 -- the modal variables, whether a cell is open, how many elements there are, and what all weighs
 pub record Standing : Type 0 where
@@ -77,21 +77,7 @@ reason limits names strings s r = element_reason limits s (stepped s.modal r) r
 abbrev pub MayWant : Option Why → Type 0
 MayWant why = (why ≡ None) ⊎ (why ≡ Some CoordinateRange)
 
--- all of these drawn once more
-abbrev pub put_all : List (Drawn × ℕ) → List Drawn → List (Drawn × ℕ)
-put_all held [] = held
-put_all held (d ∷ ds) = put_all (with_drawn held d 1) ds
-
-abbrev pub drew : Held → List Drawn → Held
-drew h ds = (h.0, put_all h.1 ds)
-
--- drawn in the last cell
-abbrev pub drew_last : List Drawn → List Held → List Held
-drew_last ds [] = []
-drew_last ds (h ∷ []) = drew h ds ∷ []
-drew_last ds (h ∷ g ∷ hs) = h ∷ drew_last ds (g ∷ hs)
-
--- what is held after one more record
-abbrev pub held_after : List Held → ModalState → Record → List Held
-held_after hs m (record_of.Cell c) = hs ++ (c, []) ∷ []
-held_after hs m r = drew_last (drawn_of m r) hs
+-- what is drawn in the cells after one more record
+abbrev pub drawn_after : List DrawnCell → ModalState → Record → List DrawnCell
+drawn_after ds m (record_of.Cell c) = ds ++ (c, []) ∷ []
+drawn_after ds m r = in_last (drawn_of m r) ds

@@ -10,10 +10,8 @@ use Rattle.oas_layout.specs.Meaning.{Meaning}
 use Rattle.oas_drawing.specs.Modal.{modal_of}
 use Rattle.oas_drawing.specs.Drawing.{elements_at}
 use Rattle.oas_modal.specs.Names.{Table, NamesStand, cell_names, text_strings, same_string, name_reason, named}
-use Rattle.oas_modal.specs.Held.{Held}
 use Rattle.oas_modal.specs.Meaning.{meaning_by, end_reason, cells_drawn}
-use Rattle.oas_modal.specs.Alike.{AlikeCells}
-use Rattle.oas_modal.specs.Finish.{drawn_cells}
+use Rattle.oas_modal.specs.Stores.{Store, HoldCells}
 use Rattle.oas_modal.specs.Standing.{Standing, open_after, weight_with, reason}
 
 -- whether a cell is open
@@ -45,7 +43,7 @@ Allowed limits [] = Unit {0}
 Allowed limits (r ∷ before) = Allowed limits before × (refused_after limits before r ≡ None)
 
 -- what a reader is seen as
-pub record ReaderState : Type 0 where
+pub record ReaderState (S : Type 0) : Type 0 where
   pub failed : Option Refusal
   pub unit : Ratio
   pub limits : Limits
@@ -53,16 +51,16 @@ pub record ReaderState : Type 0 where
   pub standing : Standing
   pub names : Table (List ℕ)
   pub strings : Table (List ℕ)
-  pub cells : List Held
+  pub cells : List S
 
--- a reader stands for the records, oldest first. What is held is what was drawn: in order the same cells, and in each
--- each thing as often, in whichever order.
-pub record StandsFor (s : ReaderState) (rs : List Record) : Type 0 where
+-- A reader stands for the records, oldest first. Its stores, in order, are of the same cells, and each may stand for what the
+-- records draw in its cell.
+pub record StandsFor {S : Type 0} (t : Store S) (s : ReaderState S) (rs : List Record) : Type 0 where
   pub sound : s.failed ≡ None
   pub standing : s.standing ≡ seen (reverse rs)
   pub names : NamesStand cell_names s.names (reverse rs)
   pub strings : NamesStand text_strings s.strings (reverse rs)
-  pub cells : AlikeCells (drawn_cells s.cells) (cells_drawn elements_at (reverse rs))
+  pub cells : HoldCells t s.cells (cells_drawn elements_at (reverse rs))
 
 -- why a record after these is refused, oldest first
 abbrev pub refusal : Limits → List Record → Record → Option Why

@@ -1,16 +1,15 @@
 //! The copies of an element record, held one by one.
 
-ghost use Rattle.std.specs.Prelude.{◌≡◌, ◌⊎◌, ◌*◌, ◌<◌, ◌≤◌, ◌^◌, ℕ, length, false, None, OnOk, IfOk, IfErr};
+ghost use Rattle.std.specs.Prelude.{◌≡◌, ◌⊎◌, ◌*◌, ◌<◌, ◌≤◌, ◌^◌, ℕ, false, None, OnOk, IfOk, IfErr};
 ghost use Rattle.oas_num.specs.declared.refusals.Why.TheVariants.{Memory};
 ghost use Rattle.oas_shape.specs.Steps.{still};
-ghost use Rattle.oas_layout.specs.Bag.{items};
 ghost use Rattle.oas_drawing.specs.Drawn.{weight_so_far};
 ghost use Rattle.oas_drawing.specs.Drawing.{drawn_by, number_if, offset_if};
 ghost use Rattle.oas_drawing.specs.Reasons.{weight_if, lacks_if, fault_of};
-ghost use Rattle.oas_modal.specs.Standing.{drew};
+ghost use Rattle.oas_modal.specs.Stores.{Draws};
 ghost use Rattle.oas_modal.specs.Copying.{first_copies};
 
-use crate::held::HeldCell;
+use crate::stores::CellStore;
 use oas_drawing::{Drawn, Kind, ModalVariables};
 use oas_num::Why;
 use std::alloc::Global;
@@ -25,11 +24,11 @@ fn weight_so_far(drawn: &Drawn) -> u64
     }
 }
 
-/// Holds each copy of an element record, one at a time, and gives what they weigh together.
-pub(crate) fn hold_copies(
+/// Draws each copy of an element record, one at a time, and gives what they weigh together.
+pub(crate) fn hold_copies<S: CellStore>(
     alloc: Global,
     modal: &ModalVariables,
-    held: &mut HeldCell,
+    held: &mut S,
     kind: Kind,
     repeated: bool,
     number: u64,
@@ -37,10 +36,10 @@ pub(crate) fn hold_copies(
     requires all { number ≡ number_if repeated modal.now.repetition }
     requires small { number ≤ 2 ^ 26 }
     requires light { number * weight_if (drawn_by modal.now kind still) ≤ 2 ^ 30 }
-    requires room { length (items held.old.1) ≤ 2 ^ 26 }
+    requires room { S.store.count held.old ≤ 2 ^ 26 }
     requires points { lacks_if (drawn_by modal.now kind still) ≡ false }
     ensures weight { IfOk result (λ weight. weight ≡ number * weight_if (drawn_by modal.now kind still)) }
-    ensures held { OnOk result (held.new ≡ drew held.old (first_copies modal.now kind repeated number)) }
+    ensures held { OnOk result (Draws S.store held.old (first_copies modal.now kind repeated number) held.new) }
     ensures fit { OnOk result ((i : ℕ) → i < number → fault_of (drawn_by modal.now kind (offset_if repeated modal.now.repetition i)) ≡ None) }
     ensures err { IfErr result (λ why. (why ≡ Memory) ⊎ ((i : ℕ) × (i < number) × (fault_of (drawn_by modal.now kind (offset_if repeated modal.now.repetition i)) ≡ Some why))) }
 {
@@ -48,7 +47,7 @@ pub(crate) fn hold_copies(
     for i in 0..number {
         let drawn = modal.copy(alloc, kind, repeated, i)?;
         weight += weight_so_far(&drawn);
-        match held.add(drawn, 1) {
+        match held.draw(drawn, 1) {
             Ok(()) => {}
             Err(_) => return Err(Why::Memory),
         }

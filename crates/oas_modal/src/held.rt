@@ -7,11 +7,13 @@ ghost use Rattle.oas_drawing.specs.declared.drawn.Drawn.TheVariants.{Named as On
 ghost use Rattle.oas_drawing.specs.Laws.DrawnLaws.{derived_cmp};
 ghost use Rattle.oas_modal.specs.Held.{with_drawn, is_early};
 ghost use Rattle.oas_modal.specs.Finish.{IsFit};
+ghost use Rattle.oas_modal.specs.Stores.{held_store};
 
+use crate::stores::CellStore;
 use oas_drawing::Drawn;
 use oas_layout::{Element, PlainElements};
 use oas_record::CellRef;
-use std::alloc::Global;
+use std::alloc::{AllocError, Global};
 use std::collections::BTreeMap;
 use std::marker::Model;
 
@@ -93,6 +95,21 @@ impl HeldCell {
     {
         if let Err(drawn) = count_up(&mut self.others, drawn, times) {
             return Err(drawn);
+        }
+        Ok(())
+    }
+}
+
+impl CellStore for HeldCell {
+    ghost store = { held_store };
+
+    fn begin(alloc: Global, cell: CellRef) -> HeldCell {
+        HeldCell::new(alloc, cell)
+    }
+
+    fn draw(&mut self, drawn: Drawn, times: u64) -> Result<(), AllocError> {
+        if let Err(_) = self.add(drawn, times) {
+            return Err(AllocError);
         }
         Ok(())
     }

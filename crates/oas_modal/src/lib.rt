@@ -18,11 +18,15 @@
 //!   for want of memory.
 //! - [`laws`] says, over the definitions alone, that more of what is drawn adds to its count alone, and that cells mean the
 //!   same in which each thing is drawn as often.
-//! - A [`Reader`] takes record after record. It stands for a list of records (`StandsFor`, specs/Stands.antt), and stands for
-//!   one more once that is taken; it refuses exactly where, and by the first reason that, `refusal` says, and for want of
-//!   memory only where it says none, or that a copy lies outside the grid (`MayWant`); a refusal is answered again from then
-//!   on. Its `finish` gives a layout that is the same as what the records mean (`records_mean`), or refuses by `end_refusal`,
-//!   or else for want of memory. [`reader_laws`]: one more record changes where it stands by itself alone.
+//! - A [`CellStore`] collects what the records of one CELL draw. It says of itself of which CELL it is, how many elements were
+//!   drawn, and which lists of what was drawn it may stand for (`Store`, specs/Stores.antt): of what is drawn it keeps as much
+//!   as it wants. A `HeldCell` is one; it stands for the lists in which each thing is drawn as often as it holds.
+//! - A [`Reader`] takes record after record, with a store for each cell. It stands for a list of records (`StandsFor`,
+//!   specs/Stands.antt), and stands for one more once that is taken; it refuses exactly where, and by the first reason that,
+//!   `refusal` says, and for want of memory only where it says none, or that a copy lies outside the grid (`MayWant`); a
+//!   refusal is answered again from then on. The `finish` of one with held cells gives a layout that is the same as what the
+//!   records mean (`records_mean`), or refuses by `end_refusal`, or else for want of memory. [`reader_laws`]: one more record
+//!   changes where it stands by itself alone, and what held cells stand for.
 //!
 //! The modal variables, and what a record draws by them, are those of `oas_drawing`.
 #![tactic(auto)]
@@ -34,11 +38,14 @@ pub mod laws;
 pub mod name_laws;
 mod names;
 mod parts;
+mod putting;
 mod reader;
 pub mod reader_laws;
+mod stores;
 mod taking;
 
 pub use finishing::finish;
 pub use held::HeldCell;
 pub use names::{NameTable, Numbering, cell_meant, string_meant};
 pub use reader::Reader;
+pub use stores::CellStore;

@@ -8,6 +8,7 @@ ghost use Rattle.oas_layout.specs.Contents.{meaning_of};
 ghost use Rattle.oas_modal.specs.Meaning.{meaning_by, end_reason};
 ghost use Rattle.oas_modal.specs.Finish.{drawn_cells};
 ghost use Rattle.oas_modal.specs.Parts.{Sound, cells};
+ghost use Rattle.oas_modal.specs.Stores.{held_store};
 
 use crate::finishing::finish;
 use crate::held::HeldCell;
@@ -17,9 +18,9 @@ use oas_layout::{Layout, Limits, Profile};
 use oas_num::{Fraction, Label, Name, Why};
 use std::alloc::Global;
 
-/// What a reader keeps. The open cell stands apart from those before it.
+/// What a reader keeps, with a store for each cell. The open one's stands apart from those before it.
 #[derive(Drop)]
-pub struct Parts {
+pub struct Parts<S> {
     pub(crate) alloc: Global,
     pub(crate) unit: Fraction,
     pub(crate) limits: Limits,
@@ -27,16 +28,16 @@ pub struct Parts {
     pub(crate) modal: ModalVariables,
     pub(crate) names: NameTable<Name>,
     pub(crate) strings: NameTable<Label>,
-    pub(crate) done: Vec<HeldCell>,
-    pub(crate) cell: Option<HeldCell>,
+    pub(crate) done: Vec<S>,
+    pub(crate) cell: Option<S>,
     pub(crate) count: u64,
     pub(crate) weight: u64,
 }
 
 /// The layout of what is kept.
 #[tactic(auto, using(crate::proofs::FinishLemmas::within_limits))]
-pub(crate) fn layout_of(parts: Parts) -> Result<Layout, Why>
-    requires { Sound parts }
+pub(crate) fn layout_of(parts: Parts<HeldCell>) -> Result<Layout, Why>
+    requires { Sound held_store parts }
     ensures ok { OnOk result (end_reason parts.names.named parts.strings.named parts.limits (drawn_cells (cells parts)) ≡ None) }
     ensures means { IfOk result (λ l. SameLayout parts.profile (meaning_of l) (meaning_by parts.names.named parts.strings.named parts.unit (drawn_cells (cells parts)))) }
     ensures limits { IfOk result (λ l. l.limits ≡ parts.limits) }

@@ -6,11 +6,14 @@ ghost use Rattle.oas_num.specs.declared.refusals.Refusal.{Refusal as OneRefusal}
 ghost use Rattle.oas_record.specs.declared.records.Record.{Record as OneRecord};
 ghost use Rattle.oas_modal.specs.Standing.{MayWant};
 ghost use Rattle.oas_modal.specs.Stands.{StandsFor, refusal, records_mean, end_refusal};
+ghost use Rattle.oas_modal.specs.Stores.{held_store};
 ghost use Rattle.oas_layout.specs.Meaning.{SameLayout};
 ghost use Rattle.oas_layout.specs.Contents.{meaning_of};
 
+use crate::held::HeldCell;
 use crate::names::NameTable;
 use crate::parts::{Parts, layout_of};
+use crate::stores::CellStore;
 use crate::taking::accept;
 use oas_drawing::ModalVariables;
 use oas_layout::{Layout, Limits, Profile};
@@ -19,29 +22,30 @@ use oas_record::Record;
 use std::alloc::Global;
 use std::marker::Model;
 
-/// Takes the records of a file, one after another. It is seen as its refusal, if there was one, and what it stands for.
+/// Takes the records of a file, one after another, with a store for each cell. It is seen as its refusal, if there was one,
+/// and what it stands for.
 #[derive(Drop)]
-pub struct Reader {
+pub struct Reader<S: CellStore = HeldCell> {
     failed: Option<Refusal>,
-    parts: Parts,
+    parts: Parts<S>,
 }
 
-impl Model for Reader {
+impl<S: CellStore> Model for Reader<S> {
     ghost use Rattle.std.specs.Prelude.{◌≡◌, None};
     ghost use Rattle.oas_modal.specs.Stands.{ReaderState};
     ghost use Rattle.oas_modal.specs.Parts.{standing, cells, Sound};
 
-    ghost Value = { ReaderState };
+    ghost Value = { ReaderState S };
 
     ghost view = { λ a. record { failed = a.failed; unit = a.parts.unit; limits = a.parts.limits; profile = a.parts.profile; standing = standing a.parts; names = a.parts.names; strings = a.parts.strings; cells = cells a.parts } };
 
-    ghost invariant = { λ a. a.failed ≡ None → Sound a.parts };
+    ghost invariant = { λ a. a.failed ≡ None → Sound S.store a.parts };
 }
 
-impl Reader {
+impl<S: CellStore> Reader<S> {
     /// A reader of no records.
-    pub fn new(alloc: Global, unit: Fraction, limits: Limits, profile: Profile) -> Reader
-        ensures stands { StandsFor result [] }
+    pub fn new(alloc: Global, unit: Fraction, limits: Limits, profile: Profile) -> Reader<S>
+        ensures stands { StandsFor S.store result [] }
         ensures unit { result.unit ≡ unit }
         ensures limits { result.limits ≡ limits }
         ensures profile { result.profile ≡ profile }
@@ -70,8 +74,8 @@ impl Reader {
     pub fn take(&mut self, at: u64, next: Record) -> Result<(), Refusal>
         ensures again { (e : OneRefusal) → self.old.failed ≡ Some e → (result ≡ Err e) × (self.new ≡ self.old) }
         ensures failed { IfErr result (λ e. self.new.failed ≡ Some e) }
-        ensures taken { (rs : List OneRecord) → StandsFor self.old rs → OnOk result ((refusal self.old.limits rs next ≡ None) × StandsFor self.new (rs ++ next ∷ [])) }
-        ensures refused { (rs : List OneRecord) → StandsFor self.old rs → IfErr result (λ e. (e.at ≡ at) × (((e.why ≡ Memory) × MayWant (refusal self.old.limits rs next)) ⊎ (refusal self.old.limits rs next ≡ Some e.why))) }
+        ensures taken { (rs : List OneRecord) → StandsFor S.store self.old rs → OnOk result ((refusal self.old.limits rs next ≡ None) × StandsFor S.store self.new (rs ++ next ∷ [])) }
+        ensures refused { (rs : List OneRecord) → StandsFor S.store self.old rs → IfErr result (λ e. (e.at ≡ at) × (((e.why ≡ Memory) × MayWant (refusal self.old.limits rs next)) ⊎ (refusal self.old.limits rs next ≡ Some e.why))) }
         ensures unit { OnOk result (self.new.unit ≡ self.old.unit) }
         ensures limits { OnOk result (self.new.limits ≡ self.old.limits) }
         ensures profile { OnOk result (self.new.profile ≡ self.old.profile) }
@@ -88,16 +92,18 @@ impl Reader {
             }
         }
     }
+}
 
+impl Reader<HeldCell> {
     /// The layout of the records that were taken; END starts at byte `at`. It is refused as `end_refusal` says, the first
     /// reason of several, or by `Memory`; and after a refusal by the same one.
     pub fn finish(self, at: u64) -> Result<Layout, Refusal>
         ensures again { (e : OneRefusal) → self.failed ≡ Some e → result ≡ Err e }
-        ensures accepted { (rs : List OneRecord) → StandsFor self rs → OnOk result (end_refusal self.limits rs ≡ None) }
-        ensures means { (rs : List OneRecord) → StandsFor self rs → IfOk result (λ l. SameLayout self.profile (meaning_of l) (records_mean self.unit rs)) }
+        ensures accepted { (rs : List OneRecord) → StandsFor held_store self rs → OnOk result (end_refusal self.limits rs ≡ None) }
+        ensures means { (rs : List OneRecord) → StandsFor held_store self rs → IfOk result (λ l. SameLayout self.profile (meaning_of l) (records_mean self.unit rs)) }
         ensures limits { IfOk result (λ l. l.limits ≡ self.limits) }
         ensures profile { IfOk result (λ l. l.profile ≡ self.profile) }
-        ensures refused { (rs : List OneRecord) → StandsFor self rs → IfErr result (λ e. (e.at ≡ at) × ((e.why ≡ Memory) ⊎ (end_refusal self.limits rs ≡ Some e.why))) }
+        ensures refused { (rs : List OneRecord) → StandsFor held_store self rs → IfErr result (λ e. (e.at ≡ at) × ((e.why ≡ Memory) ⊎ (end_refusal self.limits rs ≡ Some e.why))) }
     {
         let Reader { failed, parts } = self;
         if let Some(refusal) = failed {

@@ -11,8 +11,8 @@ ghost use Rattle.oas_modal.specs.Standing.{MayWant, cell_weight};
 ghost use Rattle.oas_modal.specs.Parts.{Took, Sound, cells, reason_of};
 
 use crate::copying::hold_copies;
-use crate::held::HeldCell;
 use crate::parts::Parts;
+use crate::stores::CellStore;
 use oas_drawing::{Kind, ModalVariables, repeats};
 use oas_num::{Label, Name, Why};
 use oas_record::{CellRef, Record, Turn};
@@ -54,12 +54,12 @@ fn id_of_kind(kind: Kind) -> u64
 }
 
 /// Draws an element record in the open cell.
-fn draw(parts: &mut Parts, kind: Kind, next: Record) -> Result<(), Why>
+fn draw<S: CellStore>(parts: &mut Parts<S>, kind: Kind, next: Record) -> Result<(), Why>
     requires kind { kind_of next ≡ Some kind }
-    requires sound { Sound parts.old }
+    requires sound { Sound S.store parts.old }
     ensures reason { OnOk result (reason_of parts.old next ≡ None) }
-    ensures new { OnOk result (Took parts.old next parts.new) }
-    ensures sound { OnOk result (Sound parts.new) }
+    ensures new { OnOk result (Took S.store parts.old next parts.new) }
+    ensures sound { OnOk result (Sound S.store parts.new) }
     ensures err { IfErr result (λ why. ((why ≡ Memory) × MayWant (reason_of parts.old next)) ⊎ (reason_of parts.old next ≡ Some why)) }
 {
     let Some(mut held) = parts.cell.take() else {
@@ -78,8 +78,8 @@ fn draw(parts: &mut Parts, kind: Kind, next: Record) -> Result<(), Why>
 }
 
 /// Ends the open cell, where there is one.
-fn close(parts: &mut Parts) -> Result<(), Why>
-    requires { Sound parts.old }
+fn close<S: CellStore>(parts: &mut Parts<S>) -> Result<(), Why>
+    requires { Sound S.store parts.old }
     ensures closed { OnOk result (parts.new ≡ record parts.old { done = parts.new.done; cell = None }) }
     ensures cells { OnOk result (parts.new.done.items ≡ cells parts.old) }
     ensures err { IfErr result (λ why. why ≡ Memory) }
@@ -103,11 +103,11 @@ fn cell_weight(cell: &CellRef) -> u64
 }
 
 /// Begins a cell.
-fn begin(parts: &mut Parts, cell: CellRef) -> Result<(), Why>
-    requires { Sound parts.old }
+fn begin<S: CellStore>(parts: &mut Parts<S>, cell: CellRef) -> Result<(), Why>
+    requires { Sound S.store parts.old }
     ensures reason { OnOk result (reason_of parts.old (OneRecord.Cell cell) ≡ None) }
-    ensures new { OnOk result (Took parts.old (OneRecord.Cell cell) parts.new) }
-    ensures sound { OnOk result (Sound parts.new) }
+    ensures new { OnOk result (Took S.store parts.old (OneRecord.Cell cell) parts.new) }
+    ensures sound { OnOk result (Sound S.store parts.new) }
     ensures err { IfErr result (λ why. ((why ≡ Memory) × (reason_of parts.old (OneRecord.Cell cell) ≡ None)) ⊎ (reason_of parts.old (OneRecord.Cell cell) ≡ Some why)) }
 {
     let weight = cell_weight(&cell);
@@ -116,17 +116,17 @@ fn begin(parts: &mut Parts, cell: CellRef) -> Result<(), Why>
     }
     close(parts)?;
     parts.modal.begin_cell();
-    parts.cell = Some(HeldCell::new(parts.alloc, cell));
+    parts.cell = Some(S::begin(parts.alloc, cell));
     parts.weight += weight;
     Ok(())
 }
 
 /// Takes the name of a cell, which ends the open one.
-fn name_cell(parts: &mut Parts, name: Name, number: Option<u64>) -> Result<(), Why>
-    requires { Sound parts.old }
+fn name_cell<S: CellStore>(parts: &mut Parts<S>, name: Name, number: Option<u64>) -> Result<(), Why>
+    requires { Sound S.store parts.old }
     ensures reason { OnOk result (reason_of parts.old (OneRecord.CellName name number) ≡ None) }
-    ensures new { OnOk result (Took parts.old (OneRecord.CellName name number) parts.new) }
-    ensures sound { OnOk result (Sound parts.new) }
+    ensures new { OnOk result (Took S.store parts.old (OneRecord.CellName name number) parts.new) }
+    ensures sound { OnOk result (Sound S.store parts.new) }
     ensures err { IfErr result (λ why. ((why ≡ Memory) × (reason_of parts.old (OneRecord.CellName name number) ≡ None)) ⊎ (reason_of parts.old (OneRecord.CellName name number) ≡ Some why)) }
 {
     parts.names.name(name, number)?;
@@ -135,11 +135,15 @@ fn name_cell(parts: &mut Parts, name: Name, number: Option<u64>) -> Result<(), W
 }
 
 /// Takes a text string, which ends the open cell.
-fn name_string(parts: &mut Parts, label: Label, number: Option<u64>) -> Result<(), Why>
-    requires { Sound parts.old }
+fn name_string<S: CellStore>(
+    parts: &mut Parts<S>,
+    label: Label,
+    number: Option<u64>,
+) -> Result<(), Why>
+    requires { Sound S.store parts.old }
     ensures reason { OnOk result (reason_of parts.old (OneRecord.TextString label number) ≡ None) }
-    ensures new { OnOk result (Took parts.old (OneRecord.TextString label number) parts.new) }
-    ensures sound { OnOk result (Sound parts.new) }
+    ensures new { OnOk result (Took S.store parts.old (OneRecord.TextString label number) parts.new) }
+    ensures sound { OnOk result (Sound S.store parts.new) }
     ensures err { IfErr result (λ why. ((why ≡ Memory) × (reason_of parts.old (OneRecord.TextString label number) ≡ None)) ⊎ (reason_of parts.old (OneRecord.TextString label number) ≡ Some why)) }
 {
     parts.strings.name(label, number)?;
@@ -148,12 +152,12 @@ fn name_string(parts: &mut Parts, label: Label, number: Option<u64>) -> Result<(
 }
 
 /// Takes a record that is no element.
-fn take_other(parts: &mut Parts, next: Record) -> Result<(), Why>
+fn take_other<S: CellStore>(parts: &mut Parts<S>, next: Record) -> Result<(), Why>
     requires other { kind_of next ≡ None }
-    requires sound { Sound parts.old }
+    requires sound { Sound S.store parts.old }
     ensures reason { OnOk result (reason_of parts.old next ≡ None) }
-    ensures new { OnOk result (Took parts.old next parts.new) }
-    ensures sound { OnOk result (Sound parts.new) }
+    ensures new { OnOk result (Took S.store parts.old next parts.new) }
+    ensures sound { OnOk result (Sound S.store parts.new) }
     ensures err { IfErr result (λ why. ((why ≡ Memory) × (reason_of parts.old next ≡ None)) ⊎ (reason_of parts.old next ≡ Some why)) }
 {
     match next {
@@ -180,11 +184,11 @@ fn take_other(parts: &mut Parts, next: Record) -> Result<(), Why>
 }
 
 /// Takes a record, where it isn't refused.
-pub(crate) fn accept(parts: &mut Parts, next: Record) -> Result<(), Why>
-    requires { Sound parts.old }
+pub(crate) fn accept<S: CellStore>(parts: &mut Parts<S>, next: Record) -> Result<(), Why>
+    requires { Sound S.store parts.old }
     ensures reason { OnOk result (reason_of parts.old next ≡ None) }
-    ensures new { OnOk result (Took parts.old next parts.new) }
-    ensures sound { OnOk result (Sound parts.new) }
+    ensures new { OnOk result (Took S.store parts.old next parts.new) }
+    ensures sound { OnOk result (Sound S.store parts.new) }
     ensures err { IfErr result (λ why. ((why ≡ Memory) × MayWant (reason_of parts.old next)) ⊎ (reason_of parts.old next ≡ Some why)) }
 {
     match Kind::of(&next) {

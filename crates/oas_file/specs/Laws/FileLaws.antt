@@ -26,7 +26,8 @@ OneSpelling-file = OneSpelling-pair (head_in Shortest) (λ head. records_in Shor
 
 -- the shortest style is within any
 pub IsWithin-file : IsWithin (file_in Shortest) (file_in Any)
-IsWithin-file = IsWithin-pair (head_in Shortest) (head_in Any) (λ head. records_in Shortest head.flag_in_end) (λ head. records_in Any head.flag_in_end) IsWithin-head (λ head. IsWithin-records head.flag_in_end)
+IsWithin-file = IsWithin-pair (head_in Shortest) (head_in Any) (λ head. records_in Shortest head.flag_in_end) (λ head. records_in Any head.flag_in_end) IsWithin-head
+    (λ head. IsWithin-records head.flag_in_end)
 
 pub file_of : (style : Style) (head : Head) (rs : List Record) (b : List ℕ) → FileIn style head rs b → FileOf head rs b
 file_of Any head rs b p = p

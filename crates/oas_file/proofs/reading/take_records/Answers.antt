@@ -19,7 +19,8 @@ loop-record-preserved g c =
     let read = rw c.in-Some.is at c.in_ok-record.ensures in
     record {
       place = c.at-at-in-Some.ensures;
-      gathered = λ b. let m = c.loop-record.invariant.gathered b in gather_more m read _ (c.in_ok-take.ensures.taken m.records m.taken.stands) c.in_ok-take.ensures.unit c.in_ok-take.ensures.limits c.in_ok-take.ensures.profile;
+      gathered = λ b. let m = c.loop-record.invariant.gathered b in
+          gather_more m read _ (c.in_ok-take.ensures.taken m.records m.taken.stands) c.in_ok-take.ensures.unit c.in_ok-take.ensures.limits c.in_ok-take.ensures.profile;
     }
 
 pub returns : goal.returns

@@ -5,7 +5,7 @@ use Rattle.oas_file.proofs.reading.take_records.Given as goal
 abbrev pub invariant-loop-record : goal.invariant-loop-record
 invariant-loop-record g l = record {
   place : l.at ≡ (g.S.Source.script l.source).given;
-  gathered : (b : HasBegun l.head (g.S.Source.script l.fn.source) l.fn.reader) → HasGathered b.origin l.head l.fn.reader (g.S.Source.script l.source) l.reader;
+  gathered : (b : HasBegun g.C.CellStore.store l.head (g.S.Source.script l.fn.source) l.fn.reader) → HasGathered g.C.CellStore.store b.origin l.head l.fn.reader (g.S.Source.script l.source) l.reader;
 }
 
 abbrev pub decreases-loop-record : goal.decreases-loop-record

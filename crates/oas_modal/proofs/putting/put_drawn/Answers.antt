@@ -1,7 +1,7 @@
 use Rattle.std.proofs.Common.{rules, ◌≡◌, ℕ, List, ◌∷◌, subst}
 use Rattle.oas_drawing.specs.declared.drawn.Drawn.{Drawn}
 use Rattle.oas_modal.proofs.Filling.{Filling, filling_more}
-use Rattle.oas_modal.proofs.finishing.put_drawn.Goals as goal
+use Rattle.oas_modal.proofs.putting.put_drawn.Goals as goal
 
 pub loop-one-preserved : goal.loop-one-preserved
 loop-one-preserved c =

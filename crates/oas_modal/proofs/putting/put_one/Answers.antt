@@ -1,6 +1,6 @@
 use Rattle.std.proofs.Common.{sym, ◌∙◌}
 use Rattle.oas_modal.proofs.Filling.{one_refused}
-use Rattle.oas_modal.proofs.finishing.put_one.Goals as goal
+use Rattle.oas_modal.proofs.putting.put_one.Goals as goal
 
 pub returns-in-Err-clause-why : goal.returns-in-Err-clause-why
 returns-in-Err-clause-why c =

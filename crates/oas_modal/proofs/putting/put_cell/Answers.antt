@@ -5,7 +5,7 @@ use Rattle.oas_modal.specs.Held.{Held}
 use Rattle.oas_modal.specs.Finish.{AllFit}
 use Rattle.oas_modal.proofs.EarlyLemmas.{rest_fit}
 use Rattle.oas_modal.proofs.FillingAll.{begins, put_is, plain_refused, rest_refused, err_map, ok_map}
-use Rattle.oas_modal.proofs.finishing.put_cell.Goals as goal
+use Rattle.oas_modal.proofs.putting.put_cell.Goals as goal
 
 pub returns-in-Err-clause-why : goal.returns-in-Err-clause-why
 returns-in-Err-clause-why c =

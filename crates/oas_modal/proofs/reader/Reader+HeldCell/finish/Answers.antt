@@ -1,6 +1,6 @@
 use Rattle.std.proofs.Common.{refl}
 use Rattle.oas_modal.proofs.FinishLemmas.{finish_accepted, finish_means, finish_refused}
-use Rattle.oas_modal.proofs.reader.Reader.finish.Goals as goal
+use Rattle.oas_modal.proofs.reader.Reader+HeldCell.finish.Goals as goal
 
 pub returns-in-Ok-clause-accepted : goal.returns-in-Ok-clause-accepted
 returns-in-Ok-clause-accepted c = λ rs h. finish_accepted c.self.inside.failed c.self.inside.parts c.args.self rs c.self.view_is h c.in-Ok.ensures.ok

@@ -2,7 +2,7 @@ use Rattle.std.proofs.Common.{rules, ◌≡◌, List, ◌∷◌, subst}
 use Rattle.std.specs.Vec.Iter.{into_iter_items}
 use Rattle.oas_modal.specs.Held.{Held}
 use Rattle.oas_modal.proofs.FillingAll.{FillingAll, all_more, all_fresh}
-use Rattle.oas_modal.proofs.finishing.put_all.Goals as goal
+use Rattle.oas_modal.proofs.putting.put_all.Goals as goal
 
 pub put_cell-requires-clause-fresh : goal.put_cell-requires-clause-fresh
 put_cell-requires-clause-fresh c =

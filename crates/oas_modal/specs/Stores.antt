@@ -1,0 +1,55 @@
+-- What is collected of a cell: a store, and what may be drawn in it. A store needn't keep what is drawn.
+use Rattle.std.specs.Prelude.{◌≡◌, ℕ, ◌+◌, List, [], ◌∷◌, ◌++◌, length}
+use Rattle.oas_record.specs.declared.references.CellRef.{CellRef}
+use Rattle.oas_layout.specs.Bag.{items}
+use Rattle.oas_drawing.specs.declared.drawn.Drawn.{Drawn}
+use Rattle.oas_modal.specs.Meaning.{DrawnCell}
+use Rattle.oas_modal.specs.Held.{Held}
+use Rattle.oas_modal.specs.Alike.{SameDrawn}
+use Rattle.oas_modal.specs.Finish.{AllFit}
+
+-- what is known of a kind of stores
+pub record Store (S : Type 0) : Type 1 where
+  -- the CELL that it is of
+  pub cell : S → CellRef
+  -- how many elements were drawn
+  pub count : S → ℕ
+  -- what it keeps of them lies within the grid and has its points
+  pub IsSound : S → Type 0
+  -- it may stand for these, in the order in which they were drawn
+  pub Holds : S → List Drawn → Type 0
+
+-- between two of its states these were drawn
+pub record Draws {S : Type 0} (t : Store S) (old : S) (ds : List Drawn) (new : S) : Type 0 where
+  pub cell : t.cell new ≡ t.cell old
+  pub count : t.count new ≡ t.count old + length ds
+  pub sound : t.IsSound old → t.IsSound new
+  pub holds : (before : List Drawn) → t.Holds old before → t.Holds new (before ++ ds)
+
+-- it is of this CELL, and nothing is drawn in it
+pub record IsBegun {S : Type 0} (t : Store S) (c : CellRef) (s : S) : Type 0 where
+  pub cell : t.cell s ≡ c
+  pub count : t.count s ≡ 0
+  pub sound : t.IsSound s
+  pub holds : t.Holds s []
+
+-- how many elements were drawn in all of them
+abbrev pub total_count : {S : Type 0} → Store S → List S → ℕ
+total_count t [] = 0
+total_count t (s ∷ ss) = t.count s + total_count t ss
+
+-- in order, each is of the cell's reference and may stand for what is drawn in it
+abbrev pub HoldCells : {S : Type 0} → Store S → List S → List DrawnCell → Type 0
+HoldCells t [] [] = Unit {0}
+HoldCells t [] (d ∷ ds) = ⊥
+HoldCells t (s ∷ ss) [] = ⊥
+HoldCells t (s ∷ ss) (d ∷ ds) = (t.cell s ≡ d.0) × t.Holds s d.1 × HoldCells t ss ds
+
+-- what is held of a cell: it stands for all lists in which each thing is drawn as often
+abbrev pub held_store : Store Held
+held_store = record {
+  cell = λ h. h.0;
+  count = λ h. length (items h.1);
+  IsSound = λ h. AllFit h.1;
+  Holds = λ h ds. SameDrawn (items h.1) ds;
+}

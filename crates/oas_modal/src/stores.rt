@@ -1,0 +1,27 @@
+//! Where what the records of a CELL draw is collected.
+
+ghost use Rattle.std.specs.Prelude.{◌≡◌, ◌+◌, ◌<◌, ◌^◌, [], replicate, OnOk, OnErr};
+ghost use Rattle.oas_modal.specs.Finish.{IsFit};
+ghost use Rattle.oas_modal.specs.Stores.{Store, Draws, IsBegun};
+
+use oas_drawing::Drawn;
+use oas_record::CellRef;
+use std::alloc::{AllocError, Global};
+
+/// Collects what the records of one CELL draw: all of it, or what is wanted of it.
+pub trait CellStore: Sized + Drop {
+    /// The CELL, how many elements were drawn, and what it may stand for. A store that keeps no element may stand for any.
+    ghost store: { Store Self };
+
+    /// One of a CELL in which nothing is drawn.
+    fn begin(alloc: Global, cell: CellRef) -> Self
+        ensures { IsBegun store cell result };
+
+    /// Draws something that lies within the grid so many times more. Where memory is refused nothing is drawn.
+    fn draw(&mut self, drawn: Drawn, times: u64) -> Result<(), AllocError>
+        requires some { 0 < times }
+        requires fit { IsFit drawn }
+        requires room { store.count self.old + times < 2 ^ 64 }
+        ensures ok { OnOk result (Draws store self.old (replicate times drawn) self.new) }
+        ensures err { OnErr result (Draws store self.old [] self.new) };
+}
