@@ -9,7 +9,7 @@
 //! - A [`Sink`] is given bytes, and `Writes` (specs/Writing.antt) says which, also where it failed: then a front of them.
 //! - An [`Outlet`] is a sink over a borrowed writer: what the writer took is a front of what was put, and after `close` all
 //!   of it, with a flush behind it: `IsGiven`, `TakesFront` and `IsSent` (specs/Outlets.antt), with their laws in
-//!   specs/OutletLaws.antt.
+//!   specs/Laws/OutletLaws.antt.
 #![tactic(auto)]
 
 mod flushing;

@@ -98,19 +98,26 @@ fourth_part : (a b c d e : Bool) → (a && (b && (c && (d && e)))) ≡ true → 
 fourth_part a b c d e h = first_part d e (last_part c (d && e) (last_part b (c && (d && e)) (last_part a (b && (c && (d && e))) h)))
 
 -- a record is refused for none of the reasons, where its element is sound and there is room for it
-kind_none : (limits : Limits) (count weight : ℕ) (m : ModalState) (e : Element) → m.relative ≡ false → IsFine limits count weight (stepped m (element_record e)) e → draw_reason limits count weight (stepped m (element_record e)) (element_record e) ≡ None
+kind_none : (limits : Limits) (count weight : ℕ) (m : ModalState) (e : Element) → m.relative ≡ false → IsFine limits count weight (stepped m (element_record e)) e →
+    draw_reason limits count weight (stepped m (element_record e)) (element_record e) ≡ None
 kind_none limits count weight m (Placement name x y turns flip) absolute h = none_wrong _ _ _ _ _ h _ (ap is_on_grid (landed m.relative m.placement (record { x = x; y = y }) absolute) ∙ h.inside)
 kind_none limits count weight m (Text string textlayer texttype x y) absolute h = none_wrong _ _ _ _ _ h _ (ap is_on_grid (landed m.relative m.text (record { x = x; y = y }) absolute) ∙ h.inside)
 kind_none limits count weight m (Rectangle layer datatype width height x y) absolute h =
-    none_wrong _ _ _ _ _ h _ (ap is_on_grid (landed m.relative m.geometry (record { x = x; y = y }) absolute) ∙ first_parts (is_coordinate x) (is_coordinate (x +ℤ pos width)) (is_coordinate y) (is_coordinate (y +ℤ pos height)) h.inside)
+    none_wrong _ _ _ _ _ h _ (ap is_on_grid (landed m.relative m.geometry (record { x = x; y = y }) absolute)
+    ∙ first_parts (is_coordinate x) (is_coordinate (x +ℤ pos width)) (is_coordinate y) (is_coordinate (y +ℤ pos height)) h.inside)
 kind_none limits count weight m (Polygon layer datatype []) absolute h = let lacks = h.points in absurd cc
-kind_none limits count weight m (Polygon layer datatype (p ∷ ps)) absolute h = none_wrong _ _ _ _ _ h _ (ap is_on_grid (landed m.relative m.geometry p absolute) ∙ first_part (is_grid_point p) (list_all is_grid_point ps) h.inside)
+kind_none limits count weight m (Polygon layer datatype (p ∷ ps)) absolute h = none_wrong _ _ _ _ _ h _
+    (ap is_on_grid (landed m.relative m.geometry p absolute) ∙ first_part (is_grid_point p) (list_all is_grid_point ps) h.inside)
 kind_none limits count weight m (Path layer datatype half_width start end []) absolute h = let lacks = h.points in absurd cc
-kind_none limits count weight m (Path layer datatype half_width start end (p ∷ ps)) absolute h = none_wrong _ _ _ _ _ h _ (ap is_on_grid (landed m.relative m.geometry p absolute) ∙ fourth_part (nat_le half_width (2 ^ 60)) (is_coordinate start) (is_coordinate end) (is_grid_point p) (list_all is_grid_point ps) h.inside)
-kind_none limits count weight m (Circle layer datatype radius x y) absolute h = none_wrong _ _ _ _ _ h _ (ap is_on_grid (landed m.relative m.geometry (record { x = x; y = y }) absolute) ∙ last_part (nat_le radius (2 ^ 60)) (is_coordinate x && is_coordinate y) h.inside)
+kind_none limits count weight m (Path layer datatype half_width start end (p ∷ ps)) absolute h = none_wrong _ _ _ _ _ h _
+    (ap is_on_grid (landed m.relative m.geometry p absolute)
+    ∙ fourth_part (nat_le half_width (2 ^ 60)) (is_coordinate start) (is_coordinate end) (is_grid_point p) (list_all is_grid_point ps) h.inside)
+kind_none limits count weight m (Circle layer datatype radius x y) absolute h = none_wrong _ _ _ _ _ h _
+    (ap is_on_grid (landed m.relative m.geometry (record { x = x; y = y }) absolute) ∙ last_part (nat_le radius (2 ^ 60)) (is_coordinate x && is_coordinate y) h.inside)
 
 -- after records in a cell
-in_cell_as : (limits : Limits) (e : Element) (before : List Record) → refused_after limits before (element_record e) ≡ element_reason limits (seen before) (stepped (modal_of before) (element_record e)) (element_record e)
+in_cell_as : (limits : Limits) (e : Element) (before : List Record) →
+    refused_after limits before (element_record e) ≡ element_reason limits (seen before) (stepped (modal_of before) (element_record e)) (element_record e)
 in_cell_as limits (Placement name x y turns flip) before = refl
 in_cell_as limits (Text string textlayer texttype x y) before = refl
 in_cell_as limits (Rectangle layer datatype width height x y) before = refl
@@ -118,7 +125,8 @@ in_cell_as limits (Polygon layer datatype points) before = refl
 in_cell_as limits (Path layer datatype half_width start end points) before = refl
 in_cell_as limits (Circle layer datatype radius x y) before = refl
 
-refused_none : (limits : Limits) (e : Element) (before : List Record) → IsAbsolute before → is_in_cell before ≡ true → lacks_points e ≡ false → fits_grid e ≡ true → number_drawn before + 1 ≤ limits.elements → weight_so_far_of before + weight_of e ≤ limits.weight
+refused_none : (limits : Limits) (e : Element) (before : List Record) → IsAbsolute before → is_in_cell before ≡ true → lacks_points e ≡ false → fits_grid e ≡ true →
+    number_drawn before + 1 ≤ limits.elements → weight_so_far_of before + weight_of e ≤ limits.weight
     → refused_after limits before (element_record e) ≡ None
 refused_none limits e before absolute opened points inside few light =
     let m : ModalState = modal_of before in
@@ -152,7 +160,8 @@ weighs (Polygon layer datatype points) before = refl
 weighs (Path layer datatype half_width start end points) before = refl
 weighs (Circle layer datatype radius x y) before = refl
 
-element_goes : (limits : Limits) (e : Element) (before : List Record) (count weight : ℕ) → Goes limits before count weight → IsAbsolute before → is_in_cell before ≡ true → lacks_points e ≡ false → fits_grid e ≡ true → count + 1 ≤ limits.elements → weight + weight_of e ≤ limits.weight
+element_goes : (limits : Limits) (e : Element) (before : List Record) (count weight : ℕ) → Goes limits before count weight → IsAbsolute before → is_in_cell before ≡ true →
+    lacks_points e ≡ false → fits_grid e ≡ true → count + 1 ≤ limits.elements → weight + weight_of e ≤ limits.weight
     → Goes limits (element_record e ∷ before) (count + 1) (weight + weight_of e)
 element_goes limits e before count weight g absolute opened points inside few light =
     let drawn = draws e before absolute points in
@@ -162,17 +171,20 @@ element_goes limits e before count weight g absolute opened points inside few li
       weight_is = omega (arith, weighs e before, g.weight_is, ap (λ (ds : List Drawn). sum_by weight_so_far ds) drawn);
     }
 
-elements_go : (limits : Limits) (es : List Element) (before : List Record) (count weight : ℕ) → Goes limits before count weight → IsAbsolute before → is_in_cell before ≡ true → AllByRecursion (λ e. lacks_points e ≡ false) es → AllByRecursion (λ e. fits_grid e ≡ true) es → count + length es ≤ limits.elements → weight + sum_by weight_of es ≤ limits.weight
+elements_go : (limits : Limits) (es : List Element) (before : List Record) (count weight : ℕ) → Goes limits before count weight → IsAbsolute before → is_in_cell before ≡ true →
+    AllByRecursion (λ e. lacks_points e ≡ false) es → AllByRecursion (λ e. fits_grid e ≡ true) es → count + length es ≤ limits.elements → weight + sum_by weight_of es ≤ limits.weight
     → Goes limits (onto (map element_record es) before) (count + length es) (weight + sum_by weight_of es)
 elements_go limits [] before count weight g absolute opened points inside few light = record { allowed = g.allowed; count_is = omega (arith, g.count_is); weight_is = omega (arith, g.weight_is) }
 elements_go limits (e ∷ es) before count weight g absolute opened points inside few light =
     let sum = sum_by-cons weight_of e es in
     let one = element_goes limits e before count weight g absolute opened points.0 inside.0 (omega (arith, few)) (omega (arith, light, sum)) in
-    let all = elements_go limits es (element_record e ∷ before) (count + 1) (weight + weight_of e) one (absolute_element e before ∙ absolute) (open_stays e before ∙ opened) points.1 inside.1 (omega (arith, few)) (omega (arith, light, sum)) in
+    let all = elements_go limits es (element_record e ∷ before) (count + 1) (weight + weight_of e) one (absolute_element e before ∙ absolute)
+    (open_stays e before ∙ opened) points.1 inside.1 (omega (arith, few)) (omega (arith, light, sum)) in
     record { allowed = all.allowed; count_is = omega (arith, all.count_is); weight_is = omega (arith, all.weight_is, sum) }
 
 -- a CELL more
-cell_goes : (limits : Limits) (name : List ℕ) (before : List Record) (count weight : ℕ) → Goes limits before count weight → weight + (1 + length name) ≤ limits.weight → Goes limits (record_of.Cell (cell.Name name) ∷ before) count (weight + (1 + length name))
+cell_goes : (limits : Limits) (name : List ℕ) (before : List Record) (count weight : ℕ) → Goes limits before count weight → weight + (1 + length name) ≤ limits.weight →
+    Goes limits (record_of.Cell (cell.Name name) ∷ before) count (weight + (1 + length name))
 cell_goes limits name before count weight g light =
     let heavy : nat_lt limits.weight (weight_so_far_of before + (1 + length name)) ≡ false = le-ltb limits.weight (weight_so_far_of before + (1 + length name)) (omega (arith, g.weight_is, light)) in
     record {
@@ -181,7 +193,8 @@ cell_goes limits name before count weight g light =
       weight_is = omega (arith, g.weight_is);
     }
 
-cells_go : (limits : Limits) (cs : Cells) (before : List Record) (count weight : ℕ) → Goes limits before count weight → HavePoints cs → FitGrid cs → count + element_count cs ≤ limits.elements → weight + cells_weight cs ≤ limits.weight
+cells_go : (limits : Limits) (cs : Cells) (before : List Record) (count weight : ℕ) → Goes limits before count weight → HavePoints cs → FitGrid cs →
+    count + element_count cs ≤ limits.elements → weight + cells_weight cs ≤ limits.weight
     → stands.Allowed limits (onto (records_of cs) before)
 cells_go limits [] before count weight g points inside few light = g.allowed
 cells_go limits (c ∷ cs) before count weight g points inside few light =
@@ -189,11 +202,13 @@ cells_go limits (c ∷ cs) before count weight g points inside few light =
     let begun = cell_goes limits c.0 before count weight g (omega (arith, light)) in
     let filled = elements_go limits c.1 opened count (weight + (1 + length c.0)) begun refl refl points.0 inside.0 (omega (arith, few)) (omega (arith, light)) in
     subst (stands.Allowed limits) (sym (onto-append (map element_record c.1) (records_of cs) opened))
-    (cells_go limits cs (onto (map element_record c.1) opened) (count + length c.1) (weight + (1 + length c.0) + sum_by weight_of c.1) filled points.1 inside.1 (omega (arith, few)) (omega (arith, light)))
+    (cells_go limits cs (onto (map element_record c.1) opened) (count + length c.1) (weight + (1 + length c.0) + sum_by weight_of c.1) filled points.1 inside.1 (omega (arith, few))
+    (omega (arith, light)))
 
 pub canonical_allowed : CanonicalAllowed
 canonical_allowed limits cs points inside few light =
-    subst (stands.Allowed limits) (sym (reverse-is (records_of cs))) (cells_go limits cs [] 0 0 (record { allowed = tt; count_is = refl; weight_is = refl }) points inside (omega (arith, few)) (omega (arith, light)))
+    subst (stands.Allowed limits) (sym (reverse-is (records_of cs)))
+    (cells_go limits cs [] 0 0 (record { allowed = tt; count_is = refl; weight_is = refl }) points inside (omega (arith, few)) (omega (arith, light)))
 
 -- ---- END
 
@@ -218,7 +233,8 @@ module _ (names strings : List (ℕ × List ℕ)) where
 
   ends : (limits : Limits) (cs : Cells) → has_twice (keys_of cs) ≡ false → cells_weight cs ≤ limits.weight → end_reason names strings limits (map drawn_cell cs) ≡ None
   ends limits cs distinct light =
-      (λ i. first_of ((none_lacks cs i, UnknownReference) ∷ (has_twice (keys_of (cells_named names strings cs i)), DuplicateCell) ∷ (nat_lt limits.weight (cells_weight (cells_named names strings cs i)), TooHeavy) ∷ []))
+      (λ i. first_of ((none_lacks cs i, UnknownReference) ∷ (has_twice (keys_of (cells_named names strings cs i)), DuplicateCell) ∷
+      (nat_lt limits.weight (cells_weight (cells_named names strings cs i)), TooHeavy) ∷ []))
       ∙ (λ i. first_of ((false, UnknownReference) ∷ (distinct i, DuplicateCell) ∷ (le-ltb limits.weight (cells_weight cs) light i, TooHeavy) ∷ []))
 
 pub canonical_whole : CanonicalWhole

@@ -70,7 +70,15 @@ alone_short l i lt h = subst (λ (m : Meaning). length (canonical_bytes m) ≤ 3
 
 -- they can be counted
 pub alone_counted : (l : Contents) (i : ℕ) → i < length l.cells → IsLayout l → length (canonical_bytes (cell_alone l i)) < 2 ^ 64
-alone_counted l i lt h = omega (arith, alone_short l i lt h, ap (λ (c : List ℕ × List Element). (1 + length c.0) + sum_by weight_of c.1) (expanded_at l.cells i), cell_light l.cells i lt, h.light, h.limits.light)
+alone_counted l i lt h = omega (
+  arith,
+  alone_short l i lt h,
+  ap (λ (c : List ℕ × List Element). (1 + length c.0) + sum_by weight_of c.1)
+      (expanded_at l.cells i),
+  cell_light l.cells i lt,
+  h.light,
+  h.limits.light,
+)
 
 -- ---- what is put of it
 
@@ -83,7 +91,8 @@ named_at (c ∷ cs) zero name bag p q =
     λ j. (n j, b j)
 named_at (c ∷ cs) (suc i) name bag p q = named_at cs i name bag p q
 
-module _ (l : Contents) (i : ℕ) (name : List ℕ) (bag : List (Element × ℕ)) (called : slice_get (names l.cells) i ≡ Some name) (filled : slice_get (bags l.cells) i ≡ Some bag) (lt : i < length l.cells) (h : IsLayout l) where
+module _ (l : Contents) (i : ℕ) (name : List ℕ) (bag : List (Element × ℕ)) (called : slice_get (names l.cells) i ≡ Some name) (filled : slice_get (bags l.cells) i ≡ Some bag)
+    (lt : i < length l.cells) (h : IsLayout l) where
   here : held_at l.cells i ≡ (name, bag)
   here = named_at l.cells i name bag called filled
 

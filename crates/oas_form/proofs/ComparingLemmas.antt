@@ -9,7 +9,8 @@ use Rattle.oas_form.specs.Comparing.{Compares}
 use Rattle.oas_form.specs.Laws.ComparingLaws.{Compares-none}
 
 -- a byte that isn't the next one left
-pub differs : (old : Comparer) (byte : ℕ) → old.differs ≡ false → ((more : List ℕ) → old.rest.now ≢ byte ∷ more) → PutsFront Compares (λ c. if c.differs then 1 else 0) old (byte ∷ []) (record { rest = old.rest; differs = true })
+pub differs : (old : Comparer) (byte : ℕ) → old.differs ≡ false → ((more : List ℕ) → old.rest.now ≢ byte ∷ more) →
+    PutsFront Compares (λ c. if c.differs then 1 else 0) old (byte ∷ []) (record { rest = old.rest; differs = true })
 differs old byte works none = record {
   front = byte ∷ [];
   back = [];
@@ -35,7 +36,8 @@ true_or_false true = inl refl
 true_or_false false = inr refl
 
 -- it was given just the bytes that it was made of, exactly if it is done
-pub spelled : (start end : Comparer) (bytes all : List ℕ) (r : Result ℕ SinkFault) (done : Bool) → start.rest.now ≡ bytes → start.differs ≡ false → Counts Compares (λ c. if c.differs then 1 else 0) start all r end → (IsTrue done ↔ ((end.differs ≡ false) × (end.rest.now ≡ []))) → IsTrue done ↔ (all ≡ bytes)
+pub spelled : (start end : Comparer) (bytes all : List ℕ) (r : Result ℕ SinkFault) (done : Bool) → start.rest.now ≡ bytes → start.differs ≡ false →
+    Counts Compares (λ c. if c.differs then 1 else 0) start all r end → (IsTrue done ↔ ((end.differs ≡ false) × (end.rest.now ≡ []))) → IsTrue done ↔ (all ≡ bytes)
 spelled start end bytes all (Ok n) done rest works p h =
     let k : Compares start all end = p.puts.after start [] (Compares-none start) in (
       λ t. let e = h.0 t in let s = k.same e.0 in sym (append-nil all) ∙ (λ i. all ++ sym e.1 i) ∙ sym s.1 ∙ rest,

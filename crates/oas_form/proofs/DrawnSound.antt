@@ -1,286 +1,38 @@
 -- What an accepted file means is sound: each name and element of it can be spelled, and has its points within the grid.
-use Rattle.std.proofs.Common.{◌≡◌, ℕ, ◌+◌, ◌*◌, ◌≤◌, Bool, true, false, cond, ◌&&◌, List, [], ◌∷◌, ◌++◌, reverse, length, Option, None, Some, refl, sym, ap, subst, ◌∙◌, arith, length-append}
-use Rattle.std.proofs.lemmas.Nat.{mul-le}
-use Rattle.std.proofs.lemmas.List.FromFn.{length-map-range_with_len}
-use Rattle.std.specs.Prelude.{ℤ, IfSome, nat_eq, not}
-use Rattle.std.specs.Option.{option_or, option_map, option_to_list}
-use Rattle.std.specs.List.{AllByRecursion, list_all}
+use Rattle.std.proofs.Common.{◌≡◌, ℕ, ◌+◌, ◌≤◌, Bool, true, false, cond, List, [], ◌∷◌, ◌++◌, reverse, length, Option, None, Some, refl, sym, ap, subst, ◌∙◌, arith, length-append}
+use Rattle.std.specs.Prelude.{IfSome, nat_eq}
+use Rattle.std.specs.Option.{option_map}
+use Rattle.std.specs.List.{AllByRecursion}
 use Rattle.std.specs.Map.{keys_of, lookup}
-use Rattle.oas_num.specs.declared.refusals.Why.{Why}
-use Rattle.oas_num.specs.declared.refusals.Why.TheVariants.{OutOfPlace, CoordinateRange}
-use Rattle.oas_num.specs.declared.deltas.GDelta.{GDelta}
 use Rattle.oas_num.specs.Texts.{IsName, IsLabel}
-use Rattle.oas_ring.specs.declared.point.Point.{Point}
-use Rattle.oas_shape.specs.Polylines.{Polyline}
-use Rattle.oas_shape.specs.Steps.{still}
 use Rattle.oas_record.specs.declared.heads.Head.{Head}
 use Rattle.oas_record.specs.declared.records.Record.{Record}
 use Rattle.oas_record.specs.declared.records.Record.TheVariants as record_of
 use Rattle.oas_record.specs.declared.references.CellRef.{CellRef}
 use Rattle.oas_record.specs.declared.references.CellRef.TheVariants as cell
-use Rattle.oas_record.specs.declared.references.TextRef.{TextRef}
 use Rattle.oas_record.specs.declared.references.TextRef.TheVariants as text
-use Rattle.oas_record.specs.Records.{id_of}
-use Rattle.oas_layout.specs.declared.element.Turns.{Turns}
 use Rattle.oas_layout.specs.declared.element.Element.{Element}
 use Rattle.oas_layout.specs.declared.element.Element.TheVariants as element
 use Rattle.oas_layout.specs.declared.limits.Limits.{Limits}
 use Rattle.oas_layout.specs.Meaning.{Meaning, element_count, cells_weight}
-use Rattle.oas_layout.specs.Sound.{IsSound, IsUnit, Fits}
+use Rattle.oas_layout.specs.Sound.{IsSound, IsUnit}
 use Rattle.oas_drawing.specs.declared.drawn.Drawn.{Drawn}
 use Rattle.oas_drawing.specs.declared.drawn.Drawn.TheVariants.{Named, PlacementBy, TextBy}
-use Rattle.oas_drawing.specs.declared.kinds.Kind.{Kind}
 use Rattle.oas_drawing.specs.declared.kinds.Kind.TheVariants.{Placement, Text, Rectangle, Polygon, Path, Circle}
-use Rattle.oas_drawing.specs.Looking.{is_cell, latest}
-use Rattle.oas_drawing.specs.Values.{gives_layer, gives_datatype, gives_textlayer, gives_texttype, gives_cell, gives_string, gives_width, gives_height, gives_half_width, gives_radius}
-use Rattle.oas_drawing.specs.Modal.{ModalState, modal_of, stepped}
-use Rattle.oas_drawing.specs.Turns.{turned}
-use Rattle.oas_drawing.specs.Drawing.{kind_of, repeats, placement_at, text_at, rectangle_at, polygon_at, path_at, circle_at, kind_at, place_of, point_from, drawn_by, drawn_if, drawn_at, offset_if, number_if, offsets_of, copies_at, elements_at}
-use Rattle.oas_drawing.specs.Drawn.{weight_so_far}
-use Rattle.oas_drawing.specs.Reasons.{first_of, weight_if, lacks_if, fits_if, kind_reason, all_fit, reason_if, draw_reason}
-use Rattle.oas_drawing.proofs.Steps.{modal_step}
-use Rattle.oas_modal.specs.Names.{cell_names, text_strings, same_string, name_reason, name_of, named}
+use Rattle.oas_drawing.specs.Drawing.{elements_at}
+use Rattle.oas_modal.specs.Names.{cell_names, text_strings, name_of, named}
 use Rattle.oas_modal.specs.References.{cell_by}
-use Rattle.oas_modal.specs.Finish.{IsFit}
 use Rattle.oas_modal.specs.Meaning.{DrawnCell, element_by, with_element, elements_meant, with_named, cells_meant, has_twice, in_last, cells_drawn}
-use Rattle.oas_modal.specs.Standing.{element_reason}
 use Rattle.oas_modal.specs.Stands as stands
-use Rattle.oas_modal.specs.Stands.{is_in_cell, number_drawn, weight_so_far_of, seen, refused_after, records_mean}
-use Rattle.oas_modal.proofs.DrawLemmas.{is_element, is_passed}
-use Rattle.oas_modal.proofs.PlaceLemmas.{drawn_alike}
+use Rattle.oas_modal.specs.Stands.{number_drawn, records_mean}
 use Rattle.oas_modal.proofs.TakeLemmas.{all_append}
 use Rattle.oas_file.specs.Acceptance.{Accepted}
 use Rattle.oas_form.specs.Spelling.{IsSpellable}
-use Rattle.oas_form.proofs.FieldsGiven.{Small, CellFits, StringFits, GivesFit, all_given, unit_given}
+use Rattle.oas_form.proofs.FieldsGiven.{CellFits, GivesFit, all_given, unit_given}
 use Rattle.oas_form.proofs.Held.{whole_once, whole_light}
 use Rattle.oas_form.proofs.MeantLemmas.{onto, reverse-is}
-
--- ---- modal variables
-
-either : {A : Type 0} (P : A → Type 0) (o p : Option A) → IfSome o P → IfSome p P → IfSome (option_or o p) P
-either P None p h k = k
-either P (Some x) p h k = h
-
-unless : {A : Type 0} (P : A → Type 0) (b : Bool) (o : Option A) → IfSome o P → IfSome (cond b None o) P
-unless P true o h = tt
-unless P false o h = h
-
--- what the latest record gave fits, where each gives what fits
-latest_fits : {A : Type 0} (P : A → Type 0) (gives : Record → List Record → Option A) → ((r : Record) (before : List Record) → GivesFit r → AllByRecursion GivesFit before → IfSome (gives r before) P) → (rs : List Record) → AllByRecursion GivesFit rs → IfSome (latest gives rs) P
-latest_fits P gives step [] h = tt
-latest_fits P gives step (r ∷ before) h =
-    unless P (is_cell r) (option_or (gives r before) (latest gives before)) (either P (gives r before) (latest gives before) (step r before h.0 h.1) (latest_fits P gives step before h.1))
-
-layer_fits : (r : Record) (before : List Record) → GivesFit r → AllByRecursion GivesFit before → IfSome (gives_layer r before) Small
-layer_fits (record_of.Rectangle r) before h a = h.0
-layer_fits (record_of.Polygon p) before h a = h.0
-layer_fits (record_of.Path p) before h a = h.0
-layer_fits (record_of.Circle c) before h a = h.0
-layer_fits _ before h a = tt
-
-datatype_fits : (r : Record) (before : List Record) → GivesFit r → AllByRecursion GivesFit before → IfSome (gives_datatype r before) Small
-datatype_fits (record_of.Rectangle r) before h a = h.1
-datatype_fits (record_of.Polygon p) before h a = h.1
-datatype_fits (record_of.Path p) before h a = h.1
-datatype_fits (record_of.Circle c) before h a = h.1
-datatype_fits _ before h a = tt
-
-textlayer_fits : (r : Record) (before : List Record) → GivesFit r → AllByRecursion GivesFit before → IfSome (gives_textlayer r before) Small
-textlayer_fits (record_of.Text t) before h a = h.1
-textlayer_fits _ before h a = tt
-
-texttype_fits : (r : Record) (before : List Record) → GivesFit r → AllByRecursion GivesFit before → IfSome (gives_texttype r before) Small
-texttype_fits (record_of.Text t) before h a = h.2
-texttype_fits _ before h a = tt
-
-cell_fits : (r : Record) (before : List Record) → GivesFit r → AllByRecursion GivesFit before → IfSome (gives_cell r before) CellFits
-cell_fits (record_of.Placement p) before h a = h
-cell_fits _ before h a = tt
-
-string_fits : (r : Record) (before : List Record) → GivesFit r → AllByRecursion GivesFit before → IfSome (gives_string r before) StringFits
-string_fits (record_of.Text t) before h a = h.0
-string_fits _ before h a = tt
-
-width_fits : (r : Record) (before : List Record) → GivesFit r → AllByRecursion GivesFit before → IfSome (gives_width r before) Small
-width_fits (record_of.Rectangle r) before h a = h.2
-width_fits _ before h a = tt
-
-by_square : (b : Bool) (o p : Option ℕ) → IfSome o Small → IfSome p Small → IfSome (cond b o p) Small
-by_square true o p h k = h
-by_square false o p h k = k
-
-height_fits : (r : Record) (before : List Record) → GivesFit r → AllByRecursion GivesFit before → IfSome (gives_height r before) Small
-height_fits (record_of.Rectangle r) before h a = by_square r.square _ r.height (latest_fits Small gives_width width_fits (record_of.Rectangle r ∷ before) (h, a)) h.3
-height_fits _ before h a = tt
-
-half_width_fits : (r : Record) (before : List Record) → GivesFit r → AllByRecursion GivesFit before → IfSome (gives_half_width r before) Small
-half_width_fits (record_of.Path p) before h a = h.2
-half_width_fits _ before h a = tt
-
-radius_fits : (r : Record) (before : List Record) → GivesFit r → AllByRecursion GivesFit before → IfSome (gives_radius r before) Small
-radius_fits (record_of.Circle c) before h a = h.2
-radius_fits _ before h a = tt
-
--- ---- what is drawn
-
--- its fields fit, whatever its number means
-abbrev pub DrawnFits : Drawn → Type 0
-DrawnFits (Named e) = Fits e
-DrawnFits (PlacementBy number x y turns flip) = Unit {0}
-DrawnFits (TextBy number textlayer texttype x y) = Small textlayer × Small texttype
-
-placement_fits : (c : Option CellRef) (turns : Turns) (flip : Bool) (at : Point) → IfSome c CellFits → IfSome (placement_at c turns flip at) DrawnFits
-placement_fits None turns flip at h = tt
-placement_fits (Some (cell.Number n)) turns flip at h = tt
-placement_fits (Some (cell.Name n)) turns flip at h = h
-
-text_fits : (s : Option TextRef) (layer kind : Option ℕ) (at : Point) → IfSome s StringFits → IfSome layer Small → IfSome kind Small → IfSome (text_at s layer kind at) DrawnFits
-text_fits None layer kind at s l k = tt
-text_fits (Some (text.Number n)) None kind at s l k = tt
-text_fits (Some (text.Number n)) (Some layer) None at s l k = tt
-text_fits (Some (text.Number n)) (Some layer) (Some kind) at s l k = (l, k)
-text_fits (Some (text.Label n)) None kind at s l k = tt
-text_fits (Some (text.Label n)) (Some layer) None at s l k = tt
-text_fits (Some (text.Label n)) (Some layer) (Some kind) at s l k = record { string_fits = s; textlayer_fits = l; texttype_fits = k }
-
-rectangle_fits : (a b c d : Option ℕ) (at : Point) → IfSome a Small → IfSome b Small → IfSome c Small → IfSome d Small → IfSome (rectangle_at a b c d at) DrawnFits
-rectangle_fits None b c d at p q r s = tt
-rectangle_fits (Some a) None c d at p q r s = tt
-rectangle_fits (Some a) (Some b) None d at p q r s = tt
-rectangle_fits (Some a) (Some b) (Some c) None at p q r s = tt
-rectangle_fits (Some a) (Some b) (Some c) (Some d) at p q r s = record { layer_fits = p; datatype_fits = q; width_fits = r; height_fits = s }
-
-polygon_fits : (a b : Option ℕ) (line : Option Polyline) (at : Point) → IfSome a Small → IfSome b Small → IfSome (polygon_at a b line at) DrawnFits
-polygon_fits None b line at p q = tt
-polygon_fits (Some a) None line at p q = tt
-polygon_fits (Some a) (Some b) None at p q = tt
-polygon_fits (Some a) (Some b) (Some line) at p q = record { layer_fits = p; datatype_fits = q }
-
-path_fits : (a b c : Option ℕ) (d e : Option ℤ) (line : Option Polyline) (at : Point) → IfSome a Small → IfSome b Small → IfSome c Small → IfSome (path_at a b c d e line at) DrawnFits
-path_fits None b c d e line at p q r = tt
-path_fits (Some a) None c d e line at p q r = tt
-path_fits (Some a) (Some b) None d e line at p q r = tt
-path_fits (Some a) (Some b) (Some c) None e line at p q r = tt
-path_fits (Some a) (Some b) (Some c) (Some d) None line at p q r = tt
-path_fits (Some a) (Some b) (Some c) (Some d) (Some e) None at p q r = tt
-path_fits (Some a) (Some b) (Some c) (Some d) (Some e) (Some line) at p q r = record { layer_fits = p; datatype_fits = q; half_width_fits = r }
-
-circle_fits : (a b c : Option ℕ) (at : Point) → IfSome a Small → IfSome b Small → IfSome c Small → IfSome (circle_at a b c at) DrawnFits
-circle_fits None b c at p q r = tt
-circle_fits (Some a) None c at p q r = tt
-circle_fits (Some a) (Some b) None at p q r = tt
-circle_fits (Some a) (Some b) (Some c) at p q r = record { layer_fits = p; datatype_fits = q; radius_fits = r }
-
-module _ (rs : List Record) (h : AllByRecursion GivesFit rs) where
-  kind_fits : (kind : Kind) (at : Point) → IfSome (kind_at (modal_of rs) kind at) DrawnFits
-  kind_fits (Placement turn flip) at = placement_fits _ (turned turn) flip at (latest_fits CellFits gives_cell cell_fits rs h)
-  kind_fits Text at = text_fits _ _ _ at (latest_fits StringFits gives_string string_fits rs h) (latest_fits Small gives_textlayer textlayer_fits rs h) (latest_fits Small gives_texttype texttype_fits rs h)
-  kind_fits Rectangle at =
-      rectangle_fits _ _ _ _ at (latest_fits Small gives_layer layer_fits rs h) (latest_fits Small gives_datatype datatype_fits rs h) (latest_fits Small gives_width width_fits rs h) (latest_fits Small gives_height height_fits rs h)
-  kind_fits Polygon at = polygon_fits _ _ _ at (latest_fits Small gives_layer layer_fits rs h) (latest_fits Small gives_datatype datatype_fits rs h)
-  kind_fits Path at = path_fits _ _ _ _ _ _ at (latest_fits Small gives_layer layer_fits rs h) (latest_fits Small gives_datatype datatype_fits rs h) (latest_fits Small gives_half_width half_width_fits rs h)
-  kind_fits Circle at = circle_fits _ _ _ at (latest_fits Small gives_layer layer_fits rs h) (latest_fits Small gives_datatype datatype_fits rs h) (latest_fits Small gives_radius radius_fits rs h)
-
-  drawn_fits_if : (kind : Option Kind) (d : GDelta) → IfSome (drawn_if (modal_of rs) kind d) DrawnFits
-  drawn_fits_if None d = tt
-  drawn_fits_if (Some kind) d = kind_fits kind (point_from (place_of (modal_of rs) kind) d)
-
--- ---- what an allowed record draws
-
--- it has its points, lies within the grid, and its fields fit
-pub record IsSoundDrawn (d : Drawn) : Type 0 where
-  pub fit : IsFit d
-  pub fields : DrawnFits d
-
-fit_when : (b : Bool) → first_of ((not b, CoordinateRange) ∷ []) ≡ None → b ≡ true
-fit_when true h = refl
-fit_when false h = cc
-
-passed_both : (o : Option Why) (b : Bool) → option_or o (first_of ((not b, CoordinateRange) ∷ [])) ≡ None → (o ≡ None) × (b ≡ true)
-passed_both None b h = (refl, fit_when b h)
-passed_both (Some w) b h = cc
-
-both : (a b : Bool) → (a && b) ≡ true → (a ≡ true) × (b ≡ true)
-both true b h = (refl, h)
-both false b h = cc
-
-one_sound : (o : Option Drawn) → fits_if o ≡ true → lacks_if o ≡ false → IfSome o DrawnFits → AllByRecursion IsSoundDrawn (option_to_list o)
-one_sound None f l h = tt
-one_sound (Some (Named e)) f l h = (record { fit = record { points = l; inside = f }; fields = h }, tt)
-one_sound (Some (PlacementBy number x y turns flip)) f l h = (record { fit = record { points = refl; inside = f }; fields = h }, tt)
-one_sound (Some (TextBy number textlayer texttype x y)) f l h = (record { fit = record { points = refl; inside = f }; fields = h }, tt)
-
--- the copies at offsets at which all fit
-copies_sound : (m : ModalState) (r : Record) (kind : Kind) → kind_of r ≡ Some kind → lacks_if (drawn_by m kind still) ≡ false → ((d : GDelta) → IfSome (drawn_by m kind d) DrawnFits) → (ds : List GDelta) → list_all (λ d. fits_if (drawn_by m kind d)) ds ≡ true → AllByRecursion IsSoundDrawn (copies_at m r ds)
-copies_sound m r kind e points fields [] h = tt
-copies_sound m r kind e points fields (d ∷ ds) h =
-    let b = both (fits_if (drawn_by m kind d)) (list_all (λ d. fits_if (drawn_by m kind d)) ds) h in
-    all_append IsSoundDrawn (option_to_list (drawn_at m r d)) (copies_at m r ds)
-    (subst (λ (k : Option Kind). AllByRecursion IsSoundDrawn (option_to_list (drawn_if m k d))) (sym e) (one_sound (drawn_by m kind d) b.0 ((drawn_alike m kind d still).1 ∙ points) (fields d)))
-    (copies_sound m r kind e points fields ds b.1)
-
-copies_number : (m : ModalState) (r : Record) (ds : List GDelta) → length (copies_at m r ds) ≤ length ds
-copies_number m r [] = omega arith
-copies_number m r (d ∷ ds) = omega (arith, length-append (option_to_list (drawn_at m r d)) (copies_at m r ds), one (drawn_at m r d), copies_number m r ds) where
-  one : (o : Option Drawn) → length (option_to_list o) ≤ 1
-  one None = omega arith
-  one (Some d) = omega arith
-
--- each weighs as much
-copies_weight : (m : ModalState) (r : Record) (kind : Kind) → kind_of r ≡ Some kind → (ds : List GDelta) → AllByRecursion (λ x. weight_so_far x ≤ weight_if (drawn_by m kind still)) (copies_at m r ds)
-copies_weight m r kind e [] = tt
-copies_weight m r kind e (d ∷ ds) =
-    all_append (λ (x : Drawn). weight_so_far x ≤ weight_if (drawn_by m kind still)) (option_to_list (drawn_at m r d)) (copies_at m r ds)
-    (subst (λ (k : Option Kind). AllByRecursion (λ x. weight_so_far x ≤ weight_if (drawn_by m kind still)) (option_to_list (drawn_if m k d))) (sym e) (one (drawn_by m kind d) (drawn_alike m kind d still).0)) (copies_weight m r kind e ds) where
-      one : (o : Option Drawn) → weight_if o ≡ weight_if (drawn_by m kind still) → AllByRecursion (λ x. weight_so_far x ≤ weight_if (drawn_by m kind still)) (option_to_list o)
-      one None h = tt
-      one (Some x) h = (omega (arith, h), tt)
-
--- one of several weighs no more than they
-one_of_many : (n w all : ℕ) → 1 ≤ n → n * w ≤ all → w ≤ all
-one_of_many n w all some h = let more : 1 * w ≤ n * w = mul-le 1 w n w some (omega arith) in omega (arith, more, h)
-
--- a record of no kind draws nothing
-none_drawn : (m : ModalState) (r : Record) → kind_of r ≡ None → (ds : List GDelta) → copies_at m r ds ≡ []
-none_drawn m r e [] = refl
-none_drawn m r e (d ∷ ds) = (λ i. option_to_list (drawn_if m (e i) d) ++ none_drawn m r e ds i)
-
--- sound, and within the limits
-pub record DrawsSound (limits : Limits) (r : Record) (before : List Record) : Type 0 where
-  pub sound : AllByRecursion IsSoundDrawn (elements_at r before)
-  pub few : number_drawn before + length (elements_at r before) ≤ limits.elements
-  pub light : (d : Drawn) → elements_at r before ≡ d ∷ [] → weight_so_far d ≤ limits.weight
-
-in_cell : (b : Bool) (o : Option Why) (w : Why) → cond b o (Some w) ≡ None → o ≡ None
-in_cell true o w h = h
-in_cell false o w h = cc
-
-pub draws_sound : (limits : Limits) (r : Record) (before : List Record) → AllByRecursion GivesFit (r ∷ before) → number_drawn before ≤ limits.elements → refused_after limits before r ≡ None → DrawsSound limits r before
-draws_sound limits r before given few h = by (kind_of r) refl where
-  by : (k : Option Kind) → kind_of r ≡ k → DrawsSound limits r before
-  by None e =
-      let none : elements_at r before ≡ [] = none_drawn (modal_of (r ∷ before)) r e (offsets_of (modal_of (r ∷ before)) r) in
-      record { sound = subst (AllByRecursion IsSoundDrawn) (sym none) tt; few = omega (arith, few, ap length none); light = λ d one. let no : ⊥ = cc (none, one) in absurd no }
-  by (Some kind) e =
-      let v : ModalState = modal_of (r ∷ before) in
-      let step : v ≡ stepped (modal_of before) r = modal_step before r in
-      let judged : element_reason limits (seen before) (stepped (modal_of before) r) r ≡ None = sym ((is_element r kind e).judged limits (name_reason same_string cell_names before) (name_reason same_string text_strings before) (seen before)) ∙ h in
-      let drawn : draw_reason limits (number_drawn before) (weight_so_far_of before) (stepped (modal_of before) r) r ≡ None = in_cell (is_in_cell before) _ (OutOfPlace (id_of r)) judged in
-      let now : reason_if limits (number_drawn before) (weight_so_far_of before) v (Some kind) (repeats r) ≡ None =
-      (λ i. reason_if limits (number_drawn before) (weight_so_far_of before) (step i) (sym e i) (repeats r)) ∙ drawn in
-      let parts = passed_both (kind_reason limits (number_drawn before) (weight_so_far_of before) v kind (repeats r)) (all_fit v kind (repeats r)) now in
-      let number = copies_number v r (offsets_of v r) in
-      let long = length-map-range_with_len (offset_if (repeats r) v.repetition) 0 (number_if (repeats r) v.repetition) in
-      let p = is_passed limits (number_drawn before) (weight_so_far_of before) v kind (repeats r) parts.0 in
-      record {
-        sound = copies_sound v r kind e p.points (λ d. kind_fits (r ∷ before) given kind (point_from (place_of v kind) d)) (offsets_of v r) parts.1;
-        few = omega (arith, p.few, number, long);
-        light = λ d one.
-            let weights = subst (AllByRecursion (λ x. weight_so_far x ≤ weight_if (drawn_by v kind still))) one (copies_weight v r kind e (offsets_of v r)) in
-            let all : weight_if (drawn_by v kind still) ≤ limits.weight =
-            one_of_many (number_if (repeats r) v.repetition) (weight_if (drawn_by v kind still)) limits.weight (omega (arith, number, long, ap length one)) (omega (arith, p.light)) in
-            omega (arith, weights.0, all);
-      }
+use Rattle.oas_form.proofs.DrawnFits.{textlayer_fits, texttype_fits, string_fits}
+use Rattle.oas_form.proofs.DrawsSound.{IsSoundDrawn, DrawsSound, draws_sound}
 
 -- ---- the cells that are drawn
 
@@ -300,7 +52,8 @@ refs_last ds [] h = tt
 refs_last ds (c ∷ []) h = h
 refs_last ds (c ∷ b ∷ cs) h = (h.0, refs_last ds (b ∷ cs) h.1)
 
-sound_last : (ds : List Drawn) (cs : List DrawnCell) → AllByRecursion IsSoundDrawn ds → AllByRecursion (λ c. AllByRecursion IsSoundDrawn c.1) cs → AllByRecursion (λ c. AllByRecursion IsSoundDrawn c.1) (in_last ds cs)
+sound_last : (ds : List Drawn) (cs : List DrawnCell) → AllByRecursion IsSoundDrawn ds → AllByRecursion (λ c. AllByRecursion IsSoundDrawn c.1) cs →
+    AllByRecursion (λ c. AllByRecursion IsSoundDrawn c.1) (in_last ds cs)
 sound_last ds [] s h = tt
 sound_last ds (c ∷ []) s h = (all_append IsSoundDrawn c.1 ds h.0 s, tt)
 sound_last ds (c ∷ b ∷ cs) s h = (h.0, sound_last ds (b ∷ cs) s h.1)
@@ -336,7 +89,8 @@ drawn_step P opens before more (record_of.Circle c) = more (record_of.Circle c) 
 pub number_is : (before : List Record) → drawn_number (cells_drawn elements_at before) ≤ number_drawn before
 number_is [] = omega arith
 number_is (r ∷ before) =
-    drawn_step (λ r. drawn_number (cells_drawn elements_at (r ∷ before)) ≤ number_drawn (r ∷ before)) (λ c. omega (arith, number_append (cells_drawn elements_at before) (c, []), number_is before)) before
+    drawn_step (λ r. drawn_number (cells_drawn elements_at (r ∷ before)) ≤ number_drawn (r ∷ before))
+    (λ c. omega (arith, number_append (cells_drawn elements_at before) (c, []), number_is before)) before
     (λ r is. omega (arith, ap drawn_number is, number_last (elements_at r before) (cells_drawn elements_at before), number_is before)) r
 
 pub drawn_sound : (limits : Limits) (before : List Record) → AllByRecursion GivesFit before → stands.Allowed limits before → AreDrawnSound limits before
@@ -441,7 +195,10 @@ module _ (names strings : List (ℕ × List ℕ)) (n : AllNamed IsName names) (s
   meant_sound : (ds : List DrawnCell) → AllByRecursion (λ c. CellFits c.0) ds → AllByRecursion (λ c. AllByRecursion IsSoundDrawn c.1) ds → AreMeantSound ds
   meant_sound [] refs sound = record { names_fit = tt; sound = tt; few = omega arith }
   meant_sound (d ∷ ds) refs sound = let all = by (cell_by names d.0) (ref_fits d.0 refs.0) (meant_sound ds refs.1 sound.1) in record { names_fit = all.0; sound = all.1; few = all.2 } where
-    by : (o : Option (List ℕ)) → IfSome o IsName → AreMeantSound ds → AllByRecursion (λ c. IsName c.0) (with_named o (elements_meant names strings d.1) (cells_meant names strings ds)) × AllByRecursion (λ c. AllByRecursion IsSound c.1) (with_named o (elements_meant names strings d.1) (cells_meant names strings ds)) × (element_count (with_named o (elements_meant names strings d.1) (cells_meant names strings ds)) ≤ drawn_number (d ∷ ds))
+    by : (o : Option (List ℕ)) → IfSome o IsName → AreMeantSound ds →
+        AllByRecursion (λ c. IsName c.0) (with_named o (elements_meant names strings d.1) (cells_meant names strings ds)) ×
+        AllByRecursion (λ c. AllByRecursion IsSound c.1) (with_named o (elements_meant names strings d.1) (cells_meant names strings ds)) ×
+        (element_count (with_named o (elements_meant names strings d.1) (cells_meant names strings ds)) ≤ drawn_number (d ∷ ds))
     by None f rest = (rest.names_fit, rest.sound, omega (arith, rest.few))
     by (Some name) f rest = ((f, rest.names_fit), (elements_sound d.1 sound.0, rest.sound), omega (arith, rest.few, elements_number d.1))
 
@@ -466,7 +223,8 @@ records_sound limits b h =
     let given = all_given h.head.flag_in_end h.records body.front body.first in
     let newest = subst (AllByRecursion GivesFit) (sym (reverse-is h.records)) (all_onto GivesFit h.records [] given tt) in
     let drawn = drawn_sound limits (reverse h.records) newest h.allowed in
-    let meant = meant_sound (named cell_names (reverse h.records)) (named text_strings (reverse h.records)) (names_fit (reverse h.records) newest) (strings_fit (reverse h.records) newest) (cells_drawn elements_at (reverse h.records)) drawn.refs drawn.sound in
+    let meant = meant_sound (named cell_names (reverse h.records)) (named text_strings (reverse h.records)) (names_fit (reverse h.records) newest) (strings_fit (reverse h.records) newest)
+    (cells_drawn elements_at (reverse h.records)) drawn.refs drawn.sound in
     let light = whole_light limits h.head.unit h.records h.whole in
     record {
       spellable = record {

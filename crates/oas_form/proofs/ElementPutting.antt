@@ -67,7 +67,8 @@ copies_next times i e lt =
 pub copies_short : (e : Element) (times : ℕ) → IsSound e → sum_by weight_of (replicate times e) ≤ 2 ^ 30 → length (elements_bytes (replicate times e)) ≤ 64 * 2 ^ 30
 copies_short e times sound light = omega (arith, light, length-elements (replicate times e) (copies_points times e (sound_point e sound)))
 
-module _ {K : Type 0} {given : K → List ℕ → K → Type 0} {failures : K → ℕ} {old mid : K} {n : ℕ} (e : Element) (times i : ℕ) (lt : i < times) (left : CopiesLeft given failures e times i old mid n) where
+module _ {K : Type 0} {given : K → List ℕ → K → Type 0} {failures : K → ℕ} {old mid : K} {n : ℕ} (e : Element) (times i : ℕ) (lt : i < times)
+    (left : CopiesLeft given failures e times i old mid n) where
   copy_left : PutSoFar given failures (elements_bytes (replicate times e)) (element_bytes e ++ elements_bytes (replicate (times - (i + 1)) e)) old mid n
   copy_left = subst (λ (es : List Element). PutSoFar given failures (elements_bytes (replicate times e)) (elements_bytes es) old mid n) (copies_next times i e lt) left.so_far
 
@@ -100,7 +101,8 @@ pub record ElementsLeft {K : Type 0} (given : K → List ℕ → K → Type 0) (
 pub elements_short : (all : List (Element × ℕ)) → AllSound all → length (elements_bytes (items all)) ≤ 64 * sum_by weight_of (items all)
 elements_short all sound = length-elements (items all) (items_points all sound)
 
-module _ {K : Type 0} {given : K → List ℕ → K → Type 0} {failures : K → ℕ} {old mid : K} {n : ℕ} (all before after : List (Element × ℕ)) (e : Element) (times : ℕ) (is : before ≡ (e, times) ∷ after) (left : ElementsLeft given failures all before old mid n) where
+module _ {K : Type 0} {given : K → List ℕ → K → Type 0} {failures : K → ℕ} {old mid : K} {n : ℕ} (all before after : List (Element × ℕ)) (e : Element) (times : ℕ)
+    (is : before ≡ (e, times) ∷ after) (left : ElementsLeft given failures all before old mid n) where
   here : ElementsLeft given failures all ((e, times) ∷ after) old mid n
   here = subst (λ (es : List (Element × ℕ)). ElementsLeft given failures all es old mid n) is left
 
@@ -137,7 +139,8 @@ pub record CellsLeft {K : Type 0} (given : K → List ℕ → K → Type 0) (fai
 pub cells_short : (l : Contents) → IsLayout l → length (cells_bytes (expanded l.cells)) ≤ 64 * 2 ^ 30
 cells_short l h = omega (arith, h.light, h.limits.light, length-cells (expanded l.cells) (cells_points l.profile l.cells h.cells))
 
-pub cells_begin : {K : Type 0} {given : K → List ℕ → K → Type 0} {failures : K → ℕ} {s : K} (l : Contents) → IsLayout l → PutSoFar given failures (cells_bytes (expanded l.cells)) (cells_bytes (expanded l.cells)) s s 0 → CellsLeft given failures l.profile l.cells 0 s s 0
+pub cells_begin : {K : Type 0} {given : K → List ℕ → K → Type 0} {failures : K → ℕ} {s : K} (l : Contents) → IsLayout l →
+    PutSoFar given failures (cells_bytes (expanded l.cells)) (cells_bytes (expanded l.cells)) s s 0 → CellsLeft given failures l.profile l.cells 0 s s 0
 cells_begin l h p = record { so_far = p; are_cells = h.cells; light = omega (arith, h.light, h.limits.light) }
 
 drop_cell : (cs : List Cell) (i : ℕ) (name : List ℕ) (bag : List (Element × ℕ)) → slice_get (names cs) i ≡ Some name → slice_get (bags cs) i ≡ Some bag → drop i cs ≡ (name, bag) ∷ drop (suc i) cs
@@ -148,7 +151,8 @@ drop_cell (c ∷ cs) zero name bag p q =
     λ j. (n j, b j) ∷ cs
 drop_cell (c ∷ cs) (suc i) name bag p q = drop_cell cs i name bag p q
 
-module _ {K : Type 0} {given : K → List ℕ → K → Type 0} {failures : K → ℕ} {profile : Profile} {old mid : K} {n : ℕ} (cs : List Cell) (i : ℕ) (name : List ℕ) (bag : List (Element × ℕ)) (called : slice_get (names cs) i ≡ Some name) (filled : slice_get (bags cs) i ≡ Some bag) (left : CellsLeft given failures profile cs i old mid n) where
+module _ {K : Type 0} {given : K → List ℕ → K → Type 0} {failures : K → ℕ} {profile : Profile} {old mid : K} {n : ℕ} (cs : List Cell) (i : ℕ) (name : List ℕ) (bag : List (Element × ℕ))
+    (called : slice_get (names cs) i ≡ Some name) (filled : slice_get (bags cs) i ≡ Some bag) (left : CellsLeft given failures profile cs i old mid n) where
   dropped : drop i cs ≡ (name, bag) ∷ drop (i + 1) cs
   dropped = drop_cell cs i name bag called filled ∙ ap (λ (k : ℕ). (name, bag) ∷ drop k cs) (sym (add-one i))
 

@@ -1,29 +1,21 @@
 -- The canonical bytes of an element spell its canonical record.
-use Rattle.std.proofs.Common.{◌≡◌, ℕ, suc, ◌-◌, ◌/◌, ◌%◌, ◌<◌, ◌≤◌, ◌^◌, Bool, true, false, List, [], ◌∷◌, ◌++◌, length, Some, None, inl, refl, sym, ap, subst, arith, append_assoc}
-use Rattle.std.specs.Prelude.{ℤ, ◌-ℤ◌, nat_abs, nat_lt, nat_le, ◌&&◌, ◌==◌}
+use Rattle.std.proofs.Common.{◌≡◌, ℕ, ◌-◌, ◌/◌, ◌%◌, ◌<◌, ◌≤◌, ◌^◌, Bool, true, false, List, [], ◌∷◌, ◌++◌, length, Some, refl, sym, ap, arith, append_assoc}
+use Rattle.std.specs.Prelude.{ℤ, nat_abs, nat_lt, nat_le, ◌&&◌, ◌==◌}
 use Rattle.std.specs.List.{list_all}
-use Rattle.std.proofs.lemmas.Bool.{lt-ltb, and_parts}
-use Rattle.std.proofs.lemmas.Int.{ints}
-use Rattle.std.proofs.lemmas.List.{append-nil}
-use Rattle.oas_num.specs.Grammar.{IsPair, IsSuch, IsThere, IsEach, IsByte}
-use Rattle.oas_num.specs.Style.{Shortest, IsShortest, unsigned_in}
+use Rattle.std.proofs.lemmas.Bool.{and_parts}
+use Rattle.oas_num.specs.Grammar.{IsSuch, IsByte}
+use Rattle.oas_num.specs.Style.{Shortest}
 use Rattle.oas_num.specs.Laws.StyleLaws.{shortest-IsShortest}
-use Rattle.oas_num.specs.Texts.{IsNameByte, IsLabelByte, IsOf, IsName, IsLabel, name_in, label_in}
-use Rattle.oas_num.specs.Writing.{shortest, shortest_signed, shortest_gdelta}
-use Rattle.oas_num.specs.Deltas.{gdelta_in, step}
-use Rattle.oas_num.specs.Laws.DeltaLaws.{shortest_gdelta-spells}
+use Rattle.oas_num.specs.Texts.{IsName}
+use Rattle.oas_num.specs.Writing.{shortest, shortest_signed}
 use Rattle.oas_num.proofs.WritingLemmas.{shortest_signed-IsShortestSigned}
 use Rattle.oas_ring.specs.declared.point.Point.{Point}
-use Rattle.oas_shape.specs.declared.list_use.ListUse.{ListUse}
 use Rattle.oas_shape.specs.declared.list_use.ListUse.TheVariants as uses
-use Rattle.oas_shape.specs.ListUses.{IsFitting}
-use Rattle.oas_shape.specs.PointLists.{IsPlainList}
 use Rattle.oas_record.specs.declared.references.CellRef.TheVariants as cell
 use Rattle.oas_record.specs.declared.references.TextRef.TheVariants as text
 use Rattle.oas_record.specs.declared.placements.Turn.TheVariants.{Quarters}
 use Rattle.oas_record.specs.declared.paths.Extension.TheVariants.{Explicit}
 use Rattle.oas_record.specs.Info.{has}
-use Rattle.oas_record.specs.Fields.{spot_in}
 use Rattle.oas_record.specs.Placements.{IsPlacementInfo, IsCanonicalPlacement, quarters_in}
 use Rattle.oas_record.specs.Texts.{IsTextInfo, IsCanonicalText, text_record_in}
 use Rattle.oas_record.specs.Rectangles.{IsRectangleInfo, IsCanonicalRectangle, rectangle_in}
@@ -35,143 +27,9 @@ use Rattle.oas_layout.specs.declared.element.Turns.TheVariants.{T0, T1, T2, T3}
 use Rattle.oas_layout.specs.Element.{turn_count}
 use Rattle.oas_layout.specs.Grid.{is_coordinate, reaches, is_grid_point}
 use Rattle.oas_layout.specs.Sound.{FitsText, FitsRectangle, FitsPolygon, FitsPath, FitsCircle}
-use Rattle.oas_form.specs.Records.{spot_at, steps_from, line_of, spot_of}
-use Rattle.oas_form.specs.Bytes.{string_bytes, place_bytes, step_bytes, list_bytes, points_bytes, placement_info}
-
--- ---- numbers and strings
-
-one_group : (n : ℕ) → n < 128 → shortest n ≡ n ∷ []
-unfolding shortest
-one_group n lt = rw (lt-ltb n 128 lt) refl
-
--- a number below 128 is spelled by one byte
-pub small_spelled : (n : ℕ) → n < 128 → IsShortest n (n ∷ [])
-small_spelled n lt = subst (λ (b : List ℕ). IsShortest n b) (one_group n lt) (shortest-IsShortest n (omega (arith, lt)))
-
-pub text_spelled : (class : ℕ → Type 0) → ((b : ℕ) → class b → b < 256) → (text : List ℕ) → IsOf class text → IsEach (IsSuch class IsByte) text text
-text_spelled class small [] h = refl
-text_spelled class small (b ∷ bs) h = (b ∷ [], bs, record { holds = h.0; spelled = record { only = refl; small = small b h.0 } }, text_spelled class small bs h.1, refl)
-
-pub name_spelled : (name : List ℕ) → IsName name → name_in Shortest name (string_bytes name)
-name_spelled name h = record {
-  front = shortest (length name);
-  back = name;
-  first = record { holds = h.some; spelled = shortest-IsShortest (length name) h.fits };
-  second = record { len = refl; each = text_spelled IsNameByte (λ b k. omega (arith, k.1)) name h.class };
-  joined = refl;
-}
-
-pub label_spelled : (label : List ℕ) → IsLabel label → label_in Shortest label (string_bytes label)
-label_spelled label h = record {
-  front = shortest (length label);
-  back = label;
-  first = shortest-IsShortest (length label) h.fits;
-  second = record { len = refl; each = text_spelled IsLabelByte (λ b k. omega (arith, k.1)) label h.class };
-  joined = refl;
-}
-
--- ---- fields
-
--- a coordinate is at most 2^60 from zero
-pub near : (x : ℤ) → is_coordinate x ≡ true → nat_abs x ≤ 2 ^ 60
-near x h = grind (arith, ints)
-
-reaching : (x : ℤ) (side : ℕ) → reaches x side ≡ true → is_coordinate x ≡ true
-reaching x side h = (and_parts _ _ h).0
-
-spot_spelled : (x y : ℤ) → nat_abs x ≤ 2 ^ 60 → nat_abs y ≤ 2 ^ 60 → spot_in Shortest true true false (spot_at x y) (place_bytes x y)
-spot_spelled x y near_x near_y = record {
-  from = (Some x, (Some y, None));
-  is = refl;
-  spelled = record {
-    front = shortest_signed x;
-    back = shortest_signed y;
-    first = shortest_signed-IsShortestSigned x (omega arith);
-    joined = refl;
-    second = record { front = shortest_signed y; back = []; first = shortest_signed-IsShortestSigned y (omega arith); second = refl; joined = sym (append-nil (shortest_signed y)) };
-  };
-}
-
-abbrev IsLayers : ℕ → ℕ → List ℕ → Type 0
-IsLayers layer datatype bytes = IsPair (IsThere true (unsigned_in Shortest)) (λ _. IsThere true (unsigned_in Shortest)) (Some layer, Some datatype) bytes
-
-layers_spelled : (layer datatype : ℕ) → layer < 2 ^ 64 → datatype < 2 ^ 64 → IsLayers layer datatype (shortest layer ++ shortest datatype)
-layers_spelled layer datatype l d = record { front = shortest layer; back = shortest datatype; first = shortest-IsShortest layer l; second = shortest-IsShortest datatype d; joined = refl }
-
--- ---- point lists
-
--- two coordinates are at most 2^61 apart
-apart : (x y : ℤ) → is_coordinate x ≡ true → is_coordinate y ≡ true → nat_abs (y -ℤ x) < 2 ^ 62
-apart x y h k = grind (arith, ints)
-
-steps_spelled : (p : Point) (ps : List Point) → is_grid_point p ≡ true → list_all is_grid_point ps ≡ true → IsEach (gdelta_in Shortest) (steps_from p ps) (step_bytes p ps)
-steps_spelled p [] h k = refl
-steps_spelled p (q ∷ qs) h k =
-    let here = and_parts (is_coordinate p.x) (is_coordinate p.y) h in
-    let all = and_parts (is_grid_point q) (list_all is_grid_point qs) k in
-    let there = and_parts (is_coordinate q.x) (is_coordinate q.y) all.0 in (
-      shortest_gdelta (q.x -ℤ p.x) (q.y -ℤ p.y),
-      step_bytes q qs,
-      shortest_gdelta-spells (step (q.x -ℤ p.x) (q.y -ℤ p.y)) (apart p.x q.x here.0 there.0) (omega (arith, apart p.y q.y here.1 there.1)),
-      steps_spelled q qs all.0 all.1,
-      refl,
-    )
-
-length-steps_from : (p : Point) (ps : List Point) → length (steps_from p ps) ≡ length ps
-length-steps_from p [] = refl
-length-steps_from p (q ∷ qs) = ap (λ (n : ℕ). suc n) (length-steps_from q qs)
-
--- one point less than there are
-one_less : (p : Point) (ps : List Point) → length (p ∷ ps) - 1 ≡ length (steps_from p ps)
-one_less p ps = omega (arith, length-steps_from p ps)
-
-list_spelled : (purpose : ListUse) (p : Point) (ps : List Point) → IsFitting purpose 4 (length ps) → list_all is_grid_point (p ∷ ps) ≡ true → length ps < 2 ^ 64 → IsPlainList purpose (line_of (p ∷ ps)) (list_bytes (p ∷ ps))
-list_spelled purpose p ps fits inside few =
-    let all = and_parts (is_grid_point p) (list_all is_grid_point ps) inside in
-    let same = length-steps_from p ps in
-    record {
-      plain = refl;
-      fits = subst (λ (n : ℕ). IsFitting purpose 4 n) (sym same) fits;
-      spelled = record {
-        front = 4 ∷ [];
-        back = shortest (length (p ∷ ps) - 1) ++ step_bytes p ps;
-        first = small_spelled 4 (omega arith);
-        joined = refl;
-        second = record {
-          front = shortest (length (steps_from p ps));
-          back = step_bytes p ps;
-          first = shortest-IsShortest (length (steps_from p ps)) (omega (arith, same, few));
-          second = record { len = refl; each = steps_spelled p ps all.0 all.1 };
-          joined = ap (λ (n : ℕ). shortest n ++ step_bytes p ps) (one_less p ps);
-        };
-      };
-    }
-
--- the point list and the place of its first point
-abbrev IsDrawn : ListUse → List Point → List ℕ → Type 0
-IsDrawn purpose points bytes = IsPair (IsThere true (IsPlainList purpose)) (λ _. spot_in Shortest true true false) (Some (line_of points), spot_of points) bytes
-
-points_spelled : (purpose : ListUse) (p : Point) (ps : List Point) → IsFitting purpose 4 (length ps) → list_all is_grid_point (p ∷ ps) ≡ true → length ps < 2 ^ 64 → IsDrawn purpose (p ∷ ps) (points_bytes (p ∷ ps))
-points_spelled purpose p ps fits inside few =
-    let all = and_parts (is_grid_point p) (list_all is_grid_point ps) inside in
-    let here = and_parts (is_coordinate p.x) (is_coordinate p.y) all.0 in
-    record {
-      front = list_bytes (p ∷ ps);
-      back = place_bytes p.x p.y;
-      first = list_spelled purpose p ps fits inside few;
-      second = spot_spelled p.x p.y (near p.x here.0) (near p.y here.1);
-      joined = refl;
-    }
-
--- a ring has at least three points
-ring_spelled : (points : List Point) → nat_lt (length points) 3 ≡ false → list_all is_grid_point points ≡ true → length points < 2 ^ 64 → IsDrawn uses.Polygon points (points_bytes points)
-ring_spelled [] enough inside few = cc
-ring_spelled (p ∷ ps) enough inside few = points_spelled uses.Polygon p ps (grind arith, inl (omega arith)) inside (omega arith)
-
--- a line has at least one
-line_spelled : (points : List Point) → nat_lt (length points) 1 ≡ false → list_all is_grid_point points ≡ true → length points < 2 ^ 64 → IsDrawn uses.Path points (points_bytes points)
-line_spelled [] enough inside few = cc
-line_spelled (p ∷ ps) enough inside few = points_spelled uses.Path p ps tt inside (omega arith)
+use Rattle.oas_form.specs.Records.{spot_at, line_of, spot_of}
+use Rattle.oas_form.specs.Bytes.{string_bytes, place_bytes, points_bytes, placement_info}
+use Rattle.oas_form.proofs.FieldSpelling.{small_spelled, name_spelled, label_spelled, near, reaching, spot_spelled, layers_spelled, ring_spelled, line_spelled}
 
 -- ---- records of elements, after their ids
 
@@ -221,13 +79,15 @@ placed info quarters flip name x y says h near_x near_y = record {
 }
 
 pub placement_spelled : (name : List ℕ) (x y : ℤ) (turns : Turns) (flip : Bool) → IsName name → (is_coordinate x && is_coordinate y) ≡ true
-    → quarters_in Shortest (record { cell = Some (cell.Name name); turn = Quarters (turn_count turns); flip = flip; spot = spot_at x y }) (placement_info (turn_count turns) flip ∷ (string_bytes name ++ place_bytes x y))
+    → quarters_in Shortest (record { cell = Some (cell.Name name); turn = Quarters (turn_count turns); flip = flip; spot = spot_at x y })
+    (placement_info (turn_count turns) flip ∷ (string_bytes name ++ place_bytes x y))
 placement_spelled name x y turns flip h inside =
     let at = and_parts (is_coordinate x) (is_coordinate y) inside in
     placed (placement_info (turn_count turns) flip) (turn_count turns) flip name x y (info_says turns flip) h (near x at.0) (near y at.1)
 
 pub string_spelled : (string : List ℕ) (textlayer texttype : ℕ) (x y : ℤ) → FitsText string textlayer texttype → (is_coordinate x && is_coordinate y) ≡ true
-    → text_record_in Shortest (record { string = Some (text.Label string); textlayer = Some textlayer; texttype = Some texttype; spot = spot_at x y }) (0x5B ∷ (string_bytes string ++ (shortest textlayer ++ (shortest texttype ++ place_bytes x y))))
+    → text_record_in Shortest (record { string = Some (text.Label string); textlayer = Some textlayer; texttype = Some texttype; spot = spot_at x y })
+    (0x5B ∷ (string_bytes string ++ (shortest textlayer ++ (shortest texttype ++ place_bytes x y))))
 string_spelled string textlayer texttype x y h inside =
     let at = and_parts (is_coordinate x) (is_coordinate y) inside in
     record {
@@ -255,7 +115,8 @@ string_spelled string textlayer texttype x y h inside =
     }
 
 pub box_spelled : (layer datatype width height : ℕ) (x y : ℤ) → FitsRectangle layer datatype width height → (reaches x width && reaches y height) ≡ true
-    → rectangle_in Shortest (record { square = false; layer = Some layer; datatype = Some datatype; width = Some width; height = Some height; spot = spot_at x y }) (0x7B ∷ (shortest layer ++ (shortest datatype ++ (shortest width ++ (shortest height ++ place_bytes x y)))))
+    → rectangle_in Shortest (record { square = false; layer = Some layer; datatype = Some datatype; width = Some width; height = Some height; spot = spot_at x y })
+    (0x7B ∷ (shortest layer ++ (shortest datatype ++ (shortest width ++ (shortest height ++ place_bytes x y)))))
 box_spelled layer datatype width height x y h inside =
     let at = and_parts (reaches x width) (reaches y height) inside in
     record {
@@ -289,7 +150,8 @@ box_spelled layer datatype width height x y h inside =
     }
 
 pub polygon_spelled : (layer datatype : ℕ) (points : List Point) → FitsPolygon layer datatype → nat_lt (length points) 3 ≡ false → list_all is_grid_point points ≡ true → length points < 2 ^ 64
-    → polygon_in Shortest (record { layer = Some layer; datatype = Some datatype; points = Some (line_of points); spot = spot_of points }) (0x3B ∷ (shortest layer ++ (shortest datatype ++ points_bytes points)))
+    → polygon_in Shortest (record { layer = Some layer; datatype = Some datatype; points = Some (line_of points); spot = spot_of points })
+    (0x3B ∷ (shortest layer ++ (shortest datatype ++ points_bytes points)))
 polygon_spelled layer datatype points h enough inside few = record {
   from = (0x3B, ((Some layer, Some datatype), (Some (line_of points), spot_of points)));
   is = refl;
@@ -308,7 +170,8 @@ polygon_spelled layer datatype points h enough inside few = record {
   };
 }
 
-ends_spelled : (start end : ℤ) → is_coordinate start ≡ true → is_coordinate end ≡ true → extensions_in Shortest (record { start = Explicit start; end = Explicit end }) (15 ∷ (shortest_signed start ++ shortest_signed end))
+ends_spelled : (start end : ℤ) → is_coordinate start ≡ true → is_coordinate end ≡ true →
+    extensions_in Shortest (record { start = Explicit start; end = Explicit end }) (15 ∷ (shortest_signed start ++ shortest_signed end))
 ends_spelled start end near_start near_end = record {
   from = (15, (Some start, Some end));
   is = refl;
@@ -329,7 +192,15 @@ ends_spelled start end near_start near_end = record {
 
 pub path_spelled : (layer datatype half_width : ℕ) (start end : ℤ) (points : List Point) → FitsPath layer datatype half_width → nat_lt (length points) 1 ≡ false
     → (nat_le half_width (2 ^ 60) && (is_coordinate start && (is_coordinate end && list_all is_grid_point points))) ≡ true → length points < 2 ^ 64
-    → path_in Shortest (record { layer = Some layer; datatype = Some datatype; half_width = Some half_width; extensions = Some (record { start = Explicit start; end = Explicit end }); points = Some (line_of points); spot = spot_of points })
+    → path_in Shortest (record {
+      layer = Some layer;
+      datatype = Some datatype;
+      half_width = Some half_width;
+      extensions = Some
+          (record { start = Explicit start; end = Explicit end });
+      points = Some (line_of points);
+      spot = spot_of points;
+    })
     (0xFB ∷ (shortest layer ++ (shortest datatype ++ (shortest half_width ++ (15 ∷ (shortest_signed start ++ (shortest_signed end ++ points_bytes points)))))))
 path_spelled layer datatype half_width start end points h enough inside few =
     let wide = and_parts (nat_le half_width (2 ^ 60)) (is_coordinate start && (is_coordinate end && list_all is_grid_point points)) inside in
@@ -366,7 +237,8 @@ path_spelled layer datatype half_width start end points h enough inside few =
     }
 
 pub circle_spelled : (layer datatype radius : ℕ) (x y : ℤ) → FitsCircle layer datatype radius → (nat_le radius (2 ^ 60) && (is_coordinate x && is_coordinate y)) ≡ true
-    → circle_in Shortest (record { layer = Some layer; datatype = Some datatype; radius = Some radius; spot = spot_at x y }) (0x3B ∷ (shortest layer ++ (shortest datatype ++ (shortest radius ++ place_bytes x y))))
+    → circle_in Shortest (record { layer = Some layer; datatype = Some datatype; radius = Some radius; spot = spot_at x y })
+    (0x3B ∷ (shortest layer ++ (shortest datatype ++ (shortest radius ++ place_bytes x y))))
 circle_spelled layer datatype radius x y h inside =
     let wide = and_parts (nat_le radius (2 ^ 60)) (is_coordinate x && is_coordinate y) inside in
     let at = and_parts (is_coordinate x) (is_coordinate y) wide.1 in

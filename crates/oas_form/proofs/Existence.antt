@@ -51,7 +51,8 @@ sides_fit layer datatype width height x y f h =
     let tall = both (is_coordinate y) (is_coordinate (y +ℤ pos height)) b.1 in
     record { layer_fits = f.layer_fits; datatype_fits = f.datatype_fits; width_fits = short x width wide.0 wide.1; height_fits = short y height tall.0 tall.1 }
 
-polygon_fits : (layer datatype : ℕ) (points : List Point) (o : Option Corners) → FitsPolygon layer datatype → fits_grid (normal_polygon layer datatype points o) ≡ true → Fits (normal_polygon layer datatype points o)
+polygon_fits : (layer datatype : ℕ) (points : List Point) (o : Option Corners) → FitsPolygon layer datatype → fits_grid (normal_polygon layer datatype points o) ≡ true →
+    Fits (normal_polygon layer datatype points o)
 polygon_fits layer datatype points None f h = f
 polygon_fits layer datatype points (Some c) f h = sides_fit layer datatype _ _ c.low.x c.low.y f h
 

@@ -83,7 +83,8 @@ string_fits false string bytes h = let e : h.from ≡ string = cc (h.is) in subs
 placement_fits : (p : PlacementRecord) (name bytes : List ℕ) → p.cell ≡ Some (cell.Name name) → quarters_in Shortest p bytes → IsName name
 placement_fits p name bytes e h = cell_fits _ name _ (given _ (cell_in Shortest _) h.from.1.0 (cell.Name name) _ (ap (λ (q : PlacementRecord). q.cell) h.is ∙ e) h.spelled.second.first)
 
-text_fits : (t : TextRecord) (string : List ℕ) (textlayer texttype : ℕ) (bytes : List ℕ) → t.string ≡ Some (text.Label string) → t.textlayer ≡ Some textlayer → t.texttype ≡ Some texttype → text_record_in Shortest t bytes → FitsText string textlayer texttype
+text_fits : (t : TextRecord) (string : List ℕ) (textlayer texttype : ℕ) (bytes : List ℕ) → t.string ≡ Some (text.Label string) → t.textlayer ≡ Some textlayer → t.texttype ≡ Some texttype →
+    text_record_in Shortest t bytes → FitsText string textlayer texttype
 text_fits t string textlayer texttype bytes s l k h =
     let f = h.spelled.second in
     record {
@@ -92,7 +93,8 @@ text_fits t string textlayer texttype bytes s l k h =
       texttype_fits = number_fits _ h.from.1.1.0.1 texttype _ (ap (λ (q : TextRecord). q.texttype) h.is ∙ k) f.second.first.second;
     }
 
-rectangle_fits : (r : RectangleRecord) (layer datatype width height : ℕ) (bytes : List ℕ) → r.layer ≡ Some layer → r.datatype ≡ Some datatype → r.width ≡ Some width → r.height ≡ Some height → rectangle_in Shortest r bytes → FitsRectangle layer datatype width height
+rectangle_fits : (r : RectangleRecord) (layer datatype width height : ℕ) (bytes : List ℕ) → r.layer ≡ Some layer → r.datatype ≡ Some datatype → r.width ≡ Some width →
+    r.height ≡ Some height → rectangle_in Shortest r bytes → FitsRectangle layer datatype width height
 rectangle_fits r layer datatype width height bytes l d w t h =
     let f = h.spelled.second in
     record {
@@ -110,7 +112,8 @@ polygon_fits p layer datatype bytes l d h =
       datatype_fits = number_fits _ h.from.1.0.1 datatype _ (ap (λ (q : PolygonRecord). q.datatype) h.is ∙ d) f.first.second;
     }
 
-path_fits : (p : PathRecord) (layer datatype half_width : ℕ) (bytes : List ℕ) → p.layer ≡ Some layer → p.datatype ≡ Some datatype → p.half_width ≡ Some half_width → path_in Shortest p bytes → FitsPath layer datatype half_width
+path_fits : (p : PathRecord) (layer datatype half_width : ℕ) (bytes : List ℕ) → p.layer ≡ Some layer → p.datatype ≡ Some datatype → p.half_width ≡ Some half_width →
+    path_in Shortest p bytes → FitsPath layer datatype half_width
 path_fits p layer datatype half_width bytes l d w h =
     let f = h.spelled.second in
     record {
@@ -119,7 +122,8 @@ path_fits p layer datatype half_width bytes l d w h =
       half_width_fits = number_fits _ h.from.1.1.0 half_width _ (ap (λ (q : PathRecord). q.half_width) h.is ∙ w) f.second.first;
     }
 
-circle_fits : (p : CircleRecord) (layer datatype radius : ℕ) (bytes : List ℕ) → p.layer ≡ Some layer → p.datatype ≡ Some datatype → p.radius ≡ Some radius → circle_in Shortest p bytes → FitsCircle layer datatype radius
+circle_fits : (p : CircleRecord) (layer datatype radius : ℕ) (bytes : List ℕ) → p.layer ≡ Some layer → p.datatype ≡ Some datatype → p.radius ≡ Some radius → circle_in Shortest p bytes →
+    FitsCircle layer datatype radius
 circle_fits p layer datatype radius bytes l d w h =
     let f = h.spelled.second in
     record {
@@ -158,7 +162,8 @@ element_fits (Text string textlayer texttype x y) bytes h =
 element_fits (Rectangle layer datatype width height x y) bytes h =
     let s = h.parts.second in
     let e = inner_rectangle s.from _ s.is in
-    rectangle_fits s.from layer datatype width height _ (ap (λ (r : RectangleRecord). r.layer) e) (ap (λ (r : RectangleRecord). r.datatype) e) (ap (λ (r : RectangleRecord). r.width) e) (ap (λ (r : RectangleRecord). r.height) e) s.spelled
+    rectangle_fits s.from layer datatype width height _ (ap (λ (r : RectangleRecord). r.layer) e) (ap (λ (r : RectangleRecord). r.datatype) e) (ap (λ (r : RectangleRecord). r.width) e)
+    (ap (λ (r : RectangleRecord). r.height) e) s.spelled
 element_fits (Polygon layer datatype points) bytes h =
     let s = h.parts.second in
     let e = inner_polygon s.from _ s.is in

@@ -82,7 +82,8 @@ string_fits true t bytes h = subst StringFits h.is tt
 string_fits false t bytes h = subst StringFits h.is (label_fits h.from bytes h.spelled)
 
 -- a field that may be there
-there : {V : Type 0} (P : V → Type 0) (spells : V → List ℕ → Type 0) → ((v : V) (bytes : List ℕ) → spells v bytes → P v) → (here : Bool) (o : Option V) (bytes : List ℕ) → IsThere here spells o bytes → IfSome o P
+there : {V : Type 0} (P : V → Type 0) (spells : V → List ℕ → Type 0) → ((v : V) (bytes : List ℕ) → spells v bytes → P v) → (here : Bool) (o : Option V) (bytes : List ℕ) →
+    IsThere here spells o bytes → IfSome o P
 there P spells fits true (Some v) bytes h = fits v bytes h
 there P spells fits true None bytes h = tt
 there P spells fits false (Some v) bytes h = absurd h

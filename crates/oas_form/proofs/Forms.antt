@@ -58,7 +58,8 @@ one_canonical_form one other profile c d m n h k p q s =
     one_spelling (plain_head n.unit) (records_of n.cells) c d (subst (λ (l : Meaning). FileIn Shortest (plain_head l.unit) (records_of l.cells) c) same f.file) g.file
 
 -- two canonical forms of files that mean the same
-forms_alike : (one other : Limits) (profile : Profile) (b d c e : List ℕ) (m n : Meaning) → IsCanonicalOf one profile b c → IsCanonicalOf other profile d e → Means b m → Means d n → SameLayout profile m n → c ≡ e
+forms_alike : (one other : Limits) (profile : Profile) (b d c e : List ℕ) (m n : Meaning) → IsCanonicalOf one profile b c → IsCanonicalOf other profile d e → Means b m → Means d n →
+    SameLayout profile m n → c ≡ e
 forms_alike one other profile b d c e m n p q k j s =
     let left : SameLayout profile p.target m = subst (SameLayout profile p.target) (means_one b p.source m p.means k) (symmetric profile p.source p.target p.same) in
     let right : SameLayout profile n q.target = subst (λ (l : Meaning). SameLayout profile l q.target) (means_one d q.source n q.means j) q.same in

@@ -104,10 +104,15 @@ accepted_once limits b m h k =
 
 pub canonical_weight : CanonicalWeight
 canonical_weight limits profile b c m n h k p q =
-    let same : SameLayout profile m n = subst (λ (l : Meaning). SameLayout profile l n) (means_one b k.source m k.means p) (subst (SameLayout profile k.source) (means_one c k.target n k.becomes q) k.same) in
+    let same : SameLayout profile m n = subst (λ (l : Meaning). SameLayout profile l n) (means_one b k.source m k.means p)
+    (subst (SameLayout profile k.source) (means_one c k.target n k.becomes q) k.same) in
     let once = accepted_once limits b m h p in
-    let still = accepted_once limits c n (form_is_accepted limits profile c k.form) q in
-    (same_count profile m n once still same, least_weight profile m n once (shaped limits profile c n k.form q).ordered same, λ one. same_weight m n once still (subst (λ (o : Profile). SameLayout o m n) one same))
+    let still = accepted_once limits c n (form_is_accepted limits profile c k.form) q in (
+      same_count profile m n once still same,
+      least_weight profile m n once (shaped limits profile c n k.form q).ordered same,
+      λ one. same_weight m n once still
+          (subst (λ (o : Profile). SameLayout o m n) one same),
+    )
 
 -- a path has a point
 element_has_point : (e : Element) → lacks_points e ≡ false → HasPoint e

@@ -55,9 +55,11 @@ left_true true h = refl
 left_true false h = cc
 
 -- a record that stands once, is not refused and draws one element
-within : (limits : Limits) (count weight : ℕ) (m : ModalState) (r : Record) (k : Kind) (e : Element) → kind_of r ≡ Some k → repeats r ≡ false → copies_at m r (offsets_if (repeats r) m.repetition) ≡ Named e ∷ [] → draw_reason limits count weight m r ≡ None → fits_grid e ≡ true
+within : (limits : Limits) (count weight : ℕ) (m : ModalState) (r : Record) (k : Kind) (e : Element) → kind_of r ≡ Some k → repeats r ≡ false →
+    copies_at m r (offsets_if (repeats r) m.repetition) ≡ Named e ∷ [] → draw_reason limits count weight m r ≡ None → fits_grid e ≡ true
 within limits count weight m r k e is once draws none =
-    let copies : option_to_list (drawn_by m k still) ++ [] ≡ Named e ∷ [] = (λ i. sym (ap (λ (b : Bool). copies_at m r (offsets_if b m.repetition)) once ∙ ap (λ (o : Option Kind). option_to_list (drawn_if m o still) ++ []) is) i) ∙ draws in
+    let copies : option_to_list (drawn_by m k still) ++ [] ≡ Named e ∷ [] =
+    (λ i. sym (ap (λ (b : Bool). copies_at m r (offsets_if b m.repetition)) once ∙ ap (λ (o : Option Kind). option_to_list (drawn_if m o still) ++ []) is) i) ∙ draws in
     let drawn : drawn_by m k still ≡ Some (Named e) = drawn_alone (drawn_by m k still) (Named e) copies in
     let reason : option_or (kind_reason limits count weight m k false) (first_of ((not (all_fit m k false), CoordinateRange) ∷ [])) ≡ None =
     sym (ap (λ (b : Bool). reason_if limits count weight m (kind_of r) b) once ∙ ap (λ (o : Option Kind). reason_if limits count weight m o false) is) ∙ none in
@@ -65,26 +67,33 @@ within limits count weight m r k e is once draws none =
     ap fits_if (sym drawn) ∙ fits
 
 -- so after any records
-within_after : (limits : Limits) (before : List Record) (r : Record) (k : Kind) (e : Element) → kind_of r ≡ Some k → repeats r ≡ false → elements_at r before ≡ Named e ∷ [] → element_reason limits (seen before) (stepped (modal_of before) r) r ≡ None → fits_grid e ≡ true
+within_after : (limits : Limits) (before : List Record) (r : Record) (k : Kind) (e : Element) → kind_of r ≡ Some k → repeats r ≡ false → elements_at r before ≡ Named e ∷ [] →
+    element_reason limits (seen before) (stepped (modal_of before) r) r ≡ None → fits_grid e ≡ true
 within_after limits before r k e is once draws none =
     let s = seen before in
-    let reason : draw_reason limits s.count s.weight (stepped (modal_of before) r) r ≡ None = open_cell s.in_cell (draw_reason limits s.count s.weight (stepped (modal_of before) r) r) (OutOfPlace (id_of r)) none in
+    let reason : draw_reason limits s.count s.weight (stepped (modal_of before) r) r ≡ None = open_cell s.in_cell (draw_reason limits s.count s.weight (stepped (modal_of before) r) r)
+    (OutOfPlace (id_of r)) none in
     within limits s.count s.weight (modal_of (r ∷ before)) r k e is once draws (ap (λ (m : ModalState). draw_reason limits s.count s.weight m r) (modal_step before r) ∙ reason)
 
 -- an element
 element_within : (limits : Limits) (e : Element) (before : List Record) → IsAbsolute before → lacks_points e ≡ false → refused_after limits before (element_record e) ≡ None → fits_grid e ≡ true
 element_within limits (Placement name x y turns flip) before absolute h none =
-    within_after limits before (element_record (Placement name x y turns flip)) (kind.Placement (Quarters (turn_count turns)) flip) (Placement name x y turns flip) refl refl (draws (Placement name x y turns flip) before absolute h) none
+    within_after limits before (element_record (Placement name x y turns flip)) (kind.Placement (Quarters (turn_count turns)) flip) (Placement name x y turns flip) refl refl
+    (draws (Placement name x y turns flip) before absolute h) none
 element_within limits (Text string textlayer texttype x y) before absolute h none =
-    within_after limits before (element_record (Text string textlayer texttype x y)) kind.Text (Text string textlayer texttype x y) refl refl (draws (Text string textlayer texttype x y) before absolute h) none
+    within_after limits before (element_record (Text string textlayer texttype x y)) kind.Text (Text string textlayer texttype x y) refl refl
+    (draws (Text string textlayer texttype x y) before absolute h) none
 element_within limits (Rectangle layer datatype width height x y) before absolute h none =
-    within_after limits before (element_record (Rectangle layer datatype width height x y)) kind.Rectangle (Rectangle layer datatype width height x y) refl refl (draws (Rectangle layer datatype width height x y) before absolute h) none
+    within_after limits before (element_record (Rectangle layer datatype width height x y)) kind.Rectangle (Rectangle layer datatype width height x y) refl refl
+    (draws (Rectangle layer datatype width height x y) before absolute h) none
 element_within limits (Polygon layer datatype points) before absolute h none =
     within_after limits before (element_record (Polygon layer datatype points)) kind.Polygon (Polygon layer datatype points) refl refl (draws (Polygon layer datatype points) before absolute h) none
 element_within limits (Path layer datatype half_width start end points) before absolute h none =
-    within_after limits before (element_record (Path layer datatype half_width start end points)) kind.Path (Path layer datatype half_width start end points) refl refl (draws (Path layer datatype half_width start end points) before absolute h) none
+    within_after limits before (element_record (Path layer datatype half_width start end points)) kind.Path (Path layer datatype half_width start end points) refl refl
+    (draws (Path layer datatype half_width start end points) before absolute h) none
 element_within limits (Circle layer datatype radius x y) before absolute h none =
-    within_after limits before (element_record (Circle layer datatype radius x y)) kind.Circle (Circle layer datatype radius x y) refl refl (draws (Circle layer datatype radius x y) before absolute h) none
+    within_after limits before (element_record (Circle layer datatype radius x y)) kind.Circle (Circle layer datatype radius x y) refl refl
+    (draws (Circle layer datatype radius x y) before absolute h) none
 
 -- ---- all records
 
@@ -93,17 +102,24 @@ front_allowed : (limits : Limits) (rs before : List Record) → stands.Allowed l
 front_allowed limits [] before h = h
 front_allowed limits (r ∷ rs) before h = (front_allowed limits rs (r ∷ before) h).0
 
-elements_within : (limits : Limits) (es : List Element) (before : List Record) → IsAbsolute before → AllByRecursion (λ e. lacks_points e ≡ false) es → stands.Allowed limits (onto (map element_record es) before) → AllByRecursion (λ e. fits_grid e ≡ true) es
+elements_within : (limits : Limits) (es : List Element) (before : List Record) → IsAbsolute before → AllByRecursion (λ e. lacks_points e ≡ false) es →
+    stands.Allowed limits (onto (map element_record es) before) → AllByRecursion (λ e. fits_grid e ≡ true) es
 elements_within limits [] before absolute points h = tt
-elements_within limits (e ∷ es) before absolute points h =
-    (element_within limits e before absolute points.0 (front_allowed limits (map element_record es) (element_record e ∷ before) h).1, elements_within limits es (element_record e ∷ before) (absolute_element e before ∙ absolute) points.1 h)
+elements_within limits (e ∷ es) before absolute points h = (
+  element_within limits e before absolute points.0 (front_allowed limits (map element_record es) (element_record e ∷ before) h).1,
+  elements_within limits es (element_record e ∷ before)
+      (absolute_element e before ∙ absolute) points.1 h,
+)
 
 cells_within : (limits : Limits) (cs : Cells) (before : List Record) → HavePoints cs → stands.Allowed limits (onto (records_of cs) before) → FitGrid cs
 cells_within limits [] before points h = tt
 cells_within limits (c ∷ cs) before points h =
     let opened : List Record = record_of.Cell (cell.Name c.0) ∷ before in
-    let all : stands.Allowed limits (onto (records_of cs) (onto (map element_record c.1) opened)) = subst (stands.Allowed limits) (onto-append (map element_record c.1) (records_of cs) opened) h in
-    (elements_within limits c.1 opened refl points.0 (front_allowed limits (records_of cs) (onto (map element_record c.1) opened) all), cells_within limits cs (onto (map element_record c.1) opened) points.1 all)
+    let all : stands.Allowed limits (onto (records_of cs) (onto (map element_record c.1) opened)) = subst (stands.Allowed limits) (onto-append (map element_record c.1) (records_of cs) opened) h in (
+      elements_within limits c.1 opened refl points.0 (front_allowed limits (records_of cs) (onto (map element_record c.1) opened) all),
+      cells_within limits cs
+          (onto (map element_record c.1) opened) points.1 all,
+    )
 
 pub allowed_fit : (limits : Limits) (cs : Cells) → HavePoints cs → Allowed limits (records_of cs) → FitGrid cs
 allowed_fit limits cs points h = cells_within limits cs [] points (subst (stands.Allowed limits) (reverse-is (records_of cs)) h)

@@ -30,9 +30,30 @@ use Rattle.oas_file.specs.Laws.FileLaws.{one_reading, means_one}
 use Rattle.oas_form.specs.Bytes.{element_bytes, canonical_bytes}
 use Rattle.oas_form.specs.Canonical.{IsOrdered, CanonicalForm}
 use Rattle.oas_form.specs.Records.{element_record}
-use Rattle.oas_form.specs.Judging.{Entry, entry_records, IsReadAs, Judge, IsDrawnInOrder, IsInOrder, judge_drawn, judge_after, judge_of, AreInOrder, JudgedFile, MatchesDrawn, Matches, AllMatch, JudgedByBytes, BytesJudge, BytesGoOn, KeptBytes, FormIsOrderedBytes}
+use Rattle.oas_form.specs.Judging.{
+  Entry,
+  entry_records,
+  IsReadAs,
+  Judge,
+  IsDrawnInOrder,
+  IsInOrder,
+  judge_drawn,
+  judge_after,
+  judge_of,
+  AreInOrder,
+  JudgedFile,
+  MatchesDrawn,
+  Matches,
+  AllMatch,
+  JudgedByBytes,
+  BytesJudge,
+  BytesGoOn,
+  KeptBytes,
+  FormIsOrderedBytes,
+}
 use Rattle.oas_form.proofs.FieldsGiven.{GivesFit, after_fits, unit_given}
-use Rattle.oas_form.proofs.DrawnSound.{IsSoundDrawn, draws_sound, drawn_sound, records_sound}
+use Rattle.oas_form.proofs.DrawsSound.{IsSoundDrawn, draws_sound}
+use Rattle.oas_form.proofs.DrawnSound.{drawn_sound, records_sound}
 use Rattle.oas_form.proofs.Existence.{normal_sound}
 use Rattle.oas_form.proofs.Forms.{shaped}
 use Rattle.oas_form.proofs.Held.{form_is_its_bytes}
@@ -53,24 +74,30 @@ module _ (profile : Profile) where
     pub after : (j : Judge) (ds : List Drawn) → judge_after j r ds ≡ judge_drawn j ds
     pub ordered : (j : Judge) (ds : List Drawn) → IsDrawnInOrder profile j ds → IsInOrder profile j r ds
 
-  pub by_kind : (P : Record → Type 0) → ((name : List ℕ) → P (record_of.Cell (cell.Name name))) → ((number : ℕ) → P (record_of.Cell (cell.Number number))) → ((r : Record) → IsDrawing r → P r) → (r : Record) → P r
+  pub by_kind : (P : Record → Type 0) → ((name : List ℕ) → P (record_of.Cell (cell.Name name))) → ((number : ℕ) → P (record_of.Cell (cell.Number number))) →
+      ((r : Record) → IsDrawing r → P r) → (r : Record) → P r
   by_kind P named numbered other (record_of.Cell (cell.Name name)) = named name
   by_kind P named numbered other (record_of.Cell (cell.Number number)) = numbered number
   by_kind P named numbered other record_of.Pad = other record_of.Pad (record { matched = λ j bytes ds h. h; matches = λ j bytes ds h. h; after = λ j ds. refl; ordered = λ j ds h. h })
   by_kind P named numbered other record_of.End = other record_of.End (record { matched = λ j bytes ds h. h; matches = λ j bytes ds h. h; after = λ j ds. refl; ordered = λ j ds h. h })
-  by_kind P named numbered other (record_of.CellName name number) = other (record_of.CellName name number) (record { matched = λ j bytes ds h. h; matches = λ j bytes ds h. h; after = λ j ds. refl; ordered = λ j ds h. h })
-  by_kind P named numbered other (record_of.TextString label number) = other (record_of.TextString label number) (record { matched = λ j bytes ds h. h; matches = λ j bytes ds h. h; after = λ j ds. refl; ordered = λ j ds h. h })
+  by_kind P named numbered other (record_of.CellName name number) = other (record_of.CellName name number)
+      (record { matched = λ j bytes ds h. h; matches = λ j bytes ds h. h; after = λ j ds. refl; ordered = λ j ds h. h })
+  by_kind P named numbered other (record_of.TextString label number) = other (record_of.TextString label number)
+      (record { matched = λ j bytes ds h. h; matches = λ j bytes ds h. h; after = λ j ds. refl; ordered = λ j ds h. h })
   by_kind P named numbered other record_of.XyAbsolute = other record_of.XyAbsolute (record { matched = λ j bytes ds h. h; matches = λ j bytes ds h. h; after = λ j ds. refl; ordered = λ j ds h. h })
   by_kind P named numbered other record_of.XyRelative = other record_of.XyRelative (record { matched = λ j bytes ds h. h; matches = λ j bytes ds h. h; after = λ j ds. refl; ordered = λ j ds h. h })
-  by_kind P named numbered other (record_of.Placement p) = other (record_of.Placement p) (record { matched = λ j bytes ds h. h; matches = λ j bytes ds h. h; after = λ j ds. refl; ordered = λ j ds h. h })
+  by_kind P named numbered other (record_of.Placement p) = other (record_of.Placement p)
+      (record { matched = λ j bytes ds h. h; matches = λ j bytes ds h. h; after = λ j ds. refl; ordered = λ j ds h. h })
   by_kind P named numbered other (record_of.Text t) = other (record_of.Text t) (record { matched = λ j bytes ds h. h; matches = λ j bytes ds h. h; after = λ j ds. refl; ordered = λ j ds h. h })
-  by_kind P named numbered other (record_of.Rectangle r) = other (record_of.Rectangle r) (record { matched = λ j bytes ds h. h; matches = λ j bytes ds h. h; after = λ j ds. refl; ordered = λ j ds h. h })
+  by_kind P named numbered other (record_of.Rectangle r) = other (record_of.Rectangle r)
+      (record { matched = λ j bytes ds h. h; matches = λ j bytes ds h. h; after = λ j ds. refl; ordered = λ j ds h. h })
   by_kind P named numbered other (record_of.Polygon p) = other (record_of.Polygon p) (record { matched = λ j bytes ds h. h; matches = λ j bytes ds h. h; after = λ j ds. refl; ordered = λ j ds h. h })
   by_kind P named numbered other (record_of.Path p) = other (record_of.Path p) (record { matched = λ j bytes ds h. h; matches = λ j bytes ds h. h; after = λ j ds. refl; ordered = λ j ds h. h })
   by_kind P named numbered other (record_of.Circle c) = other (record_of.Circle c) (record { matched = λ j bytes ds h. h; matches = λ j bytes ds h. h; after = λ j ds. refl; ordered = λ j ds h. h })
 
   -- the record of an element matches by what it draws
-  element_matches : (e : Element) (j : Judge) (bytes : List ℕ) (ds : List Drawn) → (bytes ≡ element_bytes e) → IsInOrder profile j (element_record e) ds → ds ≡ Named e ∷ [] → Matches profile j (element_record e) bytes ds
+  element_matches : (e : Element) (j : Judge) (bytes : List ℕ) (ds : List Drawn) → (bytes ≡ element_bytes e) → IsInOrder profile j (element_record e) ds → ds ≡ Named e ∷ [] →
+      Matches profile j (element_record e) bytes ds
   element_matches e j bytes ds same order one = wanted e (subst (MatchesDrawn profile j bytes) (sym one) (let h = subst (IsDrawnInOrder profile j) one (drawn e order) in (same, h.0, h.1))) where
     drawn : (f : Element) → IsInOrder profile j (element_record f) ds → IsDrawnInOrder profile j ds
     drawn (Placement name x y turns flip) h = h
@@ -110,7 +137,8 @@ module _ (profile : Profile) where
 
   -- spelled in the shortest style and in order, it matches
   abbrev ShortestMatches : Limits → List Record → List ℕ → Record → Type 0
-  ShortestMatches limits before bytes r = IsReadAfter limits before r bytes → record_in Shortest false r bytes → IsInOrder profile (judge_of before) r (elements_at r before) → Matches profile (judge_of before) r bytes (elements_at r before)
+  ShortestMatches limits before bytes r = IsReadAfter limits before r bytes → record_in Shortest false r bytes → IsInOrder profile (judge_of before) r (elements_at r before) →
+      Matches profile (judge_of before) r bytes (elements_at r before)
 
   name_matches : (limits : Limits) (before : List Record) (bytes name : List ℕ) (r : Record) → record_of.Cell (cell.Name name) ≡ r → ShortestMatches limits before bytes r
   name_matches limits before bytes name r is = subst (ShortestMatches limits before bytes) is (λ h s order. ((cell_is_bytes name bytes h.given.0).0 s, order))
@@ -133,12 +161,14 @@ module _ (profile : Profile) where
     shortest : record_in Shortest false r bytes
     order : IsInOrder profile (judge_of before) r (elements_at r before)
 
-  matched_drawn : (limits : Limits) (before : List Record) (r : Record) (bytes : List ℕ) → IsReadAfter limits before r bytes → IsDrawing r → (ds : List Drawn) → elements_at r before ≡ ds → MatchesDrawn profile (judge_of before) bytes ds → IsShortestInOrder before r bytes
+  matched_drawn : (limits : Limits) (before : List Record) (r : Record) (bytes : List ℕ) → IsReadAfter limits before r bytes → IsDrawing r → (ds : List Drawn) → elements_at r before ≡ ds →
+      MatchesDrawn profile (judge_of before) bytes ds → IsShortestInOrder before r bytes
   matched_drawn limits before r bytes h k [] is m = absurd m
   matched_drawn limits before r bytes h k (Named e ∷ []) is m =
       let o = one_drawn limits before r bytes e h is in
       let canonical = (spelled (element_record e) (element_bytes e) (element_inner e o.sound o.light)).spelled in
-      let same : element_record e ≡ r = ((OneFront-record Any false).one (element_record e) r (element_bytes e) bytes [] [] ((IsWithin-record false).within (element_record e) (element_bytes e) canonical) h.spelled.spelled (ap (λ (b : List ℕ). b ++ []) (sym m.0))).1 in
+      let same : element_record e ≡ r = ((OneFront-record Any false).one (element_record e) r (element_bytes e) bytes [] []
+      ((IsWithin-record false).within (element_record e) (element_bytes e) canonical) h.spelled.spelled (ap (λ (b : List ℕ). b ++ []) (sym m.0))).1 in
       record {
         shortest = subst (λ (p : Record × List ℕ). record_in Shortest false p.0 p.1) (λ i. (same i, sym m.0 i)) canonical;
         order = k.ordered (judge_of before) (elements_at r before) (subst (IsDrawnInOrder profile (judge_of before)) (sym is) (m.1, m.2));
@@ -147,9 +177,11 @@ module _ (profile : Profile) where
   matched_drawn limits before r bytes h k (PlacementBy number x y turns flip ∷ ds) is m = absurd m
   matched_drawn limits before r bytes h k (TextBy number textlayer texttype x y ∷ ds) is m = absurd m
 
-  matched_shortest : (limits : Limits) (before : List Record) (r : Record) (bytes : List ℕ) → IsReadAfter limits before r bytes → Matches profile (judge_of before) r bytes (elements_at r before) → IsShortestInOrder before r bytes
+  matched_shortest : (limits : Limits) (before : List Record) (r : Record) (bytes : List ℕ) → IsReadAfter limits before r bytes →
+      Matches profile (judge_of before) r bytes (elements_at r before) → IsShortestInOrder before r bytes
   matched_shortest limits before r bytes =
-      by_kind (λ r. IsReadAfter limits before r bytes → Matches profile (judge_of before) r bytes (elements_at r before) → IsShortestInOrder before r bytes) (λ name h m. record { shortest = (cell_is_bytes name bytes h.given.0).1 m.0; order = m.1 }) (λ number h m. absurd m)
+      by_kind (λ r. IsReadAfter limits before r bytes → Matches profile (judge_of before) r bytes (elements_at r before) → IsShortestInOrder before r bytes)
+      (λ name h m. record { shortest = (cell_is_bytes name bytes h.given.0).1 m.0; order = m.1 }) (λ number h m. absurd m)
       (λ r k h m. matched_drawn limits before r bytes h k (elements_at r before) refl (k.matched (judge_of before) bytes (elements_at r before) m)) r
 
   -- coordinates stay absolute
@@ -170,7 +202,9 @@ module _ (profile : Profile) where
   allowed_front limits [] before h = h
   allowed_front limits (r ∷ rs) before h = (allowed_front limits rs (r ∷ before) h).0
 
-  all_match : (limits : Limits) (before : List Record) (es : List Entry) → AllByRecursion GivesFit before → IsAbsolute before → AllByRecursion (λ e. IsSuch IsInner (record_in Any false) e.0 e.1) es → stands.Allowed limits (onto (entry_records es) before) → AllByRecursion (λ e. record_in Shortest false e.0 e.1) es → AreInOrder profile (onto (entry_records es) before) → AllMatch profile before es
+  all_match : (limits : Limits) (before : List Record) (es : List Entry) → AllByRecursion GivesFit before → IsAbsolute before →
+      AllByRecursion (λ e. IsSuch IsInner (record_in Any false) e.0 e.1) es → stands.Allowed limits (onto (entry_records es) before) →
+      AllByRecursion (λ e. record_in Shortest false e.0 e.1) es → AreInOrder profile (onto (entry_records es) before) → AllMatch profile before es
   all_match limits before [] given absolute each allowed shortest order = tt
   all_match limits before (e ∷ es) given absolute each allowed shortest order =
       let fits : AllByRecursion GivesFit (e.0 ∷ before) = (after_fits false e.0 _ each.0.spelled.parts.second, given) in
@@ -185,7 +219,9 @@ module _ (profile : Profile) where
     given : AllByRecursion GivesFit (onto (entry_records es) before)
     absolute : IsAbsolute (onto (entry_records es) before)
 
-  all_shortest : (limits : Limits) (before : List Record) (es : List Entry) → AllByRecursion GivesFit before → IsAbsolute before → AllByRecursion (λ e. IsSuch IsInner (record_in Any false) e.0 e.1) es → stands.Allowed limits (onto (entry_records es) before) → AreInOrder profile before → AllMatch profile before es → AreShortestInOrder before es
+  all_shortest : (limits : Limits) (before : List Record) (es : List Entry) → AllByRecursion GivesFit before → IsAbsolute before →
+      AllByRecursion (λ e. IsSuch IsInner (record_in Any false) e.0 e.1) es → stands.Allowed limits (onto (entry_records es) before) → AreInOrder profile before →
+      AllMatch profile before es → AreShortestInOrder before es
   all_shortest limits before [] given absolute each allowed order m = record { shortest = tt; order = order; given = given; absolute = absolute }
   all_shortest limits before (e ∷ es) given absolute each allowed order m =
       let fits : AllByRecursion GivesFit (e.0 ∷ before) = (after_fits false e.0 _ each.0.spelled.parts.second, given) in
@@ -196,13 +232,17 @@ module _ (profile : Profile) where
 
   -- ---- the kept form
 
-  kept_one : (limits : Limits) (before : List Record) (r : Record) (bytes : List ℕ) (e : Element) → IsReadAfter limits before r bytes → elements_at r before ≡ Named e ∷ [] → (bytes ≡ element_bytes (normal profile e)) ↔ ((bytes ≡ element_bytes e) × IsNormal profile e)
+  kept_one : (limits : Limits) (before : List Record) (r : Record) (bytes : List ℕ) (e : Element) → IsReadAfter limits before r bytes → elements_at r before ≡ Named e ∷ [] →
+      (bytes ≡ element_bytes (normal profile e)) ↔ ((bytes ≡ element_bytes e) × IsNormal profile e)
   kept_one limits before r bytes e h one = (
     λ same.
         let o = one_drawn limits before r bytes e h one in
         let sound = normal_sound profile e o.sound in
-        let canonical = (spelled (element_record (normal profile e)) (element_bytes (normal profile e)) (element_inner (normal profile e) sound (omega (arith, o.light, weight_of-normal-le profile e)))).spelled in
-        let is : element_record (normal profile e) ≡ r = ((OneFront-record Any false).one (element_record (normal profile e)) r (element_bytes (normal profile e)) bytes [] [] ((IsWithin-record false).within (element_record (normal profile e)) (element_bytes (normal profile e)) canonical) h.spelled.spelled (ap (λ (b : List ℕ). b ++ []) (sym same))).1 in
+        let canonical = (spelled (element_record (normal profile e)) (element_bytes (normal profile e))
+        (element_inner (normal profile e) sound (omega (arith, o.light, weight_of-normal-le profile e)))).spelled in
+        let is : element_record (normal profile e) ≡ r =
+        ((OneFront-record Any false).one (element_record (normal profile e)) r (element_bytes (normal profile e)) bytes [] []
+        ((IsWithin-record false).within (element_record (normal profile e)) (element_bytes (normal profile e)) canonical) h.spelled.spelled (ap (λ (b : List ℕ). b ++ []) (sym same))).1 in
         let drawn : Named (normal profile e) ∷ [] ≡ Named e ∷ [] = sym (draws (normal profile e) before h.absolute sound.points) ∙ ap (λ (s : Record). elements_at s before) is ∙ one in
         let stays : normal profile e ≡ e = named_is (normal profile e) e drawn in
         (same ∙ ap element_bytes stays, stays),
@@ -211,19 +251,22 @@ module _ (profile : Profile) where
     named_is : (a b : Element) → ◌≡◌ {A = List Drawn} (Named a ∷ []) (Named b ∷ []) → a ≡ b
     named_is a b e = cc
 
-  kept_after : (limits : Limits) (before : List Record) (es : List Entry) (x : Entry) (e : Element) → AllByRecursion GivesFit before → IsAbsolute before → AllByRecursion (λ e. IsSuch IsInner (record_in Any false) e.0 e.1) es → IsSuch IsInner (record_in Any false) x.0 x.1
+  kept_after : (limits : Limits) (before : List Record) (es : List Entry) (x : Entry) (e : Element) → AllByRecursion GivesFit before → IsAbsolute before →
+      AllByRecursion (λ e. IsSuch IsInner (record_in Any false) e.0 e.1) es → IsSuch IsInner (record_in Any false) x.0 x.1
       → stands.Allowed limits (x.0 ∷ onto (entry_records es) before) → AreInOrder profile before → AllMatch profile before es → elements_at x.0 (onto (entry_records es) before) ≡ Named e ∷ []
       → (x.1 ≡ element_bytes (normal profile e)) ↔ ((x.1 ≡ element_bytes e) × IsNormal profile e)
   kept_after limits before es x e given absolute each here allowed order m one =
       let all = all_shortest limits before es given absolute each allowed.0 order m in
-      kept_one limits (onto (entry_records es) before) x.0 x.1 e (record { given = (after_fits false x.0 _ here.spelled.parts.second, all.given); absolute = all.absolute; allowed = allowed; spelled = here }) one
+      kept_one limits (onto (entry_records es) before) x.0 x.1 e
+      (record { given = (after_fits false x.0 _ here.spelled.parts.second, all.given); absolute = all.absolute; allowed = allowed; spelled = here }) one
 
 pub kept_bytes : KeptBytes
 kept_bytes limits profile entries x e each allowed m one =
     let split = (all_more (λ (f : Entry). IsSuch IsInner (record_in Any false) f.0 f.1) entries x).0 each in
     let is = reverse-is (entry_records entries) in
     let newest : stands.Allowed limits (x.0 ∷ reverse (entry_records entries)) = subst (stands.Allowed limits) (records_more entries x) allowed in
-    kept_after profile limits [] entries x e tt refl split.0 split.1 (subst (λ (rs : List Record). stands.Allowed limits (x.0 ∷ rs)) is newest) tt m (subst (λ (rs : List Record). elements_at x.0 rs ≡ Named e ∷ []) is one)
+    kept_after profile limits [] entries x e tt refl split.0 split.1 (subst (λ (rs : List Record). stands.Allowed limits (x.0 ∷ rs)) is newest) tt m
+    (subst (λ (rs : List Record). elements_at x.0 rs ≡ Named e ∷ []) is one)
 
 -- ---- the file
 
@@ -232,12 +275,14 @@ head_fits : (head : Head) (start : List ℕ) → head_in Any head start → IsUn
 head_fits head start h = let s = h.spelled.second in subst (λ (p : Head). IsUnit p.unit) (s.is ∙ h.is) (unit_given s.from.1.1.0 _ s.spelled.second.second.first)
 
 -- in a file whose table-offsets stand in START
-judged_bytes : (limits : Limits) (profile : Profile) (b : List ℕ) (unit : Ratio) (start : List ℕ) (entries : List Entry) (last : List ℕ) → Accepted limits b → IsReadAs b (record { unit = unit; flag_in_end = false }) start entries last
+judged_bytes : (limits : Limits) (profile : Profile) (b : List ℕ) (unit : Ratio) (start : List ℕ) (entries : List Entry) (last : List ℕ) → Accepted limits b →
+    IsReadAs b (record { unit = unit; flag_in_end = false }) start entries last
     → JudgedFile profile (record { unit = unit; flag_in_end = false }) start entries last ↔ JudgedByBytes profile (record { unit = unit; flag_in_end = false }) start entries last
 judged_bytes limits profile b unit start entries last a h =
     let head : Head = record { unit = unit; flag_in_end = false } in
     let fits : IsUnit unit = head_fits (record { unit = unit; flag_in_end = false }) start h.begun in
-    let both = one_reading Any Any a.head (record { unit = unit; flag_in_end = false }) a.records (entry_records entries) b a.file (read_file b (record { unit = unit; flag_in_end = false }) start entries last h) in
+    let both = one_reading Any Any a.head (record { unit = unit; flag_in_end = false }) a.records (entry_records entries) b a.file
+    (read_file b (record { unit = unit; flag_in_end = false }) start entries last h) in
     let allowed : stands.Allowed limits (onto (entry_records entries) []) = subst (stands.Allowed limits) (reverse-is (entry_records entries)) (subst (Allowed limits) both.1 a.allowed) in (
       λ j. record {
         flag = refl;
@@ -248,16 +293,23 @@ judged_bytes limits profile b unit start entries last a h =
       λ j.
           let all = all_shortest profile limits [] entries tt refl h.each allowed tt j.match in
           record {
-            so_far = record { head_shortest = (head_is_bytes unit start fits).1 j.start_is; shortest = all.shortest; in_order = subst (AreInOrder profile) (sym (reverse-is (entry_records entries))) all.order };
+            so_far = record {
+              head_shortest = (head_is_bytes unit start fits).1 j.start_is;
+              shortest = all.shortest;
+              in_order = subst (AreInOrder profile)
+                  (sym (reverse-is (entry_records entries))) all.order;
+            };
             end_shortest = (end_is_bytes last).1 j.last_is;
           },
     )
 
 -- the table-offsets of a file in the shortest style stand in START
-with_flag : (limits : Limits) (profile : Profile) (b : List ℕ) (head : Head) (start : List ℕ) (entries : List Entry) (last : List ℕ) → Accepted limits b → IsReadAs b head start entries last → head.flag_in_end ≡ false → JudgedFile profile head start entries last ↔ JudgedByBytes profile head start entries last
+with_flag : (limits : Limits) (profile : Profile) (b : List ℕ) (head : Head) (start : List ℕ) (entries : List Entry) (last : List ℕ) → Accepted limits b →
+    IsReadAs b head start entries last → head.flag_in_end ≡ false → JudgedFile profile head start entries last ↔ JudgedByBytes profile head start entries last
 with_flag limits profile b head start entries last a h flag =
     let is : record { unit = head.unit; flag_in_end = false } ≡ head = λ i. record { unit = head.unit; flag_in_end = sym flag i } in
-    subst (λ (p : Head). IsReadAs b p start entries last → JudgedFile profile p start entries last ↔ JudgedByBytes profile p start entries last) is (judged_bytes limits profile b head.unit start entries last a) h
+    subst (λ (p : Head). IsReadAs b p start entries last → JudgedFile profile p start entries last ↔ JudgedByBytes profile p start entries last) is
+    (judged_bytes limits profile b head.unit start entries last a) h
 
 pub bytes_judge : BytesJudge
 bytes_judge limits profile b head start entries last a h =
@@ -267,13 +319,15 @@ bytes_judge limits profile b head start entries last a h =
     )
 
 -- one entry more, after those records
-more_match : (profile : Profile) (before : List Record) (es : List Entry) (e : Entry) → AllMatch profile before (es ++ e ∷ []) ↔ (AllMatch profile before es × Matches profile (judge_of (onto (entry_records es) before)) e.0 e.1 (elements_at e.0 (onto (entry_records es) before)))
+more_match : (profile : Profile) (before : List Record) (es : List Entry) (e : Entry) →
+    AllMatch profile before (es ++ e ∷ []) ↔ (AllMatch profile before es × Matches profile (judge_of (onto (entry_records es) before)) e.0 e.1 (elements_at e.0 (onto (entry_records es) before)))
 more_match profile before [] e = (λ h. (tt, h.0), λ h. (h.1, tt))
 more_match profile before (f ∷ fs) e = let more = more_match profile (f.0 ∷ before) fs e in (λ h. let t = more.0 h.1 in ((h.0, t.0), t.1), λ h. (h.0.0, more.1 (h.0.1, h.1)))
 
 pub bytes_go_on : BytesGoOn
 bytes_go_on profile entries e =
-    subst (λ (rs : List Record). AllMatch profile [] (entries ++ e ∷ []) ↔ (AllMatch profile [] entries × Matches profile (judge_of rs) e.0 e.1 (elements_at e.0 rs))) (sym (reverse-is (entry_records entries))) (more_match profile [] entries e)
+    subst (λ (rs : List Record). AllMatch profile [] (entries ++ e ∷ []) ↔ (AllMatch profile [] entries × Matches profile (judge_of rs) e.0 e.1 (elements_at e.0 rs)))
+    (sym (reverse-is (entry_records entries))) (more_match profile [] entries e)
 
 -- ---- by what the file means
 

@@ -10,7 +10,23 @@ use Rattle.oas_layout.specs.Same.{normal, IsNormal}
 use Rattle.oas_drawing.specs.declared.drawn.Drawn.TheVariants.{Named}
 use Rattle.oas_drawing.specs.Drawing.{elements_at}
 use Rattle.oas_form.specs.Bytes.{element_bytes}
-use Rattle.oas_form.specs.Judging.{Entry, entry_records, Judge, IsAbove, IsNotBelow, judge_drawn, judge_of, MatchesDrawn, AllMatch, AreRead, JudgeStands, JudgeStandsFirst, JudgeDraws, JudgeOpens, JudgeRefuses}
+use Rattle.oas_form.specs.Judging.{
+  Entry,
+  entry_records,
+  Judge,
+  IsAbove,
+  IsNotBelow,
+  judge_drawn,
+  judge_of,
+  MatchesDrawn,
+  AllMatch,
+  AreRead,
+  JudgeStands,
+  JudgeStandsFirst,
+  JudgeDraws,
+  JudgeOpens,
+  JudgeRefuses,
+}
 use Rattle.oas_form.proofs.JudgeRecords.{judge_steps}
 use Rattle.oas_form.proofs.JudgeBytes.{IsDrawing, by_kind, bytes_go_on, kept_bytes}
 
@@ -29,8 +45,10 @@ judge_draws limits profile entries x e holds now name element read one stands st
     let j : Judge = judge_of (reverse (entry_records entries)) in
     let more = bytes_go_on profile entries x in
     let after : judge_of (reverse (entry_records (entries ++ x ∷ []))) ≡ record { name = (judge_of (reverse (entry_records entries))).name; element = Some e } =
-    judge_steps entries x ∙ k.after (judge_of (reverse (entry_records entries))) (elements_at x.0 (reverse (entry_records entries))) ∙ ap (judge_drawn (judge_of (reverse (entry_records entries)))) one in
-    let kept : AllMatch profile [] entries → (x.1 ≡ element_bytes (normal profile e)) ↔ ((x.1 ≡ element_bytes e) × IsNormal profile e) = λ m. kept_bytes limits profile entries x e read.each read.allowed m one in
+    judge_steps entries x ∙ k.after (judge_of (reverse (entry_records entries))) (elements_at x.0 (reverse (entry_records entries)))
+    ∙ ap (judge_drawn (judge_of (reverse (entry_records entries)))) one in
+    let kept : AllMatch profile [] entries → (x.1 ≡ element_bytes (normal profile e)) ↔
+    ((x.1 ≡ element_bytes e) × IsNormal profile e) = λ m. kept_bytes limits profile entries x e read.each read.allowed m one in
     let told : IsTrue now → AllMatch profile [] entries = λ t. stands.holds_is.0 (step.0 t).0 in
     let is_kept : IsTrue now → IsNormal profile e = λ t. ((kept (told t)).0 (sym (step.0 t).1)).1 in
     record {
@@ -39,13 +57,20 @@ judge_draws limits profile entries x e holds now name element read one stands st
             let s = step.0 t in
             let m = told t in
             let b = (kept m).0 (sym s.1) in
-            let above : IsNotBelow (judge_of (reverse (entry_records entries))).element e = subst (λ (f : Element). IsNotBelow (judge_of (reverse (entry_records entries))).element f) b.1 (subst (λ (o : Option Element). IsNotBelow o (normal profile e)) (stands.element_is s.0) s.2) in
-            more.1 (m, k.matches (judge_of (reverse (entry_records entries))) x.1 (elements_at x.0 (reverse (entry_records entries))) (subst (MatchesDrawn profile (judge_of (reverse (entry_records entries))) x.1) (sym one) (b.0, b.1, above))),
+            let above : IsNotBelow (judge_of (reverse (entry_records entries))).element e = subst (λ (f : Element). IsNotBelow (judge_of (reverse (entry_records entries))).element f) b.1
+            (subst (λ (o : Option Element). IsNotBelow o (normal profile e)) (stands.element_is s.0) s.2) in
+            more.1 (
+              m,
+              k.matches (judge_of (reverse (entry_records entries))) x.1 (elements_at x.0 (reverse (entry_records entries)))
+                  (subst (MatchesDrawn profile (judge_of (reverse (entry_records entries))) x.1) (sym one) (b.0, b.1, above)),
+            ),
         λ all.
             let both = more.0 all in
-            let m = subst (MatchesDrawn profile (judge_of (reverse (entry_records entries))) x.1) one (k.matched (judge_of (reverse (entry_records entries))) x.1 (elements_at x.0 (reverse (entry_records entries))) both.1) in
+            let m = subst (MatchesDrawn profile (judge_of (reverse (entry_records entries))) x.1) one
+            (k.matched (judge_of (reverse (entry_records entries))) x.1 (elements_at x.0 (reverse (entry_records entries))) both.1) in
             let t : IsTrue holds = stands.holds_is.1 both.0 in
-            let above : IsNotBelow element (normal profile e) = subst (λ (f : Element). IsNotBelow element f) (sym m.1) (subst (λ (o : Option Element). IsNotBelow o e) (sym (stands.element_is t)) m.2) in
+            let above : IsNotBelow element (normal profile e) = subst (λ (f : Element). IsNotBelow element f) (sym m.1)
+            (subst (λ (o : Option Element). IsNotBelow o e) (sym (stands.element_is t)) m.2) in
             step.1 (t, sym ((kept both.0).1 (m.0, m.1)), above),
       );
       name_is = λ t. stands.name_is (step.0 t).0 ∙ sym (ap (λ (i : Judge). i.name) after);
@@ -56,7 +81,8 @@ pub judge_opens : JudgeOpens
 judge_opens profile entries opened bytes holds now name element stands step =
     let x : Entry = (record_of.Cell (cell.Name opened), bytes) in
     let more = bytes_go_on profile entries (record_of.Cell (cell.Name opened), bytes) in
-    let after : judge_of (reverse (entry_records (entries ++ (record_of.Cell (cell.Name opened), bytes) ∷ []))) ≡ record { name = Some opened; element = None } = judge_steps entries (record_of.Cell (cell.Name opened), bytes) in
+    let after : judge_of (reverse (entry_records (entries ++ (record_of.Cell (cell.Name opened), bytes) ∷ []))) ≡ record { name = Some opened; element = None } = judge_steps entries
+    (record_of.Cell (cell.Name opened), bytes) in
     record {
       holds_is = (
         λ t. let s = step.0 t in more.1 (stands.holds_is.0 s.0, (sym s.1, subst (λ (o : Option (List ℕ)). IsAbove o opened) (stands.name_is s.0) s.2)),
@@ -77,9 +103,12 @@ judge_refuses profile entries x holds name other element last stands none = reco
 }
 
 -- where the element that it was given is the kept form of the one that was drawn
-pub draws_kept : (holds now : Bool) (name : Option (List ℕ)) (element : Option Element) (kept : Element) (bytes : List ℕ) → IsTrue now ↔ (IsTrue holds × (element_bytes kept ≡ bytes) × IsNotBelow element kept)
-    → (limits : Limits) (profile : Profile) (entries : List Entry) (r : Record) (e : Element) → AreRead limits (entries ++ (r, bytes) ∷ []) → elements_at r (reverse (entry_records entries)) ≡ Named e ∷ [] → kept ≡ normal profile e
+pub draws_kept : (holds now : Bool) (name : Option (List ℕ)) (element : Option Element) (kept : Element) (bytes : List ℕ) →
+    IsTrue now ↔ (IsTrue holds × (element_bytes kept ≡ bytes) × IsNotBelow element kept)
+    → (limits : Limits) (profile : Profile) (entries : List Entry) (r : Record) (e : Element) → AreRead limits (entries ++ (r, bytes) ∷ []) →
+    elements_at r (reverse (entry_records entries)) ≡ Named e ∷ [] → kept ≡ normal profile e
     → JudgeStands profile holds name element entries → JudgeStands profile now name (Some kept) (entries ++ (r, bytes) ∷ [])
 draws_kept holds now name element kept bytes step limits profile entries r e read one is stands =
     subst (λ (f : Element). JudgeStands profile now name (Some f) (entries ++ (r, bytes) ∷ [])) (sym is)
-    (judge_draws limits profile entries (r, bytes) e holds now name element read one stands (subst (λ (f : Element). IsTrue now ↔ (IsTrue holds × (element_bytes f ≡ bytes) × IsNotBelow element f)) is step))
+    (judge_draws limits profile entries (r, bytes) e holds now name element read one stands
+    (subst (λ (f : Element). IsTrue now ↔ (IsTrue holds × (element_bytes f ≡ bytes) × IsNotBelow element f)) is step))

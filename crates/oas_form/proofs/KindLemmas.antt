@@ -149,9 +149,11 @@ abbrev AtInfo : ℕ → Type 0
 AtInfo info = (u : placements.QuarterFields) (bytes : List ℕ) → placements.quarter_fields Shortest info u bytes → IsDrawn (record_of.Placement (placements.quarters_of (info, u)))
 
 at_info : (info : ℕ) → 176 ≤ info → info < 184 → AtInfo info
-at_info = one_of_eight AtInfo (quarter_at T0 false) (quarter_at T0 true) (quarter_at T1 false) (quarter_at T1 true) (quarter_at T2 false) (quarter_at T2 true) (quarter_at T3 false) (quarter_at T3 true)
+at_info = one_of_eight AtInfo (quarter_at T0 false) (quarter_at T0 true) (quarter_at T1 false) (quarter_at T1 true) (quarter_at T2 false) (quarter_at T2 true) (quarter_at T3 false)
+    (quarter_at T3 true)
 
-quarters_is : (u : ℕ × placements.QuarterFields) (bytes : List ℕ) → IsPair (info_in placements.IsPlacementInfo placements.IsCanonicalPlacement Shortest) (placements.quarter_fields Shortest) u bytes → IsDrawn (record_of.Placement (placements.quarters_of u))
+quarters_is : (u : ℕ × placements.QuarterFields) (bytes : List ℕ) →
+    IsPair (info_in placements.IsPlacementInfo placements.IsCanonicalPlacement Shortest) (placements.quarter_fields Shortest) u bytes → IsDrawn (record_of.Placement (placements.quarters_of u))
 quarters_is u bytes h = at_info u.0 h.first.holds.1.0 h.first.holds.1.1 u.1 h.back h.second
 
 -- a text string itself
@@ -162,7 +164,8 @@ record IsLabelled (t : TextRef) : Type 0 where
 labelled : (t : TextRef) (bytes : List ℕ) → text_in Shortest false t bytes → IsLabelled t
 labelled t bytes h = record { label = h.from; is = h.is }
 
-text_is : (u : ℕ × texts.TextFields) (bytes : List ℕ) → IsPair (info_in texts.IsTextInfo texts.IsCanonicalText Shortest) (texts.text_fields Shortest) u bytes → IsDrawn (record_of.Text (texts.text_of u))
+text_is : (u : ℕ × texts.TextFields) (bytes : List ℕ) → IsPair (info_in texts.IsTextInfo texts.IsCanonicalText Shortest) (texts.text_fields Shortest) u bytes →
+    IsDrawn (record_of.Text (texts.text_of u))
 text_is u bytes h =
     let f = subst (λ (info : ℕ). texts.text_fields Shortest info u.1 h.back) h.first.holds.1 h.second in
     let t = given _ _ _ f.first in
@@ -177,7 +180,8 @@ text_is u bytes h =
       points = refl;
     }
 
-rectangle_is : (u : ℕ × rectangles.RectangleFields) (bytes : List ℕ) → IsPair (info_in rectangles.IsRectangleInfo rectangles.IsCanonicalRectangle Shortest) (rectangles.rectangle_fields Shortest) u bytes → IsDrawn (record_of.Rectangle (rectangles.rectangle_of u))
+rectangle_is : (u : ℕ × rectangles.RectangleFields) (bytes : List ℕ) →
+    IsPair (info_in rectangles.IsRectangleInfo rectangles.IsCanonicalRectangle Shortest) (rectangles.rectangle_fields Shortest) u bytes → IsDrawn (record_of.Rectangle (rectangles.rectangle_of u))
 rectangle_is u bytes h =
     let f = subst (λ (info : ℕ). rectangles.rectangle_fields Shortest info u.1 h.back) h.first.holds.1 h.second in
     let square : false ≡ has u.0 128 = ap (λ (info : ℕ). has info 128) (sym h.first.holds.1) in
@@ -196,7 +200,8 @@ rectangle_is u bytes h =
 abbrev at : ℤ → ℤ → Point
 at x y = record { x = x; y = y }
 
-polygon_is : (u : ℕ × polygons.PolygonFields) (bytes : List ℕ) → IsPair (info_in polygons.IsPolygonInfo polygons.IsCanonicalPolygon Shortest) (polygons.polygon_fields Shortest) u bytes → IsDrawn (record_of.Polygon (polygons.polygon_of u))
+polygon_is : (u : ℕ × polygons.PolygonFields) (bytes : List ℕ) → IsPair (info_in polygons.IsPolygonInfo polygons.IsCanonicalPolygon Shortest) (polygons.polygon_fields Shortest) u bytes →
+    IsDrawn (record_of.Polygon (polygons.polygon_of u))
 polygon_is u bytes h =
     let f = subst (λ (info : ℕ). polygons.polygon_fields Shortest info u.1 h.back) h.first.holds.1 h.second in
     let layer = given _ _ _ f.first.first in
@@ -230,7 +235,8 @@ explicit extensions bytes h =
       is = (λ i. paths.extensions_of (sym s.first.holds.1 i, (start.is i, end.is i))) ∙ h.is;
     }
 
-path_is : (u : ℕ × paths.PathFields) (bytes : List ℕ) → IsPair (info_in paths.IsPathInfo paths.IsCanonicalPath Shortest) (paths.path_fields Shortest) u bytes → IsDrawn (record_of.Path (paths.path_of u))
+path_is : (u : ℕ × paths.PathFields) (bytes : List ℕ) → IsPair (info_in paths.IsPathInfo paths.IsCanonicalPath Shortest) (paths.path_fields Shortest) u bytes →
+    IsDrawn (record_of.Path (paths.path_of u))
 path_is u bytes h =
     let f = subst (λ (info : ℕ). paths.path_fields Shortest info u.1 h.back) h.first.holds.1 h.second in
     let layer = given _ _ _ f.first.first in
@@ -250,7 +256,8 @@ path_is u bytes h =
       points = le-ltb (length points) 1 (omega arith);
     }
 
-circle_is : (u : ℕ × circles.CircleFields) (bytes : List ℕ) → IsPair (info_in circles.IsCircleInfo circles.IsCanonicalCircle Shortest) (circles.circle_fields Shortest) u bytes → IsDrawn (record_of.Circle (circles.circle_of u))
+circle_is : (u : ℕ × circles.CircleFields) (bytes : List ℕ) → IsPair (info_in circles.IsCircleInfo circles.IsCanonicalCircle Shortest) (circles.circle_fields Shortest) u bytes →
+    IsDrawn (record_of.Circle (circles.circle_of u))
 circle_is u bytes h =
     let f = subst (λ (info : ℕ). circles.circle_fields Shortest info u.1 h.back) h.first.holds.1 h.second in
     let layer = given _ _ _ f.first.first in
@@ -269,7 +276,8 @@ circle_is u bytes h =
 moved_on : (r s : Record) → r ≡ s → IsDrawn r → IsDrawn s
 moved_on r s e h = record { element = h.element; is = h.is ∙ e; points = h.points }
 
-placement_is : (in_end : Bool) (p : OnePlacement) (turn : Turn) (bytes : List ℕ) → after_id Shortest in_end (elim turn [ Quarters turns ↦ 17 | Degrees magnification angle ↦ 18 ]) (record_of.Placement p) bytes → IsDrawn (record_of.Placement p)
+placement_is : (in_end : Bool) (p : OnePlacement) (turn : Turn) (bytes : List ℕ) →
+    after_id Shortest in_end (elim turn [ Quarters turns ↦ 17 | Degrees magnification angle ↦ 18 ]) (record_of.Placement p) bytes → IsDrawn (record_of.Placement p)
 placement_is in_end p (Quarters turns) bytes h = moved_on _ _ (ap (λ (v : OnePlacement). record_of.Placement v) h.spelled.is ∙ h.is) (quarters_is h.spelled.from bytes h.spelled.spelled)
 placement_is in_end p (Degrees magnification angle) bytes h = absurd h.spelled
 
@@ -286,7 +294,10 @@ plain_of in_end record_of.XyAbsolute bytes inner h = absurd h.parts.second
 plain_of in_end record_of.XyRelative bytes inner h = absurd h.parts.second
 plain_of in_end (record_of.Placement p) bytes inner h = inr (placement_is in_end p p.turn h.parts.back h.parts.second)
 plain_of in_end (record_of.Text t) bytes inner h = let s = h.parts.second in inr (moved_on _ _ (ap (λ v. record_of.Text v) s.spelled.is ∙ s.is) (text_is s.spelled.from h.parts.back s.spelled.spelled))
-plain_of in_end (record_of.Rectangle r) bytes inner h = let s = h.parts.second in inr (moved_on _ _ (ap (λ v. record_of.Rectangle v) s.spelled.is ∙ s.is) (rectangle_is s.spelled.from h.parts.back s.spelled.spelled))
-plain_of in_end (record_of.Polygon p) bytes inner h = let s = h.parts.second in inr (moved_on _ _ (ap (λ v. record_of.Polygon v) s.spelled.is ∙ s.is) (polygon_is s.spelled.from h.parts.back s.spelled.spelled))
+plain_of in_end (record_of.Rectangle r) bytes inner h = let s = h.parts.second in
+    inr (moved_on _ _ (ap (λ v. record_of.Rectangle v) s.spelled.is ∙ s.is) (rectangle_is s.spelled.from h.parts.back s.spelled.spelled))
+plain_of in_end (record_of.Polygon p) bytes inner h = let s = h.parts.second in
+    inr (moved_on _ _ (ap (λ v. record_of.Polygon v) s.spelled.is ∙ s.is) (polygon_is s.spelled.from h.parts.back s.spelled.spelled))
 plain_of in_end (record_of.Path p) bytes inner h = let s = h.parts.second in inr (moved_on _ _ (ap (λ v. record_of.Path v) s.spelled.is ∙ s.is) (path_is s.spelled.from h.parts.back s.spelled.spelled))
-plain_of in_end (record_of.Circle c) bytes inner h = let s = h.parts.second in inr (moved_on _ _ (ap (λ v. record_of.Circle v) s.spelled.is ∙ s.is) (circle_is s.spelled.from h.parts.back s.spelled.spelled))
+plain_of in_end (record_of.Circle c) bytes inner h = let s = h.parts.second in
+    inr (moved_on _ _ (ap (λ v. record_of.Circle v) s.spelled.is ∙ s.is) (circle_is s.spelled.from h.parts.back s.spelled.spelled))

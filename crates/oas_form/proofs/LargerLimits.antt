@@ -101,7 +101,8 @@ module _ (one other : Limits) (elements : one.elements ≤ other.elements) (weig
   drawn_allowed : (count heavy : ℕ) (m : ModalState) (kind : Option Kind) (repeated : Bool) → reason_if one count heavy m kind repeated ≡ None → reason_if other count heavy m kind repeated ≡ None
   drawn_allowed count heavy m None repeated h = refl
   drawn_allowed count heavy m (Some kind) repeated h =
-      either (kind_reason one count heavy m kind repeated) (kind_reason other count heavy m kind repeated) (first_of ((not (all_fit m kind repeated), CoordinateRange) ∷ [])) (kind_allowed count heavy m kind repeated) h
+      either (kind_reason one count heavy m kind repeated) (kind_reason other count heavy m kind repeated) (first_of ((not (all_fit m kind repeated), CoordinateRange) ∷ []))
+      (kind_allowed count heavy m kind repeated) h
 
   element_allowed : (s : Standing) (m : ModalState) (r : Record) → element_reason one s m r ≡ None → element_reason other s m r ≡ None
   element_allowed s m r h =

@@ -13,7 +13,21 @@ use Rattle.oas_layout.specs.declared.element.Element.TheVariants.{Placement, Tex
 use Rattle.oas_layout.specs.Weight.{weight_of}
 use Rattle.oas_layout.specs.Meaning.{cells_weight}
 use Rattle.oas_form.specs.Records.{Cells, first_of}
-use Rattle.oas_form.specs.Bytes.{string_bytes, place_bytes, step_bytes, steps_bytes, list_bytes, points_bytes, element_bytes, elements_bytes, cells_bytes, unit_bytes, head_bytes, end_bytes, canonical_bytes}
+use Rattle.oas_form.specs.Bytes.{
+  string_bytes,
+  place_bytes,
+  step_bytes,
+  steps_bytes,
+  list_bytes,
+  points_bytes,
+  element_bytes,
+  elements_bytes,
+  cells_bytes,
+  unit_bytes,
+  head_bytes,
+  end_bytes,
+  canonical_bytes,
+}
 use Rattle.oas_form.specs.Spelling.{HasPoint, CanonicalLength}
 
 -- ---- numbers
@@ -99,7 +113,8 @@ length-points ps =
 length-numbers : (n m : ℕ) (rest : List ℕ) → length (shortest n ++ (shortest m ++ rest)) ≤ 20 + length rest
 length-numbers n m rest = omega (arith, length-append (shortest n) (shortest m ++ rest), length-append (shortest m) rest, length-shortest n, length-shortest m)
 
-length-path : (layer datatype half_width : ℕ) (start end : ℤ) (points : List Point) → 0 < length points → length (element_bytes (Path layer datatype half_width start end points)) ≤ 64 * weight_of (Path layer datatype half_width start end points)
+length-path : (layer datatype half_width : ℕ) (start end : ℤ) (points : List Point) → 0 < length points →
+    length (element_bytes (Path layer datatype half_width start end points)) ≤ 64 * weight_of (Path layer datatype half_width start end points)
 length-path layer datatype half_width start end points some =
     let p = points_bytes points in
     let e = shortest_signed end ++ p in
@@ -119,7 +134,14 @@ length-path layer datatype half_width start end points some =
 pub length-element : (e : Element) → HasPoint e → length (element_bytes e) ≤ 64 * weight_of e
 length-element (Placement name x y turns flip) h = omega (arith, length-append (string_bytes name) (place_bytes x y), length-string name, length-place x y)
 length-element (Text string textlayer texttype x y) h =
-    omega (arith, length-append (string_bytes string) (shortest textlayer ++ (shortest texttype ++ place_bytes x y)), length-numbers textlayer texttype (place_bytes x y), length-string string, length-place x y)
+    omega (
+      arith,
+      length-append (string_bytes string) (shortest textlayer ++ (shortest texttype ++ place_bytes x y)),
+      length-numbers textlayer texttype
+          (place_bytes x y),
+      length-string string,
+      length-place x y,
+    )
 length-element (Rectangle layer datatype width height x y) h =
     omega (arith, length-numbers layer datatype (shortest width ++ (shortest height ++ place_bytes x y)), length-numbers width height (place_bytes x y), length-place x y)
 length-element (Polygon layer datatype points) h = omega (arith, length-numbers layer datatype (points_bytes points), length-points points)
@@ -136,7 +158,15 @@ length-elements (e ∷ es) h = omega (arith, sum_by-cons weight_of e es, length-
 pub length-cells : (cs : Cells) → AllByRecursion (λ c. AllByRecursion HasPoint c.1) cs → length (cells_bytes cs) ≤ 64 * cells_weight cs
 length-cells [] h = omega arith
 length-cells (c ∷ cs) h =
-    omega (arith, length-append (14 ∷ (string_bytes c.0 ++ elements_bytes c.1)) (cells_bytes cs), length-append (string_bytes c.0) (elements_bytes c.1), length-string c.0, length-elements c.1 h.0, length-cells cs h.1)
+    omega (
+      arith,
+      length-append (14 ∷ (string_bytes c.0 ++ elements_bytes c.1)) (cells_bytes cs),
+      length-append (string_bytes c.0)
+          (elements_bytes c.1),
+      length-string c.0,
+      length-elements c.1 h.0,
+      length-cells cs h.1,
+    )
 
 length-by : (whole part : Bool) (n d : ℕ) → length (if whole then 0 ∷ shortest n else (if part then 2 ∷ shortest d else 4 ∷ (shortest n ++ shortest d))) ≤ 21
 length-by true part n d = omega (arith, length-shortest n)
@@ -157,4 +187,12 @@ length-end = refl
 
 pub canonical_length : CanonicalLength
 unfolding canonical_bytes
-canonical_length m h = omega (arith, length-append (head_bytes m.unit) (cells_bytes m.cells ++ end_bytes), length-append (cells_bytes m.cells) end_bytes, length-head m.unit, length-cells m.cells h, length-end)
+canonical_length m h = omega (
+  arith,
+  length-append (head_bytes m.unit) (cells_bytes m.cells ++ end_bytes),
+  length-append
+      (cells_bytes m.cells) end_bytes,
+  length-head m.unit,
+  length-cells m.cells h,
+  length-end,
+)

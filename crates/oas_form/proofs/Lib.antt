@@ -1,8 +1,11 @@
 pub mod AllowedLemmas
 pub mod AloneLemmas
 pub mod ComparingLemmas
+pub mod DrawnFits
+pub mod DrawsSound
 pub mod DrawnSound
 pub mod ElementPutting
+pub mod FieldSpelling
 pub mod ElementSpelling
 pub mod Existence
 pub mod FieldsFit
@@ -11,6 +14,7 @@ pub mod Forms
 pub mod Held
 pub mod InGrid
 pub mod JudgeBytes
+pub mod JudgeElements
 pub mod JudgeRecords
 pub mod JudgeStanding
 pub mod KindLemmas

@@ -38,7 +38,8 @@ use Rattle.oas_form.specs.RecordMeaning.{HavePoints, RecordsSplit, CanonicalMean
 pub records_split : RecordsSplit
 records_split [] ds = refl
 records_split (c ∷ cs) ds =
-    ap (λ (rs : List Record). record_of.Cell (cell.Name c.0) ∷ rs) (ap (λ (rs : List Record). map element_record c.1 ++ rs) (records_split cs ds) ∙ sym (append_assoc (map element_record c.1) (records_of cs) (records_of ds)))
+    ap (λ (rs : List Record). record_of.Cell (cell.Name c.0) ∷ rs)
+    (ap (λ (rs : List Record). map element_record c.1 ++ rs) (records_split cs ds) ∙ sym (append_assoc (map element_record c.1) (records_of cs) (records_of ds)))
 
 -- newest first: these records, after those
 abbrev pub onto : List Record → List Record → List Record
@@ -62,7 +63,8 @@ reverse-is rs = sym (append-nil (reverse rs)) ∙ reverse-onto rs []
 vertices_from : (start from : Point) (before : GDelta) (ps : List Point) → moved start before ≡ from → map (moved start) (sums_after before (steps_from from ps)) ≡ ps
 vertices_from start from before [] e = refl
 vertices_from start from before (q ∷ qs) e =
-    let there : moved start (added before (step (q.x -ℤ from.x) (q.y -ℤ from.y))) ≡ q = reached start.x from.x before.dx q.x (ap (λ (p : Point). p.x) e) start.y from.y before.dy q.y (ap (λ (p : Point). p.y) e) in
+    let there : moved start (added before (step (q.x -ℤ from.x) (q.y -ℤ from.y))) ≡ q = reached start.x from.x before.dx q.x (ap (λ (p : Point). p.x) e) start.y from.y before.dy q.y
+    (ap (λ (p : Point). p.y) e) in
     λ i. there i ∷ vertices_from start q (added before (step (q.x -ℤ from.x) (q.y -ℤ from.y))) qs there i where
       along : (start from before to : ℤ) → start +ℤ before ≡ from → start +ℤ (before +ℤ (to -ℤ from)) ≡ to
       along start from before to e = omega (arith, ints, e)
@@ -105,8 +107,10 @@ pub drawn_of_record : (e : Element) (m : ModalState) → m.relative ≡ false �
 drawn_of_record (Placement name x y turns flip) m absolute h =
     ap (λ (at : Point). Some (Named (Placement name at.x at.y (turned (Quarters (turn_count turns))) flip))) (stands_at m.relative m.placement (record { x = x; y = y }) absolute)
     ∙ ap (λ (t : Turns). Some (Named (Placement name x y t flip))) (turned_again turns)
-drawn_of_record (Text string textlayer texttype x y) m absolute h = ap (λ (at : Point). Some (Named (Text string textlayer texttype at.x at.y))) (stands_at m.relative m.text (record { x = x; y = y }) absolute)
-drawn_of_record (Rectangle layer datatype width height x y) m absolute h = ap (λ (at : Point). Some (Named (Rectangle layer datatype width height at.x at.y))) (stands_at m.relative m.geometry (record { x = x; y = y }) absolute)
+drawn_of_record (Text string textlayer texttype x y) m absolute h = ap (λ (at : Point). Some (Named (Text string textlayer texttype at.x at.y)))
+    (stands_at m.relative m.text (record { x = x; y = y }) absolute)
+drawn_of_record (Rectangle layer datatype width height x y) m absolute h = ap (λ (at : Point). Some (Named (Rectangle layer datatype width height at.x at.y)))
+    (stands_at m.relative m.geometry (record { x = x; y = y }) absolute)
 drawn_of_record (Polygon layer datatype []) m absolute h = absurd cc
 drawn_of_record (Polygon layer datatype (p ∷ ps)) m absolute h =
     ap (λ (at : Point). Some (Named (Polygon layer datatype (vertices_of (line_of (p ∷ ps)) at)))) (stands_at m.relative m.geometry p absolute)
@@ -115,7 +119,8 @@ drawn_of_record (Path layer datatype half_width start end []) m absolute h = abs
 drawn_of_record (Path layer datatype half_width start end (p ∷ ps)) m absolute h =
     ap (λ (at : Point). Some (Named (Path layer datatype half_width start end (vertices_of (line_of (p ∷ ps)) at)))) (stands_at m.relative m.geometry p absolute)
     ∙ ap (λ (points : List Point). Some (Named (Path layer datatype half_width start end points))) (vertices_again p ps)
-drawn_of_record (Circle layer datatype radius x y) m absolute h = ap (λ (at : Point). Some (Named (Circle layer datatype radius at.x at.y))) (stands_at m.relative m.geometry (record { x = x; y = y }) absolute)
+drawn_of_record (Circle layer datatype radius x y) m absolute h = ap (λ (at : Point). Some (Named (Circle layer datatype radius at.x at.y)))
+    (stands_at m.relative m.geometry (record { x = x; y = y }) absolute)
 
 -- it stands once
 pub stands_once : (e : Element) (m : ModalState) → offsets_of m (element_record e) ≡ still ∷ []
@@ -167,7 +172,8 @@ in_last-append ds (b ∷ []) c = refl
 in_last-append ds (b ∷ d ∷ cs) c = ap (λ (xs : List DrawnCell). b ∷ xs) (in_last-append ds (d ∷ cs) c)
 
 -- the elements of a cell, after its CELL
-elements_drawn : (es : List Element) (before : List Record) (cs : List DrawnCell) (c : DrawnCell) → IsAbsolute before → AllByRecursion (λ e. lacks_points e ≡ false) es → cells_drawn elements_at before ≡ cs ++ c ∷ []
+elements_drawn : (es : List Element) (before : List Record) (cs : List DrawnCell) (c : DrawnCell) → IsAbsolute before → AllByRecursion (λ e. lacks_points e ≡ false) es →
+    cells_drawn elements_at before ≡ cs ++ c ∷ []
     → cells_drawn elements_at (onto (map element_record es) before) ≡ cs ++ (c.0, c.1 ++ map Named es) ∷ []
 elements_drawn [] before cs c absolute h is = is ∙ ap (λ (ds : List Drawn). cs ++ (c.0, ds) ∷ []) (sym (append-nil c.1))
 elements_drawn (e ∷ es) before cs c absolute h is =
@@ -200,4 +206,5 @@ pub drawn_again : (cs : Cells) → HavePoints cs → cells_drawn elements_at (re
 drawn_again cs h = ap (λ (rs : List Record). cells_drawn elements_at rs) (reverse-is (records_of cs)) ∙ cells_again cs [] h
 
 pub canonical_means : CanonicalMeans
-canonical_means unit cs h = ap (λ (ds : Cells). record { unit = unit; cells = ds }) (ap (λ (ds : List DrawnCell). cells_meant (named cell_names (reverse (records_of cs))) (named text_strings (reverse (records_of cs))) ds) (drawn_again cs h) ∙ cells_named _ _ cs)
+canonical_means unit cs h = ap (λ (ds : Cells). record { unit = unit; cells = ds })
+    (ap (λ (ds : List DrawnCell). cells_meant (named cell_names (reverse (records_of cs))) (named text_strings (reverse (records_of cs))) ds) (drawn_again cs h) ∙ cells_named _ _ cs)

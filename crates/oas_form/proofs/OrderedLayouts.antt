@@ -51,11 +51,13 @@ module _ (profile : Profile) where
   abbrev InOrder : List Element → Type 0
   InOrder xs = AllByRecursion (IsNormal profile) xs × Ascends element_cmp xs
 
-  in_order_at : (test : List ℕ → Bool) (cs : Cells) → AllByRecursion (λ c. AllByRecursion (IsNormal profile) c.1) cs → AllByRecursion (λ c. Ascends element_cmp c.1) cs → IfSome (lookup test cs) InOrder
+  in_order_at : (test : List ℕ → Bool) (cs : Cells) → AllByRecursion (λ c. AllByRecursion (IsNormal profile) c.1) cs → AllByRecursion (λ c. Ascends element_cmp c.1) cs →
+      IfSome (lookup test cs) InOrder
   in_order_at test [] n a = tt
   in_order_at test (c ∷ cs) n a = elim (test c.0) as (λ b. IfSome (cond b (Some c.1) (lookup test cs)) InOrder) [ true ↦ (n.0, a.0) | false ↦ in_order_at test cs n.1 a.1 ]
 
-  joined : (o p : Option (List Element)) → IfSome o InOrder → IfSome p InOrder → is_some o ≡ is_some p → ((e : Element) → count_of profile e (unwrap_or o []) ≡ count_of profile e (unwrap_or p [])) → o ≡ p
+  joined : (o p : Option (List Element)) → IfSome o InOrder → IfSome p InOrder → is_some o ≡ is_some p →
+      ((e : Element) → count_of profile e (unwrap_or o []) ≡ count_of profile e (unwrap_or p [])) → o ≡ p
   joined None None b c s h = refl
   joined None (Some y) b c s h = cc
   joined (Some x) None b c s h = cc
@@ -66,7 +68,8 @@ module _ (profile : Profile) where
   same_cells m n p q s =
       same_entries name_cmp nat_list_cmp_total exact_bytes m.cells n.cells (sorted_list m.cells p.names) (sorted_list n.cells q.names)
       (λ name. find_is name m.cells
-      ∙ joined (elements_of name m.cells) (elements_of name n.cells) (in_order_at (pointwise ◌==◌ name) m.cells p.normal p.ascending) (in_order_at (pointwise ◌==◌ name) n.cells q.normal q.ascending) (s.cells name) (s.counts name)
+      ∙ joined (elements_of name m.cells) (elements_of name n.cells) (in_order_at (pointwise ◌==◌ name) m.cells p.normal p.ascending)
+      (in_order_at (pointwise ◌==◌ name) n.cells q.normal q.ascending) (s.cells name) (s.counts name)
       ∙ sym (find_is name n.cells))
 
 pub equal_in_order : EqualInOrder
@@ -97,7 +100,8 @@ none_above x (k ∷ ks) h = (ap is_gt h.0, none_above x ks h.1)
 pub items_ascend : (es : List (Element × ℕ)) → IsStrictlySortedBy element_cmp (keys_of es) → Ascends element_cmp (items es)
 items_ascend [] s = tt
 items_ascend (p ∷ ps) s =
-    repeated p.1 p.0 (items ps) (all-items (λ y. is_gt (element_cmp p.0 y) ≡ false) ps (none_above p.0 (keys_of ps) (sorted_head element_cmp p.0 (keys_of ps) s))) (items_ascend ps (sorted_tail element_cmp p.0 (keys_of ps) s))
+    repeated p.1 p.0 (items ps) (all-items (λ y. is_gt (element_cmp p.0 y) ≡ false) ps (none_above p.0 (keys_of ps) (sorted_head element_cmp p.0 (keys_of ps) s)))
+    (items_ascend ps (sorted_tail element_cmp p.0 (keys_of ps) s))
 
 normal_keys : (profile : Profile) (es : List (Element × ℕ)) → AllByRecursion (λ p. IsNormal profile p.0) es → AllByRecursion (IsNormal profile) (keys_of es)
 normal_keys profile [] h = tt

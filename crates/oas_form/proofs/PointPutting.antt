@@ -1,5 +1,34 @@
 -- Putting the steps between points.
-use Rattle.std.proofs.Common.{◌≡◌, ℕ, ◌+◌, ◌*◌, ◌-◌, ◌<◌, ◌≤◌, ◌^◌, true, List, ◌∷◌, ◌++◌, length, drop, get_or, drop-cons, sym, ap, subst, ◌∙◌, arith, add-one, w64, FitsSigned, to_z, of_z, Option, Some}
+use Rattle.std.proofs.Common.{
+  ◌≡◌,
+  ℕ,
+  ◌+◌,
+  ◌*◌,
+  ◌-◌,
+  ◌<◌,
+  ◌≤◌,
+  ◌^◌,
+  true,
+  List,
+  ◌∷◌,
+  ◌++◌,
+  length,
+  drop,
+  get_or,
+  drop-cons,
+  sym,
+  ap,
+  subst,
+  ◌∙◌,
+  arith,
+  add-one,
+  w64,
+  FitsSigned,
+  to_z,
+  of_z,
+  Option,
+  Some,
+}
 use Rattle.std.specs.Prelude.{ℤ, ◌-ℤ◌, nat_abs, MatchOption}
 use Rattle.std.specs.List.{list_all, IsFirstAndRest}
 use Rattle.std.specs.Borrow.{Bor}
@@ -10,7 +39,7 @@ use Rattle.oas_ring.specs.declared.point.Point.{Point}
 use Rattle.oas_layout.specs.Grid.{is_coordinate, is_grid_point}
 use Rattle.oas_form.specs.Bytes.{step_bytes, list_bytes}
 use Rattle.oas_form.specs.Putting.{PutsAll}
-use Rattle.oas_form.proofs.ElementSpelling.{near}
+use Rattle.oas_form.proofs.FieldSpelling.{near}
 use Rattle.oas_form.proofs.PuttingLemmas.{PutSoFar, fails_at, ◌▸◌}
 
 -- ---- one step
@@ -72,7 +101,8 @@ pub record StepsLeft {K : Type 0} (given : K → List ℕ → K → Type 0) (fai
   pub inside : list_all is_grid_point (drop i rest) ≡ true
   pub short : count ≤ 20 * i
 
-module _ {K : Type 0} {given : K → List ℕ → K → Type 0} {failures : K → ℕ} {first before : Point} {old mid : K} {n : ℕ} (rest : List Point) (i : ℕ) (d : Point) (lt : i < length rest) (left : StepsLeft given failures first rest before i old mid n) where
+module _ {K : Type 0} {given : K → List ℕ → K → Type 0} {failures : K → ℕ} {first before : Point} {old mid : K} {n : ℕ} (rest : List Point) (i : ℕ) (d : Point) (lt : i < length rest)
+    (left : StepsLeft given failures first rest before i old mid n) where
   abbrev next : Point
   next = get_or rest i d
 
@@ -103,7 +133,8 @@ list_is p ps =
     ap (λ (n : ℕ). 4 ∷ (shortest n ++ step_bytes p ps)) less
 
 -- the first point, and the others
-pub split_is : (xs : List Point) (r : Option (Bor Point × Bor (List Point))) (p : Bor Point × Bor (List Point)) → MatchOption r (length xs ≡ 0) (λ q. IsFirstAndRest xs q.0.now q.1.now) → r ≡ Some p → xs ≡ p.0.now ∷ p.1.now
+pub split_is : (xs : List Point) (r : Option (Bor Point × Bor (List Point))) (p : Bor Point × Bor (List Point)) → MatchOption r (length xs ≡ 0) (λ q. IsFirstAndRest xs q.0.now q.1.now) →
+    r ≡ Some p → xs ≡ p.0.now ∷ p.1.now
 split_is xs r p h e = (subst (λ (s : Option (Bor Point × Bor (List Point))). MatchOption s (length xs ≡ 0) (λ q. IsFirstAndRest xs q.0.now q.1.now)) e h).0
 
 pub first_inside : (xs : List Point) (p : Point) (ps : List Point) → xs ≡ p ∷ ps → list_all is_grid_point xs ≡ true → is_grid_point p ≡ true

@@ -21,7 +21,8 @@ module _ {K : Type 0} {given : K → List ℕ → K → Type 0} {failures : K �
   pub first : {old new : K} {a : List ℕ} {n : ℕ} (left : List ℕ) → PutsAll given failures old a n new → PutSoFar given failures (a ++ left) left old new n
   first {a = a} left p = record { front = a; joined = refl; puts = p.puts; count_is = p.count_is }
 
-  pub ◌▸◌ : {whole a left : List ℕ} {old mid new : K} {n m : ℕ} → PutSoFar given failures whole (a ++ left) old mid n → PutsAll given failures mid a m new → PutSoFar given failures whole left old new (n + m)
+  pub ◌▸◌ : {whole a left : List ℕ} {old mid new : K} {n m : ℕ} → PutSoFar given failures whole (a ++ left) old mid n → PutsAll given failures mid a m new →
+      PutSoFar given failures whole left old new (n + m)
   ◌▸◌ {a = a} {left = left} p q = record {
     front = p.front ++ a;
     joined = p.joined ∙ sym (append_assoc p.front a left);
@@ -38,7 +39,13 @@ module _ {K : Type 0} {given : K → List ℕ → K → Type 0} {failures : K �
   -- the last part
   pub ends : {whole a : List ℕ} {old mid new : K} {n m : ℕ} → PutSoFar given failures whole a old mid n → PutsAll given failures mid a m new → PutsAll given failures old whole (n + m) new
   ends {whole = whole} {a = a} {old = old} {mid = mid} {n = n} p q =
-      let again : PutSoFar given failures whole (a ++ []) old mid n = record { front = p.front; joined = p.joined ∙ ap (λ (b : List ℕ). p.front ++ b) (sym (append-nil a)); puts = p.puts; count_is = p.count_is } in
+      let again : PutSoFar given failures whole (a ++ []) old mid n = record {
+        front = p.front;
+        joined = p.joined
+            ∙ ap (λ (b : List ℕ). p.front ++ b) (sym (append-nil a));
+        puts = p.puts;
+        count_is = p.count_is;
+      } in
       all_put (again ▸ q)
 
   -- ---- where the sink fails
@@ -61,7 +68,8 @@ module _ {K : Type 0} {given : K → List ℕ → K → Type 0} {failures : K �
     failed = q.failed;
   }
 
-  pub fails_at : {whole a : List ℕ} {old mid new : K} {n : ℕ} (left : List ℕ) → PutSoFar given failures whole (a ++ left) old mid n → PutsFront given failures mid a new → PutsFront given failures old whole new
+  pub fails_at : {whole a : List ℕ} {old mid new : K} {n : ℕ} (left : List ℕ) → PutSoFar given failures whole (a ++ left) old mid n → PutsFront given failures mid a new →
+      PutsFront given failures old whole new
   fails_at left p q = last_fails p (first_fails left q)
 
   -- what was put whole is a front of itself

@@ -44,7 +44,8 @@ tally_by_two : (q : Element) (xs : List Element) → count_of Two q (items (tall
 tally_by_two q [] = refl
 tally_by_two q (x ∷ xs) =
     let one : Element → ℕ = λ y. cond (same_element Two q y) 1 0 in
-    let more : total one (with_more (tally One xs) (normal One x) 1) ≡ total one (tally One xs) + 1 * one (normal One x) = total-put_more element_cmp one (tally One xs) (normal One x) 1 (λ y h. ap one (sym (exact_elements (normal One x) y h))) in
+    let more : total one (with_more (tally One xs) (normal One x) 1) ≡ total one (tally One xs) + 1 * one (normal One x) = total-put_more element_cmp one (tally One xs) (normal One x) 1
+    (λ y h. ap one (sym (exact_elements (normal One x) y h))) in
     let there : one (normal One x) ≡ one x = ap (λ b. cond b 1 0) (same_by_two q x) in
     omega (arith, sum_by-items one (with_more (tally One xs) (normal One x) 1), more, sum_by-items one (tally One xs), there, sum_by-cons one x xs, tally_by_two q xs)
 
@@ -53,7 +54,8 @@ one_tally : (xs ys : List Element) → ((q : Element) → count_of One q xs ≡ 
 one_tally xs ys h =
     let b = tally_is_bag One xs in
     let c = tally_is_bag One ys in
-    equal One (items (tally One xs)) (items (tally One ys)) (items_normal One (tally One xs) b.normal) (items_normal One (tally One ys) c.normal) (items_ascend (tally One xs) b.tally.ascending) (items_ascend (tally One ys) c.tally.ascending)
+    equal One (items (tally One xs)) (items (tally One ys)) (items_normal One (tally One xs) b.normal) (items_normal One (tally One ys) c.normal)
+    (items_ascend (tally One xs) b.tally.ascending) (items_ascend (tally One ys) c.tally.ascending)
     (λ q. tally_count One q xs ∙ h q ∙ sym (tally_count One q ys))
 
 counts_by_two : (xs ys : List Element) → ((q : Element) → count_of One q xs ≡ count_of One q ys) → (q : Element) → count_of Two q xs ≡ count_of Two q ys
@@ -70,8 +72,24 @@ coarser m n s = record {
 
 pub keeps : OneThenTwo
 keeps one other b c d k = (
-  λ h. record { form = h.form; source = k.source; target = h.target; means = k.means; becomes = h.becomes; same = transitive Two k.source k.target h.target there (from k.target h.source h.target (means_one c h.source k.target h.means k.becomes) h.same) },
-  λ h. record { form = h.form; source = k.target; target = h.target; means = k.becomes; becomes = h.becomes; same = transitive Two k.target k.source h.target (symmetric Two k.source k.target there) (from k.source h.source h.target (means_one b h.source k.source h.means k.means) h.same) },
+  λ h. record {
+    form = h.form;
+    source = k.source;
+    target = h.target;
+    means = k.means;
+    becomes = h.becomes;
+    same = transitive Two k.source k.target h.target there
+        (from k.target h.source h.target (means_one c h.source k.target h.means k.becomes) h.same);
+  },
+  λ h. record {
+    form = h.form;
+    source = k.target;
+    target = h.target;
+    means = k.becomes;
+    becomes = h.becomes;
+    same = transitive Two k.target k.source h.target
+        (symmetric Two k.source k.target there) (from k.source h.source h.target (means_one b h.source k.source h.means k.means) h.same);
+  },
 ) where
   there : SameLayout Two k.source k.target
   there = coarser k.source k.target k.same

@@ -37,7 +37,8 @@ use Rattle.oas_form.proofs.OrderedLayouts.{find_is, same_cells, items_ascend, it
 
 -- ---- more of an element leaves a bag
 
-above_put_more : (x k : Element) (n : ℕ) (es : List (Element × ℕ)) → element_cmp x k ≡ Less → AllByRecursion (λ y. element_cmp x y ≡ Less) (keys_of es) → AllByRecursion (λ y. element_cmp x y ≡ Less) (keys_of (put_more element_cmp es k n))
+above_put_more : (x k : Element) (n : ℕ) (es : List (Element × ℕ)) → element_cmp x k ≡ Less → AllByRecursion (λ y. element_cmp x y ≡ Less) (keys_of es) →
+    AllByRecursion (λ y. element_cmp x y ≡ Less) (keys_of (put_more element_cmp es k n))
 above_put_more x k n [] l h = (l, tt)
 above_put_more x k n (p ∷ ps) l h =
     elim (element_cmp k p.0) as (λ r. AllByRecursion (λ y. element_cmp x y ≡ Less) (keys_of (match_ordering r ((k, n) ∷ p ∷ ps) ((p.0, p.1 + n) ∷ ps) (p ∷ put_more element_cmp ps k n)))) [
@@ -86,7 +87,8 @@ module _ (profile : Profile) where
   tally_is_bag [] = IsBag-empty profile [] refl
   tally_is_bag (x ∷ xs) =
       let b = tally_is_bag xs in
-      IsBag-put_more profile (tally xs) (tally (x ∷ xs)) (normal profile x) 1 (normal-normal profile x) b (record { ascending = sorted_put_more (tally xs) (normal profile x) 1 b.tally.ascending; positive = positive_put_more (tally xs) (normal profile x) 1 (omega arith) b.tally.positive }) refl
+      IsBag-put_more profile (tally xs) (tally (x ∷ xs)) (normal profile x) 1 (normal-normal profile x) b
+      (record { ascending = sorted_put_more (tally xs) (normal profile x) 1 b.tally.ascending; positive = positive_put_more (tally xs) (normal profile x) 1 (omega arith) b.tally.positive }) refl
 
   pub tally_count : (q : Element) (xs : List Element) → count_of profile q (items (tally xs)) ≡ count_of profile q xs
   tally_count q [] = refl
@@ -140,7 +142,8 @@ all_put P k v (c ∷ cs) h all =
 sum_put : (f : List ℕ × List Element → ℕ) (k : List ℕ) (v : List Element) (cs : Cells) → find name_cmp k cs ≡ None → cells_sum f (put name_cmp k v cs) ≡ f (k, v) + cells_sum f cs
 sum_put f k v [] none = refl
 sum_put f k v (c ∷ cs) none =
-    elim (name_cmp k c.0) as (λ r. cond (is_eq r) (Some c.1) (find name_cmp k cs) ≡ None → cells_sum f (by_order r ((k, v) ∷ c ∷ cs) ((c.0, v) ∷ cs) (c ∷ put name_cmp k v cs)) ≡ f (k, v) + (f c + cells_sum f cs)) [
+    elim (name_cmp k c.0) as (λ r. cond (is_eq r) (Some c.1) (find name_cmp k cs) ≡ None →
+    cells_sum f (by_order r ((k, v) ∷ c ∷ cs) ((c.0, v) ∷ cs) (c ∷ put name_cmp k v cs)) ≡ f (k, v) + (f c + cells_sum f cs)) [
       | Less ↦ λ e. refl
       | Equal ↦ λ e. cc
       | Greater ↦ λ e. omega (arith, sum_put f k v cs e)
@@ -179,12 +182,14 @@ module _ (profile : Profile) where
 
   cells_normal : (cs : Cells) → AllByRecursion (λ c. AllByRecursion (IsNormal profile) c.1) (ordered cs)
   cells_normal [] = tt
-  cells_normal (c ∷ cs) = all_put (AllByRecursion (IsNormal profile)) c.0 (items (tally profile c.1)) (ordered cs) (items_normal profile (tally profile c.1) (tally_is_bag profile c.1).normal) (cells_normal cs)
+  cells_normal (c ∷ cs) = all_put (AllByRecursion (IsNormal profile)) c.0 (items (tally profile c.1)) (ordered cs)
+      (items_normal profile (tally profile c.1) (tally_is_bag profile c.1).normal) (cells_normal cs)
 
   pub is_ordered : (cs : Cells) → IsOrdered profile (ordered cs)
   is_ordered cs = record { names = strictly (ordered cs) (names_sorted cs); ascending = cells_ascend cs; normal = cells_normal cs }
 
-  found : (name : List ℕ) (c : List ℕ × List Element) (cs : Cells) → elements_of name (ordered (c ∷ cs)) ≡ cond (pointwise ◌==◌ name c.0) (Some (items (tally profile c.1))) (elements_of name (ordered cs))
+  found : (name : List ℕ) (c : List ℕ × List Element) (cs : Cells) →
+      elements_of name (ordered (c ∷ cs)) ≡ cond (pointwise ◌==◌ name c.0) (Some (items (tally profile c.1))) (elements_of name (ordered cs))
   found name c cs =
       sym (find_is name (ordered (c ∷ cs))) ∙ find-put name_cmp nat_list_cmp_total name c.0 (items (tally profile c.1)) (ordered cs)
       ∙ (λ i. cond (sym (texts_ties name c.0) i) (Some (items (tally profile c.1))) (find_is name (ordered cs) i))
@@ -193,13 +198,15 @@ module _ (profile : Profile) where
   there name [] = refl
   there name (c ∷ cs) =
       ap is_some (found name c cs)
-      ∙ elim (pointwise ◌==◌ name c.0) as (λ b. is_some (cond b (Some (items (tally profile c.1))) (elements_of name (ordered cs))) ≡ is_some (cond b (Some c.1) (elements_of name cs))) [ true ↦ refl | false ↦ there name cs ]
+      ∙ elim (pointwise ◌==◌ name c.0) as (λ b. is_some (cond b (Some (items (tally profile c.1))) (elements_of name (ordered cs))) ≡ is_some
+      (cond b (Some c.1) (elements_of name cs))) [ true ↦ refl | false ↦ there name cs ]
 
   as_often : (name : List ℕ) (q : Element) (cs : Cells) → count_of profile q (unwrap_or (elements_of name (ordered cs)) []) ≡ count_of profile q (unwrap_or (elements_of name cs) [])
   as_often name q [] = refl
   as_often name q (c ∷ cs) =
       ap (λ o. count_of profile q (unwrap_or o [])) (found name c cs)
-      ∙ elim (pointwise ◌==◌ name c.0) as (λ b. count_of profile q (unwrap_or (cond b (Some (items (tally profile c.1))) (elements_of name (ordered cs))) []) ≡ count_of profile q (unwrap_or (cond b (Some c.1) (elements_of name cs)) [])) [
+      ∙ elim (pointwise ◌==◌ name c.0) as (λ b. count_of profile q (unwrap_or (cond b (Some (items (tally profile c.1))) (elements_of name (ordered cs))) []) ≡ count_of profile q
+      (unwrap_or (cond b (Some c.1) (elements_of name cs)) [])) [
         | true ↦ tally_count profile q c.1
         | false ↦ as_often name q cs
       ]
@@ -231,7 +238,8 @@ module _ (profile : Profile) where
   -- layouts that are the same have one order
   one_order : (m n : Meaning) → SameLayout profile m n → ordered m.cells ≡ ordered n.cells
   one_order m n s =
-      same_cells profile (in_order m) (in_order n) (is_ordered m.cells) (is_ordered n.cells) (transitive profile (in_order m) m (in_order n) (in_order_same m) (transitive profile m n (in_order n) s (symmetric profile (in_order n) n (in_order_same n))))
+      same_cells profile (in_order m) (in_order n) (is_ordered m.cells) (is_ordered n.cells)
+      (transitive profile (in_order m) m (in_order n) (in_order_same m) (transitive profile m n (in_order n) s (symmetric profile (in_order n) n (in_order_same n))))
 
 ordered_weighs : (cs : Cells) → has_twice (keys_of cs) ≡ false → cells_weight (ordered One cs) ≡ cells_weight cs
 ordered_weighs [] h = refl

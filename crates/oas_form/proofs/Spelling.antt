@@ -27,7 +27,8 @@ use Rattle.oas_layout.specs.Sound.{IsSound, IsUnit}
 use Rattle.oas_form.specs.Records.{Cells, element_record, records_of}
 use Rattle.oas_form.specs.Bytes.{string_bytes, element_bytes, elements_bytes, cells_bytes, unit_bytes, head_bytes, end_bytes, canonical_bytes}
 use Rattle.oas_form.specs.Spelling.{CanonicalBytesSpell}
-use Rattle.oas_form.proofs.ElementSpelling.{small_spelled, text_spelled, name_spelled, placement_spelled, string_spelled, box_spelled, polygon_spelled, path_spelled, circle_spelled}
+use Rattle.oas_form.proofs.FieldSpelling.{small_spelled, text_spelled, name_spelled}
+use Rattle.oas_form.proofs.ElementSpelling.{placement_spelled, string_spelled, box_spelled, polygon_spelled, path_spelled, circle_spelled}
 
 -- ---- records
 
@@ -50,10 +51,14 @@ spelled r bytes h = record {
 
 -- an element is spelled by its bytes
 pub element_inner : (e : Element) → IsSound e → weight_of e ≤ 2 ^ 30 → Inner (element_record e) (element_bytes e)
-element_inner (Placement name x y turns flip) h light = record { inner = λ e. cc; small = omega arith; rest = _; is = refl; after = record { from = _; is = refl; spelled = placement_spelled name x y turns flip h.fits h.inside } }
-element_inner (Text string textlayer texttype x y) h light = record { inner = λ e. cc; small = omega arith; rest = _; is = refl; after = record { from = _; is = refl; spelled = string_spelled string textlayer texttype x y h.fits h.inside } }
-element_inner (Rectangle layer datatype width height x y) h light = record { inner = λ e. cc; small = omega arith; rest = _; is = refl; after = record { from = _; is = refl; spelled = box_spelled layer datatype width height x y h.fits h.inside } }
-element_inner (Polygon layer datatype points) h light = record { inner = λ e. cc; small = omega arith; rest = _; is = refl; after = record { from = _; is = refl; spelled = polygon_spelled layer datatype points h.fits h.points h.inside (omega arith) } }
+element_inner (Placement name x y turns flip) h light =
+    record { inner = λ e. cc; small = omega arith; rest = _; is = refl; after = record { from = _; is = refl; spelled = placement_spelled name x y turns flip h.fits h.inside } }
+element_inner (Text string textlayer texttype x y) h light =
+    record { inner = λ e. cc; small = omega arith; rest = _; is = refl; after = record { from = _; is = refl; spelled = string_spelled string textlayer texttype x y h.fits h.inside } }
+element_inner (Rectangle layer datatype width height x y) h light =
+    record { inner = λ e. cc; small = omega arith; rest = _; is = refl; after = record { from = _; is = refl; spelled = box_spelled layer datatype width height x y h.fits h.inside } }
+element_inner (Polygon layer datatype points) h light =
+    record { inner = λ e. cc; small = omega arith; rest = _; is = refl; after = record { from = _; is = refl; spelled = polygon_spelled layer datatype points h.fits h.points h.inside (omega arith) } }
 element_inner (Path layer datatype half_width start end points) h light = record {
   inner = λ e. cc;
   small = omega arith;
@@ -61,20 +66,35 @@ element_inner (Path layer datatype half_width start end points) h light = record
   is = refl;
   after = record { from = _; is = refl; spelled = path_spelled layer datatype half_width start end points h.fits h.points h.inside (omega arith) };
 }
-element_inner (Circle layer datatype radius x y) h light = record { inner = λ e. cc; small = omega arith; rest = _; is = refl; after = record { from = _; is = refl; spelled = circle_spelled layer datatype radius x y h.fits h.inside } }
+element_inner (Circle layer datatype radius x y) h light =
+    record { inner = λ e. cc; small = omega arith; rest = _; is = refl; after = record { from = _; is = refl; spelled = circle_spelled layer datatype radius x y h.fits h.inside } }
 
 pub cell_inner : (name : List ℕ) → IsName name → Inner (record_of.Cell (cell.Name name)) (14 ∷ string_bytes name)
-cell_inner name h = record { inner = λ e. cc; small = omega arith; rest = string_bytes name; is = refl; after = record { from = cell.Name name; is = refl; spelled = record { from = name; is = refl; spelled = name_spelled name h } } }
+cell_inner name h = record {
+  inner = λ e. cc;
+  small = omega arith;
+  rest = string_bytes name;
+  is = refl;
+  after =
+      record { from = cell.Name name; is = refl; spelled = record { from = name; is = refl; spelled = name_spelled name h } };
+}
 
 -- records, one after another
 abbrev AreSpelled : List Record → List ℕ → Type 0
 AreSpelled rs bytes = IsEach (IsSuch IsInner (record_in Shortest false)) rs bytes
 
-elements_spelled : (es : List Element) (rs : List Record) (bytes : List ℕ) → AllByRecursion IsSound es → sum_by weight_of es ≤ 2 ^ 30 → AreSpelled rs bytes → AreSpelled (map element_record es ++ rs) (elements_bytes es ++ bytes)
+elements_spelled : (es : List Element) (rs : List Record) (bytes : List ℕ) → AllByRecursion IsSound es → sum_by weight_of es ≤ 2 ^ 30 → AreSpelled rs bytes →
+    AreSpelled (map element_record es ++ rs) (elements_bytes es ++ bytes)
 elements_spelled [] rs bytes h light k = k
 elements_spelled (e ∷ es) rs bytes h light k =
-    let sum = sum_by-cons weight_of e es in
-    (element_bytes e, elements_bytes es ++ bytes, spelled (element_record e) (element_bytes e) (element_inner e h.0 (omega (arith, sum, light))), elements_spelled es rs bytes h.1 (omega (arith, sum, light)) k, append_assoc (element_bytes e) (elements_bytes es) bytes)
+    let sum = sum_by-cons weight_of e es in (
+      element_bytes e,
+      elements_bytes es ++ bytes,
+      spelled (element_record e) (element_bytes e) (element_inner e h.0 (omega (arith, sum, light))),
+      elements_spelled es rs bytes h.1
+          (omega (arith, sum, light)) k,
+      append_assoc (element_bytes e) (elements_bytes es) bytes,
+    )
 
 cells_spelled : (cs : Cells) → AllByRecursion (λ c. IsName c.0) cs → AllByRecursion (λ c. AllByRecursion IsSound c.1) cs → cells_weight cs ≤ 2 ^ 30 → AreSpelled (records_of cs) (cells_bytes cs)
 cells_spelled [] names sound light = refl
@@ -94,7 +114,8 @@ real u = record { negative = false; num = u.num; den = u.den }
 
 -- the real's type by two tests
 real_by : (u : Ratio) (whole part : Bool) → (whole ≡ true → u.den ≡ 1) → (part ≡ true → u.num ≡ 1) → u.num < 2 ^ 64 → u.den < 2 ^ 64
-    → IsPair IsShortest ShortestParts ((if whole then 0 else if part then 2 else 4) + 0, real u) (if whole then 0 ∷ shortest u.num else (if part then 2 ∷ shortest u.den else 4 ∷ (shortest u.num ++ shortest u.den)))
+    → IsPair IsShortest ShortestParts ((if whole then 0 else if part then 2 else 4) + 0, real u)
+    (if whole then 0 ∷ shortest u.num else (if part then 2 ∷ shortest u.den else 4 ∷ (shortest u.num ++ shortest u.den)))
 real_by u true part w p n d = record {
   front = 0 ∷ [];
   back = shortest u.num;
@@ -169,7 +190,17 @@ head_spelled u h = record {
 
 pub end_spelled : record_in Shortest false record_of.End end_bytes
 unfolding end_bytes ending
-end_spelled = record { whole = λ e. refl; parts = record { front = 2 ∷ []; back = ending; first = small_spelled 2 (omega arith); second = record { from = tt; is = refl; spelled = refl }; joined = refl } }
+end_spelled = record {
+  whole = λ e. refl;
+  parts = record {
+    front = 2 ∷ [];
+    back = ending;
+    first = small_spelled 2
+        (omega arith);
+    second = record { from = tt; is = refl; spelled = refl };
+    joined = refl;
+  };
+}
 
 -- ---- the file
 

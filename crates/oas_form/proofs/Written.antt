@@ -49,7 +49,8 @@ fit_grid (c ∷ cs) h = (grid_of c.1 h.0, fit_grid cs h.1)
 -- ---- the canonical form
 
 -- of what can be spelled, in order and within the limits
-pub form_of : (limits : Limits) (profile : Profile) (m : Meaning) → IsSpellable m → IsOrdered profile m.cells → element_count m.cells ≤ limits.elements → cells_weight m.cells ≤ limits.weight → CanonicalForm limits profile (canonical_bytes m) × Means (canonical_bytes m) m
+pub form_of : (limits : Limits) (profile : Profile) (m : Meaning) → IsSpellable m → IsOrdered profile m.cells → element_count m.cells ≤ limits.elements →
+    cells_weight m.cells ≤ limits.weight → CanonicalForm limits profile (canonical_bytes m) × Means (canonical_bytes m) m
 form_of limits profile m h o few light =
     let points = have_points m.cells h.sound in
     let file = canonical_spelled m h in

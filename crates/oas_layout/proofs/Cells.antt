@@ -1,5 +1,37 @@
 -- A cell that is given more elements, and a new cell.
-use Rattle.std.proofs.Common.{◌≡◌, ℕ, zero, suc, ◌+◌, ◌-◌, ◌*◌, ◌<◌, ◌≤◌, List, [], ◌∷◌, ◌++◌, Option, None, Some, is_some, true, false, length, slice_get, unwrap_or, replicate, refl, sym, ◌∙◌, ap, subst, arith, length-append, mul_comm}
+use Rattle.std.proofs.Common.{
+  ◌≡◌,
+  ℕ,
+  zero,
+  suc,
+  ◌+◌,
+  ◌-◌,
+  ◌*◌,
+  ◌<◌,
+  ◌≤◌,
+  List,
+  [],
+  ◌∷◌,
+  ◌++◌,
+  Option,
+  None,
+  Some,
+  is_some,
+  true,
+  false,
+  length,
+  slice_get,
+  unwrap_or,
+  replicate,
+  refl,
+  sym,
+  ◌∙◌,
+  ap,
+  subst,
+  arith,
+  length-append,
+  mul_comm,
+}
 use Rattle.std.specs.Prelude.{sum_by}
 use Rattle.std.specs.Map.{values_of}
 use Rattle.std.specs.declared.cmp.Ordering.TheVariants.{Equal}
@@ -62,7 +94,8 @@ module _ (profile : Profile) where
   cell_of (c ∷ cs) (suc i) bag h all = cell_of cs i bag h all.1
 
   -- writing a sound bag leaves cells
-  cells-set_value_at : (cs : List Cell) (i : ℕ) (new : List (Element × ℕ)) → AllByRecursion (IsCell profile) cs → IsBag profile new → AllSound new → AllByRecursion (IsCell profile) (set_value_at cs i new)
+  cells-set_value_at : (cs : List Cell) (i : ℕ) (new : List (Element × ℕ)) → AllByRecursion (IsCell profile) cs → IsBag profile new → AllSound new →
+      AllByRecursion (IsCell profile) (set_value_at cs i new)
   cells-set_value_at [] i new h good sound = tt
   cells-set_value_at (c ∷ cs) zero new h good sound = (record { name = h.0.name; bag = good; sound = sound }, h.1)
   cells-set_value_at (c ∷ cs) (suc i) new h good sound = (h.0, cells-set_value_at cs i new h.1 good sound)
@@ -73,7 +106,9 @@ module _ (profile : Profile) where
   cells-push (c ∷ cs) name good h = (h.0, cells-push cs name good h.1)
 
 -- the bag of a cell that is read
-pub cell_bag : (v : Contents) (unit : Ratio) (limits : Limits) (profile : Profile) (cs : List Cell) (spelled count weight i : ℕ) (c : Cell) → record { unit = unit; limits = limits; profile = profile; cells = cs; spelled = spelled } ≡ v → IsCounted limits profile cs count weight spelled → slice_get v.cells i ≡ Some c → IsBag v.profile c.1
+pub cell_bag : (v : Contents) (unit : Ratio) (limits : Limits) (profile : Profile) (cs : List Cell) (spelled count weight i : ℕ) (c : Cell) →
+    record { unit = unit; limits = limits; profile = profile; cells = cs; spelled = spelled } ≡ v → IsCounted limits profile cs count weight spelled → slice_get v.cells i ≡ Some c →
+    IsBag v.profile c.1
 cell_bag v unit limits profile cs spelled count weight i c view k at =
     let here : IsCounted v.limits v.profile v.cells count weight v.spelled = subst (λ (w : Contents). IsCounted w.limits w.profile w.cells count weight w.spelled) view k in
     read v.profile v.cells i c at here.are_cells where
@@ -83,7 +118,10 @@ cell_bag v unit limits profile cs spelled count weight i c view k at =
       read profile (d ∷ cs) (suc i) c h all = read profile cs i c h all.1
 
 -- the draft after more of an element
-pub IsCounted-with_more : (limits : Limits) (profile : Profile) (cs : List Cell) (count weight spelled i : ℕ) (bag new : List (Element × ℕ)) (e : Element) (n w s : ℕ) → IsCounted limits profile cs count weight spelled → slice_get (values_of cs) i ≡ Some bag → new ≡ with_more bag e n → IsTally new → IsNormal profile e → IsSound e → i < length cs → count + n ≤ limits.elements → spelled + s ≤ limits.weight → w ≡ weight_of e * n → w ≤ s → (profile ≡ One → w ≡ s) → IsCounted limits profile (set_value_at cs i new) (count + n) (weight + w) (spelled + s)
+pub IsCounted-with_more : (limits : Limits) (profile : Profile) (cs : List Cell) (count weight spelled i : ℕ) (bag new : List (Element × ℕ)) (e : Element) (n w s : ℕ) →
+    IsCounted limits profile cs count weight spelled → slice_get (values_of cs) i ≡ Some bag → new ≡ with_more bag e n → IsTally new → IsNormal profile e → IsSound e → i < length cs →
+    count + n ≤ limits.elements → spelled + s ≤ limits.weight → w ≡ weight_of e * n → w ≤ s → (profile ≡ One → w ≡ s) →
+    IsCounted limits profile (set_value_at cs i new) (count + n) (weight + w) (spelled + s)
 IsCounted-with_more limits profile cs count weight spelled i bag new e n w s k at is tally kept sound h few light product lighter exact =
     let same : set_value_at cs i new ≡ cells_with_more cs i e n = ap (λ es. set_value_at cs i es) is ∙ set_value_at-with_more e n cs i bag at in
     let old = cell_of profile cs i bag at k.are_cells in
@@ -101,22 +139,29 @@ IsCounted-with_more limits profile cs count weight spelled i bag new e n w s k a
     })
 
 -- and what the draft then holds
-pub holding_is : (v : Contents) (unit : Ratio) (limits : Limits) (profile : Profile) (cs : List Cell) (spelled i : ℕ) (bag new : List (Element × ℕ)) (e : Element) (n s : ℕ) → record { unit = unit; limits = limits; profile = profile; cells = cs; spelled = spelled } ≡ v → slice_get (values_of cs) i ≡ Some bag → new ≡ with_more bag e n → ◌≡◌ {A = Contents} (record { unit = unit; limits = limits; profile = profile; cells = set_value_at cs i new; spelled = spelled + s }) (holding v i e n s)
+pub holding_is : (v : Contents) (unit : Ratio) (limits : Limits) (profile : Profile) (cs : List Cell) (spelled i : ℕ) (bag new : List (Element × ℕ)) (e : Element) (n s : ℕ) →
+    record { unit = unit; limits = limits; profile = profile; cells = cs; spelled = spelled } ≡ v → slice_get (values_of cs) i ≡ Some bag → new ≡ with_more bag e n →
+    ◌≡◌ {A = Contents} (record { unit = unit; limits = limits; profile = profile; cells = set_value_at cs i new; spelled = spelled + s }) (holding v i e n s)
 holding_is v unit limits profile cs spelled i bag new e n s view at is =
-    (λ j. record { unit = unit; limits = limits; profile = profile; cells = (ap (λ es. set_value_at cs i es) is ∙ set_value_at-with_more e n cs i bag at) j; spelled = spelled + s }) ∙ ap (λ (u : Contents). holding u i e n s) view
+    (λ j. record { unit = unit; limits = limits; profile = profile; cells = (ap (λ es. set_value_at cs i es) is ∙ set_value_at-with_more e n cs i bag at) j; spelled = spelled + s })
+    ∙ ap (λ (u : Contents). holding u i e n s) view
 
 -- a refused addition leaves what the draft held
-pub unchanged_is : (v : Contents) (unit : Ratio) (limits : Limits) (profile : Profile) (cs : List Cell) (spelled i : ℕ) (bag new : List (Element × ℕ)) → record { unit = unit; limits = limits; profile = profile; cells = cs; spelled = spelled } ≡ v → slice_get (values_of cs) i ≡ Some bag → new ≡ bag → ◌≡◌ {A = Contents} (record { unit = unit; limits = limits; profile = profile; cells = set_value_at cs i new; spelled = spelled }) v
+pub unchanged_is : (v : Contents) (unit : Ratio) (limits : Limits) (profile : Profile) (cs : List Cell) (spelled i : ℕ) (bag new : List (Element × ℕ)) →
+    record { unit = unit; limits = limits; profile = profile; cells = cs; spelled = spelled } ≡ v → slice_get (values_of cs) i ≡ Some bag → new ≡ bag →
+    ◌≡◌ {A = Contents} (record { unit = unit; limits = limits; profile = profile; cells = set_value_at cs i new; spelled = spelled }) v
 unchanged_is v unit limits profile cs spelled i bag new view at is =
     (λ j. record { unit = unit; limits = limits; profile = profile; cells = (ap (λ es. set_value_at cs i es) is ∙ set_value_at-same cs i bag at) j; spelled = spelled }) ∙ view
 
 -- and its counters
-pub IsCounted-same : (limits : Limits) (profile : Profile) (cs : List Cell) (count weight spelled i : ℕ) (bag new : List (Element × ℕ)) → IsCounted limits profile cs count weight spelled → slice_get (values_of cs) i ≡ Some bag → new ≡ bag → IsCounted limits profile (set_value_at cs i new) count weight spelled
+pub IsCounted-same : (limits : Limits) (profile : Profile) (cs : List Cell) (count weight spelled i : ℕ) (bag new : List (Element × ℕ)) → IsCounted limits profile cs count weight spelled →
+    slice_get (values_of cs) i ≡ Some bag → new ≡ bag → IsCounted limits profile (set_value_at cs i new) count weight spelled
 IsCounted-same limits profile cs count weight spelled i bag new k at is =
     subst (λ (ds : List Cell). IsCounted limits profile ds count weight spelled) (sym (ap (λ es. set_value_at cs i es) is ∙ set_value_at-same cs i bag at)) k
 
 -- a new cell
-pub IsCounted-push : (limits : Limits) (profile : Profile) (cs ds : List Cell) (count weight spelled w : ℕ) (name : List ℕ) → IsCounted limits profile cs count weight spelled → ds ≡ cs ++ (name, []) ∷ [] → w ≡ length name → IsName name → w < limits.weight - spelled → IsCounted limits profile ds count (weight + (1 + w)) (spelled + (1 + w))
+pub IsCounted-push : (limits : Limits) (profile : Profile) (cs ds : List Cell) (count weight spelled w : ℕ) (name : List ℕ) → IsCounted limits profile cs count weight spelled →
+    ds ≡ cs ++ (name, []) ∷ [] → w ≡ length name → IsName name → w < limits.weight - spelled → IsCounted limits profile ds count (weight + (1 + w)) (spelled + (1 + w))
 IsCounted-push limits profile cs ds count weight spelled w name k is same good light =
     subst (λ (es : List Cell). IsCounted limits profile es count (weight + (1 + w)) (spelled + (1 + w))) (sym is) (record {
       count_is = omega (arith, k.count_is, cells_sum-push (λ c. length c.1) cs name);
@@ -129,7 +174,9 @@ IsCounted-push limits profile cs ds count weight spelled w name k is same good l
     })
 
 -- and what the draft then holds
-pub pushed_is : (v : Contents) (unit : Ratio) (limits : Limits) (profile : Profile) (cs ds : List Cell) (spelled w : ℕ) (name : List ℕ) → record { unit = unit; limits = limits; profile = profile; cells = cs; spelled = spelled } ≡ v → ds ≡ cs ++ (name, []) ∷ [] → w ≡ length name → ◌≡◌ {A = Contents} (record { unit = unit; limits = limits; profile = profile; cells = ds; spelled = spelled + (1 + w) }) (with_cell v name)
+pub pushed_is : (v : Contents) (unit : Ratio) (limits : Limits) (profile : Profile) (cs ds : List Cell) (spelled w : ℕ) (name : List ℕ) →
+    record { unit = unit; limits = limits; profile = profile; cells = cs; spelled = spelled } ≡ v → ds ≡ cs ++ (name, []) ∷ [] → w ≡ length name →
+    ◌≡◌ {A = Contents} (record { unit = unit; limits = limits; profile = profile; cells = ds; spelled = spelled + (1 + w) }) (with_cell v name)
 pushed_is v unit limits profile cs ds spelled w name view is same =
     (λ j. record { unit = unit; limits = limits; profile = profile; cells = is j; spelled = spelled + (1 + same j) }) ∙ ap (λ (u : Contents). with_cell u name) view
 
@@ -147,5 +194,6 @@ pub cell_refusal-none : (d : Contents) (name : List ℕ) → false ≡ has_cell 
 cell_refusal-none d name there light = grind (arith, nat_tests)
 
 -- the same of an element
-pub refusal-none : (d : Contents) (e : Element) (n : ℕ) → false ≡ lacks_points e → element_count (expanded d.cells) + n ≤ d.limits.elements → d.spelled + n * weight_of e ≤ d.limits.weight → true ≡ fits_grid e → refusal d e n ≡ None
+pub refusal-none : (d : Contents) (e : Element) (n : ℕ) → false ≡ lacks_points e → element_count (expanded d.cells) + n ≤ d.limits.elements → d.spelled + n * weight_of e ≤ d.limits.weight →
+    true ≡ fits_grid e → refusal d e n ≡ None
 refusal-none d e n points few light inside = grind (arith, nat_tests)

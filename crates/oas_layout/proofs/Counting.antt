@@ -53,7 +53,8 @@ module _ {K : Type 0} {R : K → K → Ordering} (o : IsTotalOrder R) (exact : C
     chain (k ∷ ks) h = (o.trans q p.0 k e h.0, chain ks h.1)
 
   -- bags with equal counts are equal
-  pub same_bags : (es fs : List (K × ℕ)) → AllNormal es → AllNormal fs → Positive es → Positive fs → IsStrictlySortedBy R (keys_of es) → IsStrictlySortedBy R (keys_of fs) → ((q : K) → N q → share q es ≡ share q fs) → es ≡ fs
+  pub same_bags : (es fs : List (K × ℕ)) → AllNormal es → AllNormal fs → Positive es → Positive fs → IsStrictlySortedBy R (keys_of es) → IsStrictlySortedBy R (keys_of fs) →
+      ((q : K) → N q → share q es ≡ share q fs) → es ≡ fs
   same_bags [] [] n m p q s t h = refl
   same_bags [] (f ∷ fs) n m p q s t h =
       let e = h f.0 m.0 in

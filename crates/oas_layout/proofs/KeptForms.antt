@@ -29,12 +29,14 @@ module _ (profile : Profile) (layer datatype : ℕ) (p ring : List Point) (o : O
   drawn = ap (drawn_box profile) (sym there) ∙ sym box
 
   -- a polygon that is drawn round no rectangle, read otherwise
-  pub kept_turned : (q : List Point) (r : Reading) → o ≡ None → IsLeastReadingOf ring (reading_of ring r) → q ≡ reading_of ring r → Polygon layer datatype q ≡ normal_polygon layer datatype (least_of p) (drawn_box profile p)
+  pub kept_turned : (q : List Point) (r : Reading) → o ≡ None → IsLeastReadingOf ring (reading_of ring r) → q ≡ reading_of ring r →
+      Polygon layer datatype q ≡ normal_polygon layer datatype (least_of p) (drawn_box profile p)
   kept_turned q r none least is =
       λ i. normal_polygon layer datatype ((is ∙ least_of-is ring (reading_of ring r) least ∙ ap least_of there) i) (sym (drawn ∙ none) i)
 
   -- or as it is
-  pub kept_as_it_is : (r : Reading) → o ≡ None → IsLeastReadingOf ring (reading_of ring r) → r.start ≡ 0 → r.backwards ≡ false → Polygon layer datatype p ≡ normal_polygon layer datatype (least_of p) (drawn_box profile p)
+  pub kept_as_it_is : (r : Reading) → o ≡ None → IsLeastReadingOf ring (reading_of ring r) → r.start ≡ 0 → r.backwards ≡ false →
+      Polygon layer datatype p ≡ normal_polygon layer datatype (least_of p) (drawn_box profile p)
   kept_as_it_is r none least start forwards = kept_turned p r none least (sym there ∙ sym (reading_of-first ring r start forwards))
 
 -- what is kept is in its kept form, and weighs no more than what was spelled

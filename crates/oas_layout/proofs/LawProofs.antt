@@ -36,7 +36,8 @@ kept_kept profile = normal-normal profile
 -- which polygons are kept as they are
 pub kept_polygons : (profile : Profile) → KeptPolygons profile
 kept_polygons One layer datatype points = (λ h. (normal-least One layer datatype points h, λ corners no. no), λ h. normal-polygon One layer datatype points h.0 h.1)
-kept_polygons Two layer datatype points = (λ h. (normal-least Two layer datatype points h, λ corners b. normal-no_box layer datatype points corners h b), λ h. normal-polygon Two layer datatype points h.0 h.1)
+kept_polygons Two layer datatype points =
+    (λ h. (normal-least Two layer datatype points h, λ corners b. normal-no_box layer datatype points corners h b), λ h. normal-polygon Two layer datatype points h.0 h.1)
 
 -- the number beside an element is its count
 pub held : (profile : Profile) → HeldCounts profile

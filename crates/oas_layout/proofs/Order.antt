@@ -56,7 +56,8 @@ unfolding IsStrictlySortedBy
 IsTally-empty es e = subst IsTally (sym e) (record { ascending = tt; positive = tt })
 
 -- kept forms stay kept forms
-normal-put_more : (profile : Profile) (es : List (Element × ℕ)) (e : Element) (n : ℕ) → IsNormal profile e → AllByRecursion (λ p. IsNormal profile p.0) es → AllByRecursion (λ p. IsNormal profile p.0) (put_more element_cmp es e n)
+normal-put_more : (profile : Profile) (es : List (Element × ℕ)) (e : Element) (n : ℕ) → IsNormal profile e → AllByRecursion (λ p. IsNormal profile p.0) es →
+    AllByRecursion (λ p. IsNormal profile p.0) (put_more element_cmp es e n)
 normal-put_more profile [] e n h p = (h, tt)
 normal-put_more profile (x ∷ xs) e n h p =
     elim (element_cmp e x.0) as (λ r. AllByRecursion (λ p. IsNormal profile p.0) (match_ordering r ((e, n) ∷ x ∷ xs) ((x.0, x.1 + n) ∷ xs) (x ∷ put_more element_cmp xs e n))) [
@@ -87,7 +88,9 @@ pub IsBag-empty : (profile : Profile) (es : List (Element × ℕ)) → es ≡ []
 IsBag-empty profile es e = record { tally = IsTally-empty es e; normal = subst (λ (gs : List (Element × ℕ)). AllByRecursion (λ p. IsNormal profile p.0) gs) (sym e) tt }
 
 -- what insert leaves, by the value before
-pub put_more-inserted : (old held fs : List (Element × ℕ)) (e : Element) (had n : ℕ) → held ≡ old → IsTally held → had ≡ count_at old e → fs ≡ insert_entry derived_cmp held e (had + n) → fs ≡ put_more element_cmp old e n
+pub put_more-inserted : (old held fs : List (Element × ℕ)) (e : Element) (had n : ℕ) → held ≡ old → IsTally held → had ≡ count_at old e → fs ≡ insert_entry derived_cmp held e (had + n) →
+    fs ≡ put_more element_cmp old e n
 put_more-inserted old held fs e had n same bag was is =
     let now : had ≡ count_at held e = was ∙ ap (λ es. count_at es e) (sym same) in
-    is ∙ insert_entry-derived held e (had + n) ∙ ap (λ (k : ℕ). insert_entry element_cmp held e (k + n)) now ∙ insert_entry-count element_total held e n bag.ascending ∙ ap (λ (es : List (Element × ℕ)). put_more element_cmp es e n) same
+    is ∙ insert_entry-derived held e (had + n) ∙ ap (λ (k : ℕ). insert_entry element_cmp held e (k + n)) now ∙ insert_entry-count element_total held e n bag.ascending
+    ∙ ap (λ (es : List (Element × ℕ)). put_more element_cmp es e n) same

@@ -59,7 +59,8 @@ plain-put_more (x ∷ xs) e n h p =
     ]
 
 -- more of one element
-pub ArePlain-more : (es fs : List (Element × ℕ)) (count weight : ℕ) (e : Element) (n w : ℕ) → ArePlain es count weight → fs ≡ with_more es e n → IsTally fs → is_plain e ≡ true → IsSound e → w ≡ weight_of e * n → w ≤ n * 2 ^ 64 → ArePlain fs (count + n) (weight + w)
+pub ArePlain-more : (es fs : List (Element × ℕ)) (count weight : ℕ) (e : Element) (n w : ℕ) → ArePlain es count weight → fs ≡ with_more es e n → IsTally fs → is_plain e ≡ true → IsSound e →
+    w ≡ weight_of e * n → w ≤ n * 2 ^ 64 → ArePlain fs (count + n) (weight + w)
 ArePlain-more es fs count weight e n w k is tally plain sound product light =
     let turned : w ≡ n * weight_of e = product ∙ mul_comm (weight_of e) n in
     let many : length (items fs) ≡ length (items es) + n = ap (λ (gs : List (Element × ℕ)). length (items gs)) is ∙ length-items-with_more e n es in
@@ -79,7 +80,9 @@ cells-append profile [] c good all = (good, tt)
 cells-append profile (x ∷ xs) c good all = (all.0, cells-append profile xs c good all.1)
 
 -- the draft with one more cell
-pub IsCounted-plain : (limits : Limits) (profile : Profile) (cs ds : List Cell) (count weight spelled : ℕ) (name : List ℕ) (es : List (Element × ℕ)) (n w own : ℕ) → IsCounted limits profile cs count weight spelled → ArePlain es n w → ds ≡ cs ++ (name, es) ∷ [] → own ≡ length name → IsName name → count + n ≤ limits.elements → spelled + ((1 + own) + w) ≤ limits.weight → IsCounted limits profile ds (count + n) (weight + ((1 + own) + w)) (spelled + ((1 + own) + w))
+pub IsCounted-plain : (limits : Limits) (profile : Profile) (cs ds : List Cell) (count weight spelled : ℕ) (name : List ℕ) (es : List (Element × ℕ)) (n w own : ℕ) →
+    IsCounted limits profile cs count weight spelled → ArePlain es n w → ds ≡ cs ++ (name, es) ∷ [] → own ≡ length name → IsName name → count + n ≤ limits.elements →
+    spelled + ((1 + own) + w) ≤ limits.weight → IsCounted limits profile ds (count + n) (weight + ((1 + own) + w)) (spelled + ((1 + own) + w))
 IsCounted-plain limits profile cs ds count weight spelled name es n w own k c is size good few light =
     subst (λ (fs : List Cell). IsCounted limits profile fs (count + n) (weight + ((1 + own) + w)) (spelled + ((1 + own) + w))) (sym is) (record {
       count_is = omega (arith, k.count_is, c.count_is, cells_sum-append (λ c. length c.1) cs name es);
@@ -92,10 +95,13 @@ IsCounted-plain limits profile cs ds count weight spelled name es n w own k c is
     })
 
 -- and what the draft then holds
-pub plain_is : (v : Contents) (unit : Ratio) (limits : Limits) (profile : Profile) (cs ds : List Cell) (spelled : ℕ) (name : List ℕ) (es : List (Element × ℕ)) (w own : ℕ) → record { unit = unit; limits = limits; profile = profile; cells = cs; spelled = spelled } ≡ v → ds ≡ cs ++ (name, es) ∷ [] → own ≡ length name → w ≡ sum_by weight_of (items es) → ◌≡◌ {A = Contents} (record { unit = unit; limits = limits; profile = profile; cells = ds; spelled = spelled + ((1 + own) + w) }) (with_plain v name es)
+pub plain_is : (v : Contents) (unit : Ratio) (limits : Limits) (profile : Profile) (cs ds : List Cell) (spelled : ℕ) (name : List ℕ) (es : List (Element × ℕ)) (w own : ℕ) →
+    record { unit = unit; limits = limits; profile = profile; cells = cs; spelled = spelled } ≡ v → ds ≡ cs ++ (name, es) ∷ [] → own ≡ length name → w ≡ sum_by weight_of (items es) →
+    ◌≡◌ {A = Contents} (record { unit = unit; limits = limits; profile = profile; cells = ds; spelled = spelled + ((1 + own) + w) }) (with_plain v name es)
 plain_is v unit limits profile cs ds spelled name es w own view is size weight =
     (λ j. record { unit = unit; limits = limits; profile = profile; cells = is j; spelled = spelled + ((1 + size j) + weight j) }) ∙ ap (λ (u : Contents). with_plain u name es) view
 
 -- nothing is wrong with the cell
-pub plain_refusal-none : (d : Contents) (name : List ℕ) (es : List (Element × ℕ)) → false ≡ has_cell d.cells name → length (items es) + element_count (expanded d.cells) ≤ d.limits.elements → d.spelled + weight_with name es ≤ d.limits.weight → plain_refusal d name es ≡ None
+pub plain_refusal-none : (d : Contents) (name : List ℕ) (es : List (Element × ℕ)) → false ≡ has_cell d.cells name →
+    length (items es) + element_count (expanded d.cells) ≤ d.limits.elements → d.spelled + weight_with name es ≤ d.limits.weight → plain_refusal d name es ≡ None
 plain_refusal-none d name es there few light = grind (arith, nat_tests)

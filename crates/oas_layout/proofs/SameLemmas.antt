@@ -1,5 +1,35 @@
 -- Layouts are the same exactly if their cells are equal.
-use Rattle.std.proofs.Common.{◌≡◌, ℕ, suc, ◌<◌, List, [], ◌∷◌, Bool, true, false, cond, Option, None, Some, is_some, unwrap_or, length, slice_get, refl, sym, ◌∙◌, ap, subst, arith, ◌&&◌, T, not, IsTrue, true≢false}
+use Rattle.std.proofs.Common.{
+  ◌≡◌,
+  ℕ,
+  suc,
+  ◌<◌,
+  List,
+  [],
+  ◌∷◌,
+  Bool,
+  true,
+  false,
+  cond,
+  Option,
+  None,
+  Some,
+  is_some,
+  unwrap_or,
+  length,
+  slice_get,
+  refl,
+  sym,
+  ◌∙◌,
+  ap,
+  subst,
+  arith,
+  ◌&&◌,
+  T,
+  not,
+  IsTrue,
+  true≢false,
+}
 use Rattle.std.specs.Prelude.{◌==◌, option_map, IfSome}
 use Rattle.std.specs.List.{AllByRecursion}
 use Rattle.std.specs.List.Sorted.{IsStrictlySortedBy}
@@ -25,7 +55,8 @@ use Rattle.oas_layout.proofs.Sealed.{name_cmp}
 -- bags with equal counts of each element are equal
 pub same_held : (profile : Profile) (es fs : List (Element × ℕ)) → IsBag profile es → IsBag profile fs → ((e : Element) → count_of profile e (items es) ≡ count_of profile e (items fs)) → es ≡ fs
 same_held profile es fs b c h =
-    same_bags element_total exact_elements (same_element profile) (IsNormal profile) (same_normal profile) es fs b.normal c.normal b.tally.positive c.tally.positive b.tally.ascending c.tally.ascending (λ q _. sym (sum_by-items _ es) ∙ h q ∙ sum_by-items _ fs)
+    same_bags element_total exact_elements (same_element profile) (IsNormal profile)
+    (same_normal profile) es fs b.normal c.normal b.tally.positive c.tally.positive b.tally.ascending c.tally.ascending (λ q _. sym (sum_by-items _ es) ∙ h q ∙ sum_by-items _ fs)
 
 -- what a look-up finds is a bag
 bag_at : (profile : Profile) (test : List ℕ → Bool) (cs : List Cell) → AllByRecursion (IsCell profile) cs → IfSome (lookup test cs) (IsBag profile)
@@ -36,10 +67,12 @@ bag_at profile test (c ∷ cs) h = elim (test c.0) as (λ b. IfSome (cond b (Som
 elements_of-expanded : (name : List ℕ) (cs : List Cell) → elements_of name (expanded cs) ≡ option_map items (lookup (pointwise ◌==◌ name) cs)
 elements_of-expanded name [] = refl
 elements_of-expanded name (c ∷ cs) =
-    elim (pointwise ◌==◌ name c.0) as (λ b. cond b (Some (items c.1)) (elements_of name (expanded cs)) ≡ option_map items (cond b (Some c.1) (lookup (pointwise ◌==◌ name) cs))) [ true ↦ refl | false ↦ elements_of-expanded name cs ]
+    elim (pointwise ◌==◌ name c.0) as (λ b. cond b (Some (items c.1)) (elements_of name (expanded cs)) ≡ option_map items
+    (cond b (Some c.1) (lookup (pointwise ◌==◌ name) cs))) [ true ↦ refl | false ↦ elements_of-expanded name cs ]
 
 -- bags that are both there, or both not, with equal counts
-joined : (profile : Profile) (o p : Option (List (Element × ℕ))) → IfSome o (IsBag profile) → IfSome p (IsBag profile) → is_some (option_map items o) ≡ is_some (option_map items p) → ((e : Element) → count_of profile e (unwrap_or (option_map items o) []) ≡ count_of profile e (unwrap_or (option_map items p) [])) → o ≡ p
+joined : (profile : Profile) (o p : Option (List (Element × ℕ))) → IfSome o (IsBag profile) → IfSome p (IsBag profile) → is_some (option_map items o) ≡ is_some (option_map items p) →
+    ((e : Element) → count_of profile e (unwrap_or (option_map items o) []) ≡ count_of profile e (unwrap_or (option_map items p) [])) → o ≡ p
 joined profile None None b c s h = refl
 joined profile None (Some y) b c s h = cc
 joined profile (Some x) None b c s h = cc
@@ -77,7 +110,8 @@ cells_from_same a b alike k l s =
     let left = elements_of-expanded q a.cells in
     let right = elements_of-expanded q b.cells in
     find_is q a.cells ∙ sym (by_cmp q a.cells)
-    ∙ joined a.profile (lookup (pointwise ◌==◌ q) a.cells) (lookup (pointwise ◌==◌ q) b.cells) (bag_at a.profile _ a.cells k.cells) (bag_at a.profile _ b.cells others) (ap is_some (sym left) ∙ s.cells q ∙ ap is_some right)
+    ∙ joined a.profile (lookup (pointwise ◌==◌ q) a.cells) (lookup (pointwise ◌==◌ q) b.cells) (bag_at a.profile _ a.cells k.cells) (bag_at a.profile _ b.cells others)
+    (ap is_some (sym left) ∙ s.cells q ∙ ap is_some right)
     (λ e. ap (λ o. count_of a.profile e (unwrap_or o [])) (sym left) ∙ s.counts q e ∙ ap (λ o. count_of a.profile e (unwrap_or o [])) right)
     ∙ by_cmp q b.cells ∙ sym (find_is q b.cells))
 
@@ -99,7 +133,8 @@ same_reads (c ∷ cs) (d ∷ ds) e h =
     λ i. head i ∷ same_reads cs ds (omega (arith, e)) (λ k below. h (suc k) (omega (arith, below))) i
 
 -- layouts of which the units or the cells differ are not the same
-pub differ : (u v a b : Contents) → u ≡ a → v ≡ b → a.profile ≡ b.profile → IsLayout u → IsLayout v → (a.unit ≡ b.unit → a.cells ≡ b.cells → ⊥) → (IsTrue false → SameLayout a.profile (meaning_of a) (meaning_of b)) × (SameLayout a.profile (meaning_of a) (meaning_of b) → IsTrue false)
+pub differ : (u v a b : Contents) → u ≡ a → v ≡ b → a.profile ≡ b.profile → IsLayout u → IsLayout v → (a.unit ≡ b.unit → a.cells ≡ b.cells → ⊥) →
+    (IsTrue false → SameLayout a.profile (meaning_of a) (meaning_of b)) × (SameLayout a.profile (meaning_of a) (meaning_of b) → IsTrue false)
 differ u v a b e f alike k l apart =
     (λ h. absurd (true≢false (sym h)), λ s. absurd (apart s.unit (cells_from_same a b alike (subst IsLayout e k) (subst IsLayout f l) s)))
 

@@ -38,7 +38,8 @@ less a b up apart =
 -- names in order, no two of them equal, strictly ascend
 pub strictly : (ks : List (List ℕ)) → IsSorted name_cmp ks → IsDistinct (pointwise ◌==◌) ks → IsStrictlySortedBy name_cmp ks
 strictly ks s d =
-    sorted_from_all_adjacent nat_list_cmp_total ks [] (λ k h. less (get_or ks k []) (get_or ks (k + 1) []) (s k [] (omega arith) h) (apart_from_distinct (pointwise ◌==◌) ks k (k + 1) [] d (omega arith) h))
+    sorted_from_all_adjacent nat_list_cmp_total ks []
+    (λ k h. less (get_or ks k []) (get_or ks (k + 1) []) (s k [] (omega arith) h) (apart_from_distinct (pointwise ◌==◌) ks k (k + 1) [] d (omega arith) h))
 
 -- a sum over the cells, as std has it
 cells_sum-is : (f : List ℕ × List Element → ℕ) (cs : List Cell) → cells_sum f (expanded cs) ≡ sum_by (λ (c : Cell). f (c.0, items c.1)) cs
@@ -50,7 +51,8 @@ cells_sum-permutation : (f : List ℕ × List Element → ℕ) (cs ds : List Cel
 cells_sum-permutation f cs ds p = cells_sum-is f ds ∙ sum_by-IsPermutation (λ (c : Cell). f (c.0, items c.1)) cs ds p ∙ sym (cells_sum-is f cs)
 
 -- nor do the counters
-IsCounted-permutation : (limits : Limits) (profile : Profile) (cs ds : List Cell) (count weight spelled : ℕ) → IsCounted limits profile cs count weight spelled → IsPermutation cs ds → IsCounted limits profile ds count weight spelled
+IsCounted-permutation : (limits : Limits) (profile : Profile) (cs ds : List Cell) (count weight spelled : ℕ) → IsCounted limits profile cs count weight spelled → IsPermutation cs ds →
+    IsCounted limits profile ds count weight spelled
 IsCounted-permutation limits profile cs ds count weight spelled k p = record {
   count_is = k.count_is ∙ sym (cells_sum-permutation _ cs ds p);
   weight_is = k.weight_is ∙ sym (cells_sum-permutation _ cs ds p);
@@ -62,7 +64,8 @@ IsCounted-permutation limits profile cs ds count weight spelled k p = record {
 }
 
 -- a draft whose cells are sorted is a layout
-pub finished : (unit : Ratio) (limits : Limits) (profile : Profile) (cs ds : List Cell) (count weight spelled : ℕ) → IsUnit unit → IsCounted limits profile cs count weight spelled → IsPermutation cs ds → IsStrictlySortedBy name_cmp (names ds) → IsFinished (record { unit = unit; limits = limits; profile = profile; cells = ds; spelled = spelled }) count weight
+pub finished : (unit : Ratio) (limits : Limits) (profile : Profile) (cs ds : List Cell) (count weight spelled : ℕ) → IsUnit unit → IsCounted limits profile cs count weight spelled →
+    IsPermutation cs ds → IsStrictlySortedBy name_cmp (names ds) → IsFinished (record { unit = unit; limits = limits; profile = profile; cells = ds; spelled = spelled }) count weight
 finished unit limits profile cs ds count weight spelled u k p s =
     let l = IsCounted-permutation limits profile cs ds count weight spelled k p in
     record {
@@ -78,6 +81,9 @@ finished unit limits profile cs ds count weight spelled u k p s =
     }
 
 -- the sorted cells are those of the draft
-pub sealed_is : (v : Contents) (unit : Ratio) (limits : Limits) (profile : Profile) (cs ds : List Cell) (spelled : ℕ) → record { unit = unit; limits = limits; profile = profile; cells = cs; spelled = spelled } ≡ v → IsPermutation cs ds → IsStrictlySortedBy name_cmp (names ds) → IsSealed v (record { unit = unit; limits = limits; profile = profile; cells = ds; spelled = spelled })
+pub sealed_is : (v : Contents) (unit : Ratio) (limits : Limits) (profile : Profile) (cs ds : List Cell) (spelled : ℕ) →
+    record { unit = unit; limits = limits; profile = profile; cells = cs; spelled = spelled } ≡ v → IsPermutation cs ds → IsStrictlySortedBy name_cmp (names ds) →
+    IsSealed v (record { unit = unit; limits = limits; profile = profile; cells = ds; spelled = spelled })
 sealed_is v unit limits profile cs ds spelled view p s =
-    subst (λ (u : Contents). IsSealed u (record { unit = unit; limits = limits; profile = profile; cells = ds; spelled = spelled })) view (record { unit = refl; limits = refl; profile = refl; spelled = refl; cells = p; ascending = s })
+    subst (λ (u : Contents). IsSealed u (record { unit = unit; limits = limits; profile = profile; cells = ds; spelled = spelled })) view
+    (record { unit = refl; limits = refl; profile = refl; spelled = refl; cells = p; ascending = s })

@@ -42,15 +42,17 @@ module _ (test : Point → Bool) where
   all-rotation : (p q : List Point) → IsRotation p q → list_all test q ≡ list_all test p
   all-rotation p q h =
       let t = parts_of_rotation p q h in
-      ap (list_all test) t.turned ∙ list_all-append test t.back t.front ∙ and_turned (list_all test t.back) (list_all test t.front) ∙ sym (list_all-append test t.front t.back) ∙ ap (list_all test) (sym t.whole)
+      ap (list_all test) t.turned ∙ list_all-append test t.back t.front ∙ and_turned (list_all test t.back) (list_all test t.front) ∙ sym (list_all-append test t.front t.back)
+      ∙ ap (list_all test) (sym t.whole)
 
   -- and in the other order
   all-reverse : (p : List Point) → list_all test (reverse p) ≡ list_all test p
   all-reverse [] = refl
-  all-reverse (x ∷ xs) = ap (list_all test) (reverse-append (x ∷ []) xs) ∙ list_all-append test (reverse xs) (x ∷ []) ∙ and_turned (list_all test (reverse xs)) (test x && true) ∙ ap (λ b. (test x && true) && b) (all-reverse xs) ∙ one (test x) (list_all test xs) where
-    one : (a b : Bool) → ((a && true) && b) ≡ (a && b)
-    one true b = refl
-    one false b = refl
+  all-reverse (x ∷ xs) = ap (list_all test) (reverse-append (x ∷ []) xs) ∙ list_all-append test (reverse xs) (x ∷ []) ∙ and_turned (list_all test (reverse xs)) (test x && true)
+      ∙ ap (λ b. (test x && true) && b) (all-reverse xs) ∙ one (test x) (list_all test xs) where
+        one : (a b : Bool) → ((a && true) && b) ≡ (a && b)
+        one true b = refl
+        one false b = refl
 
   -- so in each ring that is the same
   pub all-same_ring : (p q : List Point) → SameRing p q → list_all test q ≡ list_all test p
@@ -82,7 +84,8 @@ box_inside layer datatype points c b h =
     λ i. (low.left i && x i) && (low.right i && y i)
 
 -- a kept polygon lies within the grid
-kept_inside : (profile : Profile) (layer datatype : ℕ) (points : List Point) (o : Option Corners) → drawn_box profile points ≡ o → list_all is_grid_point points ≡ true → fits_grid (normal_polygon layer datatype (least_of points) o) ≡ true
+kept_inside : (profile : Profile) (layer datatype : ℕ) (points : List Point) (o : Option Corners) → drawn_box profile points ≡ o → list_all is_grid_point points ≡ true →
+    fits_grid (normal_polygon layer datatype (least_of points) o) ≡ true
 kept_inside profile layer datatype points None e h = all-same_ring is_grid_point points (least_of points) (least_of-IsLeastReadingOf points).same ∙ h
 kept_inside One layer datatype points (Some c) e h = let no : ⊥ = cc in absurd no
 kept_inside Two layer datatype points (Some c) e h = box_inside layer datatype points c (box_of-box points c e) h

@@ -8,7 +8,7 @@ use Rattle.oas_num.specs.Laws.IntegerLaws.{OneFront-IsUnsigned}
 use Rattle.oas_num.specs.Deltas.{SpellsDelta2, SpellsDelta3, SpellsGDelta, GDeltaTook, delta2_of, delta3_of, gdelta_of, has_second, IsNumbers}
 use Rattle.oas_num.specs.Laws.DeltaLaws.{Delta2-some, Delta3-some, GDelta-some}
 use Rattle.oas_num.specs.Reading.{ReadsValue, FailsPiece, IntegerMay}
-use Rattle.oas_num.proofs.GrammarLemmas.{Midway, begins, seen, image_fails}
+use Rattle.oas_num.proofs.MidwayLemmas.{Midway, begins, seen, image_fails}
 use Rattle.oas_num.proofs.PieceLemmas.{first_fails, second_fails, there_fails_in}
 
 pub starts_delta2 : (s : Script) → Midway SpellsDelta2 IsUnsigned delta2_of s s

@@ -9,7 +9,8 @@ use Rattle.oas_num.specs.Integers.{IsUnsigned, IsSigned}
 use Rattle.oas_num.specs.Pieces.{PairTook, ThereTook, SuchTook}
 use Rattle.oas_num.specs.Reading.{is_format, ReadsValue, FailsPiece, IntegerMay}
 use Rattle.oas_num.proofs.ReadLemmas.{Takes-none, Takes-then, Wants}
-use Rattle.oas_num.proofs.GrammarLemmas.{Wants-itself, refused, there_fails}
+use Rattle.oas_num.proofs.MidwayLemmas.{Wants-itself, refused}
+use Rattle.oas_num.proofs.GrammarLemmas.{there_fails}
 use Rattle.oas_num.proofs.PieceLemmas.{fails_behind, first_fails, there_fails_in}
 
 -- The fields so far were read. A spelling of the rest makes the whole, and where the rest goes wrong the whole does.

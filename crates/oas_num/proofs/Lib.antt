@@ -1,5 +1,6 @@
 pub mod ReadLemmas
 pub mod IntegerLemmas
+pub mod MidwayLemmas
 pub mod GrammarLemmas
 pub mod PieceLemmas
 pub mod HalfwayLemmas

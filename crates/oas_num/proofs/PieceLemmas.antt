@@ -10,7 +10,8 @@ use Rattle.oas_num.specs.Combinators.{IsKeyed}
 use Rattle.oas_num.specs.Pieces.{PairTook, ThereTook, CountTook}
 use Rattle.oas_num.specs.Reading.{ReadsValue, FailsPiece}
 use Rattle.oas_num.proofs.ReadLemmas.{Takes-none, Takes-then, Wants, NoneFits-after, NoneWithin-after}
-use Rattle.oas_num.proofs.GrammarLemmas.{Listed, Wants-first, listed_wants}
+use Rattle.oas_num.proofs.MidwayLemmas.{Wants-first}
+use Rattle.oas_num.proofs.GrammarLemmas.{Listed, listed_wants}
 
 -- all bytes that were taken
 pub whole_piece : {V : Type 0} {A : V → List ℕ → Type 0} {took : Why → List ℕ → Type 0} {old new : Script} {why : Why} → (f : FailsPiece A took old why new) → took why f.bytes

@@ -9,7 +9,8 @@ use Rattle.oas_num.specs.Laws.IntegerLaws.{OneFront-IsUnsigned}
 use Rattle.oas_num.specs.Reals.{IsFraction, SpellsParts, SpellsReal, RealMay, PartsTook, RealTook, Parts, real_of, has_num, has_den}
 use Rattle.oas_num.specs.Laws.RealLaws.{OneFront-kind, OneFront-part, HasSome-parts, HasSome-SpellsReal}
 use Rattle.oas_num.specs.Reading.{ReadsValue, FailsPiece, IntegerMay}
-use Rattle.oas_num.proofs.GrammarLemmas.{Midway, begins, seen, ◌▹◌, such_read, such_fails_by, refused, image_fails}
+use Rattle.oas_num.proofs.MidwayLemmas.{Midway, begins, seen, refused, image_fails}
+use Rattle.oas_num.proofs.GrammarLemmas.{◌▹◌, such_read, such_fails_by}
 use Rattle.oas_num.proofs.PieceLemmas.{first_fails, second_fails, there_fails_in}
 
 RealMay-integer : (why : Why) (last : List ℕ) → IntegerMay why last → RealMay why last

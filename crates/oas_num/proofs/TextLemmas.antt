@@ -14,7 +14,8 @@ use Rattle.oas_num.specs.Texts.{IsNameByte, IsLabelByte, IsName, IsLabel, IsText
 use Rattle.oas_num.specs.Laws.TextLaws.{OneFront-positive, text_of, HasSome-name, HasSome-label, HasSome-padding, HasSome-text, HasSome-passed}
 use Rattle.oas_num.specs.Pieces.{CountTook}
 use Rattle.oas_num.specs.Reading.{ReadsPiece, ReadsValue, FailsPiece, ByteMay, IntegerMay, ClassMay, TextMay, NameLengthMay, TextTook, NameTook, LabelTook, PaddingTook, IsInside}
-use Rattle.oas_num.proofs.GrammarLemmas.{Midway, begins, key_read, such_read, such_fails_by, refused, image_fails, is_read, Listed, listed_none, listed_more}
+use Rattle.oas_num.proofs.MidwayLemmas.{Midway, begins, refused, image_fails}
+use Rattle.oas_num.proofs.GrammarLemmas.{key_read, such_read, such_fails_by, is_read, Listed, listed_none, listed_more}
 use Rattle.oas_num.proofs.PieceLemmas.{first_fails, second_fails, keyed_fails, item_fails}
 use Rattle.oas_num.specs.declared.padding.Padding.{Padding}
 

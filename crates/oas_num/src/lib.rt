@@ -32,9 +32,7 @@ mod writing;
 
 pub use deltas::{Delta1, Delta2, Delta3, GDelta};
 pub use fractions::Fraction;
-pub use integers::{
-    Signed, Unsigned, read_signed, read_signed_if, read_unsigned, read_unsigned_if,
-};
+pub use integers::{Signed, Unsigned, read_signed_if, read_unsigned, read_unsigned_if};
 pub use oas_bytes::{
     Counter, Ending, INPUT_MAX, Outlet, ReaderSource, Sink, SinkFault, SliceSource, Source,
     SourceFault,

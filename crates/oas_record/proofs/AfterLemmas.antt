@@ -6,7 +6,7 @@ use Rattle.oas_num.specs.Script.{Script}
 use Rattle.oas_num.specs.Style.{Any}
 use Rattle.oas_num.specs.Reading.{ReadsValue, FailsPiece}
 use Rattle.oas_num.proofs.ReadLemmas.{Takes-none}
-use Rattle.oas_num.proofs.GrammarLemmas.{image_fails}
+use Rattle.oas_num.proofs.MidwayLemmas.{image_fails}
 use Rattle.oas_record.specs.declared.records.Record.{Record}
 use Rattle.oas_record.specs.declared.references.CellRef.{CellRef}
 use Rattle.oas_record.specs.declared.placements.Placement.{Placement}

@@ -1,6 +1,7 @@
 pub mod InfoLemmas
 pub mod PassLemmas
 pub mod EndLemmas
+pub mod MagicLemmas
 pub mod HeadLemmas
 pub mod ReferenceLemmas
 pub mod FieldLemmas

@@ -2,7 +2,8 @@
 use Rattle.std.proofs.Common.{◌≡◌, ℕ, Bool, List, inl, inr}
 use Rattle.std.specs.Prelude.{◌==◌}
 use Rattle.oas_num.specs.declared.refusals.Why.TheVariants.{Write, OffsetFlag, Version, Unit as UnitIsRefused, OutOfPlace}
-use Rattle.oas_record.specs.Kinds.{Never, number, real, pair_never, such_never}
+use Rattle.oas_record.specs.Kinds.{Never, number, real, pair_never}
+use Rattle.oas_record.specs.Trees.{such_never}
 use Rattle.oas_record.specs.Ends.{offsets_part}
 use Rattle.oas_record.specs.Heads.{StartTook}
 use Rattle.oas_record.specs.Records.{after}

@@ -8,7 +8,8 @@ use Rattle.oas_num.specs.Pieces.{CountTook}
 use Rattle.oas_num.proofs.PieceLemmas.{fails_behind, item_fails}
 use Rattle.oas_num.specs.Reading.{ReadsValue, FailsPiece}
 use Rattle.oas_num.proofs.ReadLemmas.{Takes-none}
-use Rattle.oas_num.proofs.GrammarLemmas.{image_fails, Listed, listed_none, listed_more}
+use Rattle.oas_num.proofs.MidwayLemmas.{image_fails}
+use Rattle.oas_num.proofs.GrammarLemmas.{Listed, listed_none, listed_more}
 use Rattle.oas_record.specs.Ends.{nothing, offsets_if, IsOffsets, OffsetsTook, OffsetsIfTook}
 
 -- so many were read, and not kept

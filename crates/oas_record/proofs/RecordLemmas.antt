@@ -11,7 +11,8 @@ use Rattle.oas_num.specs.Laws.BegunLaws.{HasSome-image}
 use Rattle.oas_num.specs.Style.{Any}
 use Rattle.oas_num.specs.Reading.{is_format, ReadsPiece, ReadsValue, FailsPiece, IntegerMay}
 use Rattle.oas_num.proofs.ReadLemmas.{Takes-none, Wants}
-use Rattle.oas_num.proofs.GrammarLemmas.{Midway, begins, key_read, is_read, uncut}
+use Rattle.oas_num.proofs.MidwayLemmas.{Midway, begins, uncut}
+use Rattle.oas_num.proofs.GrammarLemmas.{key_read, is_read}
 use Rattle.oas_record.specs.declared.records.Record.{Record}
 use Rattle.oas_record.specs.declared.records.Record.TheVariants as record_of
 use Rattle.oas_record.specs.Ends.{end_in, EndTook, end_kind}

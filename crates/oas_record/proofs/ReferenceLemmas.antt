@@ -6,7 +6,7 @@ use Rattle.oas_num.specs.Integers.{IsUnsigned}
 use Rattle.oas_num.specs.Style.{Any}
 use Rattle.oas_num.specs.Texts.{SpellsName, SpellsLabel}
 use Rattle.oas_num.specs.Reading.{FailsPiece, IntegerMay, NameTook, LabelTook}
-use Rattle.oas_num.proofs.GrammarLemmas.{image_fails}
+use Rattle.oas_num.proofs.MidwayLemmas.{image_fails}
 use Rattle.oas_record.specs.References.{cell_number, cell_name, cell_in, CellTook, text_number, text_label, text_in, TextRefTook}
 
 module _ {old new : Script} {why : Why} where

@@ -17,7 +17,7 @@ use Rattle.oas_num.specs.Laws.StyleLaws.{unsigned_spelled}
 use Rattle.oas_num.specs.Laws.TextLaws.{IsWithin-label, label_spelled}
 use Rattle.oas_record.specs.declared.records.Record.{Record}
 use Rattle.oas_record.specs.declared.records.Record.TheVariants as record_of
-use Rattle.oas_record.specs.Kinds.{exactly, image_any}
+use Rattle.oas_record.specs.Trees.{exactly, image_any}
 use Rattle.oas_record.specs.References.{cell_kind}
 use Rattle.oas_record.specs.NameRecords.{cell_name_kind, text_string_kind}
 use Rattle.oas_record.specs.Placements.{quarters_kind, degrees_kind}

@@ -6,7 +6,8 @@ use Rattle.oas_record.specs.declared.circles.Circle.{Circle}
 use Rattle.oas_record.specs.declared.spots.Spot.{Spot}
 use Rattle.oas_record.specs.FoundParts.{settled_below}
 use Rattle.oas_record.specs.Info.{has}
-use Rattle.oas_record.specs.Kinds.{Kind, spelled_in, number, pair, there, image, info_byte, info_is}
+use Rattle.oas_record.specs.Kinds.{Kind, spelled_in, number}
+use Rattle.oas_record.specs.Trees.{pair, there, image, info_byte, info_is}
 use Rattle.oas_record.specs.Fields.{Layers, layers, spot}
 
 abbrev pub CircleFields : Type 0

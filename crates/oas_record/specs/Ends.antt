@@ -9,7 +9,8 @@ use Rattle.oas_num.specs.Integers.{IsUnsigned}
 use Rattle.oas_num.specs.Pieces.{Unless}
 use Rattle.oas_num.specs.Style.{Style}
 use Rattle.oas_record.specs.Found.{settled_number}
-use Rattle.oas_record.specs.Kinds.{Kind, IsTest, spelled_in, number, padding, pair, items, either, exactly, such, image_any, shortest_as, number_test}
+use Rattle.oas_record.specs.Kinds.{Kind, spelled_in, number, padding}
+use Rattle.oas_record.specs.Trees.{IsTest, pair, items, either, exactly, such, image_any, shortest_as, number_test}
 
 -- ---- table-offsets
 

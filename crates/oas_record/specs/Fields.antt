@@ -13,7 +13,8 @@ use Rattle.oas_record.specs.declared.spots.Spot.{Spot}
 use Rattle.oas_record.specs.FoundParts.{found_point_list, found_rep_field}
 use Rattle.oas_record.specs.ShapeNever.{point_list_never, rep_field_never}
 use Rattle.oas_record.specs.Info.{has}
-use Rattle.oas_record.specs.Kinds.{Kind, spelled_in, number, signed, pair, there, image}
+use Rattle.oas_record.specs.Kinds.{Kind, spelled_in, number, signed}
+use Rattle.oas_record.specs.Trees.{pair, there, image}
 
 abbrev pub Layers : Type 0
 Layers = Option ℕ × Option ℕ

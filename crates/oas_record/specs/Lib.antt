@@ -2,6 +2,7 @@ pub mod Found
 pub mod FoundParts
 pub mod Info
 pub mod Kinds
+pub mod Trees
 pub mod ShapeNever
 pub mod References
 pub mod Fields

@@ -2,7 +2,8 @@
 use Rattle.std.specs.Prelude.{ℕ, Bool, List, Option}
 use Rattle.oas_num.specs.Style.{Style}
 use Rattle.oas_num.specs.declared.refusals.Why.{Why}
-use Rattle.oas_record.specs.Kinds.{Kind, spelled_in, number, name, label, pair, there}
+use Rattle.oas_record.specs.Kinds.{Kind, spelled_in, number, name, label}
+use Rattle.oas_record.specs.Trees.{pair, there}
 
 -- a cell's name, and its number where it is there
 abbrev pub cell_name_kind : Bool → Kind (List ℕ × Option ℕ)

@@ -16,7 +16,8 @@ use Rattle.oas_record.specs.declared.paths.Extensions.{Extensions}
 use Rattle.oas_record.specs.declared.spots.Spot.{Spot}
 use Rattle.oas_record.specs.FoundParts.{settled_below}
 use Rattle.oas_record.specs.Info.{has}
-use Rattle.oas_record.specs.Kinds.{Kind, IsTest, spelled_in, number, signed, pair, there, image, such_as, number_test, info_byte, info_is}
+use Rattle.oas_record.specs.Kinds.{Kind, spelled_in, number, signed}
+use Rattle.oas_record.specs.Trees.{IsTest, pair, there, image, such_as, number_test, info_byte, info_is}
 use Rattle.oas_record.specs.Fields.{Layers, layers, spot, points}
 
 -- ---- extensions

@@ -12,7 +12,8 @@ use Rattle.oas_record.specs.declared.references.CellRef.{CellRef}
 use Rattle.oas_record.specs.declared.spots.Spot.{Spot}
 use Rattle.oas_record.specs.FoundParts.{settled_below}
 use Rattle.oas_record.specs.Info.{has}
-use Rattle.oas_record.specs.Kinds.{Kind, spelled_in, real, pair, there, image, image_any, info_byte}
+use Rattle.oas_record.specs.Kinds.{Kind, spelled_in, real}
+use Rattle.oas_record.specs.Trees.{pair, there, image, image_any, info_byte}
 use Rattle.oas_record.specs.References.{cell_kind}
 use Rattle.oas_record.specs.Fields.{spot}
 

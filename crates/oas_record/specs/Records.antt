@@ -15,7 +15,7 @@ use Rattle.oas_record.specs.declared.rectangles.Rectangle.{Rectangle}
 use Rattle.oas_record.specs.declared.polygons.Polygon.{Polygon}
 use Rattle.oas_record.specs.declared.paths.Path.{Path}
 use Rattle.oas_record.specs.declared.circles.Circle.{Circle}
-use Rattle.oas_record.specs.Kinds.{Choice, exactly, image, image_any, by_number, no_other, chosen_in}
+use Rattle.oas_record.specs.Trees.{Choice, exactly, image, image_any, by_number, no_other, chosen_in}
 use Rattle.oas_record.specs.References.{cell_kind}
 use Rattle.oas_record.specs.NameRecords.{cell_name_kind, text_string_kind}
 use Rattle.oas_record.specs.Ends.{end_kind}

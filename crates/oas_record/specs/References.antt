@@ -6,7 +6,8 @@ use Rattle.oas_record.specs.declared.references.CellRef.TheVariants as cell
 use Rattle.oas_record.specs.declared.references.TextRef.{TextRef}
 use Rattle.oas_record.specs.declared.references.TextRef.TheVariants as text
 use Rattle.oas_num.specs.declared.refusals.Why.{Why}
-use Rattle.oas_record.specs.Kinds.{Kind, spelled_in, number, name, label, image, either}
+use Rattle.oas_record.specs.Kinds.{Kind, spelled_in, number, name, label}
+use Rattle.oas_record.specs.Trees.{image, either}
 
 abbrev pub cell_number : ℕ → CellRef
 cell_number n = cell.Number n

@@ -11,7 +11,8 @@ use Rattle.oas_num.specs.Reading.{IntegerMay}
 use Rattle.oas_shape.specs.declared.list_use.ListUse.{ListUse}
 use Rattle.oas_shape.specs.PointLists.{DeltasTook, PointListTook}
 use Rattle.oas_shape.specs.Repetitions.{TwoTook, RepetitionTook, FieldTook, RepFieldTook}
-use Rattle.oas_record.specs.Kinds.{Never, number, pair_never, there_never, either_never, such_never}
+use Rattle.oas_record.specs.Kinds.{Never, number, pair_never, there_never}
+use Rattle.oas_record.specs.Trees.{either_never, such_never}
 
 gdelta_never : Never GDeltaTook
 gdelta_never = pair_never number.never (λ first. there_never _ IntegerMay number.never)

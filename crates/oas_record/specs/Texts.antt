@@ -7,7 +7,8 @@ use Rattle.oas_record.specs.declared.references.TextRef.{TextRef}
 use Rattle.oas_record.specs.declared.spots.Spot.{Spot}
 use Rattle.oas_record.specs.FoundParts.{settled_below}
 use Rattle.oas_record.specs.Info.{has}
-use Rattle.oas_record.specs.Kinds.{Kind, spelled_in, pair, there, image, info_byte, info_is}
+use Rattle.oas_record.specs.Kinds.{Kind, spelled_in}
+use Rattle.oas_record.specs.Trees.{pair, there, image, info_byte, info_is}
 use Rattle.oas_record.specs.References.{string_kind}
 use Rattle.oas_record.specs.Fields.{Layers, layers, spot}
 

@@ -6,7 +6,7 @@
 //!   (specs/Heads.antt): a refusal has place 0 for the magic, and 13 for START. For START all bytes that were taken are told
 //!   part by part (`StartTook`): what stands before the part that goes wrong is whole, and that part has its own table.
 //! - [`Record::read`] takes exactly a spelling of the record that it answers, or refuses at the record's first byte. The
-//!   contract is `ReadsAt` (specs/May.antt) over `record_in` (specs/Records.antt) and the table `RecordTook`, of all bytes that
+//!   contract is `ReadsAt` (specs/Refusals.antt) over `record_in` (specs/Records.antt) and the table `RecordTook`, of all bytes that
 //!   were taken: the id goes wrong, or an id stands and what follows this id does, by its info byte and field by field. By a
 //!   reason of format only where no record's spelling is a front of the bytes that stand there.
 //! - Of an id that no record has, and of a circle's info byte, the tables leave one reason ([`laws::reasons`]).

@@ -44,10 +44,13 @@ module _ {K : Type 0} where
       ] refl
 
   -- in order, an insertion of the count and n is n more
-  pub insert_entry-count : {R : K → K → Ordering} → IsTotalOrder R → (es : List (K × ℕ)) (k : K) (n : ℕ) → IsStrictlySortedBy R (keys_of es) → insert_entry R es k (unwrap_or (lookup (is_at (R k)) es) 0 + n) ≡ put_more R es k n
+  pub insert_entry-count : {R : K → K → Ordering} → IsTotalOrder R → (es : List (K × ℕ)) (k : K) (n : ℕ) → IsStrictlySortedBy R (keys_of es) →
+      insert_entry R es k (unwrap_or (lookup (is_at (R k)) es) 0 + n) ≡ put_more R es k n
   insert_entry-count o [] k n s = ap (λ (m : ℕ). (k, m) ∷ []) (omega arith)
   insert_entry-count {R} o (p ∷ ps) k n s =
-      elim (R k p.0) as (λ r. R k p.0 ≡ r → match_ordering r ((k, unwrap_or (cond (is_eq r) (Some p.1) (lookup (is_at (R k)) ps)) 0 + n) ∷ p ∷ ps) ((p.0, unwrap_or (cond (is_eq r) (Some p.1) (lookup (is_at (R k)) ps)) 0 + n) ∷ ps) (p ∷ insert_entry R ps k (unwrap_or (cond (is_eq r) (Some p.1) (lookup (is_at (R k)) ps)) 0 + n)) ≡ match_ordering r ((k, n) ∷ p ∷ ps) ((p.0, p.1 + n) ∷ ps) (p ∷ put_more R ps k n)) [
+      elim (R k p.0) as (λ r. R k p.0 ≡ r → match_ordering r ((k, unwrap_or (cond (is_eq r) (Some p.1) (lookup (is_at (R k)) ps)) 0 + n) ∷ p ∷ ps)
+      ((p.0, unwrap_or (cond (is_eq r) (Some p.1) (lookup (is_at (R k)) ps)) 0 + n) ∷ ps)
+      (p ∷ insert_entry R ps k (unwrap_or (cond (is_eq r) (Some p.1) (lookup (is_at (R k)) ps)) 0 + n)) ≡ match_ordering r ((k, n) ∷ p ∷ ps) ((p.0, p.1 + n) ∷ ps) (p ∷ put_more R ps k n)) [
         | Less ↦ λ e. ap (λ o. (k, unwrap_or o 0 + n) ∷ p ∷ ps) (lookup-none (is_at (R k)) ps (none_below_head o k p ps s e).1) ∙ ap (λ (m : ℕ). (k, m) ∷ p ∷ ps) (omega arith)
         | Equal ↦ λ e. refl
         | Greater ↦ λ e. ap (λ (es : List (K × ℕ)). p ∷ es) (insert_entry-count o ps k n (sorted_tail R p.0 (keys_of ps) s))
@@ -61,5 +64,8 @@ times false n = omega arith
 -- what more of an element adds to each count
 pub adding : (profile : Profile) → AddingCounts profile
 adding profile es e q n =
-    sum_by-items _ (with_more es (normal profile e) n) ∙ total-put_more element_cmp (λ x. cond (same_element profile q x) 1 0) es (normal profile e) n (λ x h. ap (λ y. cond (same_element profile q y) 1 0) (sym (exact_elements (normal profile e) x h)))
-    ∙ (λ i. sym (sum_by-items (λ x. cond (same_element profile q x) 1 0) es) i + n * cond (same_with-normal profile q e i) 1 0) ∙ ap (λ (k : ℕ). count_of profile q (items es) + k) (times (same_element profile q e) n)
+    sum_by-items _ (with_more es (normal profile e) n)
+    ∙ total-put_more element_cmp (λ x. cond (same_element profile q x) 1 0) es (normal profile e) n
+    (λ x h. ap (λ y. cond (same_element profile q y) 1 0) (sym (exact_elements (normal profile e) x h)))
+    ∙ (λ i. sym (sum_by-items (λ x. cond (same_element profile q x) 1 0) es) i + n * cond (same_with-normal profile q e i) 1 0)
+    ∙ ap (λ (k : ℕ). count_of profile q (items es) + k) (times (same_element profile q e) n)

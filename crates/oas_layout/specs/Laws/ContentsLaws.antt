@@ -24,10 +24,12 @@ module _ (e : Element) (n : ℕ) where
   -- and weigh n times as much as one
   pub weight-with_more : (es : List (Element × ℕ)) → sum_by weight_of (items (with_more es e n)) ≡ sum_by weight_of (items es) + n * weight_of e
   weight-with_more es =
-      sum_by-items weight_of (with_more es e n) ∙ total-put_more element_cmp weight_of es e n (λ x h. ap weight_of (sym (exact_elements e x h))) ∙ ap (λ (k : ℕ). k + n * weight_of e) (sym (sum_by-items weight_of es))
+      sum_by-items weight_of (with_more es e n) ∙ total-put_more element_cmp weight_of es e n (λ x h. ap weight_of (sym (exact_elements e x h)))
+      ∙ ap (λ (k : ℕ). k + n * weight_of e) (sym (sum_by-items weight_of es))
 
   -- what a sum over the cells grows by, if it grows so in the cell that is given more
-  cells_sum-with_more : (f : List ℕ × List Element → ℕ) (w : ℕ) → ((c : Cell) → f (c.0, items (with_more c.1 e n)) ≡ f (c.0, items c.1) + w) → (cs : List Cell) (i : ℕ) → i < length cs → cells_sum f (expanded (cells_with_more cs i e n)) ≡ cells_sum f (expanded cs) + w
+  cells_sum-with_more : (f : List ℕ × List Element → ℕ) (w : ℕ) → ((c : Cell) → f (c.0, items (with_more c.1 e n)) ≡ f (c.0, items c.1) + w) → (cs : List Cell) (i : ℕ) → i < length cs →
+      cells_sum f (expanded (cells_with_more cs i e n)) ≡ cells_sum f (expanded cs) + w
   cells_sum-with_more f w step [] i h = absurd (omega arith)
   cells_sum-with_more f w step (c ∷ cs) zero h = omega (arith, step c)
   cells_sum-with_more f w step (c ∷ cs) (suc i) h = omega (arith, cells_sum-with_more f w step cs i (omega arith))
@@ -46,6 +48,7 @@ cells_sum-push f [] name = omega arith
 cells_sum-push f (x ∷ xs) name = omega (arith, cells_sum-push f xs name)
 
 -- so does a cell with elements
-pub cells_sum-append : (f : List ℕ × List Element → ℕ) (cs : List Cell) (name : List ℕ) (es : List (Element × ℕ)) → cells_sum f (expanded (cs ++ (name, es) ∷ [])) ≡ cells_sum f (expanded cs) + f (name, items es)
+pub cells_sum-append : (f : List ℕ × List Element → ℕ) (cs : List Cell) (name : List ℕ) (es : List (Element × ℕ)) →
+    cells_sum f (expanded (cs ++ (name, es) ∷ [])) ≡ cells_sum f (expanded cs) + f (name, items es)
 cells_sum-append f [] name es = omega arith
 cells_sum-append f (x ∷ xs) name es = omega (arith, cells_sum-append f xs name es)

@@ -72,22 +72,27 @@ bool_exact a b h = cc
 pub exact_elements : CmpEqualImpliesEq element_cmp
 exact_elements (Placement cell x y turns flip) (Placement cell' x' y' turns' flip') h =
     ap (λ (p : List ℕ × (ℤ × (ℤ × (Turns × Bool)))). Placement p.0 p.1.0 p.1.1.0 p.1.1.1.0 p.1.1.1.1)
-    (exact_pairs _ _ exact_bytes (exact_pairs _ _ exact_signed (exact_pairs _ _ exact_signed (exact_pairs _ _ turns_exact bool_exact))) (cell, (x, (y, (turns, flip)))) (cell', (x', (y', (turns', flip')))) h)
+    (exact_pairs _ _ exact_bytes (exact_pairs _ _ exact_signed (exact_pairs _ _ exact_signed (exact_pairs _ _ turns_exact bool_exact))) (cell, (x, (y, (turns, flip))))
+    (cell', (x', (y', (turns', flip')))) h)
 exact_elements (Text string textlayer texttype x y) (Text string' textlayer' texttype' x' y') h =
     ap (λ (p : List ℕ × (ℕ × (ℕ × (ℤ × ℤ)))). Text p.0 p.1.0 p.1.1.0 p.1.1.1.0 p.1.1.1.1)
-    (exact_pairs _ _ exact_bytes (exact_pairs _ _ exact_unsigned (exact_pairs _ _ exact_unsigned (exact_pairs _ _ exact_signed exact_signed))) (string, (textlayer, (texttype, (x, y)))) (string', (textlayer', (texttype', (x', y')))) h)
+    (exact_pairs _ _ exact_bytes (exact_pairs _ _ exact_unsigned (exact_pairs _ _ exact_unsigned (exact_pairs _ _ exact_signed exact_signed))) (string, (textlayer, (texttype, (x, y))))
+    (string', (textlayer', (texttype', (x', y')))) h)
 exact_elements (Rectangle layer datatype width height x y) (Rectangle layer' datatype' width' height' x' y') h =
     ap (λ (p : ℕ × (ℕ × (ℕ × (ℕ × (ℤ × ℤ))))). Rectangle p.0 p.1.0 p.1.1.0 p.1.1.1.0 p.1.1.1.1.0 p.1.1.1.1.1)
-    (exact_pairs _ _ exact_unsigned (exact_pairs _ _ exact_unsigned (exact_pairs _ _ exact_unsigned (exact_pairs _ _ exact_unsigned (exact_pairs _ _ exact_signed exact_signed)))) (layer, (datatype, (width, (height, (x, y))))) (layer', (datatype', (width', (height', (x', y'))))) h)
+    (exact_pairs _ _ exact_unsigned (exact_pairs _ _ exact_unsigned (exact_pairs _ _ exact_unsigned (exact_pairs _ _ exact_unsigned (exact_pairs _ _ exact_signed exact_signed))))
+    (layer, (datatype, (width, (height, (x, y))))) (layer', (datatype', (width', (height', (x', y'))))) h)
 exact_elements (Polygon layer datatype points) (Polygon layer' datatype' points') h =
     ap (λ (p : ℕ × (ℕ × List Point)). Polygon p.0 p.1.0 p.1.1)
     (exact_pairs _ _ exact_unsigned (exact_pairs _ _ exact_unsigned exact_lists) (layer, (datatype, points)) (layer', (datatype', points')) h)
 exact_elements (Path layer datatype half_width start end points) (Path layer' datatype' half_width' start' end' points') h =
     ap (λ (p : ℕ × (ℕ × (ℕ × (ℤ × (ℤ × List Point))))). Path p.0 p.1.0 p.1.1.0 p.1.1.1.0 p.1.1.1.1.0 p.1.1.1.1.1)
-    (exact_pairs _ _ exact_unsigned (exact_pairs _ _ exact_unsigned (exact_pairs _ _ exact_unsigned (exact_pairs _ _ exact_signed (exact_pairs _ _ exact_signed exact_lists)))) (layer, (datatype, (half_width, (start, (end, points))))) (layer', (datatype', (half_width', (start', (end', points'))))) h)
+    (exact_pairs _ _ exact_unsigned (exact_pairs _ _ exact_unsigned (exact_pairs _ _ exact_unsigned (exact_pairs _ _ exact_signed (exact_pairs _ _ exact_signed exact_lists))))
+    (layer, (datatype, (half_width, (start, (end, points))))) (layer', (datatype', (half_width', (start', (end', points'))))) h)
 exact_elements (Circle layer datatype radius x y) (Circle layer' datatype' radius' x' y') h =
     ap (λ (p : ℕ × (ℕ × (ℕ × (ℤ × ℤ)))). Circle p.0 p.1.0 p.1.1.0 p.1.1.1.0 p.1.1.1.1)
-    (exact_pairs _ _ exact_unsigned (exact_pairs _ _ exact_unsigned (exact_pairs _ _ exact_unsigned (exact_pairs _ _ exact_signed exact_signed))) (layer, (datatype, (radius, (x, y)))) (layer', (datatype', (radius', (x', y')))) h)
+    (exact_pairs _ _ exact_unsigned (exact_pairs _ _ exact_unsigned (exact_pairs _ _ exact_unsigned (exact_pairs _ _ exact_signed exact_signed))) (layer, (datatype, (radius, (x, y))))
+    (layer', (datatype', (radius', (x', y')))) h)
 exact_elements a b h = cc
 
 -- the stated order is the derived one

@@ -51,7 +51,8 @@ HeldApart profile =
 -- ascending lists of kept elements with equal counts are equal
 abbrev pub EqualCounts : Profile → Type 0
 EqualCounts profile =
-    (xs ys : List Element) → AllByRecursion (IsNormal profile) xs → AllByRecursion (IsNormal profile) ys → Ascends element_cmp xs → Ascends element_cmp ys → ((q : Element) → count_of profile q xs ≡ count_of profile q ys) → xs ≡ ys
+    (xs ys : List Element) → AllByRecursion (IsNormal profile) xs → AllByRecursion (IsNormal profile) ys → Ascends element_cmp xs → Ascends element_cmp ys →
+    ((q : Element) → count_of profile q xs ≡ count_of profile q ys) → xs ≡ ys
 
 -- each layout is the same as itself
 abbrev pub IsReflexive : Profile → Type 0

@@ -89,7 +89,8 @@ pub corners_back : (c : Corners) → c.low.x <ℤ c.high.x → c.low.y <ℤ c.hi
 corners_back c wide tall = λ i. record { low = c.low; high = record { x = side_there c.low.x c.high.x wide i; y = side_there c.low.y c.high.y tall i } }
 
 -- the rectangle that is drawn, from that in which it is kept
-drawn_from_kept : (profile : Profile) (points : List Point) (c : Corners) (layer layer' datatype datatype' width height : ℕ) (x y : ℤ) → drawn_box profile points ≡ Some c → rectangle_of layer datatype c ≡ Rectangle layer' datatype' width height x y → IsDrawn profile points (rectangle_corners width height x y)
+drawn_from_kept : (profile : Profile) (points : List Point) (c : Corners) (layer layer' datatype datatype' width height : ℕ) (x y : ℤ) → drawn_box profile points ≡ Some c →
+    rectangle_of layer datatype c ≡ Rectangle layer' datatype' width height x y → IsDrawn profile points (rectangle_corners width height x y)
 drawn_from_kept One points c layer layer' datatype datatype' width height x y e h = cc
 drawn_from_kept Two points c layer layer' datatype datatype' width height x y e h =
     let b : IsBox points c = box_of-box points c e in
@@ -103,7 +104,8 @@ drawn_from_kept Two points c layer layer' datatype datatype' width height x y e 
 -- ---- the same have one kept form
 
 -- a polygon that is drawn round a rectangle is kept as it
-kept_rectangle : (profile : Profile) (layer datatype layer' datatype' width height : ℕ) (x y : ℤ) (points : List Point) → layer ≡ layer' → datatype ≡ datatype' → IsDrawn profile points (rectangle_corners width height x y) → normal profile (Polygon layer datatype points) ≡ Rectangle layer' datatype' width height x y
+kept_rectangle : (profile : Profile) (layer datatype layer' datatype' width height : ℕ) (x y : ℤ) (points : List Point) → layer ≡ layer' → datatype ≡ datatype' →
+    IsDrawn profile points (rectangle_corners width height x y) → normal profile (Polygon layer datatype points) ≡ Rectangle layer' datatype' width height x y
 kept_rectangle profile layer datatype layer' datatype' width height x y points e f d =
     ap (normal_polygon layer datatype (least_of points)) (drawn-is profile points (rectangle_corners width height x y) d)
     ∙ rectangle_back layer datatype width height x y ∙ (λ i. Rectangle (e i) (f i) width height x y)
@@ -130,7 +132,8 @@ no_other a layer datatype points None two three e = three (ap kind e)
 no_other a layer datatype points (Some c) two three e = two (ap kind e)
 
 -- polygons with one kept form are the same
-polygons : (profile : Profile) (layer datatype layer' datatype' : ℕ) (p q : List Point) (o r : Option Corners) → drawn_box profile p ≡ o → drawn_box profile q ≡ r → normal_polygon layer datatype (least_of p) o ≡ normal_polygon layer' datatype' (least_of q) r → (layer ≡ layer') × (datatype ≡ datatype') × SameRing p q
+polygons : (profile : Profile) (layer datatype layer' datatype' : ℕ) (p q : List Point) (o r : Option Corners) → drawn_box profile p ≡ o → drawn_box profile q ≡ r →
+    normal_polygon layer datatype (least_of p) o ≡ normal_polygon layer' datatype' (least_of q) r → (layer ≡ layer') × (datatype ≡ datatype') × SameRing p q
 polygons profile layer datatype layer' datatype' p q None None e f h = (cc, cc, (least_of-same_ring p q).1 cc)
 polygons profile layer datatype layer' datatype' p q None (Some d) e f h = let no : ⊥ = cc in absurd no
 polygons profile layer datatype layer' datatype' p q (Some c) None e f h = let no : ⊥ = cc in absurd no
@@ -138,12 +141,15 @@ polygons One layer datatype layer' datatype' p q (Some c) (Some d) e f h = let n
 polygons Two layer datatype layer' datatype' p q (Some c) (Some d) e f h =
     let b : IsBox p c = box_of-box p c e in
     let k : IsBox q d = box_of-box q d f in
-    let there : IsDrawn Two p (rectangle_corners (unsigned_abs (d.high.x -ℤ d.low.x)) (unsigned_abs (d.high.y -ℤ d.low.y)) d.low.x d.low.y) = drawn_from_kept Two p c layer layer' datatype datatype' _ _ _ _ e h in
+    let there : IsDrawn Two p (rectangle_corners (unsigned_abs (d.high.x -ℤ d.low.x))
+    (unsigned_abs (d.high.y -ℤ d.low.y)) d.low.x d.low.y) = drawn_from_kept Two p c layer layer' datatype datatype' _ _ _ _ e h in
     let same : IsBox p d = subst (IsBox p) (corners_back d k.wide k.tall) there in
     (cc, cc, same_ring_twice p (corners_of d) q same.round (same_ring_back q (corners_of d) k.round))
 
 -- a polygon that is kept as a rectangle is drawn round it
-polygon_rectangle : (profile : Profile) (layer datatype layer' datatype' width height : ℕ) (x y : ℤ) (points : List Point) (o : Option Corners) → drawn_box profile points ≡ o → normal_polygon layer datatype (least_of points) o ≡ Rectangle layer' datatype' width height x y → (layer ≡ layer') × (datatype ≡ datatype') × IsDrawn profile points (rectangle_corners width height x y)
+polygon_rectangle : (profile : Profile) (layer datatype layer' datatype' width height : ℕ) (x y : ℤ) (points : List Point) (o : Option Corners) → drawn_box profile points ≡ o →
+    normal_polygon layer datatype (least_of points) o ≡ Rectangle layer' datatype' width height x y →
+    (layer ≡ layer') × (datatype ≡ datatype') × IsDrawn profile points (rectangle_corners width height x y)
 polygon_rectangle profile layer datatype layer' datatype' width height x y points None e h = let no : ⊥ = cc in absurd no
 polygon_rectangle profile layer datatype layer' datatype' width height x y points (Some c) e h =
     (cc, cc, drawn_from_kept profile points c layer layer' datatype datatype' width height x y e h)
@@ -159,11 +165,13 @@ same_from_normal profile (Rectangle layer datatype width height x y) (Polygon la
     (sym back.0, sym back.1, back.2)
 same_from_normal profile (Placement cell x y turns flip) (Polygon layer datatype points) h = absurd (no_other (Placement cell x y turns flip) layer datatype _ _ (λ e. cc) (λ e. cc) h)
 same_from_normal profile (Text string textlayer texttype x y) (Polygon layer datatype points) h = absurd (no_other (Text string textlayer texttype x y) layer datatype _ _ (λ e. cc) (λ e. cc) h)
-same_from_normal profile (Path layer datatype half_width start end points) (Polygon layer' datatype' points') h = absurd (no_other (Path layer datatype half_width start end points) layer' datatype' _ _ (λ e. cc) (λ e. cc) h)
+same_from_normal profile (Path layer datatype half_width start end points) (Polygon layer' datatype' points') h = absurd
+    (no_other (Path layer datatype half_width start end points) layer' datatype' _ _ (λ e. cc) (λ e. cc) h)
 same_from_normal profile (Circle layer datatype radius x y) (Polygon layer' datatype' points') h = absurd (no_other (Circle layer datatype radius x y) layer' datatype' _ _ (λ e. cc) (λ e. cc) h)
 same_from_normal profile (Polygon layer datatype points) (Placement cell x y turns flip) h = absurd (no_other (Placement cell x y turns flip) layer datatype _ _ (λ e. cc) (λ e. cc) (sym h))
 same_from_normal profile (Polygon layer datatype points) (Text string textlayer texttype x y) h = absurd (no_other (Text string textlayer texttype x y) layer datatype _ _ (λ e. cc) (λ e. cc) (sym h))
-same_from_normal profile (Polygon layer datatype points) (Path layer' datatype' half_width start end points') h = absurd (no_other (Path layer' datatype' half_width start end points') layer datatype _ _ (λ e. cc) (λ e. cc) (sym h))
+same_from_normal profile (Polygon layer datatype points) (Path layer' datatype' half_width start end points') h = absurd
+    (no_other (Path layer' datatype' half_width start end points') layer datatype _ _ (λ e. cc) (λ e. cc) (sym h))
 same_from_normal profile (Polygon layer datatype points) (Circle layer' datatype' radius x y) h = absurd (no_other (Circle layer' datatype' radius x y) layer datatype _ _ (λ e. cc) (λ e. cc) (sym h))
 same_from_normal profile a b h = h
 
@@ -177,9 +185,11 @@ same_element-is profile a b =
 -- ---- the kept form
 
 -- a kept polygon is kept as it is
-kept_again : (profile : Profile) (layer datatype : ℕ) (points : List Point) (o : Option Corners) → drawn_box profile points ≡ o → normal profile (normal_polygon layer datatype (least_of points) o) ≡ normal_polygon layer datatype (least_of points) o
+kept_again : (profile : Profile) (layer datatype : ℕ) (points : List Point) (o : Option Corners) → drawn_box profile points ≡ o →
+    normal profile (normal_polygon layer datatype (least_of points) o) ≡ normal_polygon layer datatype (least_of points) o
 kept_again profile layer datatype points None e =
-    λ i. normal_polygon layer datatype (least_of-least_of points i) ((drawn-alike profile (least_of points) points (same_ring_back points (least_of points) (least_of-IsLeastReadingOf points).same) ∙ e) i)
+    λ i. normal_polygon layer datatype (least_of-least_of points i)
+    ((drawn-alike profile (least_of points) points (same_ring_back points (least_of points) (least_of-IsLeastReadingOf points).same) ∙ e) i)
 kept_again profile layer datatype points (Some c) e = refl
 
 -- a kept form is its own kept form
@@ -207,7 +217,8 @@ weight_of-normal-le profile (Polygon layer datatype points) = kept_weight layer 
 weight_of-normal-le profile e = omega arith
 
 -- a kept polygon is in its least reading, and under profile two it goes round no rectangle
-kept_polygon : (profile : Profile) (layer datatype : ℕ) (points : List Point) (o : Option Corners) → drawn_box profile points ≡ o → normal_polygon layer datatype (least_of points) o ≡ Polygon layer datatype points → (least_of points ≡ points) × (o ≡ None)
+kept_polygon : (profile : Profile) (layer datatype : ℕ) (points : List Point) (o : Option Corners) → drawn_box profile points ≡ o →
+    normal_polygon layer datatype (least_of points) o ≡ Polygon layer datatype points → (least_of points ≡ points) × (o ≡ None)
 kept_polygon profile layer datatype points None e h = (cc, refl)
 kept_polygon profile layer datatype points (Some c) e h = let no : ⊥ = cc in absurd no
 
@@ -223,7 +234,8 @@ normal-no_box layer datatype points corners h b =
     let some : box_of points ≡ Some corners = box_of-is points corners b in cc
 
 -- and each such polygon is kept as it is
-pub normal-polygon : (profile : Profile) (layer datatype : ℕ) (points : List Point) → IsLeastReading points → ((corners : Corners) → IsDrawn profile points corners → ⊥) → IsNormal profile (Polygon layer datatype points)
+pub normal-polygon : (profile : Profile) (layer datatype : ℕ) (points : List Point) → IsLeastReading points → ((corners : Corners) → IsDrawn profile points corners → ⊥) →
+    IsNormal profile (Polygon layer datatype points)
 normal-polygon One layer datatype points least none =
     ap (Polygon layer datatype) (sym (least_of-is points points (record { same = same_ring_itself points; least = least })))
 normal-polygon Two layer datatype points least none =

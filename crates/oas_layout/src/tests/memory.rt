@@ -7,74 +7,26 @@
 use super::{draft_of_a, element, holds, name, put};
 use crate::{Draft, Element, Limits, Profile};
 use oas_num::{Fraction, Name, Why};
+use scarce_memory::Hoard;
 use std::alloc::{AllocError, Global};
 use std::process::Abort;
 use std::test::Fail;
 
-/// More bytes than any piece of memory that is there.
-const LARGEST: usize = 68_719_476_736;
-
-/// The bytes of the smallest piece.
-const SMALLEST: usize = 16;
-
-/// Below so many bytes each size of a piece is asked for: an allocator may keep what was given back apart by its size.
-const SMALL: usize = 2048;
-
-/// Takes pieces of memory, from `most` bytes down to the smallest, until none is left or `held` is full.
-fn fill(alloc: Global, most: usize, held: &mut Vec<Vec<u8>>) {
-    let mut size = most;
-    for _ in 0..200u32 {
-        for _ in 0..200_000u32 {
-            if held.len() >= held.capacity() || size < SMALLEST {
-                break;
-            }
-            match Vec::with_capacity(alloc, size) {
-                Ok(piece) => {
-                    let _ = held.push(piece);
-                }
-                Err(AllocError) => break,
-            }
-        }
-        size -= if size > SMALL {
-            size / 2
-        } else {
-            size.min(SMALLEST)
-        };
-    }
-}
-
-/// All memory, kept from the calls that a test makes.
+/// All memory, kept from the calls that a test makes, and how many of them were refused since it was full.
 #[derive(Drop)]
-struct Hoard {
+struct Want {
     alloc: Global,
-    /// What is given back, a small piece at a time.
-    pieces: Vec<Vec<u8>>,
-    /// All else.
-    rest: Vec<Vec<u8>>,
-    /// Whether the heap could be filled.
-    is_full: bool,
-    /// How many calls were refused since it was filled.
+    hoard: Hoard,
     refused: u32,
 }
 
-impl Hoard {
+impl Want {
     /// All memory that is there.
-    fn new(alloc: Global) -> Result<Hoard, AllocError> {
-        let mut pieces = Vec::with_capacity(alloc, 20_000)?;
-        let mut rest = Vec::with_capacity(alloc, 300_000)?;
-        let mut room = Vec::with_capacity(alloc, 8)?;
-        for _ in 0..8u32 {
-            room.push(Vec::<u8>::with_capacity(alloc, 65536)?)?;
-        }
-        fill(alloc, LARGEST, &mut rest);
-        drop(room);
-        fill(alloc, SMALLEST, &mut pieces);
-        let is_full = Vec::<u8>::with_capacity(alloc, SMALLEST).is_err();
-        Ok(Hoard {
+    fn new(alloc: Global) -> Result<Want, AllocError> {
+        let hoard = Hoard::new(alloc)?;
+        Ok(Want {
             alloc,
-            pieces,
-            rest,
-            is_full,
+            hoard,
             refused: 0,
         })
     }
@@ -82,15 +34,15 @@ impl Hoard {
     /// Counts a refused call, and gives back a piece.
     fn give_back(&mut self) {
         self.refused = self.refused.saturating_add(1);
-        let _ = self.pieces.pop();
+        self.hoard.give_back();
     }
 
     /// Counts a refused call, fills the heap again, and gives back a piece more than after the one before.
     fn give_back_anew(&mut self) {
         self.refused = self.refused.saturating_add(1);
-        fill(self.alloc, LARGEST, &mut self.rest);
+        self.hoard.fill_again();
         for _ in 0..self.refused {
-            let _ = self.pieces.pop();
+            self.hoard.give_back();
         }
     }
 
@@ -98,24 +50,24 @@ impl Hoard {
     fn fill_again(&mut self) -> bool {
         let refused = self.refused > 0;
         self.refused = 0;
-        fill(self.alloc, LARGEST, &mut self.rest);
+        self.hoard.fill_again();
         refused
     }
 }
 
 /// A draft, once there is memory for it.
-fn insist_on_draft(unit: Fraction, hoard: &mut Hoard) -> Option<Draft> {
+fn insist_on_draft(unit: Fraction, want: &mut Want) -> Option<Draft> {
     for _ in 0..4000u32 {
-        match Draft::new(hoard.alloc, unit, Limits::standard(), Profile::Two) {
+        match Draft::new(want.alloc, unit, Limits::standard(), Profile::Two) {
             Ok(draft) => return Some(draft),
-            Err(AllocError) => hoard.give_back(),
+            Err(AllocError) => want.give_back(),
         }
     }
     None
 }
 
 /// Adds a cell with a name of one byte, and gives back a piece of memory after each refusal.
-fn insist_on_cell(rt: &impl Abort, draft: &mut Draft, mut name: Name, hoard: &mut Hoard) {
+fn insist_on_cell(rt: &impl Abort, draft: &mut Draft, mut name: Name, want: &mut Want) {
     let before = draft.cells();
     for _ in 0..4000u32 {
         match draft.add_cell(name) {
@@ -130,22 +82,17 @@ fn insist_on_cell(rt: &impl Abort, draft: &mut Draft, mut name: Name, hoard: &mu
                 name = back;
             }
         }
-        hoard.give_back();
+        want.give_back();
     }
     assert!(rt; false, "a cell is never added");
 }
 
 /// Adds cells of these names. How many of them were refused at first.
-fn insist_on_cells(
-    rt: &impl Abort,
-    draft: &mut Draft,
-    names: Vec<Name>,
-    hoard: &mut Hoard,
-) -> usize {
+fn insist_on_cells(rt: &impl Abort, draft: &mut Draft, names: Vec<Name>, want: &mut Want) -> usize {
     let mut refused = 0usize;
     for name in names {
-        insist_on_cell(rt, draft, name, hoard);
-        refused = refused.saturating_add(usize::from(hoard.fill_again()));
+        insist_on_cell(rt, draft, name, want);
+        refused = refused.saturating_add(usize::from(want.fill_again()));
     }
     refused
 }
@@ -169,7 +116,7 @@ fn insist_on_element(
     mut element: Element,
     wanted: &Element,
     times: u64,
-    hoard: &mut Hoard,
+    want: &mut Want,
 ) {
     for _ in 0..4000u32 {
         match put_many(draft, element, times) {
@@ -179,7 +126,7 @@ fn insist_on_element(
                 element = back;
             }
         }
-        hoard.give_back();
+        want.give_back();
     }
     assert!(rt; false, "an element is never added");
 }
@@ -237,15 +184,15 @@ fn insist_on_elements(
     draft: &mut Draft,
     mut elements: Vec<Element>,
     wanted: &[Element],
-    hoard: &mut Hoard,
+    want: &mut Want,
 ) -> usize {
     let mut times = 1;
     let mut refused = 0usize;
     for wanted in wanted.iter().rev() {
         if let Some(element) = elements.pop() {
-            insist_on_element(rt, draft, element, wanted, times, hoard);
+            insist_on_element(rt, draft, element, wanted, times, want);
         }
-        refused = refused.saturating_add(usize::from(hoard.fill_again()));
+        refused = refused.saturating_add(usize::from(want.fill_again()));
         times = u64::min(times, 100) + 1;
     }
     refused
@@ -259,17 +206,17 @@ fn insist_on_all(
     names: Vec<Name>,
     elements: Vec<Element>,
     wanted: &[Element],
-    hoard: &mut Hoard,
+    want: &mut Want,
 ) -> Option<Draft> {
     let unit = Fraction::reduced(1000, 1)?;
-    let mut draft = insist_on_draft(unit, hoard)?;
-    let drafts = hoard.fill_again();
-    let cells = insist_on_cells(rt, &mut draft, names, hoard);
-    let elements = insist_on_elements(rt, &mut draft, elements, wanted, hoard);
-    assert!(rt; !hoard.is_full || drafts, "no draft was refused");
-    assert!(rt; !hoard.is_full || cells > 0, "no cell was refused");
+    let mut draft = insist_on_draft(unit, want)?;
+    let drafts = want.fill_again();
+    let cells = insist_on_cells(rt, &mut draft, names, want);
+    let elements = insist_on_elements(rt, &mut draft, elements, wanted, want);
+    assert!(rt; !want.hoard.is_full() || drafts, "no draft was refused");
+    assert!(rt; !want.hoard.is_full() || cells > 0, "no cell was refused");
     assert!(rt;
-        !hoard.is_full || elements >= 3,
+        !want.hoard.is_full() || elements >= 3,
         "too few elements were refused"
     );
     Some(draft)
@@ -281,9 +228,9 @@ fn drafts_without_memory(rt: HostRuntime) -> Result<(), Fail> {
     let names = names(alloc)?;
     let given = elements(alloc)?;
     let wanted = elements(alloc)?;
-    let mut hoard = Hoard::new(alloc)?;
-    let draft = insist_on_all(&rt, names, given, &wanted, &mut hoard);
-    drop(hoard);
+    let mut want = Want::new(alloc)?;
+    let draft = insist_on_all(&rt, names, given, &wanted, &mut want);
+    drop(want);
     let layout = draft.ok_or("a draft is never made")?.seal()?;
     assert!(rt; layout.cells() == 12 && layout.count() == 325);
     holds(&rt, alloc, &layout, 0, HELD)
@@ -300,7 +247,7 @@ fn draft_of_many(alloc: Global) -> Result<Draft, Fail> {
 }
 
 /// Seals one draft after the other, each after a refusal with a piece of memory more. Whether the last was sealed.
-fn seal_all(rt: &impl Abort, drafts: Vec<Draft>, hoard: &mut Hoard) -> bool {
+fn seal_all(rt: &impl Abort, drafts: Vec<Draft>, want: &mut Want) -> bool {
     let mut sealed = false;
     for draft in drafts {
         match draft.seal() {
@@ -309,7 +256,7 @@ fn seal_all(rt: &impl Abort, drafts: Vec<Draft>, hoard: &mut Hoard) -> bool {
                 sealed = true;
             }
             Err(AllocError) => {
-                hoard.give_back_anew();
+                want.give_back_anew();
                 sealed = false;
             }
         }
@@ -324,9 +271,12 @@ fn seals_without_memory(rt: HostRuntime) -> Result<(), Fail> {
     for _ in 0..200u32 {
         drafts.push(draft_of_many(alloc)?)?;
     }
-    let mut hoard = Hoard::new(alloc)?;
-    let sealed = seal_all(&rt, drafts, &mut hoard);
-    assert!(rt; !hoard.is_full || hoard.refused > 0, "no seal was refused");
+    let mut want = Want::new(alloc)?;
+    let sealed = seal_all(&rt, drafts, &mut want);
+    assert!(rt;
+        !want.hoard.is_full() || want.refused > 0,
+        "no seal was refused"
+    );
     assert!(rt; sealed, "a draft is never sealed");
     Ok(())
 }

@@ -15,7 +15,7 @@ use Rattle.oas_num.specs.Laws.TextLaws.{OneFront-label, OneSpelling-label, IsWit
 use Rattle.oas_num.specs.Laws.RealLaws.{OneFront-real, OneSpelling-real, IsWithin-real}
 use Rattle.oas_record.specs.declared.heads.Head.{Head}
 use Rattle.oas_record.specs.Ends.{IsNumber, IsOffsets, offsets_if, offsets_part}
-use Rattle.oas_record.specs.Kinds.{OneSpelling-image_by}
+use Rattle.oas_record.specs.Trees.{OneSpelling-image_by}
 use Rattle.oas_record.specs.Heads.{magic, IsMagic, version, version_in, SpellsUnit, unit_in, IsFlag, flag_in, twelve_zeros, offsets_in, StartParts, start_parts, head_of, start_in, head_after, head_in}
 
 -- ---- the version

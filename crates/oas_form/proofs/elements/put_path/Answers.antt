@@ -32,17 +32,22 @@ returns-in_err-scheme g c =
 pub returns-in_err-before : goal.returns-in_err-before
 returns-in_err-before g c =
     let p = err_from_is_err_and c.from_residual-in_err-before.result c.from_residual-in_err-before.ensures.1 in
-    rw p.1 (fails_at _ (first _ c.in_ok-front.ensures ▸ c.in_ok-first.ensures.counts ▸ c.in_ok-second.ensures.counts ▸ c.in_ok-wide.ensures.counts ▸ c.in_ok-scheme.ensures) (simp (to_z-of_z w64 c.args.start c.ranges.start) at c.in_err-before.ensures.counts))
+    rw p.1 (fails_at _ (first _ c.in_ok-front.ensures ▸ c.in_ok-first.ensures.counts ▸ c.in_ok-second.ensures.counts ▸ c.in_ok-wide.ensures.counts ▸ c.in_ok-scheme.ensures)
+    (simp (to_z-of_z w64 c.args.start c.ranges.start) at c.in_err-before.ensures.counts))
 
 pub returns-in_err-after : goal.returns-in_err-after
 returns-in_err-after g c =
     let p = err_from_is_err_and c.from_residual-in_err-after.result c.from_residual-in_err-after.ensures.1 in
-    rw p.1 (fails_at _ (first _ c.in_ok-front.ensures ▸ c.in_ok-first.ensures.counts ▸ c.in_ok-second.ensures.counts ▸ c.in_ok-wide.ensures.counts ▸ c.in_ok-scheme.ensures ▸ (simp (to_z-of_z w64 c.args.start c.ranges.start) at c.in_ok-before.ensures.counts)) (simp (to_z-of_z w64 c.args.end c.ranges.end) at c.in_err-after.ensures.counts))
+    rw p.1 (fails_at _ (first _ c.in_ok-front.ensures ▸ c.in_ok-first.ensures.counts ▸ c.in_ok-second.ensures.counts ▸ c.in_ok-wide.ensures.counts ▸ c.in_ok-scheme.ensures ▸
+    (simp (to_z-of_z w64 c.args.start c.ranges.start) at c.in_ok-before.ensures.counts)) (simp (to_z-of_z w64 c.args.end c.ranges.end) at c.in_err-after.ensures.counts))
 
 pub returns-in_err-line : goal.returns-in_err-line
 returns-in_err-line g c =
     let p = err_from_is_err_and c.from_residual-in_err-line.result c.from_residual-in_err-line.ensures.1 in
-    rw p.1 (last_fails (first _ c.in_ok-front.ensures ▸ c.in_ok-first.ensures.counts ▸ c.in_ok-second.ensures.counts ▸ c.in_ok-wide.ensures.counts ▸ c.in_ok-scheme.ensures ▸ (simp (to_z-of_z w64 c.args.start c.ranges.start) at c.in_ok-before.ensures.counts) ▸ (simp (to_z-of_z w64 c.args.end c.ranges.end) at c.in_ok-after.ensures.counts)) c.in_err-line.ensures.counts)
+    rw p.1 (last_fails (first _ c.in_ok-front.ensures ▸ c.in_ok-first.ensures.counts ▸ c.in_ok-second.ensures.counts ▸ c.in_ok-wide.ensures.counts ▸ c.in_ok-scheme.ensures ▸
+    (simp (to_z-of_z w64 c.args.start c.ranges.start) at c.in_ok-before.ensures.counts) ▸
+    (simp (to_z-of_z w64 c.args.end c.ranges.end) at c.in_ok-after.ensures.counts)) c.in_err-line.ensures.counts)
 
 pub returns : goal.returns
-returns g c = ends (first _ c.in_ok-front.ensures ▸ c.in_ok-first.ensures.counts ▸ c.in_ok-second.ensures.counts ▸ c.in_ok-wide.ensures.counts ▸ c.in_ok-scheme.ensures ▸ (simp (to_z-of_z w64 c.args.start c.ranges.start) at c.in_ok-before.ensures.counts) ▸ (simp (to_z-of_z w64 c.args.end c.ranges.end) at c.in_ok-after.ensures.counts)) c.in_ok-line.ensures.counts
+returns g c = ends (first _ c.in_ok-front.ensures ▸ c.in_ok-first.ensures.counts ▸ c.in_ok-second.ensures.counts ▸ c.in_ok-wide.ensures.counts ▸ c.in_ok-scheme.ensures ▸
+    (simp (to_z-of_z w64 c.args.start c.ranges.start) at c.in_ok-before.ensures.counts) ▸ (simp (to_z-of_z w64 c.args.end c.ranges.end) at c.in_ok-after.ensures.counts)) c.in_ok-line.ensures.counts

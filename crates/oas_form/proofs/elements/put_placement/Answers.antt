@@ -17,7 +17,9 @@ returns-in_err-name g c =
 pub returns-in_err-place : goal.returns-in_err-place
 returns-in_err-place g c =
     let p = err_from_is_err_and c.from_residual-in_err-place.result c.from_residual-in_err-place.ensures.1 in
-    rw p.1 (last_fails (first _ (rw c.placement_info.ensures at c.in_ok-front.ensures) ▸ c.in_ok-name.ensures.counts) (simp (to_z-of_z w64 c.args.x c.ranges.x, to_z-of_z w64 c.args.y c.ranges.y) at c.in_err-place.ensures.counts))
+    rw p.1 (last_fails (first _ (rw c.placement_info.ensures at c.in_ok-front.ensures) ▸ c.in_ok-name.ensures.counts)
+    (simp (to_z-of_z w64 c.args.x c.ranges.x, to_z-of_z w64 c.args.y c.ranges.y) at c.in_err-place.ensures.counts))
 
 pub returns : goal.returns
-returns g c = ends (first _ (rw c.placement_info.ensures at c.in_ok-front.ensures) ▸ c.in_ok-name.ensures.counts) (simp (to_z-of_z w64 c.args.x c.ranges.x, to_z-of_z w64 c.args.y c.ranges.y) at c.in_ok-place.ensures.counts)
+returns g c = ends (first _ (rw c.placement_info.ensures at c.in_ok-front.ensures) ▸ c.in_ok-name.ensures.counts)
+    (simp (to_z-of_z w64 c.args.x c.ranges.x, to_z-of_z w64 c.args.y c.ranges.y) at c.in_ok-place.ensures.counts)

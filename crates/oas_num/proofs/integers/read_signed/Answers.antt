@@ -1,5 +1,5 @@
 use Rattle.std.proofs.lemmas.Result.{err_from_is_err_and}
-use Rattle.oas_num.proofs.GrammarLemmas.{image_fails}
+use Rattle.oas_num.proofs.MidwayLemmas.{image_fails}
 use Rattle.oas_num.proofs.integers.read_signed.Goals as goal
 
 pub returns-in_err-coded : goal.returns-in_err-coded

@@ -1,6 +1,6 @@
 use Rattle.std.proofs.Common.{arith}
 use Rattle.std.proofs.lemmas.Result.{err_from_is_err_and}
-use Rattle.oas_record.proofs.HeadLemmas.{matched_none, matched_more, magic_fails, magic_wrong, magic_done}
+use Rattle.oas_record.proofs.MagicLemmas.{matched_none, matched_more, magic_fails, magic_wrong, magic_done}
 use Rattle.oas_record.proofs.heads.read_magic.Goals as goal
 
 pub loop-i-init : goal.loop-i-init

@@ -1,4 +1,4 @@
-use Rattle.oas_record.proofs.HeadLemmas.{Matched}
+use Rattle.oas_record.proofs.MagicLemmas.{Matched}
 use Rattle.oas_record.proofs.heads.read_magic.Given as goal
 
 abbrev pub invariant-loop-i : goal.invariant-loop-i

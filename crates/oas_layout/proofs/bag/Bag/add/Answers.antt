@@ -12,13 +12,16 @@ count_up-requires c =
 
 pub invariant_of-self-2 : goal.invariant_of-self-2
 invariant_of-self-2 c =
-    IsTally-insert_entry c.self.inside.held.entries _ c.args.element (unwrap_or (get derived_cmp c.self.inside.held c.args.element) 0 + c.args.times) c.self.invariant (omega arith) c.in_default.ensures.ordered c.in_default.ensures.entries
+    IsTally-insert_entry c.self.inside.held.entries _ c.args.element (unwrap_or (get derived_cmp c.self.inside.held c.args.element) 0 + c.args.times) c.self.invariant
+    (omega arith) c.in_default.ensures.ordered c.in_default.ensures.entries
 
 pub returns-clause-ok : goal.returns-clause-ok
 returns-clause-ok c =
     let was = count_at-derived c.self.inside.held.entries c.args.element ∙ ap (λ es. count_at es c.args.element) c.self.view_is in
-    put_more-inserted c.args.self.now c.self.inside.held.entries _ c.args.element (unwrap_or (get derived_cmp c.self.inside.held c.args.element) 0) c.args.times c.self.view_is c.self.invariant was c.in_default.ensures.entries
+    put_more-inserted c.args.self.now c.self.inside.held.entries _ c.args.element
+    (unwrap_or (get derived_cmp c.self.inside.held c.args.element) 0) c.args.times c.self.view_is c.self.invariant was c.in_default.ensures.entries
 
 pub returns-clause-tally : goal.returns-clause-tally
 returns-clause-tally c =
-    IsTally-insert_entry c.self.inside.held.entries _ c.args.element (unwrap_or (get derived_cmp c.self.inside.held c.args.element) 0 + c.args.times) c.self.invariant (omega arith) c.in_default.ensures.ordered c.in_default.ensures.entries
+    IsTally-insert_entry c.self.inside.held.entries _ c.args.element (unwrap_or (get derived_cmp c.self.inside.held c.args.element) 0 + c.args.times) c.self.invariant
+    (omega arith) c.in_default.ensures.ordered c.in_default.ensures.entries

@@ -11,7 +11,8 @@ pushed c =
 
 pub invariant_of-self-2 : goal.invariant_of-self-2
 invariant_of-self-2 c =
-    IsCounted-push c.self.inside.limits c.self.inside.profile c.self.inside.cells.entries _ c.self.inside.count c.self.inside.weight c.self.inside.spelled _ c.args.name c.self.invariant (pushed c) (ap length c.as_bytes.ensures.bytes) c.as_bytes.ensures.class (omega (arith, c.if-weight-self.false, c.weight.ensures))
+    IsCounted-push c.self.inside.limits c.self.inside.profile c.self.inside.cells.entries _ c.self.inside.count c.self.inside.weight c.self.inside.spelled _ c.args.name c.self.invariant
+    (pushed c) (ap length c.as_bytes.ensures.bytes) c.as_bytes.ensures.class (omega (arith, c.if-weight-self.false, c.weight.ensures))
 
 pub returns-clause-ok : goal.returns-clause-ok
 returns-clause-ok c =

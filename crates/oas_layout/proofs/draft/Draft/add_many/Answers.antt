@@ -12,15 +12,19 @@ hold-requires-2-clause-kept c =
     kept_normal c.self.inside.profile c.args.self.now.profile c.args.element c.in-Some-kept.kept (ap (λ (v : Contents). v.profile) c.self.view_is) (kept_is c)
 
 pub hold-requires-2-clause-points : goal.hold-requires-2-clause-points
-hold-requires-2-clause-points c = kept_points c.self.inside.profile c.args.self.now.profile c.args.element c.in-Some-kept.kept (ap (λ (v : Contents). v.profile) c.self.view_is) (kept_is c) (search rules)
+hold-requires-2-clause-points c = kept_points c.self.inside.profile c.args.self.now.profile c.args.element c.in-Some-kept.kept (ap (λ (v : Contents). v.profile) c.self.view_is) (kept_is c)
+    (search rules)
 
 pub hold-requires-2-clause-inside : goal.hold-requires-2-clause-inside
-hold-requires-2-clause-inside c = kept_inside c.self.inside.profile c.args.self.now.profile c.args.element c.in-Some-kept.kept (ap (λ (v : Contents). v.profile) c.self.view_is) (kept_is c) (search rules)
+hold-requires-2-clause-inside c = kept_inside c.self.inside.profile c.args.self.now.profile c.args.element c.in-Some-kept.kept (ap (λ (v : Contents). v.profile) c.self.view_is) (kept_is c)
+    (search rules)
 
 pub hold-requires-2-clause-lighter : goal.hold-requires-2-clause-lighter
 hold-requires-2-clause-lighter c =
-    kept_lighter c.self.inside.profile c.args.self.now.profile c.args.element c.in-Some-kept.kept (ap (λ (v : Contents). v.profile) c.self.view_is) (kept_is c) c.weight-2.result c.args.times c.in-Some.spelled c.weight-2.ensures c.in-Some.ensures.1
+    kept_lighter c.self.inside.profile c.args.self.now.profile c.args.element c.in-Some-kept.kept (ap (λ (v : Contents). v.profile) c.self.view_is)
+    (kept_is c) c.weight-2.result c.args.times c.in-Some.spelled c.weight-2.ensures c.in-Some.ensures.1
 
 pub hold-requires-2-clause-as_spelled : goal.hold-requires-2-clause-as_spelled
 hold-requires-2-clause-as_spelled c =
-    kept_as_spelled c.self.inside.profile c.args.self.now.profile c.args.element c.in-Some-kept.kept (ap (λ (v : Contents). v.profile) c.self.view_is) (kept_is c) c.weight-2.result c.args.times c.in-Some.spelled c.weight-2.ensures c.in-Some.ensures.1
+    kept_as_spelled c.self.inside.profile c.args.self.now.profile c.args.element c.in-Some-kept.kept (ap (λ (v : Contents). v.profile) c.self.view_is)
+    (kept_is c) c.weight-2.result c.args.times c.in-Some.spelled c.weight-2.ensures c.in-Some.ensures.1

@@ -16,11 +16,13 @@ add-requires-clause-room c =
 
 pub invariant_of-self : goal.invariant_of-self
 invariant_of-self c =
-    IsCounted-same c.self.inside.limits c.self.inside.profile c.self.inside.cells.entries c.self.inside.count c.self.inside.weight c.self.inside.spelled c.args.cell c.index_mut.result.now _ c.self.invariant c.index_mut.ensures.value c.in-Err.ensures.err
+    IsCounted-same c.self.inside.limits c.self.inside.profile c.self.inside.cells.entries c.self.inside.count c.self.inside.weight c.self.inside.spelled c.args.cell c.index_mut.result.now _
+    c.self.invariant c.index_mut.ensures.value c.in-Err.ensures.err
 
 pub returns-in-Err-clause-err : goal.returns-in-Err-clause-err
 returns-in-Err-clause-err c =
-    unchanged_is c.args.self.now c.self.inside.unit c.self.inside.limits c.self.inside.profile c.self.inside.cells.entries c.self.inside.spelled c.args.cell c.index_mut.result.now _ c.self.view_is c.index_mut.ensures.value c.in-Err.ensures.err
+    unchanged_is c.args.self.now c.self.inside.unit c.self.inside.limits c.self.inside.profile c.self.inside.cells.entries c.self.inside.spelled c.args.cell c.index_mut.result.now _
+    c.self.view_is c.index_mut.ensures.value c.in-Err.ensures.err
 
 pub invariant_of-self-2 : goal.invariant_of-self-2
 invariant_of-self-2 c =
@@ -31,10 +33,14 @@ invariant_of-self-2 c =
     let many = ap (λ (v : Contents). length v.cells) c.self.view_is in
     let profile = ap (λ (v : Contents). v.profile) c.self.view_is in
     let product : c.weight.result * c.args.times ≡ weight_of c.args.element * c.args.times = ap (λ (k : ℕ). k * c.args.times) c.weight.ensures in
-    IsCounted-with_more c.self.inside.limits c.self.inside.profile c.self.inside.cells.entries c.self.inside.count c.self.inside.weight c.self.inside.spelled c.args.cell c.index_mut.result.now _ c.args.element c.args.times (c.weight.result * c.args.times) c.args.spelled
-    c.self.invariant c.index_mut.ensures.value c.in_default.ensures.ok c.in_default.ensures.tally (subst (λ p. IsNormal p c.args.element) (sym profile) c.requires.kept) (record { points = c.requires.points; inside = c.requires.inside; fits = c.fits.ensures }) (omega (arith, many, c.requires.cell))
-    (omega (arith, cells, most, c.requires.few, c.self.invariant.count_is)) (omega (arith, heaviest, so_far, c.requires.light)) product (omega (arith, product, c.requires.lighter)) (λ one. product ∙ c.requires.as_spelled (sym profile ∙ one))
+    IsCounted-with_more c.self.inside.limits c.self.inside.profile c.self.inside.cells.entries c.self.inside.count c.self.inside.weight c.self.inside.spelled c.args.cell
+    c.index_mut.result.now _ c.args.element c.args.times (c.weight.result * c.args.times) c.args.spelled
+    c.self.invariant c.index_mut.ensures.value c.in_default.ensures.ok c.in_default.ensures.tally (subst (λ p. IsNormal p c.args.element) (sym profile) c.requires.kept)
+    (record { points = c.requires.points; inside = c.requires.inside; fits = c.fits.ensures }) (omega (arith, many, c.requires.cell))
+    (omega (arith, cells, most, c.requires.few, c.self.invariant.count_is)) (omega (arith, heaviest, so_far, c.requires.light)) product (omega (arith, product, c.requires.lighter))
+    (λ one. product ∙ c.requires.as_spelled (sym profile ∙ one))
 
 pub returns-clause-ok : goal.returns-clause-ok
 returns-clause-ok c =
-    holding_is c.args.self.now c.self.inside.unit c.self.inside.limits c.self.inside.profile c.self.inside.cells.entries c.self.inside.spelled c.args.cell c.index_mut.result.now _ c.args.element c.args.times c.args.spelled c.self.view_is c.index_mut.ensures.value c.in_default.ensures.ok
+    holding_is c.args.self.now c.self.inside.unit c.self.inside.limits c.self.inside.profile c.self.inside.cells.entries c.self.inside.spelled c.args.cell c.index_mut.result.now _
+    c.args.element c.args.times c.args.spelled c.self.view_is c.index_mut.ensures.value c.in_default.ensures.ok

@@ -16,10 +16,15 @@ returns-then-ne-2 c =
 pub returns-then-not-same : goal.returns-then-not-same
 returns-then-not-same c =
     differ _ _ c.args.self.now c.args.other.now c.self.view_is c.other.view_is c.requires c.self.invariant.layout c.other.invariant.layout
-    (λ _ e. true≢false (sym (c.if-not-same.ensures.1 (ap (λ (p : Cell). p.1) (same_at c.args.self.now.cells c.args.other.now.cells c.loop-i.i _ _ c.cell.ensures.cell c.cell-in-loop-i.ensures.cell e)))))
+    (λ _ e. true≢false (sym (c.if-not-same.ensures.1
+    (ap (λ (p : Cell). p.1) (same_at c.args.self.now.cells c.args.other.now.cells c.loop-i.i _ _ c.cell.ensures.cell c.cell-in-loop-i.ensures.cell e)))))
 
 pub returns : goal.returns
 returns c =
     let unit : c.self.inside.unit ≡ c.other.inside.unit = search rules in
-    let units : c.args.self.now.unit ≡ c.args.other.now.unit = sym (ap (λ (v : Contents). v.unit) c.self.view_is) ∙ unit ∙ ap (λ (v : Contents). v.unit) c.other.view_is in
-    (λ _. same_from_cells c.args.self.now.profile c.args.self.now c.args.other.now units (same_reads c.args.self.now.cells c.args.other.now.cells (omega (arith, c.cells-count.ensures.count, c.cells.ensures.count, c.if-count-cells.false)) (λ k below. c.loop-i.invariant k (omega (arith, below, c.cells-count.ensures.count, c.loop-i-test.false)))), λ _. refl)
+    let units : c.args.self.now.unit ≡ c.args.other.now.unit = sym (ap (λ (v : Contents). v.unit) c.self.view_is) ∙ unit ∙ ap (λ (v : Contents). v.unit) c.other.view_is in (
+      λ _. same_from_cells c.args.self.now.profile c.args.self.now c.args.other.now units
+          (same_reads c.args.self.now.cells c.args.other.now.cells (omega (arith, c.cells-count.ensures.count, c.cells.ensures.count, c.if-count-cells.false))
+          (λ k below. c.loop-i.invariant k (omega (arith, below, c.cells-count.ensures.count, c.loop-i-test.false)))),
+      λ _. refl,
+    )

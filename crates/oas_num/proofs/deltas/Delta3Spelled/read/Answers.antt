@@ -1,6 +1,7 @@
 use Rattle.std.proofs.lemmas.Result.{err_from_is_err_and}
 use Rattle.oas_num.specs.Deltas.{delta3_of}
-use Rattle.oas_num.proofs.GrammarLemmas.{image_fails, is_read}
+use Rattle.oas_num.proofs.MidwayLemmas.{image_fails}
+use Rattle.oas_num.proofs.GrammarLemmas.{is_read}
 use Rattle.oas_num.proofs.DeltaLemmas.{starts_delta3}
 use Rattle.oas_num.proofs.deltas.Delta3Spelled.read.Goals as goal
 
