@@ -67,3 +67,45 @@ def test_many(program, folder):
     code, text = answer(program, folder, large(200_000), file_of(cell(b"A")))
     assert code == 3 and text.startswith("@ cell A\n- 1 rectangle 1 0 10 20 0 0\n") and text.count("\n") == 200_001
     assert time.monotonic() - begun < 20
+
+
+BEFORE = file_of(cell(b"A") + 2 * rectangle(1, 0, 10, 20, 0, 0) + rectangle(3, 0, 1, 1, 0, 0) + cell(b"B"))
+AFTER = file_of(cell(b"C") + rectangle(2, 0, 5, 5, 0, 0) + cell(b"A") + rectangle(3, 0, 1, 1, 0, 0) + rectangle(4, 0, 1, 1, 7, 8))
+
+
+def test_brief(program, folder):
+    assert answer(program, folder, BEFORE, AFTER, "--brief") == (3, "@ cell A - 2 + 1\n- cell B - 0 + 0\n+ cell C - 0 + 1\n")
+    assert answer(program, folder, SMALL, RESPELLED, "--brief") == (0, "")
+
+
+def test_brief_counts_the_lines_of_the_whole(program, folder):
+    lines = [line.split() for line in answer(program, folder, BEFORE, AFTER)[1].splitlines()]
+    counted, name = {}, None
+    for sign, second, third, *rest in lines:
+        if "cell" in (second, third):
+            name = third if second == "cell" else rest[0]
+            counted[name] = [0, 0]
+        else:
+            counted[name]["-+".index(sign)] += int(second)
+    briefly = [line.split() for line in answer(program, folder, BEFORE, AFTER, "--brief")[1].splitlines()]
+    assert counted == {fields[2]: [int(fields[4]), int(fields[6])] for fields in briefly}
+
+
+def test_limit(program, folder):
+    whole = answer(program, folder, BEFORE, AFTER)[1].splitlines(keepends=True)
+    for count in range(len(whole) + 2):
+        first = "".join(whole[:count]) + ("...\n" if count < len(whole) else "")
+        assert answer(program, folder, BEFORE, AFTER, "--limit", str(count)) == (3, first)
+    assert answer(program, folder, BEFORE, AFTER, "--brief", "--limit=1") == (3, "@ cell A - 2 + 1\n...\n")
+    assert answer(program, folder, SMALL, RESPELLED, "--limit", "0") == (0, "")
+
+
+def test_limit_that_is_no_number(program, folder):
+    assert diff(program, folder, SMALL, SMALL, "--limit", "x").returncode == 2
+    assert diff(program, folder, SMALL, SMALL, "--limit").returncode == 2
+
+
+def test_limit_of_many(program, folder):
+    code, text = answer(program, folder, large(200_000), file_of(cell(b"A")), "--limit", "3")
+    assert code == 3 and text == "@ cell A\n- 1 rectangle 1 0 10 20 0 0\n- 1 rectangle 1 0 10 20 1 0\n...\n"
+    assert answer(program, folder, large(200_000), file_of(cell(b"A")), "--brief") == (3, "@ cell A - 200000 + 0\n")

@@ -8,7 +8,8 @@ use Rattle.oas_file.specs.Reading.{ReadsLayout}
 use Rattle.oas_canon.specs.declared.profile.TheConstants.{PROFILE}
 use Rattle.oas_canon.specs.declared.sameness.Which.{Which}
 use Rattle.oas_canon.specs.declared.sameness.Which.TheVariants.{First, Second}
-use Rattle.oas_difference.specs.Difference.{difference}
+use Rattle.oas_difference.specs.declared.options.Options.{Options}
+use Rattle.oas_difference.specs.Options.{difference_by}
 
 -- Both were read, the second after the first; or the first is refused, and nothing is read of the second; or the first was
 -- read, and the second is refused.
@@ -18,9 +19,9 @@ ReadsBoth script limits old new before after (Err (First, refusal)) = ReadsLayou
 ReadsBoth script limits old new before after (Err (Second, refusal)) =
     ((first : Contents) × ReadsLayout limits PROFILE old (Ok first) new) × ReadsLayout limits PROFILE (script before) (Err refusal) (script after)
 
--- the difference of two layouts
-abbrev pub diff_text : Contents × Contents → List ℕ
-diff_text found = difference PROFILE (meaning_of found.0) (meaning_of found.1)
+-- the difference of two layouts, as the options say
+abbrev pub diff_text : Options → Contents × Contents → List ℕ
+diff_text options found = difference_by options PROFILE (meaning_of found.0) (meaning_of found.1)
 
 -- 0 where there is no line, and else 3
 abbrev pub text_status : List ℕ → ℕ
@@ -33,6 +34,6 @@ length_status zero = 0
 length_status (suc n) = 3
 
 -- 0 where the difference is empty, 3 where it isn't, 1 after a refusal
-abbrev pub diff_status : Result (Contents × Contents) Refusal → ℕ
-diff_status (Ok found) = text_status (diff_text found)
-diff_status (Err refusal) = 1
+abbrev pub diff_status : Options → Result (Contents × Contents) Refusal → ℕ
+diff_status options (Ok found) = text_status (diff_text options found)
+diff_status options (Err refusal) = 1

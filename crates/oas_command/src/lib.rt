@@ -35,6 +35,7 @@ mod unopened;
 
 pub use lines::write_line;
 pub use messages::put_refusal;
+pub use oas_difference::{Detail, Options};
 pub use runs::{
     canon_telling, check_telling, diff_telling, key_telling, keys_telling, named_check_telling,
     named_key_telling, rekey_telling, run_canon, run_check, run_diff, run_key, run_keys,

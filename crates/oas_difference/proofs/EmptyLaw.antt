@@ -29,7 +29,7 @@ use Rattle.oas_difference.specs.Laws.DifferenceLaws.{EmptyIfSame}
 
 -- ---- lists without a line
 
-none_twice : (xs ys : List ℕ) → xs ++ ys ≡ [] → (xs ≡ []) × (ys ≡ [])
+pub none_twice : (xs ys : List ℕ) → xs ++ ys ≡ [] → (xs ≡ []) × (ys ≡ [])
 none_twice [] ys e = (refl, e)
 none_twice (x ∷ xs) ys e = let no : ⊥ = cc in absurd no
 
@@ -75,7 +75,7 @@ same_count n m text e =
 pub neither_below : (n m : ℕ) → nat_lt m n ≡ false → nat_lt n m ≡ false → n ≡ m
 neither_below n m e f = grind (arith, nat_tests)
 
-counts_alike : (n m : ℕ) (text : List ℕ) → change n m text ≡ [] → n ≡ m
+pub counts_alike : (n m : ℕ) (text : List ℕ) → change n m text ≡ [] → n ≡ m
 counts_alike n m text e = by_cases (nat_lt m n) (nat_lt n m) refl refl e where
   by_cases : (a b : Bool) → nat_lt m n ≡ a → nat_lt n m ≡ b → (if a then signed 45 (n - m) text else if b then signed 43 (m - n) text else []) ≡ [] → n ≡ m
   by_cases true b p q h = let no : ⊥ = cc in absurd no

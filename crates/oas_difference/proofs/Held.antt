@@ -24,12 +24,12 @@ use Rattle.oas_difference.specs.Difference.{change, unit_changes, element_change
 use Rattle.oas_difference.specs.Held.{pair_line, held_changes, held_cell, held_cells}
 use Rattle.oas_difference.proofs.Ascending.{all_append, all_ascending, items_keys}
 
-flat_map_alike : {A : Type 0} (f g : A → List ℕ) (xs : List A) → AllByRecursion (λ x. f x ≡ g x) xs → flat_map f xs ≡ flat_map g xs
+pub flat_map_alike : {A : Type 0} (f g : A → List ℕ) (xs : List A) → AllByRecursion (λ x. f x ≡ g x) xs → flat_map f xs ≡ flat_map g xs
 flat_map_alike f g [] h = refl
 flat_map_alike f g (x ∷ xs) h = λ i. h.0 i ++ flat_map_alike f g xs h.1 i
 
 module _ (profile : Profile) where
-  keys_normal : (es : List (Element × ℕ)) → AllByRecursion (λ p. IsNormal profile p.0) es → AllByRecursion (IsNormal profile) (keys_of es)
+  pub keys_normal : (es : List (Element × ℕ)) → AllByRecursion (λ p. IsNormal profile p.0) es → AllByRecursion (IsNormal profile) (keys_of es)
   keys_normal [] h = tt
   keys_normal (e ∷ es) h = (h.0, keys_normal es h.1)
 
@@ -39,7 +39,7 @@ module _ (profile : Profile) where
     both : List Element
     both = ascending element_cmp (keys_of es ++ keys_of fs)
 
-    count_held : (gs : List (Element × ℕ)) (e : Element) → IsBag profile gs → IsNormal profile e → count_of profile e (items gs) ≡ unwrap_or (found element_cmp gs e) 0
+    pub count_held : (gs : List (Element × ℕ)) (e : Element) → IsBag profile gs → IsNormal profile e → count_of profile e (items gs) ≡ unwrap_or (found element_cmp gs e) 0
     count_held gs e g n = held profile gs e g ∙ ap (count_at gs) n
 
     line_held : (xs : List Element) → AllByRecursion (IsNormal profile) xs → AllByRecursion (λ e. change (count_of profile e (items es)) (count_of profile e (items fs)) (element_line e) ≡ pair_line (e, (found element_cmp es e, found element_cmp fs e))) xs
@@ -59,15 +59,15 @@ module _ (profile : Profile) where
   unfolding IsStrictlySortedBy
   empty_bag = record { tally = record { ascending = tt; positive = tt }; normal = tt }
 
-  bag_of : (o : Option (List (Element × ℕ))) → IfSome o (IsBag profile) → IsBag profile (unwrap_or o [])
+  pub bag_of : (o : Option (List (Element × ℕ))) → IfSome o (IsBag profile) → IsBag profile (unwrap_or o [])
   bag_of None b = empty_bag
   bag_of (Some es) b = b
 
-  there : (o : Option (List (Element × ℕ))) → is_some (option_map items o) ≡ is_some o
+  pub there : (o : Option (List (Element × ℕ))) → is_some (option_map items o) ≡ is_some o
   there None = refl
   there (Some es) = refl
 
-  the_items : (o : Option (List (Element × ℕ))) → unwrap_or (option_map items o) [] ≡ items (unwrap_or o [])
+  pub the_items : (o : Option (List (Element × ℕ))) → unwrap_or (option_map items o) [] ≡ items (unwrap_or o [])
   the_items None = refl
   the_items (Some es) = refl
 
@@ -78,7 +78,7 @@ module _ (profile : Profile) where
 
   -- ---- the cells
 
-  bag_at : (test : List ℕ → Bool) (cs : List Cell) → AllByRecursion (IsCell profile) cs → IfSome (lookup test cs) (IsBag profile)
+  pub bag_at : (test : List ℕ → Bool) (cs : List Cell) → AllByRecursion (IsCell profile) cs → IfSome (lookup test cs) (IsBag profile)
   bag_at test [] h = tt
   bag_at test (c ∷ cs) h = elim (test c.0) as (λ b. IfSome (cond b (Some c.1) (lookup test cs)) (IsBag profile)) [ true ↦ h.0.bag | false ↦ bag_at test cs h.1 ]
 
@@ -87,10 +87,10 @@ elements_held name [] = refl
 elements_held name (c ∷ cs) =
     elim (pointwise ◌==◌ name c.0) as (λ b. cond b (Some (items c.1)) (elements_of name (expanded cs)) ≡ option_map items (cond b (Some c.1) (lookup (pointwise ◌==◌ name) cs))) [ true ↦ refl | false ↦ elements_held name cs ]
 
-elements_found : (name : List ℕ) (cs : List Cell) → elements_of name (expanded cs) ≡ option_map items (found (slice_cmp nat_cmp) cs name)
+pub elements_found : (name : List ℕ) (cs : List Cell) → elements_of name (expanded cs) ≡ option_map items (found (slice_cmp nat_cmp) cs name)
 elements_found name cs = elements_held name cs ∙ (λ i. option_map items (lookup (λ k. texts_ties name k i) cs))
 
-keys_held : (cs : List Cell) → keys_of (expanded cs) ≡ keys_of cs
+pub keys_held : (cs : List Cell) → keys_of (expanded cs) ≡ keys_of cs
 keys_held [] = refl
 keys_held (c ∷ cs) = λ i. c.0 ∷ keys_held cs i
 

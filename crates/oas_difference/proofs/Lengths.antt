@@ -1,5 +1,5 @@
 -- The difference of two layouts is short enough for its length to be counted.
-use Rattle.std.proofs.Common.{◌≡◌, ℕ, ◌+◌, ◌*◌, ◌^◌, ◌<◌, ◌≤◌, zero, suc, List, [], ◌∷◌, ◌++◌, length, flat_map, sum_by, cond, Bool, true, false, Option, None, Some, unwrap_or, decimal, length-append, refl, ◌∙◌, ap, subst, arith}
+use Rattle.std.proofs.Common.{◌≡◌, ℕ, ◌+◌, ◌*◌, ◌^◌, ◌<◌, ◌≤◌, zero, suc, List, [], ◌∷◌, ◌++◌, length, flat_map, sum_by, cond, Bool, true, false, Option, None, Some, unwrap_or, decimal, replicate, length-append, refl, ◌∙◌, ap, subst, arith}
 use Rattle.std.specs.Prelude.{codes, nat_lt, ◌-◌, if◌then◌else◌}
 use Rattle.std.specs.Ordering.{nat_cmp, is_eq, match_ordering, ordering_reverse}
 use Rattle.std.specs.Cmp.{IsTotalOrder}
@@ -19,6 +19,8 @@ use Rattle.oas_layout.specs.declared.profile.Profile.{Profile}
 use Rattle.oas_layout.specs.declared.element.Element.{Element}
 use Rattle.oas_layout.specs.declared.element.Element.TheVariants.{Placement, Text, Rectangle, Polygon, Path, Circle}
 use Rattle.oas_layout.specs.Element.{element_cmp}
+use Rattle.oas_layout.specs.Laws.ElementLaws.{element_total, exact_elements}
+use Rattle.oas_layout.specs.Bag.{items}
 use Rattle.oas_layout.specs.Weight.{weight_of}
 use Rattle.oas_layout.specs.Meaning.{cells_weight}
 use Rattle.oas_layout.specs.Contents.{Cell, Contents, expanded, IsCell, IsLayout}
@@ -28,7 +30,10 @@ use Rattle.oas_listing.proofs.Lengths.{length-decimal, length-element, length-li
 use Rattle.oas_difference.specs.Ascending.{ascending}
 use Rattle.oas_difference.specs.Pairs.{found}
 use Rattle.oas_difference.specs.Difference.{signed, change, unit_line, same_ratio, unit_changes, cell_line, place_line, below_name}
-use Rattle.oas_difference.specs.Held.{pair_line, held_changes, held_cell, held_cells}
+use Rattle.oas_difference.specs.Brief.{only_first, only_second, brief_line, brief_sign, signed_brief}
+use Rattle.oas_difference.specs.Held.{pair_line, held_changes, held_changed, counted_to, held_cell, held_brief, held_by, held_lines}
+use Rattle.oas_difference.specs.declared.options.Detail.{Detail}
+use Rattle.oas_difference.specs.declared.options.Detail.TheVariants.{Elements, Counts}
 use Rattle.oas_difference.proofs.Ascending.{Below, below_chain, above, all_insert}
 
 -- ---- sums over what is ascending
@@ -59,7 +64,7 @@ module _ {K : Type 0} (R : K → K → Ordering) where
           | Greater ↦ λ h. (all_insert (λ y. R x y ≡ Less) R xs k (sorted_head R x xs s) (o.antisymm x k ∙ ap ordering_reverse h), sorted_insert xs k (sorted_tail R x xs s))
         ] refl
 
-    sorted_ascending : (xs : List K) → IsStrictlySortedBy R (ascending R xs)
+    pub sorted_ascending : (xs : List K) → IsStrictlySortedBy R (ascending R xs)
     unfolding IsStrictlySortedBy
     sorted_ascending [] = tt
     sorted_ascending (x ∷ xs) = sorted_insert (ascending R xs) x (sorted_ascending xs)
@@ -96,7 +101,7 @@ module _ {K : Type 0} (R : K → K → Ordering) where
             omega (arith, sum_by-cons at_tie k ks, one, none)
 
 module _ {A : Type 0} where
-  sum_le : (f g : A → ℕ) → ((x : A) → f x ≤ g x) → (xs : List A) → sum_by f xs ≤ sum_by g xs
+  pub sum_le : (f g : A → ℕ) → ((x : A) → f x ≤ g x) → (xs : List A) → sum_by f xs ≤ sum_by g xs
   sum_le f g h [] = omega arith
   sum_le f g h (x ∷ xs) = omega (arith, sum_by-cons f x xs, sum_by-cons g x xs, h x, sum_le f g h xs)
 
@@ -112,11 +117,11 @@ module _ {A : Type 0} where
 
 module _ {K V : Type 0} (R : K → K → Ordering) (o : IsTotalOrder R) (exact : CmpEqualImpliesEq R) (w : K → V → ℕ) where
   -- what an entry weighs, if there is one
-  weight_if : K → Option V → ℕ
+  pub weight_if : K → Option V → ℕ
   weight_if k None = 0
   weight_if k (Some v) = w k v
 
-  entries_sum : List (K × V) → ℕ
+  pub entries_sum : List (K × V) → ℕ
   entries_sum [] = 0
   entries_sum (e ∷ es) = w e.0 e.1 + entries_sum es
 
@@ -131,11 +136,28 @@ module _ {K V : Type 0} (R : K → K → Ordering) (o : IsTotalOrder R) (exact :
   one_more false k v x = omega arith
 
   -- found by keys that strictly ascend, no entry is weighed twice
-  sum_found : (ks : List K) → IsStrictlySortedBy R ks → (es : List (K × V)) → sum_by (λ k. weight_if k (found R es k)) ks ≤ entries_sum es
+  pub sum_found : (ks : List K) → IsStrictlySortedBy R ks → (es : List (K × V)) → sum_by (λ k. weight_if k (found R es k)) ks ≤ entries_sum es
   unfolding weight_if entries_sum
   sum_found ks s [] = omega (arith, sum_nothing ks)
   sum_found ks s (e ∷ es) =
       omega (arith, two_sums (λ k. weight_if k (found R (e ∷ es) k)) (at_tie R o exact (λ k. w k e.1) e.0) (λ k. weight_if k (found R es k)) (λ k. unfold at_tie in one_more (is_eq (R k e.0)) k e.1 (found R es k)) ks, sum_once R o exact (λ k. w k e.1) e.0 ks s, sum_found ks s es)
+
+-- ---- numbers beside elements
+
+pub unwrapped : (e : Element) (o : Option ℕ) → unwrap_or o 0 ≡ weight_if element_cmp element_total exact_elements (λ e n. n) e o
+unfolding weight_if
+unwrapped e None = refl
+unwrapped e (Some n) = refl
+
+copies : (n : ℕ) (e : Element) → length (replicate n e) ≡ n
+copies zero e = refl
+copies (suc n) e = ap suc (copies n e)
+
+-- they are as many as the elements
+pub held_length : (es : List (Element × ℕ)) → entries_sum element_cmp element_total exact_elements (λ e n. n) es ≡ length (items es)
+unfolding entries_sum
+held_length [] = refl
+held_length (p ∷ ps) = omega (arith, length-append (replicate p.1 p.0) (items ps), copies p.1 p.0, held_length ps)
 
 -- ---- the lines of a cell
 
@@ -162,7 +184,7 @@ length-changes es fs =
 
 -- what a cell gives at most
 cell_most : List ℕ → List (Element × ℕ) → ℕ
-cell_most name es = 100 + length name + sum_by line_most (keys_of es)
+cell_most name es = 300 + length name + sum_by line_most (keys_of es)
 
 length-cell_line : (name : List ℕ) → length (cell_line name) ≡ 6 + length name
 length-cell_line name = omega (arith, length-line (codes "cell") (name ∷ []))
@@ -187,13 +209,37 @@ length-held_cell name (Some es) None = omega (arith, length-below true false nam
 length-held_cell name None (Some fs) = omega (arith, length-below false true name (held_changes [] fs), length-changes [] fs)
 length-held_cell name (Some es) (Some fs) = omega (arith, length-below true true name (held_changes es fs), length-changes es fs)
 
-length-held_cells : (cs ds : List Cell) → length (held_cells cs ds) ≤ entries_sum (slice_cmp nat_cmp) names_total exact_bytes cell_most cs + entries_sum (slice_cmp nat_cmp) names_total exact_bytes cell_most ds
-length-held_cells cs ds =
+length-brief_line : (sign : ℕ) (name : List ℕ) (n m : ℕ) → length (brief_line sign name n m) ≤ 200 + length name
+length-brief_line sign name n m =
+    omega (arith, length-append name ((codes " - " ++ decimal n) ++ ((codes " + " ++ decimal m) ++ 10 ∷ [])), length-append (decimal n) ((codes " + " ++ decimal m) ++ 10 ∷ []), length-append (decimal m) (10 ∷ []), length-decimal n, length-decimal m)
+
+length-signed_brief : (o : Option ℕ) (name : List ℕ) (n m : ℕ) → length (signed_brief o name n m) ≤ 200 + length name
+length-signed_brief None name n m = omega arith
+length-signed_brief (Some sign) name n m = length-brief_line sign name n m
+
+length-held_brief : (name : List ℕ) (x y : Option (List (Element × ℕ))) → length (held_brief (name, (x, y))) ≤ weight_if (slice_cmp nat_cmp) names_total exact_bytes cell_most name x + weight_if (slice_cmp nat_cmp) names_total exact_bytes cell_most name y
+unfolding weight_if cell_most
+length-held_brief name None None = omega arith
+length-held_brief name (Some es) None =
+    omega (arith, length-brief_line 45 name (counted_to (only_first (held_changed es []))) (counted_to (only_second (held_changed es []))))
+length-held_brief name None (Some fs) =
+    omega (arith, length-brief_line 43 name (counted_to (only_first (held_changed [] fs))) (counted_to (only_second (held_changed [] fs))))
+length-held_brief name (Some es) (Some fs) =
+    let n : ℕ = counted_to (only_first (held_changed es fs)) in
+    let m : ℕ = counted_to (only_second (held_changed es fs)) in
+    omega (arith, length-signed_brief (brief_sign true true n m) name n m)
+
+length-held_by : (detail : Detail) (name : List ℕ) (x y : Option (List (Element × ℕ))) → length (held_by detail (name, (x, y))) ≤ weight_if (slice_cmp nat_cmp) names_total exact_bytes cell_most name x + weight_if (slice_cmp nat_cmp) names_total exact_bytes cell_most name y
+length-held_by Elements name x y = length-held_cell name x y
+length-held_by Counts name x y = length-held_brief name x y
+
+length-held_lines : (detail : Detail) (cs ds : List Cell) → length (held_lines detail cs ds) ≤ entries_sum (slice_cmp nat_cmp) names_total exact_bytes cell_most cs + entries_sum (slice_cmp nat_cmp) names_total exact_bytes cell_most ds
+length-held_lines detail cs ds =
     let R = slice_cmp nat_cmp in
     let ks = ascending R (keys_of cs ++ keys_of ds) in
     let s = sorted_ascending R names_total (keys_of cs ++ keys_of ds) in
     let pair : List ℕ → List ℕ × (Option (List (Element × ℕ)) × Option (List (Element × ℕ))) = λ k. (k, (found R cs k, found R ds k)) in
-    omega (arith, ap length (flat_map-map held_cell pair ks), length-texts (λ k. held_cell (pair k)) ks, two_sums (λ k. length (held_cell (pair k))) (λ k. weight_if R names_total exact_bytes cell_most k (found R cs k)) (λ k. weight_if R names_total exact_bytes cell_most k (found R ds k)) (λ k. length-held_cell k (found R cs k) (found R ds k)) ks, sum_found R names_total exact_bytes cell_most ks s cs, sum_found R names_total exact_bytes cell_most ks s ds)
+    omega (arith, ap length (flat_map-map (held_by detail) pair ks), length-texts (λ k. held_by detail (pair k)) ks, two_sums (λ k. length (held_by detail (pair k))) (λ k. weight_if R names_total exact_bytes cell_most k (found R cs k)) (λ k. weight_if R names_total exact_bytes cell_most k (found R ds k)) (λ k. length-held_by detail k (found R cs k) (found R ds k)) ks, sum_found R names_total exact_bytes cell_most ks s cs, sum_found R names_total exact_bytes cell_most ks s ds)
 
 -- ---- by what the cells weigh
 
@@ -233,6 +279,6 @@ length-units u v =
     ]
 
 -- and no layout weighs more than 2^30
-pub short_enough : (a b : Contents) → IsLayout a → IsLayout b → length (unit_changes a.unit b.unit ++ held_cells a.cells b.cells) < 2 ^ 64
-short_enough a b k l =
-    omega (arith, length-append (unit_changes a.unit b.unit) (held_cells a.cells b.cells), length-units a.unit b.unit, length-held_cells a.cells b.cells, cells_weigh a.profile a.cells k.cells, cells_weigh b.profile b.cells l.cells, k.light, l.light, k.limits.light, l.limits.light)
+pub short_enough : (detail : Detail) (a b : Contents) → IsLayout a → IsLayout b → length (unit_changes a.unit b.unit ++ held_lines detail a.cells b.cells) < 2 ^ 63
+short_enough detail a b k l =
+    omega (arith, length-append (unit_changes a.unit b.unit) (held_lines detail a.cells b.cells), length-units a.unit b.unit, length-held_lines detail a.cells b.cells, cells_weigh a.profile a.cells k.cells, cells_weigh b.profile b.cells l.cells, k.light, l.light, k.limits.light, l.limits.light)

@@ -1,6 +1,9 @@
 pub mod Ascending
+pub mod BriefHeld
 pub mod EmptyLaw
+pub mod EmptyOptions
 pub mod Held
 pub mod Lengths
+pub mod LimitLemmas
 pub mod Pairs
 pub mod Steps

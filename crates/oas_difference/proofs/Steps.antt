@@ -1,6 +1,7 @@
 -- The difference of what is held, a line at a time.
 use Rattle.std.proofs.Common.{◌≡◌, ◌≢◌, ℕ, zero, suc, ◌+◌, ◌<◌, List, [], ◌∷◌, ◌++◌, length, drop, flat_map, decimal, Bool, true, false, cond, Option, None, Some, is_some, unwrap_or, slice_get, refl, sym, ◌∙◌, ap, subst, append_assoc, arith}
 use Rattle.std.specs.Prelude.{◌-◌, nat_lt, IfSome, if◌then◌else◌}
+use Rattle.std.proofs.lemmas.Bool.{eq-eqb}
 use Rattle.std.specs.Borrow.{Bor}
 use Rattle.std.specs.declared.cmp.Ordering.{Ordering}
 use Rattle.std.specs.declared.cmp.Ordering.TheVariants.{Less, Equal, Greater}
@@ -20,7 +21,9 @@ use Rattle.oas_layout.specs.Contents.{Cell, names, bags}
 use Rattle.oas_listing.specs.Listing.{element_line}
 use Rattle.oas_difference.specs.Difference.{signed, change, unit_line, same_ratio, unit_changes, cell_line, place_line, below_name}
 use Rattle.oas_difference.specs.Pairs.{head_key, least, taken}
-use Rattle.oas_difference.specs.Held.{in_hand, pair_line, held_changes, held_cell, held_cells}
+use Rattle.oas_difference.specs.Brief.{change_at, only_first, only_second, brief_line, brief_sign, signed_brief}
+use Rattle.oas_difference.specs.Held.{in_hand, pair_line, pair_changed, held_changes, held_changed, held_cell, counted_to, held_brief, held_by, held_lines}
+use Rattle.oas_difference.specs.declared.options.Detail.{Detail}
 use Rattle.oas_difference.proofs.EmptyLaw.{same_count, neither_below}
 use Rattle.oas_difference.proofs.Pairs.{none_left, sorted_taken, take_least}
 
@@ -35,9 +38,15 @@ place_parts name = refl
 pub no_changes : (es fs : List (Element × ℕ)) → least element_cmp (head_key es) (head_key fs) ≡ None → held_changes es fs ≡ []
 no_changes es fs h = let none = none_left element_cmp es fs h in λ i. held_changes (none.0 i) (none.1 i)
 
+pub none_changed : (es fs : List (Element × ℕ)) → least element_cmp (head_key es) (head_key fs) ≡ None → held_changed es fs ≡ []
+none_changed es fs h = let none = none_left element_cmp es fs h in λ i. held_changed (none.0 i) (none.1 i)
+
 module _ (es fs : List (Element × ℕ)) (k : Element) (s : IsStrictlySortedBy element_cmp (keys_of es)) (t : IsStrictlySortedBy element_cmp (keys_of fs)) (h : least element_cmp (head_key es) (head_key fs) ≡ Some k) where
   pub first_change : held_changes es fs ≡ change (unwrap_or (taken element_cmp k es).0 0) (unwrap_or (taken element_cmp k fs).0 0) (element_line k) ++ held_changes (taken element_cmp k es).1 (taken element_cmp k fs).1
   first_change = ap (flat_map pair_line) (take_least element_cmp element_total exact_elements es fs k s t h).listed
+
+  pub first_changed : held_changed es fs ≡ change_at k (unwrap_or (taken element_cmp k es).0 0) (unwrap_or (taken element_cmp k fs).0 0) ++ held_changed (taken element_cmp k es).1 (taken element_cmp k fs).1
+  first_changed = ap (flat_map pair_changed) (take_least element_cmp element_total exact_elements es fs k s t h).listed
 
   -- an element that is as often on both sides gives no line
   pub no_change : unwrap_or (taken element_cmp k es).0 0 ≡ unwrap_or (taken element_cmp k fs).0 0 → held_changes es fs ≡ held_changes (taken element_cmp k es).1 (taken element_cmp k fs).1
@@ -45,11 +54,11 @@ module _ (es fs : List (Element × ℕ)) (k : Element) (s : IsStrictlySortedBy e
 
 -- ---- cells
 
-pub no_cells : (cs ds : List Cell) → least (slice_cmp nat_cmp) (head_key cs) (head_key ds) ≡ None → held_cells cs ds ≡ []
-no_cells cs ds h = let none = none_left (slice_cmp nat_cmp) cs ds h in λ i. held_cells (none.0 i) (none.1 i)
+pub no_cells : (detail : Detail) (cs ds : List Cell) → least (slice_cmp nat_cmp) (head_key cs) (head_key ds) ≡ None → held_lines detail cs ds ≡ []
+no_cells detail cs ds h = let none = none_left (slice_cmp nat_cmp) cs ds h in λ i. held_lines detail (none.0 i) (none.1 i)
 
-pub first_cell : (cs ds : List Cell) (name : List ℕ) → IsStrictlySortedBy (slice_cmp nat_cmp) (keys_of cs) → IsStrictlySortedBy (slice_cmp nat_cmp) (keys_of ds) → least (slice_cmp nat_cmp) (head_key cs) (head_key ds) ≡ Some name → held_cells cs ds ≡ held_cell (name, ((taken (slice_cmp nat_cmp) name cs).0, (taken (slice_cmp nat_cmp) name ds).0)) ++ held_cells (taken (slice_cmp nat_cmp) name cs).1 (taken (slice_cmp nat_cmp) name ds).1
-first_cell cs ds name s t h = ap (flat_map held_cell) (take_least (slice_cmp nat_cmp) nat_list_cmp_total exact_bytes cs ds name s t h).listed
+pub first_cell : (detail : Detail) (cs ds : List Cell) (name : List ℕ) → IsStrictlySortedBy (slice_cmp nat_cmp) (keys_of cs) → IsStrictlySortedBy (slice_cmp nat_cmp) (keys_of ds) → least (slice_cmp nat_cmp) (head_key cs) (head_key ds) ≡ Some name → held_lines detail cs ds ≡ held_by detail (name, ((taken (slice_cmp nat_cmp) name cs).0, (taken (slice_cmp nat_cmp) name ds).0)) ++ held_lines detail (taken (slice_cmp nat_cmp) name cs).1 (taken (slice_cmp nat_cmp) name ds).1
+first_cell detail cs ds name s t h = ap (flat_map (held_by detail)) (take_least (slice_cmp nat_cmp) nat_list_cmp_total exact_bytes cs ds name s t h).listed
 
 -- ---- the first key
 
@@ -89,6 +98,7 @@ module _ (o : Option (Bor Element × ℕ)) (rest now : List (Element × ℕ)) (f
 
 pub record Stepped (es fs : List (Element × ℕ)) (k : Element) (n m : ℕ) (es' fs' : List (Element × ℕ)) : Type 0 where
   pub text : held_changes es fs ≡ change n m (element_line k) ++ held_changes es' fs'
+  pub changed : held_changed es fs ≡ change_at k n m ++ held_changed es' fs'
   pub before : IsStrictlySortedBy element_cmp (keys_of es')
   pub after : IsStrictlySortedBy element_cmp (keys_of fs')
   pub fewer : length es' + length fs' < length es + length fs
@@ -98,6 +108,7 @@ stepped es fs k n m es' fs' s t h p q u v =
     let fewer = (take_least element_cmp element_total exact_elements es fs k s t h).fewer in
     record {
       text = first_change es fs k s t h ∙ (λ i. change (sym p i) (sym q i) (element_line k) ++ held_changes (sym u i) (sym v i));
+      changed = first_changed es fs k s t h ∙ (λ i. change_at k (sym p i) (sym q i) ++ held_changed (sym u i) (sym v i));
       before = subst (λ (l : List (Element × ℕ)). IsStrictlySortedBy element_cmp (keys_of l)) (sym u) (sorted_taken element_cmp k es s);
       after = subst (λ (l : List (Element × ℕ)). IsStrictlySortedBy element_cmp (keys_of l)) (sym v) (sorted_taken element_cmp k fs t);
       fewer = omega (arith, ap length u, ap length v, fewer);
@@ -107,23 +118,26 @@ stepped es fs k n m es' fs' s t h p q u v =
 pub alike_line : (n m : ℕ) (text rest : List ℕ) → n ≡ m → change n m text ++ rest ≡ rest
 alike_line n m text rest e = ap (λ (b : List ℕ). b ++ rest) (same_count n m text e)
 
+pub alike_changed : (e : Element) (n m : ℕ) (rest : List (Element × (ℕ × ℕ))) → n ≡ m → change_at e n m ++ rest ≡ rest
+alike_changed e n m rest h = ap (λ (b : Bool). (if b then [] else (e, (n, m)) ∷ []) ++ rest) (eq-eqb n m h)
+
 -- what is left, in other words
 pub left_is : {K : Type 0} {given : K → List ℕ → K → Type 0} {failures : K → ℕ} {whole b c : List ℕ} {old now : K} → PutSoFar given failures whole b old now → b ≡ c → PutSoFar given failures whole c old now
 left_is {given = given} {failures = failures} {whole = whole} {old = old} {now = now} p e = subst (λ (x : List ℕ). PutSoFar given failures whole x old now) e p
 
 -- ---- a cell taken from both sides
 
-pub record CellStepped (cs ds : List Cell) (name : List ℕ) (x y : Option (List (Element × ℕ))) (cs' ds' : List Cell) : Type 0 where
-  pub text : held_cells cs ds ≡ held_cell (name, (x, y)) ++ held_cells cs' ds'
+pub record CellStepped (detail : Detail) (cs ds : List Cell) (name : List ℕ) (x y : Option (List (Element × ℕ))) (cs' ds' : List Cell) : Type 0 where
+  pub text : held_lines detail cs ds ≡ held_by detail (name, (x, y)) ++ held_lines detail cs' ds'
   pub before : IsStrictlySortedBy (slice_cmp nat_cmp) (keys_of cs')
   pub after : IsStrictlySortedBy (slice_cmp nat_cmp) (keys_of ds')
   pub fewer : length cs' + length ds' < length cs + length ds
 
-pub cell_stepped : (cs ds : List Cell) (name : List ℕ) (x y : Option (List (Element × ℕ))) (cs' ds' : List Cell) → IsStrictlySortedBy (slice_cmp nat_cmp) (keys_of cs) → IsStrictlySortedBy (slice_cmp nat_cmp) (keys_of ds) → least (slice_cmp nat_cmp) (head_key cs) (head_key ds) ≡ Some name → x ≡ (taken (slice_cmp nat_cmp) name cs).0 → y ≡ (taken (slice_cmp nat_cmp) name ds).0 → cs' ≡ (taken (slice_cmp nat_cmp) name cs).1 → ds' ≡ (taken (slice_cmp nat_cmp) name ds).1 → CellStepped cs ds name x y cs' ds'
-cell_stepped cs ds name x y cs' ds' s t h p q u v =
+pub cell_stepped : (detail : Detail) (cs ds : List Cell) (name : List ℕ) (x y : Option (List (Element × ℕ))) (cs' ds' : List Cell) → IsStrictlySortedBy (slice_cmp nat_cmp) (keys_of cs) → IsStrictlySortedBy (slice_cmp nat_cmp) (keys_of ds) → least (slice_cmp nat_cmp) (head_key cs) (head_key ds) ≡ Some name → x ≡ (taken (slice_cmp nat_cmp) name cs).0 → y ≡ (taken (slice_cmp nat_cmp) name ds).0 → cs' ≡ (taken (slice_cmp nat_cmp) name cs).1 → ds' ≡ (taken (slice_cmp nat_cmp) name ds).1 → CellStepped detail cs ds name x y cs' ds'
+cell_stepped detail cs ds name x y cs' ds' s t h p q u v =
     let fewer = (take_least (slice_cmp nat_cmp) nat_list_cmp_total exact_bytes cs ds name s t h).fewer in
     record {
-      text = first_cell cs ds name s t h ∙ (λ i. held_cell (name, (sym p i, sym q i)) ++ held_cells (sym u i) (sym v i));
+      text = first_cell detail cs ds name s t h ∙ (λ i. held_by detail (name, (sym p i, sym q i)) ++ held_lines detail (sym u i) (sym v i));
       before = subst (λ (l : List Cell). IsStrictlySortedBy (slice_cmp nat_cmp) (keys_of l)) (sym u) (sorted_taken (slice_cmp nat_cmp) name cs s);
       after = subst (λ (l : List Cell). IsStrictlySortedBy (slice_cmp nat_cmp) (keys_of l)) (sym v) (sorted_taken (slice_cmp nat_cmp) name ds t);
       fewer = omega (arith, ap length u, ap length v, fewer);
@@ -153,6 +167,12 @@ only_before name o p e f = λ i. below_name (e i) (f i) name (held_changes (unwr
 
 pub only_after : (name : List ℕ) (o p : Option (List (Element × ℕ))) → is_some o ≡ false → is_some p ≡ true → held_cell (name, (o, p)) ≡ signed 43 1 (cell_line name) ++ held_changes (unwrap_or o []) (unwrap_or p [])
 only_after name o p e f = λ i. below_name (e i) (f i) name (held_changes (unwrap_or o []) (unwrap_or p []))
+
+pub brief_is : (name : List ℕ) (o p : Option (List (Element × ℕ))) (es fs : List (Element × ℕ)) (b c : Bool) (n m sign : ℕ) → b ≡ is_some o → c ≡ is_some p → es ≡ unwrap_or o [] → fs ≡ unwrap_or p [] → n ≡ counted_to (only_first (held_changed es fs)) → m ≡ counted_to (only_second (held_changed es fs)) → Some sign ≡ brief_sign b c n m → brief_line sign name n m ≡ held_brief (name, (o, p))
+brief_is name o p es fs b c n m sign hb hc he hf hn hm hs =
+    let first : n ≡ counted_to (only_first (held_changed (unwrap_or o []) (unwrap_or p []))) = hn ∙ (λ i. counted_to (only_first (held_changed (he i) (hf i)))) in
+    let second : m ≡ counted_to (only_second (held_changed (unwrap_or o []) (unwrap_or p []))) = hm ∙ (λ i. counted_to (only_second (held_changed (he i) (hf i)))) in
+    ap (λ (s : Option ℕ). signed_brief s name n m) hs ∙ (λ i. signed_brief (brief_sign (hb i) (hc i) (first i) (second i)) name (first i) (second i))
 
 -- a change that is one has its line below the cell's
 pub unlike_line : (n m : ℕ) (name text rest : List ℕ) → n ≢ m → below_name true true name (change n m text ++ rest) ≡ place_line name ++ (change n m text ++ rest)

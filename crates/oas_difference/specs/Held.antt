@@ -1,5 +1,5 @@
 -- The difference of what two layouts hold: cells and elements beside their counts.
-use Rattle.std.specs.Prelude.{ℕ, List, [], ◌∷◌, flat_map, Option, None, Some, is_some, unwrap_or}
+use Rattle.std.specs.Prelude.{ℕ, ◌-◌, ◌^◌, min, List, [], ◌∷◌, flat_map, Option, None, Some, is_some, unwrap_or}
 use Rattle.std.specs.Borrow.{Bor}
 use Rattle.std.specs.Ordering.{nat_cmp}
 use Rattle.std.specs.Cmp.Lexicographic.{slice_cmp}
@@ -10,6 +10,9 @@ use Rattle.oas_layout.specs.Contents.{Cell}
 use Rattle.oas_listing.specs.Listing.{element_line}
 use Rattle.oas_difference.specs.Pairs.{side_by_side}
 use Rattle.oas_difference.specs.Difference.{change, below_name}
+use Rattle.oas_difference.specs.Brief.{change_at, only_first, only_second, brief_of}
+use Rattle.oas_difference.specs.declared.options.Detail.{Detail}
+use Rattle.oas_difference.specs.declared.options.Detail.TheVariants.{Elements, Counts}
 
 -- the first element, if there is one, and the rest
 abbrev pub in_hand : Option (Bor Element × ℕ) → List (Element × ℕ) → List (Element × ℕ)
@@ -27,3 +30,30 @@ held_cell p = below_name (is_some p.1.0) (is_some p.1.1) p.0 (held_changes (unwr
 
 abbrev pub held_cells : List Cell → List Cell → List ℕ
 held_cells cs ds = flat_map held_cell (side_by_side (slice_cmp nat_cmp) cs ds)
+
+-- ---- in brief
+
+abbrev pub pair_changed : Element × (Option ℕ × Option ℕ) → List (Element × (ℕ × ℕ))
+pair_changed p = change_at p.0 (unwrap_or p.1.0 0) (unwrap_or p.1.1 0)
+
+abbrev pub held_changed : List (Element × ℕ) → List (Element × ℕ) → List (Element × (ℕ × ℕ))
+held_changed es fs = flat_map pair_changed (side_by_side element_cmp es fs)
+
+-- as far as 64 bits count
+abbrev pub counted_to : ℕ → ℕ
+counted_to n = min n (2 ^ 64 - 1)
+
+abbrev pub held_brief : List ℕ × (Option (List (Element × ℕ)) × Option (List (Element × ℕ))) → List ℕ
+held_brief p =
+    brief_of (is_some p.1.0) (is_some p.1.1) p.0
+    (counted_to (only_first (held_changed (unwrap_or p.1.0 []) (unwrap_or p.1.1 []))))
+    (counted_to (only_second (held_changed (unwrap_or p.1.0 []) (unwrap_or p.1.1 []))))
+
+-- ---- by detail
+
+abbrev pub held_by : Detail → List ℕ × (Option (List (Element × ℕ)) × Option (List (Element × ℕ))) → List ℕ
+held_by Elements p = held_cell p
+held_by Counts p = held_brief p
+
+abbrev pub held_lines : Detail → List Cell → List Cell → List ℕ
+held_lines detail cs ds = flat_map (held_by detail) (side_by_side (slice_cmp nat_cmp) cs ds)

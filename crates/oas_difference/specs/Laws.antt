@@ -1,2 +1,4 @@
 -- What follows of the definitions. Nothing here has to be believed.
 pub mod DifferenceLaws
+pub mod LimitingLaws
+pub mod OptionLaws

@@ -1,5 +1,9 @@
 pub mod Ascending
 pub mod Pairs
 pub mod Difference
+pub mod Brief
+pub mod Limited
+pub mod Limiting
+pub mod Options
 pub mod Held
 pub mod Laws

@@ -12,10 +12,12 @@ ghost use Rattle.oas_layout.specs.Contents.{IsLayout};
 ghost use Rattle.oas_layout.specs.Element.{element_cmp};
 ghost use Rattle.oas_difference.specs.Difference.{cell_line, place_line, signed, below_name};
 ghost use Rattle.oas_difference.specs.Pairs.{head_key, least, taken};
-ghost use Rattle.oas_difference.specs.Held.{held_cell, held_cells, held_changes};
+ghost use Rattle.oas_difference.specs.Held.{held_by, held_cell, held_changes, held_lines};
 
+use crate::brief::put_brief_cell;
 use crate::changes::{next_change, put_change, put_changes, put_sign};
 use crate::elements::Side;
+use crate::options::Detail;
 use oas_layout::{Elements, Layout};
 use oas_listing::put_name;
 use oas_num::{Name, Sink, SinkFault};
@@ -163,19 +165,38 @@ fn put_cell<'a, K: Sink>(
     }
 }
 
+/// Puts what has changed in a cell, in that detail.
+fn put_cell_by<'a, K: Sink>(
+    sink: &mut K,
+    name: &Name,
+    before: Option<Elements<'a>>,
+    after: Option<Elements<'a>>,
+    detail: Detail,
+) -> Result<(), SinkFault>
+    requires before { IfSome before IsTally }
+    requires after { IfSome after IsTally }
+    ensures { Writes K.given K.failures sink.old (held_by detail (name.now, (before.entry, after.entry))) result sink.new }
+{
+    match detail {
+        Detail::Elements => put_cell(sink, name, before, after),
+        Detail::Counts => put_brief_cell(sink, name, before, after),
+    }
+}
+
 /// Puts what has changed in each cell.
 pub(crate) fn put_cells<'a, K: Sink>(
     sink: &mut K,
     mut before: Cells<'a>,
     mut after: Cells<'a>,
+    detail: Detail,
 ) -> Result<(), SinkFault>
     requires before { IsStrictlySortedBy (slice_cmp nat_cmp) (keys_of before) }
     requires after { IsStrictlySortedBy (slice_cmp nat_cmp) (keys_of after) }
-    ensures { Writes K.given K.failures sink.old (held_cells before.entry after.entry) result sink.new }
+    ensures { Writes K.given K.failures sink.old (held_lines detail before.entry after.entry) result sink.new }
 {
     while let Some(name) = first_name(before.name(), after.name()) {
         let (left, right) = (before.take(name), after.take(name));
-        put_cell(sink, name, left, right)?;
+        put_cell_by(sink, name, left, right, detail)?;
     }
     Ok(())
 }

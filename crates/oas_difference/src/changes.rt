@@ -7,7 +7,8 @@ ghost use Rattle.oas_num.specs.Writing.{Writes};
 ghost use Rattle.oas_layout.specs.Element.{element_cmp};
 ghost use Rattle.oas_listing.specs.Listing.{element_line};
 ghost use Rattle.oas_difference.specs.Difference.{signed, change};
-ghost use Rattle.oas_difference.specs.Held.{held_changes};
+ghost use Rattle.oas_difference.specs.Brief.{change_at};
+ghost use Rattle.oas_difference.specs.Held.{held_changed, held_changes};
 
 use crate::elements::{Side, first_element};
 use itoa::Buffer;
@@ -29,6 +30,8 @@ pub(crate) fn next_change<'a>(before: &mut Side<'a>, after: &mut Side<'a>) -> Op
     requires after { IsStrictlySortedBy element_cmp (keys_of after.old) }
     ensures change { MatchOption result (held_changes before.old after.old ≡ [])
         (λ c. held_changes before.old after.old ≡ change c.before c.after (element_line c.element.now) ++ held_changes before.new after.new) }
+    ensures changed { MatchOption result (held_changed before.old after.old ≡ [])
+        (λ c. held_changed before.old after.old ≡ change_at c.element.now c.before c.after ++ held_changed before.new after.new) }
     ensures unlike { IfSome result (λ c. c.before ≢ c.after) }
     ensures fewer { IfSome result (λ _. length before.new + length after.new < length before.old + length after.old) }
     ensures before { IsStrictlySortedBy element_cmp (keys_of before.new) }

@@ -20,12 +20,16 @@
 //! ([`laws`]).
 #![tactic(auto)]
 
+mod brief;
 mod cells;
 mod changes;
 mod elements;
 pub mod laws;
+mod limiting;
+mod options;
 mod writing;
 
+pub use options::{Detail, Options};
 pub use writing::write_difference;
 
 #[cfg(test)]

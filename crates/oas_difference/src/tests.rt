@@ -1,20 +1,39 @@
 //! Differences whose text comes from outside.
 
+mod brief;
 mod faults;
 mod layouts;
+mod limited;
 
-use crate::write_difference;
+use crate::{Detail, Options, write_difference};
 use layouts::layout;
 use oas_layout::Layout;
 use std::test::Fail;
 
+/// All that differs.
+const ALL: Options = Options {
+    detail: Detail::Elements,
+    limit: None,
+};
+
 /// Whether the difference of the layouts is this text, and its length is answered.
 fn differ(rt: &HostRuntime, before: &Layout, after: &Layout, text: &str) -> bool {
+    differ_by(rt, before, after, ALL, text)
+}
+
+/// Whether what is written of the difference is this text.
+fn differ_by(
+    rt: &HostRuntime,
+    before: &Layout,
+    after: &Layout,
+    options: Options,
+    text: &str,
+) -> bool {
     let mut written = Vec::new(rt.alloc());
     if before.profile() != after.profile() {
         return false;
     }
-    match write_difference(before, after, &mut written) {
+    match write_difference(before, after, options, &mut written) {
         Ok(count) => count == text.len() as u64 && written.as_slice() == text.as_bytes(),
         Err(_) => false,
     }

@@ -1,14 +1,17 @@
 //! Writing a difference.
 
-ghost use Rattle.std.specs.Prelude.{◌≡◌, ◌+◌, ◌*◌, ◌^◌, ◌<◌, length, IfErr, IfOk, OnOk};
+ghost use Rattle.std.specs.Prelude.{◌≡◌, ◌-◌, ◌^◌, ◌<◌, false, length, unwrap_or, IfErr, IfOk, OnOk};
 ghost use Rattle.oas_num.specs.Outlets.{IsGiven, IsSent, failures_of};
 ghost use Rattle.oas_num.specs.Writing.{Writes};
 ghost use Rattle.oas_num.specs.Written.{IsWritten, IsCutOff};
 ghost use Rattle.oas_layout.specs.Contents.{meaning_of};
-ghost use Rattle.oas_difference.specs.Difference.{unit_changes, difference};
+ghost use Rattle.oas_difference.specs.Difference.{unit_changes};
+ghost use Rattle.oas_difference.specs.Options.{detailed, difference_by};
 
 use crate::cells::{Cells, put_cells};
 use crate::changes::put_sign;
+use crate::limiting::Limited;
+use crate::options::{Detail, Options};
 use oas_layout::Layout;
 use oas_listing::put_unit;
 use oas_num::{Fraction, Outlet, Refusal, Sink, SinkFault, Why};
@@ -27,56 +30,66 @@ fn put_units<K: Sink>(sink: &mut K, before: Fraction, after: Fraction) -> Result
     put_unit(sink, after)
 }
 
-/// Puts the difference of two layouts.
+/// Puts the difference of two layouts, in that detail.
 fn put_difference<'a, K: Sink>(
     sink: &mut K,
     before: &'a Layout,
     after: &'a Layout,
+    detail: Detail,
 ) -> Result<(), SinkFault>
     requires { before.now.profile ≡ after.now.profile }
-    ensures writes { Writes K.given K.failures sink.old (difference before.now.profile (meaning_of before.now) (meaning_of after.now)) result sink.new }
-    ensures short { length (difference before.now.profile (meaning_of before.now) (meaning_of after.now)) < 2 ^ 64 }
+    ensures writes { Writes K.given K.failures sink.old (detailed detail before.now.profile (meaning_of before.now) (meaning_of after.now)) result sink.new }
+    ensures short { length (detailed detail before.now.profile (meaning_of before.now) (meaning_of after.now)) < 2 ^ 63 }
 {
     let left = Cells::new(before);
     let right = Cells::new(after);
     put_units(sink, before.unit(), after.unit())?;
-    put_cells(sink, left, right)
+    put_cells(sink, left, right, detail)
 }
 
-/// Puts the difference of two layouts into an outlet, and has its writer take all of it.
+/// Puts the first lines of the difference of two layouts into an outlet, and has its writer take all of it.
 fn put_and_close<W: Write>(
     before: &Layout,
     after: &Layout,
-    outlet: &mut Outlet<'_, W>,
+    options: Options,
+    lines: &mut Limited<'_, W>,
 ) -> Result<(), SinkFault>
-    requires { before.now.profile ≡ after.now.profile }
-    ensures writes { Writes (IsGiven W.contents) failures_of outlet.old (difference before.now.profile (meaning_of before.now) (meaning_of after.now)) result outlet.new }
-    ensures all { OnOk result (IsSent outlet.new) }
-    ensures short { length (difference before.now.profile (meaning_of before.now) (meaning_of after.now)) < 2 ^ 64 }
+    requires profile { before.now.profile ≡ after.now.profile }
+    requires left { lines.old.left ≡ unwrap_or options.limit (2 ^ 64 - 1) }
+    requires whole { lines.old.is_cut ≡ false }
+    requires works { lines.old.failed ≡ false }
+    ensures writes { Writes (IsGiven W.contents) failures_of lines.old.sink (difference_by options before.now.profile (meaning_of before.now) (meaning_of after.now)) result lines.new.sink }
+    ensures all { OnOk result (IsSent lines.new.sink) }
+    ensures short { length (difference_by options before.now.profile (meaning_of before.now) (meaning_of after.now)) < 2 ^ 64 }
 {
-    put_difference(outlet, before, after)?;
-    outlet.close()
+    put_difference(lines, before, after, options.detail)?;
+    if lines.has_failed() {
+        return Err(SinkFault::Device);
+    }
+    lines.put_more()?;
+    lines.sink.close()
 }
 
-/// Writes the difference of two layouts of one profile, and answers how many bytes it has: none exactly if they are the
-/// same (`laws::empty_if_same`). It takes no memory.
+/// Writes the difference of two layouts of one profile as the options say, and answers how many bytes that is: none
+/// exactly if the layouts are the same (`laws`). It takes no memory.
 ///
 /// A fault of the writer is `Why::Write`, and its place is the number of bytes that the writer took: those are the first
 /// of the difference. Where it is the number of all of them, the flush failed.
 pub fn write_difference<W: Write>(
     before: &Layout,
     after: &Layout,
+    options: Options,
     writer: &mut W,
 ) -> Result<u64, Refusal>
     requires { before.now.profile ≡ after.now.profile }
-    ensures written { IfOk result (IsWritten W.contents writer.old (difference before.now.profile (meaning_of before.now) (meaning_of after.now)) writer.new) }
-    ensures refused { IfErr result (IsCutOff W.contents writer.old (difference before.now.profile (meaning_of before.now) (meaning_of after.now)) writer.new) }
+    ensures written { IfOk result (IsWritten W.contents writer.old (difference_by options before.now.profile (meaning_of before.now) (meaning_of after.now)) writer.new) }
+    ensures refused { IfErr result (IsCutOff W.contents writer.old (difference_by options before.now.profile (meaning_of before.now) (meaning_of after.now)) writer.new) }
 {
-    let mut outlet = Outlet::new(writer);
-    match put_and_close(before, after, &mut outlet) {
-        Ok(()) => Ok(outlet.taken()),
+    let mut lines = Limited::new(Outlet::new(writer), options.limit.unwrap_or(u64::MAX));
+    match put_and_close(before, after, options, &mut lines) {
+        Ok(()) => Ok(lines.sink.taken()),
         Err(_) => Err(Refusal {
-            at: outlet.taken(),
+            at: lines.sink.taken(),
             why: Why::Write,
         }),
     }

@@ -9,13 +9,13 @@ ghost use Rattle.oas_command.specs.Runs.{Delivers, found_in, blamed, said, Ends,
 
 use super::ends::{DONE, NO, conclude, refuse};
 use oas_canon::{Layout, Limits, PROFILE, Which, read_layout};
-use oas_difference::write_difference;
+use oas_difference::{Options, write_difference};
 use oas_num::{Outlet, Refusal, Sink, Source};
 use std::alloc::Global;
 use std::io::Write;
 
-/// Writes the difference of the layout that all that `a` gives within these limits means, and of what `b` gives, to `out`,
-/// and answers the status of the command: 0 where there is no line, 3 where there is, or 1 after a refusal, which is named
+/// Writes the difference of the layout that all that `a` gives within these limits means, and of what `b` gives, to `out`
+/// as the options say, and answers the status of the command: 0 where there is no line, 3 where there is, or 1 after a refusal, which is named
 /// on `err` in a line that begins with the name of the refused file. `a` is read whole before `b` is begun. A fault of
 /// `out` is the refusal `Why::Write`, under the name of `a`; a fault of `err` changes nothing.
 pub fn run_diff<S: Source, T: Source, W: Write, E: Write>(
@@ -24,17 +24,18 @@ pub fn run_diff<S: Source, T: Source, W: Write, E: Write>(
     a: &mut S,
     name_b: &str,
     b: &mut T,
+    options: Options,
     out: &mut W,
     err: &mut E,
     limits: Limits,
 ) -> u8
-    ensures { (found : Result (Contents × Contents) (WhichFile × Refused)) × (answer : Result (Contents × Contents) Refused) × (result ≡ diff_status answer)
+    ensures { (found : Result (Contents × Contents) (WhichFile × Refused)) × (answer : Result (Contents × Contents) Refused) × (result ≡ diff_status options answer)
         × ReadsBoth T.script limits (S.script a.old) (S.script a.new) b.old b.new found
-        × Delivers W.contents diff_text out.old (found_in found) answer out.new
+        × Delivers W.contents (diff_text options) out.old (found_in found) answer out.new
         × AppendsFront (E.contents err.old) (E.contents err.new) (said (blamed name_a.now name_b.now found) answer) }
 {
     let mut told = Outlet::new(err);
-    let status = diff_telling(alloc, name_a, a, name_b, b, out, &mut told, limits);
+    let status = diff_telling(alloc, name_a, a, name_b, b, options, out, &mut told, limits);
     let _ = told.close();
     status
 }
@@ -46,18 +47,19 @@ pub fn diff_telling<S: Source, T: Source, W: Write, K: Sink>(
     a: &mut S,
     name_b: &str,
     b: &mut T,
+    options: Options,
     out: &mut W,
     told: &mut K,
     limits: Limits,
 ) -> u8
-    ensures { (found : Result (Contents × Contents) (WhichFile × Refused)) × (answer : Result (Contents × Contents) Refused) × (result ≡ diff_status answer)
+    ensures { (found : Result (Contents × Contents) (WhichFile × Refused)) × (answer : Result (Contents × Contents) Refused) × (result ≡ diff_status options answer)
         × ReadsBoth T.script limits (S.script a.old) (S.script a.new) b.old b.new found
-        × Delivers W.contents diff_text out.old (found_in found) answer out.new
+        × Delivers W.contents (diff_text options) out.old (found_in found) answer out.new
         × Ends K.given K.failures (blamed name_a.now name_b.now found) told.old answer told.new }
 {
     match read_both(alloc, a, b, limits) {
         Ok((before, after)) => {
-            let written = write_difference(&before, &after, out);
+            let written = write_difference(&before, &after, options, out);
             conclude(name_a, written, status_of_length(written), told)
         }
         Err((Which::First, refusal)) => refuse(name_a, refusal, told),

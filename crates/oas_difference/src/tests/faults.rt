@@ -1,5 +1,6 @@
 //! Writers that fail.
 
+use super::ALL;
 use super::layouts::layout;
 use crate::write_difference;
 use oas_layout::Layout;
@@ -59,7 +60,7 @@ fn is_cut_off(before: &Layout, after: &Layout, writer: &mut Narrow, place: usize
     if before.profile() != after.profile() {
         return false;
     }
-    match write_difference(before, after, writer) {
+    match write_difference(before, after, ALL, writer) {
         Err(refusal) => {
             refusal.at == place as u64
                 && refusal.why == Why::Write

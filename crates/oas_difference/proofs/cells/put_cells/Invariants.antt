@@ -4,12 +4,12 @@ use Rattle.std.specs.Cmp.Lexicographic.{slice_cmp}
 use Rattle.std.specs.List.Sorted.{IsStrictlySortedBy}
 use Rattle.std.specs.Map.{keys_of}
 use Rattle.oas_num.proofs.PuttingLemmas.{PutSoFar}
-use Rattle.oas_difference.specs.Held.{held_cells}
+use Rattle.oas_difference.specs.Held.{held_lines}
 use Rattle.oas_difference.proofs.cells.put_cells.Given as goal
 
 abbrev pub invariant-loop-name : goal.invariant-loop-name
 invariant-loop-name g l = record {
-  put : PutSoFar g.K.Sink.given g.K.Sink.failures (held_cells l.fn.before l.fn.after) (held_cells l.before l.after) l.fn.sink l.sink;
+  put : PutSoFar g.K.Sink.given g.K.Sink.failures (held_lines l.fn.detail l.fn.before l.fn.after) (held_lines l.fn.detail l.before l.after) l.fn.sink l.sink;
   before : IsStrictlySortedBy (slice_cmp nat_cmp) (keys_of l.before);
   after : IsStrictlySortedBy (slice_cmp nat_cmp) (keys_of l.after);
 }

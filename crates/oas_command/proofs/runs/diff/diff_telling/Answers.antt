@@ -2,7 +2,7 @@ use Rattle.std.specs.Prelude.{IfOk, IfErr}
 use Rattle.std.proofs.Common.{◌≡◌, List, ℕ, Ok, ap, subst}
 use Rattle.oas_num.specs.Written.{IsWritten, IsCutOff}
 use Rattle.oas_layout.specs.Contents.{Contents, meaning_of}
-use Rattle.oas_difference.specs.Difference.{difference}
+use Rattle.oas_difference.specs.Options.{difference_by}
 use Rattle.oas_command.specs.Diff.{diff_text}
 use Rattle.oas_command.proofs.DiffLemmas.{differs}
 use Rattle.oas_command.proofs.RunLemmas.{answer_after, delivers, tells}
@@ -14,7 +14,8 @@ returns-in-Ok g c =
     let a = c.in-Ok.before in
     let b = c.in-Ok.after in
     let found : Contents × Contents = (a, b) in
-    let text : difference a.profile (meaning_of a) (meaning_of b) ≡ diff_text found = ap (λ p. difference p (meaning_of a) (meaning_of b)) both.0.by in
+    let options = c.args.options in
+    let text : difference_by options a.profile (meaning_of a) (meaning_of b) ≡ diff_text options found = ap (λ p. difference_by options p (meaning_of a) (meaning_of b)) both.0.by in
     let written = c.write_difference-written.result in
     let out = c.args.out.now in
     let after = c.write_difference-written.new.writer in
@@ -22,8 +23,8 @@ returns-in-Ok g c =
     let cut = subst (λ (t : List ℕ). IfErr written (IsCutOff g.W.Write.contents out t after)) text c.write_difference-written.ensures.refused in (
       Ok found,
       answer_after {T = Contents × Contents} found written,
-      differs g.W.Write.contents out after found written _ _ whole c.status_of_length.ensures c.conclude.ensures.answers,
+      differs options g.W.Write.contents out after found written _ _ whole c.status_of_length.ensures c.conclude.ensures.answers,
       both,
-      delivers {T = Contents × Contents} found g.W.Write.contents diff_text written out after whole cut,
+      delivers {T = Contents × Contents} found g.W.Write.contents (diff_text options) written out after whole cut,
       tells {T = Contents × Contents} found g.K.Sink.given g.K.Sink.failures c.args.name_a.now c.args.told.now written c.conclude.new.told c.conclude.ensures.ends,
     )

@@ -1,0 +1,100 @@
+//! How many elements of a cell only one of two layouts has.
+
+ghost use Rattle.std.specs.Prelude.{◌≡◌, ◌++◌, decimal, IfSome};
+ghost use Rattle.std.specs.List.Sorted.{IsStrictlySortedBy};
+ghost use Rattle.std.specs.Map.{keys_of};
+ghost use Rattle.oas_num.specs.Writing.{Writes};
+ghost use Rattle.oas_layout.specs.Bag.{IsTally};
+ghost use Rattle.oas_layout.specs.Element.{element_cmp};
+ghost use Rattle.oas_difference.specs.Brief.{only_first, only_second, brief_line, brief_sign};
+ghost use Rattle.oas_difference.specs.Held.{counted_to, held_brief, held_changed};
+
+use crate::changes::next_change;
+use crate::elements::Side;
+use itoa::Buffer;
+use oas_layout::Elements;
+use oas_num::{Name, Sink, SinkFault};
+
+/// How many elements of a cell only the layout before has, and how many only the one after has.
+#[derive(Clone, Copy)]
+struct Excess {
+    before: u64,
+    after: u64,
+}
+
+/// Counts the elements that only one side has.
+fn count_changes<'a>(mut before: Side<'a>, mut after: Side<'a>) -> Excess
+    requires before { IsStrictlySortedBy element_cmp (keys_of before) }
+    requires after { IsStrictlySortedBy element_cmp (keys_of after) }
+    ensures before { result.before ≡ counted_to (only_first (held_changed before.entry after.entry)) }
+    ensures after { result.after ≡ counted_to (only_second (held_changed before.entry after.entry)) }
+{
+    let mut excess = Excess {
+        before: 0,
+        after: 0,
+    };
+    while let Some(change) = next_change(&mut before, &mut after) {
+        let gone = change.before.saturating_sub(change.after);
+        let come = change.after.saturating_sub(change.before);
+        excess.before = excess.before.saturating_add(gone);
+        excess.after = excess.after.saturating_add(come);
+    }
+    excess
+}
+
+/// The sign of a cell's line, if it has one.
+fn sign_of(is_before: bool, is_after: bool, excess: Excess) -> Option<u8>
+    ensures { result ≡ brief_sign is_before is_after excess.before excess.after }
+{
+    match (is_before, is_after) {
+        (true, true) => {
+            if excess.before == 0 && excess.after == 0 {
+                None
+            } else {
+                Some(b'@')
+            }
+        }
+        (true, false) => Some(b'-'),
+        (false, true) => Some(b'+'),
+        (false, false) => None,
+    }
+}
+
+/// Puts a sign between spaces, and a number.
+fn put_number<K: Sink>(sink: &mut K, sign: &[u8], number: u64) -> Result<(), SinkFault>
+    ensures { Writes K.given K.failures sink.old (sign.now ++ decimal number) result sink.new }
+{
+    sink.put_all(sign)?;
+    sink.put_all(Buffer::new().format(number).as_bytes())
+}
+
+/// Puts the line of a cell.
+fn put_brief<K: Sink>(sink: &mut K, sign: u8, name: &Name, excess: Excess) -> Result<(), SinkFault>
+    ensures { Writes K.given K.failures sink.old (brief_line sign name.now excess.before excess.after) result sink.new }
+{
+    sink.put(sign)?;
+    sink.put_all(b" cell ")?;
+    sink.put_all(name.as_bytes())?;
+    put_number(sink, b" - ", excess.before)?;
+    put_number(sink, b" + ", excess.after)?;
+    sink.put(b'\n')
+}
+
+/// Puts the line of a cell, of which the elements are given where it is there, if it has one.
+pub(crate) fn put_brief_cell<'a, K: Sink>(
+    sink: &mut K,
+    name: &Name,
+    before: Option<Elements<'a>>,
+    after: Option<Elements<'a>>,
+) -> Result<(), SinkFault>
+    requires before { IfSome before IsTally }
+    requires after { IfSome after IsTally }
+    ensures { Writes K.given K.failures sink.old (held_brief (name.now, (before.entry, after.entry))) result sink.new }
+{
+    let (is_before, is_after) = (before.is_some(), after.is_some());
+    let excess = count_changes(Side::new(before), Side::new(after));
+    match sign_of(is_before, is_after, excess) {
+        Some(sign) => put_brief(sink, sign, name, excess),
+        None => Ok(()),
+    }
+}

@@ -1,0 +1,85 @@
+//! A sink that hands the first lines on.
+
+ghost use Rattle.std.specs.Prelude.{◌≡◌, false, Some};
+ghost use Rattle.oas_num.specs.Writing.{Writes};
+ghost use Rattle.oas_num.specs.Outlets.{IsGiven, failures_of};
+ghost use Rattle.oas_difference.specs.Limited.{more_line};
+
+use oas_num::{Outlet, Sink, SinkFault};
+use std::io::Write;
+
+/// Hands the first lines that it is given on to a sink, and drops what stands after them.
+#[derive(Drop)]
+pub(crate) struct Limited<'a, W> {
+    pub(crate) sink: Outlet<'a, W>,
+    left: u64,
+    is_cut: bool,
+    failed: bool,
+}
+
+impl<'a, W: Write> Limited<'a, W> {
+    /// One that is to hand on so many lines.
+    pub(crate) fn new(sink: Outlet<'a, W>, lines: u64) -> Limited<'a, W>
+        ensures { result ≡ record { sink = sink.entry; left = lines; is_cut = false; failed = false } }
+    {
+        Limited {
+            sink,
+            left: lines,
+            is_cut: false,
+            failed: false,
+        }
+    }
+
+    /// Whether the sink below has failed.
+    pub(crate) fn has_failed(&self) -> bool
+        ensures { result ≡ self.now.failed }
+    {
+        self.failed
+    }
+
+    /// Puts a last line into the sink below where something was dropped.
+    pub(crate) fn put_more(&mut self) -> Result<(), SinkFault>
+        ensures { Writes (IsGiven W.contents) failures_of self.old.sink (more_line self.old.is_cut) result self.new.sink }
+    {
+        if self.is_cut {
+            self.sink.put_all(b"...\n")
+        } else {
+            Ok(())
+        }
+    }
+}
+
+impl<W: Write> Sink for Limited<'_, W> {
+    ghost use Rattle.oas_num.specs.Outlets.{IsGiven, failures_of};
+    ghost use Rattle.oas_difference.specs.Limiting.{Passes};
+    ghost use Rattle.oas_difference.specs.Laws.LimitingLaws.{Passes-none};
+    ghost use Rattle.std.specs.Prelude.{if◌then◌else◌};
+
+    ghost given = { Passes (IsGiven W.contents) failures_of };
+
+    ghost failures = { λ s. if s.failed then 1 else 0 };
+
+    ghost none_given = { Passes-none (IsGiven W.contents) failures_of };
+
+    fn put(&mut self, byte: u8) -> Result<(), SinkFault> {
+        if self.failed {
+            return Err(SinkFault::Device);
+        }
+        if self.left == 0 {
+            self.is_cut = true;
+            return Ok(());
+        }
+        match self.sink.put(byte) {
+            Ok(()) => {
+                if byte == b'\n' {
+                    self.left -= 1;
+                }
+                Ok(())
+            }
+            Err(fault) => {
+                self.failed = true;
+                Err(fault)
+            }
+        }
+    }
+}

@@ -1,0 +1,18 @@
+//! What is written of a difference.
+
+/// What is said of each cell that differs.
+#[derive(Clone, Copy, Debug, PartialEq, Eq)]
+pub enum Detail {
+    /// Each element that is not as often in both layouts, a line each.
+    Elements,
+    /// How many elements only one of the layouts has: one line `SIGN cell NAME - N + M`.
+    Counts,
+}
+
+/// What is written of a difference, and how many lines of it.
+#[derive(Clone, Copy, Debug, PartialEq, Eq)]
+pub struct Options {
+    pub detail: Detail,
+    /// So many lines at most, and where there are more a last line `...`; without it all of them.
+    pub limit: Option<u64>,
+}
