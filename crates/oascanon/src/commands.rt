@@ -3,11 +3,13 @@
 ghost use Rattle.std.specs.Prelude.{◌≡◌, ◌^◌, true, false};
 ghost use Rattle.oas_layout.specs.Limits.{AreLimits};
 
+use crate::differing::options_of;
 use crate::opening::file_meant;
 use crate::usage::oascanon;
 use clap::error::ErrorKind;
 use clap::{ArgMatches, Error};
 use oas_canon::Limits;
+use oas_command::Options;
 use std::alloc::{AllocError, Global};
 use std::convert::AsStr;
 
@@ -20,6 +22,10 @@ pub struct Request<'a> {
     pub task: Task<'a>,
     /// Whether the large limits hold.
     pub is_large: bool,
+    /// Whether refusals are explained.
+    pub explains: bool,
+    /// Whether long work shows how far it is.
+    pub shows_progress: bool,
 }
 
 /// A command, and its files by name. Without a name an input is standard input, and an output standard output.
@@ -40,6 +46,7 @@ pub enum Task<'a> {
     Diff {
         first: Option<&'a str>,
         second: Option<&'a str>,
+        options: Options,
     },
     Show {
         input: Option<&'a str>,
@@ -50,6 +57,9 @@ pub enum Task<'a> {
     Rekey {
         old: Option<&'a str>,
         new: Option<&'a str>,
+    },
+    Explain {
+        number: Option<&'a str>,
     },
 }
 
@@ -124,11 +134,15 @@ pub fn request_of<'a>(
     let Some((name, found)) = matches.subcommand() else {
         return Ok(None);
     };
-    let is_large = found.get_flag("large");
     let Some(task) = task_of(alloc, name, found)? else {
         return Ok(None);
     };
-    Ok(Some(Request { task, is_large }))
+    Ok(Some(Request {
+        task,
+        is_large: found.get_flag("large"),
+        explains: found.get_flag("explain"),
+        shows_progress: found.get_flag("progress"),
+    }))
 }
 
 /// The task of the command of this name.
@@ -156,6 +170,9 @@ fn task_of<'a>(
             old: file_of(found, "OLD"),
             new: file_of(found, "NEW"),
         })),
+        "explain" => Ok(Some(Task::Explain {
+            number: found.get_str("N"),
+        })),
         _ => Ok(None),
     }
 }
@@ -174,7 +191,11 @@ fn same_of<'a>(found: &ArgMatches<'a>) -> Option<Task<'a>> {
 /// The task of `diff`, unless both files are standard input.
 fn diff_of<'a>(found: &ArgMatches<'a>) -> Option<Task<'a>> {
     let (first, second) = two_of(found)?;
-    Some(Task::Diff { first, second })
+    Some(Task::Diff {
+        first,
+        second,
+        options: options_of(found),
+    })
 }
 
 /// The files A and B, unless both are standard input.

@@ -3,7 +3,8 @@
 //! The words of the command line are read by [`commands`], as [`usage`] has them. [`opening`] opens an input by its name,
 //! and [`creating`] has an output that is created at its first byte. [`many`] asks a question of many files, whose names may
 //! stand in a list ([`listing`]), and [`printing`] has each name in one line. The work is done by the runs of `oas_command`;
-//! `main` opens the streams of the process and calls them.
+//! `main` opens the streams of the process and calls them. [`session`] has what each of them is given beside its files: a run
+//! says its line into memory, and `oas_explain` tells it on standard error, with its reason explained where that is asked for.
 //!
 //! - [`opening::Input`] opens a file by its name, or standard input without one (`is_named`, specs/Opening.antt).
 //!   [`opening::file_meant`] takes the word `-` for no file's name.
@@ -16,24 +17,22 @@
 
 mod commands;
 mod creating;
+mod differing;
 mod listing;
 mod many;
 mod opening;
 mod printing;
 mod replacing;
+mod session;
 #[cfg(test)]
 mod tests;
 mod usage;
 
 use commands::{Request, Task, limits_of};
-use creating::Output;
 use many::{ask, printed};
-use oas_canon::{Limits, ReaderSource, Refusal, Why};
-use oas_command::{
-    name_of, run_canon, run_diff, run_keys, run_refused, run_rekey, run_same, run_show,
-    run_unopened,
-};
-use opening::Input;
+use oas_command::{Options, name_of, run_canon, run_diff, run_keys, run_rekey, run_same, run_show};
+use oas_explain::{REASONS, run_explain};
+use session::Session;
 use std::process::ExitCode;
 
 fn main(rt: HostRuntime) -> ExitCode {
@@ -49,15 +48,28 @@ fn main(rt: HostRuntime) -> ExitCode {
 
 /// Does what is asked for, and answers the status.
 fn answer(rt: &HostRuntime, request: Request<'_>) -> u8 {
-    let limits = limits_of(request.is_large);
+    let session = Session {
+        rt,
+        limits: limits_of(request.is_large),
+        explains: request.explains,
+        shows_progress: request.shows_progress,
+    };
     let ended = match request.task {
-        Task::Canon { input, output } => canon(rt, input, output, limits),
-        Task::Ask { question, inputs } => Ok(ask(rt, question, inputs, limits)),
-        Task::Same { first, second } => same(rt, first, second, limits),
-        Task::Diff { first, second } => diff(rt, first, second, limits),
-        Task::Show { input } => show(rt, input, limits),
-        Task::Keys { input } => keys(rt, input, limits),
-        Task::Rekey { old, new } => rekey(rt, old, new, limits),
+        Task::Canon { input, output } => canon(&session, input, output),
+        Task::Ask { question, inputs } => Ok(ask(&session, question, inputs)),
+        Task::Same { first, second } => same(&session, first, second),
+        Task::Diff {
+            first,
+            second,
+            options,
+        } => diff(&session, first, second, options),
+        Task::Show { input } => show(&session, input),
+        Task::Keys { input } => keys(&session, input),
+        Task::Rekey { old, new } => rekey(&session, old, new),
+        Task::Explain { number } => {
+            let (mut out, mut err) = (rt.stdout(), rt.stderr());
+            Ok(run_explain(&REASONS, number, &mut out, &mut err))
+        }
     };
     match ended {
         Ok(status) => status,
@@ -65,139 +77,126 @@ fn answer(rt: &HostRuntime, request: Request<'_>) -> u8 {
     }
 }
 
-/// The source of an input, or the status where there is none, after its line on standard error under this name.
-fn source_of(
-    rt: &HostRuntime,
-    input: Option<&str>,
-    name: &str,
-    limits: Limits,
-) -> Result<ReaderSource<Input>, u8> {
-    match Input::open(rt, input) {
-        Ok(opened) => reader_of(rt, name, opened, limits),
-        Err(_) => Err(run_unopened(name, &mut rt.stderr())),
-    }
-}
-
-/// The source of an input that was opened, or the status where there is no memory for it.
-fn reader_of(
-    rt: &HostRuntime,
-    name: &str,
-    opened: Input,
-    limits: Limits,
-) -> Result<ReaderSource<Input>, u8> {
-    ReaderSource::new(rt.alloc(), opened, limits.input()).map_err(|_| {
-        let why = Why::Memory;
-        run_refused(name, Refusal { at: 0, why }, &mut rt.stderr())
-    })
-}
-
 /// `canon [IN [OUT]]`
-fn canon(
-    rt: &HostRuntime,
+fn canon<'a>(
+    session: &Session<'a>,
     input: Option<&str>,
-    output: Option<&str>,
-    limits: Limits,
+    output: Option<&'a str>,
 ) -> Result<u8, u8> {
-    let name = printed(rt, name_of(input))?;
-    let mut from = source_of(rt, input, name.as_str(), limits)?;
-    let (mut out, mut err) = (Output::new(rt, output), rt.stderr());
-    Ok(run_canon(
-        rt.alloc(),
-        name.as_str(),
-        &mut from,
-        &mut out,
-        &mut err,
-        limits,
-    ))
+    let (alloc, name) = (session.rt.alloc(), printed(session, name_of(input))?);
+    let name = name.as_str();
+    let mut from = session.source(input, name)?;
+    let (mut out, mut said) = (
+        session.output(output),
+        session.voice().room(alloc, name, name.len())?,
+    );
+    let status = run_canon(alloc, name, &mut from, &mut out, &mut said, session.limits);
+    session.tell(&said, output, out.fault());
+    Ok(status)
 }
 
 /// `same A B`: both are opened before one is read.
-fn same(
-    rt: &HostRuntime,
-    first: Option<&str>,
-    second: Option<&str>,
-    limits: Limits,
-) -> Result<u8, u8> {
-    let (name_a, name_b) = (printed(rt, name_of(first))?, printed(rt, name_of(second))?);
-    let mut a = source_of(rt, first, name_a.as_str(), limits)?;
-    let mut b = source_of(rt, second, name_b.as_str(), limits)?;
-    let (mut out, mut err) = (rt.stdout(), rt.stderr());
-    Ok(run_same(
-        rt.alloc(),
-        name_a.as_str(),
+fn same(session: &Session<'_>, first: Option<&str>, second: Option<&str>) -> Result<u8, u8> {
+    let alloc = session.rt.alloc();
+    let (name_a, name_b) = (
+        printed(session, name_of(first))?,
+        printed(session, name_of(second))?,
+    );
+    let (name_a, name_b) = (name_a.as_str(), name_b.as_str());
+    let mut a = session.source(first, name_a)?;
+    let mut b = session.source(second, name_b)?;
+    let bytes = name_a.len().max(name_b.len());
+    let (mut out, mut said) = (
+        session.output(None),
+        session.voice().room(alloc, name_a, bytes)?,
+    );
+    let status = run_same(
+        alloc,
+        name_a,
         &mut a,
-        name_b.as_str(),
+        name_b,
         &mut b,
         &mut out,
-        &mut err,
-        limits,
-    ))
+        &mut said,
+        session.limits,
+    );
+    session.tell(&said, None, out.fault());
+    Ok(status)
 }
 
 /// `diff A B`: both are opened before one is read.
 fn diff(
-    rt: &HostRuntime,
+    session: &Session<'_>,
     first: Option<&str>,
     second: Option<&str>,
-    limits: Limits,
+    options: Options,
 ) -> Result<u8, u8> {
-    let (name_a, name_b) = (printed(rt, name_of(first))?, printed(rt, name_of(second))?);
-    let mut a = source_of(rt, first, name_a.as_str(), limits)?;
-    let mut b = source_of(rt, second, name_b.as_str(), limits)?;
-    let (mut out, mut err) = (rt.stdout(), rt.stderr());
-    Ok(run_diff(
-        rt.alloc(),
-        name_a.as_str(),
+    let alloc = session.rt.alloc();
+    let (name_a, name_b) = (
+        printed(session, name_of(first))?,
+        printed(session, name_of(second))?,
+    );
+    let (name_a, name_b) = (name_a.as_str(), name_b.as_str());
+    let mut a = session.source(first, name_a)?;
+    let mut b = session.source(second, name_b)?;
+    let bytes = name_a.len().max(name_b.len());
+    let (mut out, mut said) = (
+        session.output(None),
+        session.voice().room(alloc, name_a, bytes)?,
+    );
+    let status = run_diff(
+        alloc,
+        name_a,
         &mut a,
-        name_b.as_str(),
+        name_b,
         &mut b,
+        options,
         &mut out,
-        &mut err,
-        limits,
-    ))
+        &mut said,
+        session.limits,
+    );
+    session.tell(&said, None, out.fault());
+    Ok(status)
 }
 
 /// `show [IN]`
-fn show(rt: &HostRuntime, input: Option<&str>, limits: Limits) -> Result<u8, u8> {
-    let name = printed(rt, name_of(input))?;
-    let mut from = source_of(rt, input, name.as_str(), limits)?;
-    let (mut out, mut err) = (rt.stdout(), rt.stderr());
-    Ok(run_show(
-        rt.alloc(),
-        name.as_str(),
-        &mut from,
-        &mut out,
-        &mut err,
-        limits,
-    ))
+fn show(session: &Session<'_>, input: Option<&str>) -> Result<u8, u8> {
+    let (alloc, name) = (session.rt.alloc(), printed(session, name_of(input))?);
+    let name = name.as_str();
+    let mut from = session.source(input, name)?;
+    let (mut out, mut said) = (
+        session.output(None),
+        session.voice().room(alloc, name, name.len())?,
+    );
+    let status = run_show(alloc, name, &mut from, &mut out, &mut said, session.limits);
+    session.tell(&said, None, out.fault());
+    Ok(status)
 }
 
 /// `keys [IN]`
-fn keys(rt: &HostRuntime, input: Option<&str>, limits: Limits) -> Result<u8, u8> {
-    let name = printed(rt, name_of(input))?;
-    let mut from = source_of(rt, input, name.as_str(), limits)?;
-    let (mut out, mut err) = (rt.stdout(), rt.stderr());
-    Ok(run_keys(
-        rt.alloc(),
-        name.as_str(),
-        &mut from,
-        &mut out,
-        &mut err,
-        limits,
-    ))
+fn keys(session: &Session<'_>, input: Option<&str>) -> Result<u8, u8> {
+    let (alloc, name) = (session.rt.alloc(), printed(session, name_of(input))?);
+    let name = name.as_str();
+    let mut from = session.source(input, name)?;
+    let (mut out, mut said) = (
+        session.output(None),
+        session.voice().room(alloc, name, name.len())?,
+    );
+    let status = run_keys(alloc, name, &mut from, &mut out, &mut said, session.limits);
+    session.tell(&said, None, out.fault());
+    Ok(status)
 }
 
 /// `rekey OLD NEW`
-fn rekey(rt: &HostRuntime, old: Option<&str>, new: Option<&str>, limits: Limits) -> Result<u8, u8> {
-    let name = printed(rt, name_of(old))?;
-    let mut from = source_of(rt, old, name.as_str(), limits)?;
-    let (mut out, mut err) = (Output::new(rt, new), rt.stderr());
-    Ok(run_rekey(
-        rt.alloc(),
-        name.as_str(),
-        &mut from,
-        &mut out,
-        &mut err,
-        limits,
-    ))
+fn rekey<'a>(session: &Session<'a>, old: Option<&str>, new: Option<&'a str>) -> Result<u8, u8> {
+    let (alloc, name) = (session.rt.alloc(), printed(session, name_of(old))?);
+    let name = name.as_str();
+    let mut from = session.source(old, name)?;
+    let (mut out, mut said) = (
+        session.output(new),
+        session.voice().room(alloc, name, name.len())?,
+    );
+    let status = run_rekey(alloc, name, &mut from, &mut out, &mut said, session.limits);
+    session.tell(&said, new, out.fault());
+    Ok(status)
 }

@@ -32,6 +32,21 @@ impl Input {
             None => Ok(Input::Standard(rt.stdin())),
         }
     }
+
+    /// How many bytes it has, where that is known: of a regular file.
+    pub fn size(&self) -> Option<u64> {
+        match self {
+            Input::Standard(_) => None,
+            Input::Named(file) => {
+                let found = file.metadata().ok()?;
+                if found.is_file() {
+                    Some(found.len())
+                } else {
+                    None
+                }
+            }
+        }
+    }
 }
 
 impl Read for Input {

@@ -1,5 +1,6 @@
 //! The command line: its commands, their arguments and the help on them, by `clap`.
 
+use crate::differing::diff;
 use clap::{Arg, ArgAction, Command, Error};
 use std::alloc::Global;
 
@@ -32,15 +33,6 @@ Status:
 
 const AFTER_SAME: &str = "Example:
   oascanon same before.oas after.oas
-
-Status:
-  0  the same layout
-  1  refused (NAME: refused REASON at OFFSET), or a file can't be opened
-  2  the command line isn't understood
-  3  different layouts";
-
-const AFTER_DIFF: &str = "Example:
-  oascanon diff before.oas after.oas
 
 Status:
   0  the same layout
@@ -84,12 +76,20 @@ Status:
   2  the command line isn't understood
   3  not canonical by profile 1 (NAME: not profile 1 canonical)";
 
+const AFTER_EXPLAIN: &str = "Example:
+  oascanon explain 23
+
+Status:
+  0  done
+  1  standard output failed
+  2  the command line isn't understood, or no reason has the number";
+
 /// What a command is for, in a line, and what stands below its help.
 #[derive(Clone, Copy)]
-struct About<'a> {
-    name: &'a str,
-    about: &'a str,
-    after: &'a str,
+pub struct About<'a> {
+    pub name: &'a str,
+    pub about: &'a str,
+    pub after: &'a str,
 }
 
 /// The program's command line.
@@ -107,7 +107,8 @@ pub fn oascanon<'a>(alloc: Global) -> Result<Command<'a>, Error> {
             .subcommand(show(alloc)?)?
             .subcommand(key(alloc)?)?
             .subcommand(keys(alloc)?)?
-            .subcommand(rekey(alloc)?)?,
+            .subcommand(rekey(alloc)?)?
+            .subcommand(explain(alloc)?)?,
     )
 }
 
@@ -140,16 +141,6 @@ fn same<'a>(alloc: Global) -> Result<Command<'a>, Error> {
         name: "same",
         about: "Says whether two files mean the same layout",
         after: AFTER_SAME,
-    };
-    pair(alloc, about)
-}
-
-/// `diff A B`
-fn diff<'a>(alloc: Global) -> Result<Command<'a>, Error> {
-    let about = About {
-        name: "diff",
-        about: "Lists what one of two files has more often than the other",
-        after: AFTER_DIFF,
     };
     pair(alloc, about)
 }
@@ -200,8 +191,19 @@ fn rekey<'a>(alloc: Global) -> Result<Command<'a>, Error> {
     )
 }
 
+/// `explain [N]`
+fn explain<'a>(alloc: Global) -> Result<Command<'a>, Error> {
+    let number = Arg::new(alloc, "N").help("The number of a reason, 1 to 34 [default: all]");
+    Ok(
+        Command::new(alloc, "explain")
+            .about("Says what a reason for a refusal means, and what to do")
+            .after_help(AFTER_EXPLAIN)
+            .arg(number)?,
+    )
+}
+
 /// A command with `A B`.
-fn pair<'a>(alloc: Global, about: About<'a>) -> Result<Command<'a>, Error> {
+pub fn pair<'a>(alloc: Global, about: About<'a>) -> Result<Command<'a>, Error> {
     let a = Arg::new(alloc, "A").required(true);
     let b = Arg::new(alloc, "B").required(true);
     Ok(
@@ -240,16 +242,26 @@ fn asker<'a>(alloc: Global, about: About<'a>) -> Result<Command<'a>, Error> {
     )
 }
 
-/// A command with the flag `--large`, without its files.
+/// A command with the flags that each has, without its files.
 fn command_of<'a>(alloc: Global, about: About<'a>) -> Result<Command<'a>, Error> {
     let large = Arg::new(alloc, "large")
         .long("large")
         .action(ArgAction::SetTrue)
         .help("Takes up to 2^26 elements and 2^38 bytes [else 2^24, 2^36]");
+    let explains = Arg::new(alloc, "explain")
+        .long("explain")
+        .action(ArgAction::SetTrue)
+        .help("Says below a refusal what its reason means");
+    let progress = Arg::new(alloc, "progress")
+        .long("progress")
+        .action(ArgAction::SetTrue)
+        .help("Shows how many bytes were read and written");
     Ok(
         Command::new(alloc, about.name)
             .about(about.about)
             .after_help(about.after)
-            .arg(large)?,
+            .arg(large)?
+            .arg(explains)?
+            .arg(progress)?,
     )
 }

@@ -1,6 +1,7 @@
 //! Command lines: what they ask for, or with which status they end.
 
 use crate::commands::{Inputs, Question, Request, Task, parse};
+use oas_command::{Detail, Options};
 use std::alloc::Global;
 use std::process::Abort;
 use std::test::Fail;
@@ -14,7 +15,12 @@ fn expect_task(
     task: Task<'_>,
 ) -> Result<(), Fail> {
     let words: Vec<&str> = line.split_whitespace().collect(alloc)?;
-    let wanted = Request { task, is_large };
+    let wanted = Request {
+        task,
+        is_large,
+        explains: false,
+        shows_progress: false,
+    };
     match parse(alloc, words.as_slice()) {
         Ok(request) => assert_eq!(rt; request, wanted, "at {line}"),
         Err(error) => assert!(rt; false, "{line} ends with {}", error.exit_code()),
@@ -125,8 +131,6 @@ fn words_of_the_others(rt: HostRuntime) -> Result<(), Fail> {
     let keys = Task::Keys { input };
     expect_task(&rt, alloc, "oascanon keys a", false, keys)?;
     let (first, second) = (Some("a"), Some("b"));
-    let diff = Task::Diff { first, second };
-    expect_task(&rt, alloc, "oascanon diff a b", false, diff)?;
     let same = Task::Same { first, second };
     expect_task(&rt, alloc, "oascanon same a b", false, same)?;
     let (first, second) = (None, Some("b"));
@@ -138,6 +142,63 @@ fn words_of_the_others(rt: HostRuntime) -> Result<(), Fail> {
     let (old, new) = (None, None);
     let rekey = Task::Rekey { old, new };
     expect_task(&rt, alloc, "oascanon rekey --large - -", true, rekey)
+}
+
+/// `diff a b`, by these options.
+fn diff<'a>(detail: Detail, limit: Option<u64>) -> Task<'a> {
+    let options = Options { detail, limit };
+    Task::Diff {
+        first: Some("a"),
+        second: Some("b"),
+        options,
+    }
+}
+
+#[test]
+fn words_of_diff(rt: HostRuntime) -> Result<(), Fail> {
+    let alloc = rt.alloc();
+    let plain = diff(Detail::Elements, None);
+    expect_task(&rt, alloc, "oascanon diff a b", false, plain)?;
+    let brief = diff(Detail::Counts, None);
+    expect_task(&rt, alloc, "oascanon diff --brief a b", false, brief)?;
+    let first = diff(Detail::Elements, Some(7));
+    expect_task(&rt, alloc, "oascanon diff a b --limit 7", false, first)?;
+    let both = diff(Detail::Counts, Some(0));
+    let line = "oascanon diff --large --limit=0 --brief a b";
+    expect_task(&rt, alloc, line, true, both)
+}
+
+#[test]
+fn words_of_explain(rt: HostRuntime) -> Result<(), Fail> {
+    let alloc = rt.alloc();
+    let all = Task::Explain { number: None };
+    expect_task(&rt, alloc, "oascanon explain", false, all)?;
+    let number = Some("23");
+    let one = Task::Explain { number };
+    expect_task(&rt, alloc, "oascanon explain 23", false, one)?;
+    expect_end(&rt, alloc, "oascanon explain 1 2", 2)?;
+    expect_end(&rt, alloc, "oascanon explain --large", 2)
+}
+
+#[test]
+fn flags_of_each_command(rt: HostRuntime) -> Result<(), Fail> {
+    let alloc = rt.alloc();
+    for (line, explains, shows_progress) in [
+        ("oascanon show a", false, false),
+        ("oascanon show a --explain", true, false),
+        ("oascanon show --progress a", false, true),
+        ("oascanon show --progress --explain a", true, true),
+    ] {
+        let words: Vec<&str> = line.split_whitespace().collect(alloc)?;
+        match parse(alloc, words.as_slice()) {
+            Ok(request) => assert!(rt;
+                request.explains == explains && request.shows_progress == shows_progress,
+                "at {line}"
+            ),
+            Err(error) => assert!(rt; false, "{line} ends with {}", error.exit_code()),
+        }
+    }
+    Ok(())
 }
 
 #[test]
@@ -153,6 +214,10 @@ fn words_that_are_refused(rt: HostRuntime) -> Result<(), Fail> {
         "oascanon same a",
         "oascanon same a b c",
         "oascanon same - -",
+        "oascanon diff a b --limit",
+        "oascanon diff a b --limit x",
+        "oascanon diff a b --limit=-1",
+        "oascanon same --brief a b",
         "oascanon rekey",
         "oascanon rekey a",
         "oascanon rekey a b c",

@@ -1,0 +1,3 @@
+pub mod Texts
+pub mod Hearing
+pub mod Telling
