@@ -5,7 +5,7 @@
 //! answers are the same.
 
 use super::{draft_of_a, element, holds, name, put};
-use crate::{Draft, Element, Limits, Profile};
+use crate::{Draft, Element, Layout, Limits, Profile};
 use oas_num::{Fraction, Name, Why};
 use scarce_memory::Hoard;
 use std::alloc::{AllocError, Global};
@@ -246,22 +246,19 @@ fn draft_of_many(alloc: Global) -> Result<Draft, Fail> {
     Ok(draft)
 }
 
-/// Seals one draft after the other, each after a refusal with a piece of memory more. Whether the last was sealed.
-fn seal_all(rt: &impl Abort, drafts: Vec<Draft>, want: &mut Want) -> bool {
-    let mut sealed = false;
+/// Whether it is the layout of such a draft.
+fn is_of_many(layout: &Layout) -> bool {
+    layout.cells() == 26 && layout.count() == 3 && layout.weight() == 55
+}
+
+/// Seals one draft after the other, each after a refusal with a piece of memory more.
+fn seal_all(rt: &impl Abort, drafts: Vec<Draft>, want: &mut Want) {
     for draft in drafts {
         match draft.seal() {
-            Ok(layout) => {
-                assert!(rt; layout.cells() == 26 && layout.count() == 3 && layout.weight() == 55);
-                sealed = true;
-            }
-            Err(AllocError) => {
-                want.give_back_anew();
-                sealed = false;
-            }
+            Ok(layout) => assert!(rt; is_of_many(&layout)),
+            Err(AllocError) => want.give_back_anew(),
         }
     }
-    sealed
 }
 
 #[test]
@@ -271,12 +268,14 @@ fn seals_without_memory(rt: HostRuntime) -> Result<(), Fail> {
     for _ in 0..200u32 {
         drafts.push(draft_of_many(alloc)?)?;
     }
+    let last = draft_of_many(alloc)?;
     let mut want = Want::new(alloc)?;
-    let sealed = seal_all(&rt, drafts, &mut want);
+    seal_all(&rt, drafts, &mut want);
     assert!(rt;
         !want.hoard.is_full() || want.refused > 0,
         "no seal was refused"
     );
-    assert!(rt; sealed, "a draft is never sealed");
+    drop(want);
+    assert!(rt; is_of_many(&last.seal()?));
     Ok(())
 }
