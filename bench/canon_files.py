@@ -1,4 +1,4 @@
-"""The files of bench/canon: each from a seed, a record at a time, so that the script stays small itself."""
+"""The files of bench/canon and bench/questions: each from a seed, a record at a time, so that the script stays small itself."""
 
 import itertools
 import random
@@ -157,9 +157,9 @@ def array(_chance):
     yield CELL + b"\x14\x7f\x01\x00\x08\x14\x00\x00" + b"\x01" + unsigned(4094) * 2 + unsigned(10) + unsigned(0)
 
 
-def make(records, target):
+def make(records, target, seed=1):
     with open(target, "wb") as file:
-        file.writelines(itertools.chain([HEAD], records(random.Random(1)), [TAIL]))
+        file.writelines(itertools.chain([HEAD], records(random.Random(seed)), [TAIL]))
 
 
 FILES = {
