@@ -1,9 +1,9 @@
 -- Reading the entry that stands first, in the words of the code.
-use Rattle.std.specs.Prelude.{◌≡◌, ℕ, ◌+◌, ◌<◌, ◌≤◌, ◌^◌, List, [], ◌∷◌, ◌++◌, length, take, drop, slice_index, suc, zero, refl}
+use Rattle.std.specs.Prelude.{◌≡◌, ℕ, ◌+◌, ◌≤◌, List, [], ◌∷◌, ◌++◌, length, take, drop, suc, zero, refl}
 use Rattle.std.proofs.Common.{sym, ◌∙◌, ap, arith, subst}
 use Rattle.std.proofs.lemmas.List.{drop-append-le}
-use Rattle.oas_store.specs.Entries.{Entry, number_size, number_at, key_start, entry_end, entry_at, entries, entry_bytes, Fits, IsBlock}
-use Rattle.oas_store.specs.Laws.EntryLaws.{Stands, stands, IsMore, block-append, number_size-some, entries-some}
+use Rattle.oas_store.specs.Entries.{Entry, number_size, number_at, key_start, entry_end, entries, entry_bytes, Fits, IsBlock}
+use Rattle.oas_store.specs.Laws.EntryLaws.{Stands, IsMore, block-append}
 
 pub record Reads (bytes key : List ℕ) (times end : ℕ) : Type 0 where
   pub within : end ≤ length bytes

@@ -7,7 +7,7 @@ use Rattle.std.specs.declared.cmp.Ordering.TheVariants.{Less, Equal, Greater}
 use Rattle.std.specs.List.Sorted.{IsStrictlySortedBy}
 use Rattle.std.specs.Map.{keys_of}
 use Rattle.std.proofs.lemmas.Map.Lookups.{CmpEqualImpliesEq}
-use Rattle.oas_store.specs.Tally.{total, copies, Positive, IsRun, SameTotals}
+use Rattle.oas_store.specs.Tally.{total, copies, Positive, IsRun}
 use Rattle.oas_store.specs.Laws.TallyLaws.{total-append, AllAbove, above_lower}
 use Rattle.std.specs.Cmp.{tied_itself}
 use Rattle.std.specs.Ordering.{is_eq, ordering_reverse}

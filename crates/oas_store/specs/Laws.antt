@@ -1,3 +1,4 @@
 -- What follows of the definitions. Nothing here has to be believed.
+pub mod CountLaws
 pub mod EntryLaws
 pub mod TallyLaws

@@ -1,5 +1,5 @@
 -- What was written is read.
-use Rattle.std.specs.Prelude.{◌≡◌, ℕ, ◌+◌, ◌-◌, ◌<◌, ◌≤◌, ◌^◌, List, [], ◌∷◌, ◌++◌, length, take, drop, cond, nat_lt, slice_index, zero, suc, Bool, true, false, refl}
+use Rattle.std.specs.Prelude.{◌≡◌, ℕ, ◌+◌, ◌-◌, ◌<◌, ◌≤◌, ◌^◌, List, [], ◌∷◌, ◌++◌, length, take, drop, cond, nat_lt, slice_index, zero, suc, true, false, refl}
 use Rattle.std.proofs.Common.{sym, ◌∙◌, ap, arith, subst, append_assoc, append-nil, length-append, length-drop}
 use Rattle.std.proofs.Math.Seq.{drop-append_seam, take-append_seam, drop-append-add}
 use Rattle.std.proofs.lemmas.Nat.{from_le_bytes-to_le_bytes_8}

@@ -1,4 +1,4 @@
-use Rattle.std.proofs.Common.{rules, ◌≡◌, ℕ, ◌<◌, length, arith}
+use Rattle.std.proofs.Common.{rules, ◌≡◌, ◌<◌, length, arith}
 use Rattle.oas_store.specs.Laws.EntryLaws.{entries-none}
 use Rattle.oas_store.proofs.EntryLemmas.{none-left}
 use Rattle.oas_store.proofs.entry.is_over.Goals as goal

@@ -1,6 +1,5 @@
-use Rattle.std.proofs.Common.{rules, ◌≡◌, ℕ, ◌+◌, ◌<◌, ◌≤◌, ◌^◌, length, take, drop, slice_index, refl, arith, ap, sym, ◌∙◌, subst}
-use Rattle.oas_store.specs.Entries.{Entry, number_size, number_at, key_start, entry_end, entry_at, entries, IsBlock}
-use Rattle.oas_store.specs.Laws.EntryLaws.{stands, Stands, number_size-some, entries-none}
+use Rattle.std.proofs.Common.{rules, ◌≡◌, ◌+◌, ◌<◌, ◌^◌, length, refl, arith}
+use Rattle.oas_store.specs.Laws.EntryLaws.{stands, entries-none}
 use Rattle.oas_store.proofs.EntryLemmas.{reads, Reads}
 use Rattle.oas_store.proofs.entry.read_entry.Goals as goal
 use Rattle.oas_store.proofs.entry.read_entry.Goals.{After-read_number-times, After-part, After-read_number-size}

@@ -1,4 +1,4 @@
-use Rattle.std.proofs.Common.{rules, ◌≡◌, ℕ, ◌+◌, ◌<◌, ◌≤◌, ◌^◌, List, [], ◌∷◌, ◌++◌, length, arith, ap, ◌∙◌, length-append}
+use Rattle.std.proofs.Common.{rules, ◌<◌, ◌≤◌, ◌^◌, List, [], ◌∷◌, ◌++◌, length, arith, ap, ◌∙◌, length-append}
 use Rattle.oas_store.specs.Entries.{Entry, entry_bytes, entries}
 use Rattle.oas_store.specs.Laws.EntryLaws.{IsMore}
 use Rattle.oas_store.proofs.EntryLemmas.{appended}

@@ -1,7 +1,6 @@
-use Rattle.std.proofs.Common.{ap, ◌∙◌, sym, List, ◌++◌, ◌∷◌, []}
+use Rattle.std.proofs.Common.{ap, ◌∙◌, ◌++◌, ◌∷◌, []}
 use Rattle.oas_store.specs.declared.growing.Growing.TheInside.{Inside}
 use Rattle.oas_store.specs.Parts.{joined}
-use Rattle.oas_store.specs.Entries.{Entry}
 use Rattle.oas_store.proofs.BlockLemmas.{in_last, in_next}
 use Rattle.oas_store.proofs.growing.Growing.append.Goals as goal
 use Rattle.oas_store.proofs.growing.Growing.append.Goals.{then-has_room+in_ok-append, else-has_room+in_ok-block+in_ok-reserve}

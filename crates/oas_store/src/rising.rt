@@ -1,0 +1,107 @@
+//! The run that rises: what is put at its end is above all that is there.
+
+ghost use Rattle.std.specs.Prelude.{◌≡◌, ℕ, ◌+◌, ◌<◌, ◌≤◌, ◌^◌, List, [], ◌∷◌, ◌++◌, OnOk, OnErr, IfOk, length};
+ghost use Rattle.std.specs.declared.cmp.Ordering.TheVariants.{Less, Equal};
+ghost use Rattle.std.specs.Cmp.Lexicographic.{slice_cmp};
+ghost use Rattle.std.specs.Ordering.{nat_cmp};
+ghost use Rattle.std.specs.Vec.{vec_capacity};
+ghost use Rattle.oas_store.specs.Parts.{IsBelow, EndsWith};
+
+use crate::growing::Growing;
+use crate::run::Run;
+use std::alloc::{AllocError, Global};
+use std::cmp::Ordering;
+use std::marker::Model;
+use std::mem;
+
+/// Entries of which the last one waits to be written, since its count may grow. A count of 0 says that none waits.
+#[derive(Drop)]
+pub(crate) struct Rising {
+    done: Growing,
+    last: Vec<u8>,
+    times: u64,
+}
+
+impl Model for Rising {
+    ghost use Rattle.std.specs.Prelude.{◌≡◌, List, [], ◌++◌};
+    ghost use Rattle.oas_store.specs.Entries.{Entry};
+    ghost use Rattle.oas_store.specs.Parts.{waiting};
+
+    ghost Value = { List Entry };
+
+    ghost view = { λ a. a.done ++ waiting a.last.items a.times };
+
+    ghost invariant = { λ a. a.times ≡ 0 → a.done ≡ [] };
+}
+
+impl Rising {
+    /// No entries.
+    pub(crate) fn new(alloc: Global) -> Rising
+        ensures { result ≡ [] }
+    {
+        Rising {
+            done: Growing::new(alloc),
+            last: Vec::new(alloc),
+            times: 0,
+        }
+    }
+
+    /// How the last key compares with a key; where there is none, it is less.
+    pub(crate) fn order_of_last(&self, key: &[u8]) -> Ordering
+        ensures below { result ≡ Less → IsBelow (slice_cmp nat_cmp) self.now key.now }
+        ensures last { result ≡ Equal → EndsWith (slice_cmp nat_cmp) self.now key.now }
+    {
+        if self.times == 0 {
+            return Ordering::Less;
+        }
+        self.last.as_slice().cmp(key)
+    }
+
+    /// Puts an entry at the end, or nothing.
+    pub(crate) fn push(&mut self, alloc: Global, key: &[u8], times: u64) -> Result<(), AllocError>
+        requires { 0 < times }
+        ensures ok { OnOk result (self.new ≡ self.old ++ (key.now, times) ∷ []) }
+        ensures err { OnErr result (self.new ≡ self.old) }
+    {
+        self.last.reserve(key.len())?;
+        if self.times > 0 {
+            self.done.append(alloc, &self.last, self.times)?;
+        }
+        replace_by(&mut self.last, key);
+        self.times = times;
+        Ok(())
+    }
+
+    /// Counts up the last key.
+    pub(crate) fn count_last(&mut self, times: u64)
+        requires some { 0 < times }
+        requires fits { (ps : List (List ℕ × ℕ)) (p : List ℕ × ℕ) → self.old ≡ ps ++ p ∷ [] → p.1 + times < 2 ^ 64 }
+        requires last { self.old ≡ [] → ⊥ }
+        ensures { (ps : List (List ℕ × ℕ)) (p : List ℕ × ℕ) → self.old ≡ ps ++ p ∷ [] → self.new ≡ ps ++ (p.0, p.1 + times) ∷ [] }
+    {
+        self.times += times;
+    }
+
+    /// All of it as a run, and begins anew; or nothing.
+    pub(crate) fn close(&mut self, alloc: Global) -> Result<Run, AllocError>
+        ensures ok { IfOk result (λ run. run ≡ self.old) }
+        ensures emptied { OnOk result (self.new ≡ []) }
+        ensures err { OnErr result (self.new ≡ self.old) }
+    {
+        if self.times > 0 {
+            self.done.append(alloc, &self.last, self.times)?;
+        }
+        self.times = 0;
+        let done = mem::replace(&mut self.done, Growing::new(alloc));
+        Ok(done.into_run())
+    }
+}
+
+/// Puts a key in place of these bytes, which have room for it.
+fn replace_by(bytes: &mut Vec<u8>, key: &[u8])
+    requires { length key.now ≤ vec_capacity bytes.old }
+    ensures { bytes.new.items ≡ key.now }
+{
+    bytes.clear();
+    if bytes.extend_from_slice(key).is_err() {}
+}

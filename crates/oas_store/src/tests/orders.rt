@@ -1,0 +1,106 @@
+//! Keys come in hostile orders, more of them than wait loose; what comes out is known by arithmetic.
+
+ghost use Rattle.std.specs.Prelude.{◌≡◌, ◌+◌, ◌<◌, ◌^◌, OnOk};
+ghost use Rattle.std.specs.Cmp.Lexicographic.{slice_cmp};
+ghost use Rattle.std.specs.Ordering.{nat_cmp};
+ghost use Rattle.oas_layout.specs.Bag.{put_more};
+ghost use Rattle.oas_store.specs.Tally.{count_at};
+
+use crate::{KeyStore, Run};
+use std::alloc::{AllocError, Global};
+use std::process::Abort;
+use std::test::Fail;
+
+/// How many numbers come.
+const COUNT: u32 = 20_000;
+
+/// An order in which numbers come.
+#[derive(Clone, Copy, Debug)]
+enum Order {
+    Ascending,
+    Descending,
+    Sawtooth,
+    OrganPipe,
+    Scattered,
+    Few,
+}
+
+impl Order {
+    /// The number that comes after so many others.
+    fn number(self, before: u32) -> u32 {
+        match self {
+            Order::Ascending => before,
+            Order::Descending => (COUNT - 1).saturating_sub(before),
+            Order::Sawtooth => before % 5000,
+            Order::OrganPipe => before.min((COUNT - 1).saturating_sub(before)),
+            Order::Scattered => before.wrapping_mul(7919) % COUNT,
+            Order::Few => before.wrapping_mul(7) % 10,
+        }
+    }
+}
+
+/// Adds a key once, at the second try if the first is refused.
+fn insist(store: &mut KeyStore, key: &[u8]) -> Result<(), AllocError>
+    requires { count_at (slice_cmp nat_cmp) store.old key.now + 1 < 2 ^ 64 }
+    ensures { OnOk result (store.new ≡ put_more (slice_cmp nat_cmp) store.old key.now 1) }
+{
+    match store.add(key, 1) {
+        Ok(()) => Ok(()),
+        Err(AllocError) => store.add(key, 1),
+    }
+}
+
+/// A store of the numbers in an order, four bytes each.
+fn filled(alloc: Global, order: Order) -> Result<KeyStore, AllocError> {
+    let mut store = KeyStore::new(alloc);
+    for k in 0..COUNT {
+        let key = order.number(k).to_be_bytes();
+        insist(&mut store, &key)?;
+    }
+    Ok(store)
+}
+
+/// What a store holds, at the second try if the first is refused.
+fn closed(store: KeyStore) -> Result<Run, AllocError> {
+    match store.close() {
+        Ok(run) => Ok(run),
+        Err(store) => match store.close() {
+            Ok(run) => Ok(run),
+            Err(_store) => Err(AllocError),
+        },
+    }
+}
+
+/// Asserts that the numbers below `distinct` come out, each so many times.
+fn assert_numbers(
+    rt: &impl Abort,
+    alloc: Global,
+    order: Order,
+    distinct: u32,
+    times: u64,
+) -> Result<(), AllocError> {
+    let run = closed(filled(alloc, order)?)?;
+    let mut next: u32 = 0;
+    for (key, count) in run.entries() {
+        let wanted = next.to_be_bytes();
+        assert!(rt;
+            key == wanted.as_slice() && count == times,
+            "{order:?} at {next}"
+        );
+        next = next.saturating_add(1);
+    }
+    assert!(rt; next == distinct, "{order:?}");
+    Ok(())
+}
+
+#[test]
+fn keys_come_in_any_order(rt: HostRuntime) -> Result<(), Fail> {
+    let alloc = rt.alloc();
+    assert_numbers(&rt, alloc, Order::Ascending, 20_000, 1)?;
+    assert_numbers(&rt, alloc, Order::Descending, 20_000, 1)?;
+    assert_numbers(&rt, alloc, Order::Sawtooth, 5000, 4)?;
+    assert_numbers(&rt, alloc, Order::OrganPipe, 10_000, 2)?;
+    assert_numbers(&rt, alloc, Order::Scattered, 20_000, 1)?;
+    assert_numbers(&rt, alloc, Order::Few, 10, 2000)?;
+    Ok(())
+}
