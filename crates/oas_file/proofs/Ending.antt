@@ -27,7 +27,7 @@ use Rattle.oas_file.specs.Acceptance.{Allowed}
 use Rattle.oas_file.specs.Deciding.{TheTail, TheWhole, EndingMay, IsReasoned}
 use Rattle.oas_file.specs.Gathering.{HasBegun, HasAll, MissesEnd}
 use Rattle.oas_file.specs.Places.{RefusedAt, AfterLast, ByEnd}
-use Rattle.oas_file.specs.Reading.{IsRead, IsRefused, IsPlaced, Refuses, ReadsLayout}
+use Rattle.oas_file.specs.Reading.{IsRead, IsRefused, IsPlaced, Refuses, ReadsLayout, IsAccepted, AcceptsFile}
 use Rattle.oas_file.proofs.Judged.{end_decides}
 use Rattle.oas_file.proofs.Refusing.{Judges, ForMemory, Decided, judged_refused, memory_placed}
 
@@ -253,6 +253,27 @@ module _ {C : Type 0} {t : Store C} {old mid : Script} {head : Head} {first s : 
           within = limits_kept ∙ (kept.limits ∙ within);
           by = profile_kept ∙ (kept.profile ∙ by);
         }
+
+    -- it is accepted
+    whole_accepted : {limits : Limits} → first.limits ≡ limits → end_refusal s.limits m.records ≡ None → IsAccepted limits old new
+    whole_accepted {limits = limits} within none = record {
+      bytes = all;
+      takes = taken_all takes;
+      ended = at_end;
+      accepted = record {
+        head = head;
+        records = m.records;
+        file = file_all m.front m.end;
+        allowed = subst (λ (l : Limits). Allowed l m.records) within m.taken.allowed;
+        whole = ap (λ (l : Limits). end_refusal l m.records) (sym (m.taken.same.limits ∙ within)) ∙ none;
+      };
+    }
+
+    -- what accepting answers
+    pub accepted : {limits : Limits} (result : Result Unit Refusal) → first.limits ≡ limits → OnOk result (end_refusal s.limits m.records ≡ None)
+        → IfErr result (λ e. (e.at ≡ end_at) × ((e.why ≡ Memory) ⊎ (end_refusal s.limits m.records ≡ Some e.why))) → AcceptsFile limits old result new
+    accepted (Ok done) within none refused = whole_accepted within none
+    accepted (Err refusal) within none refused = refuses_within within (whole_refuses refusal refused)
 
     -- what finishing answers
     pub finished : {limits : Limits} {profile : Profile} (result : Result Contents Refusal) → first.unit ≡ head.unit → first.limits ≡ limits → first.profile ≡ profile →

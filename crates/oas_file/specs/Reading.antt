@@ -67,3 +67,14 @@ Refuses limits old refusal new = IsRefused limits old refusal.why new × IsPlace
 abbrev pub ReadsLayout : Limits → Profile → Script → Result Contents Refusal → Script → Type 0
 ReadsLayout limits profile old (Ok l) new = IsRead limits profile old l new
 ReadsLayout limits profile old (Err refusal) new = Refuses limits old refusal new
+
+-- all that the source gave is an accepted file
+pub record IsAccepted (limits : Limits) (old new : Script) : Type 0 where
+  pub bytes : List ℕ
+  pub takes : Takes old bytes new
+  pub ended : IsAtEnd new
+  pub accepted : Accepted limits bytes
+
+abbrev pub AcceptsFile : Limits → Script → Result Unit Refusal → Script → Type 0
+AcceptsFile limits old (Ok done) new = IsAccepted limits old new
+AcceptsFile limits old (Err refusal) new = Refuses limits old refusal new

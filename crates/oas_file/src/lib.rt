@@ -1,4 +1,4 @@
-//! A whole file: what it is and means, which files are accepted, and reading its layout.
+//! A whole file: what it is and means, which files are accepted, reading its layout, and reading only whether it is accepted.
 //!
 //! What this crate promises to the crates above it:
 //!
@@ -7,6 +7,8 @@
 //!   what the file means. On both sides: a refusal whose reason lies in the bytes says that no accepted file begins with
 //!   what was taken, `Why::Truncated` that what was taken to the end is none, and the reasons of the device and of the
 //!   source's limit that the source said so.
+//! - [`accept_file`] accepts what a source gives exactly where it is an accepted file, and refuses it else, by the same clauses
+//!   (`AcceptsFile`). It keeps no element.
 //! - Of a source that had given nothing before: the offset of a refusal whose reason lies in the file is a place at which
 //!   every file that goes on so is refused (`IsPlaced`), and each refusal says which of the bytes that were taken decided,
 //!   and that its reason holds of them (`IsReasoned`, specs/Deciding.antt).
@@ -20,9 +22,11 @@
 //! Whether memory is there is outside every contract: what allocates may answer `Why::Memory`.
 #![tactic(auto)]
 
+mod accepting;
 pub mod laws;
 mod reading;
 
+pub use accepting::accept_file;
 pub use reading::read_layout;
 
 #[cfg(test)]

@@ -23,7 +23,7 @@ fn take_record<S: Source>(
 }
 
 /// Has the reader take the records up to END, and answers END's offset.
-fn take_records<S: Source, C: CellStore>(
+pub(crate) fn take_records<S: Source, C: CellStore>(
     alloc: Global,
     source: &mut S,
     head: Head,
@@ -40,7 +40,7 @@ fn take_records<S: Source, C: CellStore>(
 }
 
 /// Finds the end of the input.
-fn find_end_of_input<S: Source>(source: &mut S) -> Result<(), Refusal>
+pub(crate) fn find_end_of_input<S: Source>(source: &mut S) -> Result<(), Refusal>
     ensures { FindsEnd (S.script source.old) result (S.script source.new) }
 {
     let at = source.at();

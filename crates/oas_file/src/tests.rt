@@ -8,7 +8,7 @@ mod memory;
 mod table;
 
 use self::table::ROWS;
-use crate::read_layout;
+use crate::{accept_file, read_layout};
 use oas_layout::{Layout, Limits, Profile};
 use oas_num::{INPUT_MAX, Refusal, SliceSource};
 use std::alloc::{AllocError, Global};
@@ -82,6 +82,18 @@ fn answer(alloc: Global, outcome: Result<Layout, Refusal>) -> Result<String, Fai
     }
 }
 
+/// What comes of a file of which nothing is kept.
+fn accepted(alloc: Global, file: &[u8], limits: Limits) -> Result<String, Fail> {
+    let mut source = SliceSource::new(file, INPUT_MAX);
+    match accept_file(alloc, &mut source, limits) {
+        Ok(()) => Ok(String::from_str(alloc, "ok")?),
+        Err(Refusal { at, why }) => {
+            let number = why.number();
+            Ok(format!(in alloc; "{number}@{at}")?)
+        }
+    }
+}
+
 /// Whether two files have the same layout.
 fn is_same(alloc: Global, file: &[u8], other: &[u8]) -> Result<bool, Fail> {
     let Ok(layout) = read(alloc, file, Limits::standard()) else {
@@ -101,8 +113,12 @@ fn expect_row(rt: &impl Abort, alloc: Global, row: &str) -> Result<(), Fail> {
     if wanted.contains('@') {
         let found = answer(alloc, read(alloc, file.as_slice(), Limits::standard()))?;
         assert_eq!(rt; found.as_str(), wanted, "at {name}");
+        let found = accepted(alloc, file.as_slice(), Limits::standard())?;
+        assert_eq!(rt; found.as_str(), wanted, "accepting {name}");
         return Ok(());
     }
+    let found = accepted(alloc, file.as_slice(), Limits::standard())?;
+    assert_eq!(rt; found.as_str(), "ok", "accepting {name}");
     let (same, other) = match wanted.strip_prefix("unlike ") {
         Some(other) => (false, other),
         None => (true, wanted),
@@ -156,6 +172,8 @@ fn each_prefix(rt: HostRuntime) -> Result<(), Fail> {
         let wanted = format!(in alloc; "2@{at}")?;
         let found = answer(alloc, read(alloc, front, Limits::standard()))?;
         assert_eq!(rt; found.as_str(), wanted.as_str());
+        let found = accepted(alloc, front, Limits::standard())?;
+        assert_eq!(rt; found.as_str(), wanted.as_str());
     }
     Ok(())
 }
@@ -171,6 +189,8 @@ fn expect_within(
     let limits = limits.ok_or("these are limits")?;
     let file = bytes_of(alloc, file)?;
     let found = answer(alloc, read(alloc, file.as_slice(), limits))?;
+    assert_eq!(rt; found.as_str(), wanted);
+    let found = accepted(alloc, file.as_slice(), limits)?;
     assert_eq!(rt; found.as_str(), wanted);
     Ok(())
 }

@@ -18,7 +18,7 @@ use Rattle.oas_modal.specs.Meaning.{DrawnCell, element_by, with_element, element
 use Rattle.oas_modal.specs.Alike.{SameDrawn, AlikeCells, AlikeMeanings}
 
 -- a test passes where the sum of those that pass is above 0
-any-sum : (f : Drawn → Bool) (xs : List Drawn) → list_any f xs ≡ nat_lt 0 (sum_by (λ x. cond (f x) 1 0) xs)
+pub any-sum : (f : Drawn → Bool) (xs : List Drawn) → list_any f xs ≡ nat_lt 0 (sum_by (λ x. cond (f x) 1 0) xs)
 any-sum f [] = refl
 any-sum f (x ∷ xs) = by (f x) (any-sum f xs) ∙ ap (nat_lt 0) (sym (sum_by-cons (λ y. cond (f y) 1 0) x xs)) where
   by : (b : Bool) → list_any f xs ≡ nat_lt 0 (sum_by (λ y. cond (f y) 1 0) xs) → (b || list_any f xs) ≡ nat_lt 0 (cond b 1 0 + sum_by (λ y. cond (f y) 1 0) xs)
@@ -26,18 +26,19 @@ any-sum f (x ∷ xs) = by (f x) (any-sum f xs) ∙ ap (nat_lt 0) (sym (sum_by-co
   by false later = let same : sum_by (λ y. cond (f y) 1 0) xs ≡ 0 + sum_by (λ y. cond (f y) 1 0) xs = omega arith in later ∙ ap (nat_lt 0) same
 
 -- what an element weighs that may be there
-abbrev weighed : (Element → ℕ) → Option Element → ℕ
+abbrev pub weighed : (Element → ℕ) → Option Element → ℕ
 weighed g None = 0
 weighed g (Some e) = g e
 
 module _ (names strings : List (ℕ × List ℕ)) where
   -- a sum over the elements that are meant
-  sum-meant : (g : Element → ℕ) (xs : List Drawn) → sum_by g (elements_meant names strings xs) ≡ sum_by (λ d. weighed g (element_by names strings d)) xs
+  pub sum-meant : (g : Element → ℕ) (xs : List Drawn) → sum_by g (elements_meant names strings xs) ≡ sum_by (λ d. weighed g (element_by names strings d)) xs
   sum-meant g [] = refl
-  sum-meant g (x ∷ xs) = by (element_by names strings x) ∙ ap (λ (k : ℕ). weighed g (element_by names strings x) + k) (sum-meant g xs) ∙ sym (sum_by-cons (λ d. weighed g (element_by names strings d)) x xs) where
-    by : (o : Option Element) → sum_by g (with_element o (elements_meant names strings xs)) ≡ weighed g o + sum_by g (elements_meant names strings xs)
-    by None = omega arith
-    by (Some e) = sum_by-cons g e (elements_meant names strings xs)
+  sum-meant g (x ∷ xs) = by (element_by names strings x) ∙ ap (λ (k : ℕ). weighed g (element_by names strings x) + k) (sum-meant g xs)
+      ∙ sym (sum_by-cons (λ d. weighed g (element_by names strings d)) x xs) where
+        by : (o : Option Element) → sum_by g (with_element o (elements_meant names strings xs)) ≡ weighed g o + sum_by g (elements_meant names strings xs)
+        by None = omega arith
+        by (Some e) = sum_by-cons g e (elements_meant names strings xs)
 
   -- is the same where they are drawn alike
   sum-alike : (g : Element → ℕ) (xs ys : List Drawn) → SameDrawn xs ys → sum_by g (elements_meant names strings xs) ≡ sum_by g (elements_meant names strings ys)
@@ -63,7 +64,8 @@ module _ (names strings : List (ℕ × List ℕ)) where
   names-alike (c ∷ cs) [] a = absurd a
   names-alike (c ∷ cs) (d ∷ ds) a =
       by (cell_by names c.0) (names-alike cs ds a.2) ∙ ap (λ r. keys_of (with_named (cell_by names r) (elements_meant names strings d.1) (cells_meant names strings ds))) a.0 where
-        by : (o : Option (List ℕ)) → keys_of (cells_meant names strings cs) ≡ keys_of (cells_meant names strings ds) → keys_of (with_named o (elements_meant names strings c.1) (cells_meant names strings cs)) ≡ keys_of (with_named o (elements_meant names strings d.1) (cells_meant names strings ds))
+        by : (o : Option (List ℕ)) → keys_of (cells_meant names strings cs) ≡ keys_of (cells_meant names strings ds)
+            → keys_of (with_named o (elements_meant names strings c.1) (cells_meant names strings cs)) ≡ keys_of (with_named o (elements_meant names strings d.1) (cells_meant names strings ds))
         by None h = h
         by (Some name) h = ap (λ (ns : List (List ℕ)). name ∷ ns) h
 
@@ -73,8 +75,11 @@ module _ (names strings : List (ℕ × List ℕ)) where
   weight-alike [] (d ∷ ds) a = absurd a
   weight-alike (c ∷ cs) [] a = absurd a
   weight-alike (c ∷ cs) (d ∷ ds) a =
-      by (cell_by names c.0) (weight-alike cs ds a.2) (sum-alike weight_of c.1 d.1 a.1) ∙ ap (λ r. cells_weight (with_named (cell_by names r) (elements_meant names strings d.1) (cells_meant names strings ds))) a.0 where
-        by : (o : Option (List ℕ)) → cells_weight (cells_meant names strings cs) ≡ cells_weight (cells_meant names strings ds) → sum_by weight_of (elements_meant names strings c.1) ≡ sum_by weight_of (elements_meant names strings d.1) → cells_weight (with_named o (elements_meant names strings c.1) (cells_meant names strings cs)) ≡ cells_weight (with_named o (elements_meant names strings d.1) (cells_meant names strings ds))
+      by (cell_by names c.0) (weight-alike cs ds a.2) (sum-alike weight_of c.1 d.1 a.1)
+      ∙ ap (λ r. cells_weight (with_named (cell_by names r) (elements_meant names strings d.1) (cells_meant names strings ds))) a.0 where
+        by : (o : Option (List ℕ)) → cells_weight (cells_meant names strings cs) ≡ cells_weight (cells_meant names strings ds) → sum_by weight_of (elements_meant names strings c.1)
+            ≡ sum_by weight_of (elements_meant names strings d.1) → cells_weight (with_named o (elements_meant names strings c.1) (cells_meant names strings cs))
+            ≡ cells_weight (with_named o (elements_meant names strings d.1) (cells_meant names strings ds))
         by None h w = h
         by (Some name) h w = omega (arith, h, w)
 
@@ -84,25 +89,38 @@ module _ (names strings : List (ℕ × List ℕ)) where
   there-alike name [] (d ∷ ds) a = absurd a
   there-alike name (c ∷ cs) [] a = absurd a
   there-alike name (c ∷ cs) (d ∷ ds) a =
-      by (cell_by names c.0) (there-alike name cs ds a.2) ∙ ap (λ r. is_some (elements_of name (with_named (cell_by names r) (elements_meant names strings d.1) (cells_meant names strings ds)))) a.0 where
-        by : (o : Option (List ℕ)) → is_some (elements_of name (cells_meant names strings cs)) ≡ is_some (elements_of name (cells_meant names strings ds)) → is_some (elements_of name (with_named o (elements_meant names strings c.1) (cells_meant names strings cs))) ≡ is_some (elements_of name (with_named o (elements_meant names strings d.1) (cells_meant names strings ds)))
+      by (cell_by names c.0) (there-alike name cs ds a.2)
+      ∙ ap (λ r. is_some (elements_of name (with_named (cell_by names r) (elements_meant names strings d.1) (cells_meant names strings ds)))) a.0 where
+        by : (o : Option (List ℕ)) → is_some (elements_of name (cells_meant names strings cs)) ≡ is_some (elements_of name (cells_meant names strings ds))
+            → is_some (elements_of name (with_named o (elements_meant names strings c.1) (cells_meant names strings cs)))
+            ≡ is_some (elements_of name (with_named o (elements_meant names strings d.1) (cells_meant names strings ds)))
         by None h = h
-        by (Some n) h = elim (pointwise ◌==◌ name n) as (λ b. is_some (cond b (Some (elements_meant names strings c.1)) (elements_of name (cells_meant names strings cs))) ≡ is_some (cond b (Some (elements_meant names strings d.1)) (elements_of name (cells_meant names strings ds)))) [ true ↦ refl | false ↦ h ]
+        by (Some n) h = elim (pointwise ◌==◌ name n) as (λ b. is_some (cond b (Some (elements_meant names strings c.1)) (elements_of name (cells_meant names strings cs)))
+            ≡ is_some (cond b (Some (elements_meant names strings d.1)) (elements_of name (cells_meant names strings ds)))) [ true ↦ refl | false ↦ h ]
 
-  counts-alike : (profile : Profile) (name : List ℕ) (q : Element) (cs ds : List DrawnCell) → AlikeCells cs ds → count_of profile q (unwrap_or (elements_of name (cells_meant names strings cs)) []) ≡ count_of profile q (unwrap_or (elements_of name (cells_meant names strings ds)) [])
+  counts-alike : (profile : Profile) (name : List ℕ) (q : Element) (cs ds : List DrawnCell) → AlikeCells cs ds
+      → count_of profile q (unwrap_or (elements_of name (cells_meant names strings cs)) []) ≡ count_of profile q (unwrap_or (elements_of name (cells_meant names strings ds)) [])
   counts-alike profile name q [] [] a = refl
   counts-alike profile name q [] (d ∷ ds) a = absurd a
   counts-alike profile name q (c ∷ cs) [] a = absurd a
   counts-alike profile name q (c ∷ cs) (d ∷ ds) a =
-      by (cell_by names c.0) (counts-alike profile name q cs ds a.2) (sum-alike (λ x. cond (same_element profile q x) 1 0) c.1 d.1 a.1) ∙ ap (λ r. count_of profile q (unwrap_or (elements_of name (with_named (cell_by names r) (elements_meant names strings d.1) (cells_meant names strings ds))) [])) a.0 where
-        by : (o : Option (List ℕ)) → count_of profile q (unwrap_or (elements_of name (cells_meant names strings cs)) []) ≡ count_of profile q (unwrap_or (elements_of name (cells_meant names strings ds)) []) → count_of profile q (elements_meant names strings c.1) ≡ count_of profile q (elements_meant names strings d.1) → count_of profile q (unwrap_or (elements_of name (with_named o (elements_meant names strings c.1) (cells_meant names strings cs))) []) ≡ count_of profile q (unwrap_or (elements_of name (with_named o (elements_meant names strings d.1) (cells_meant names strings ds))) [])
+      by (cell_by names c.0) (counts-alike profile name q cs ds a.2) (sum-alike (λ x. cond (same_element profile q x) 1 0) c.1 d.1 a.1)
+      ∙ ap (λ r. count_of profile q (unwrap_or (elements_of name (with_named (cell_by names r) (elements_meant names strings d.1) (cells_meant names strings ds))) [])) a.0 where
+        by : (o : Option (List ℕ)) → count_of profile q (unwrap_or (elements_of name (cells_meant names strings cs)) [])
+            ≡ count_of profile q (unwrap_or (elements_of name (cells_meant names strings ds)) []) → count_of profile q (elements_meant names strings c.1)
+            ≡ count_of profile q (elements_meant names strings d.1)
+            → count_of profile q (unwrap_or (elements_of name (with_named o (elements_meant names strings c.1) (cells_meant names strings cs))) [])
+            ≡ count_of profile q (unwrap_or (elements_of name (with_named o (elements_meant names strings d.1) (cells_meant names strings ds))) [])
         by None h w = h
-        by (Some n) h w = elim (pointwise ◌==◌ name n) as (λ b. count_of profile q (unwrap_or (cond b (Some (elements_meant names strings c.1)) (elements_of name (cells_meant names strings cs))) []) ≡ count_of profile q (unwrap_or (cond b (Some (elements_meant names strings d.1)) (elements_of name (cells_meant names strings ds))) [])) [ true ↦ w | false ↦ h ]
+        by (Some n) h w = elim (pointwise ◌==◌ name n) as
+            (λ b. count_of profile q (unwrap_or (cond b (Some (elements_meant names strings c.1)) (elements_of name (cells_meant names strings cs))) [])
+            ≡ count_of profile q (unwrap_or (cond b (Some (elements_meant names strings d.1)) (elements_of name (cells_meant names strings ds))) [])) [ true ↦ w | false ↦ h ]
 
 -- so END refuses them alike, and they mean the same
 pub alike_meanings : AlikeMeanings
 alike_meanings names strings limits unit profile cs ds a = record {
-  refused = λ i. cond (all-lack names strings cs ds a i) (Some UnknownReference) (cond (has_twice (names-alike names strings cs ds a i)) (Some DuplicateCell) (cond (nat_lt limits.weight (weight-alike names strings cs ds a i)) (Some TooHeavy) None));
+  refused = λ i. cond (all-lack names strings cs ds a i) (Some UnknownReference)
+      (cond (has_twice (names-alike names strings cs ds a i)) (Some DuplicateCell) (cond (nat_lt limits.weight (weight-alike names strings cs ds a i)) (Some TooHeavy) None));
   same = record {
     unit = refl;
     cells = λ name. there-alike names strings name cs ds a;

@@ -23,24 +23,28 @@ use Rattle.oas_modal.proofs.StoreLemmas.{draws_then}
 
 copies_by-append : (m : ModalState) (kind : Kind) (xs ys : List GDelta) → copies_by m kind (xs ++ ys) ≡ copies_by m kind xs ++ copies_by m kind ys
 copies_by-append m kind [] ys = refl
-copies_by-append m kind (x ∷ xs) ys = ap (λ (ds : List Drawn). option_to_list (drawn_by m kind x) ++ ds) (copies_by-append m kind xs ys) ∙ sym (append_assoc (option_to_list (drawn_by m kind x)) (copies_by m kind xs) (copies_by m kind ys))
+copies_by-append m kind (x ∷ xs) ys = ap (λ (ds : List Drawn). option_to_list (drawn_by m kind x) ++ ds) (copies_by-append m kind xs ys)
+    ∙ sym (append_assoc (option_to_list (drawn_by m kind x)) (copies_by m kind xs) (copies_by m kind ys))
 
 append_nil : {A : Type 0} (xs : List A) → xs ++ [] ≡ xs
 append_nil [] = refl
 append_nil (x ∷ xs) = ap (λ ys. x ∷ ys) (append_nil xs)
 
 -- one copy more
-pub next_copy : (m : ModalState) (kind : Kind) (repeated : Bool) (n : ℕ) → first_copies m kind repeated (n + 1) ≡ first_copies m kind repeated n ++ option_to_list (drawn_by m kind (offset_if repeated m.repetition n))
+pub next_copy : (m : ModalState) (kind : Kind) (repeated : Bool) (n : ℕ) → first_copies m kind repeated (n + 1) ≡ first_copies m kind repeated n
+    ++ option_to_list (drawn_by m kind (offset_if repeated m.repetition n))
 next_copy m kind repeated n =
     ap (copies_by m kind) (map-range_with_len_more (offset_if repeated m.repetition) 0 n n (omega arith))
     ∙ copies_by-append m kind (map (offset_if repeated m.repetition) (range_with_len 0 n)) (offset_if repeated m.repetition n ∷ [])
     ∙ ap (λ (ds : List Drawn). first_copies m kind repeated n ++ ds) (append_nil (option_to_list (drawn_by m kind (offset_if repeated m.repetition n))))
 
-one_copy : (m : ModalState) (kind : Kind) (repeated : Bool) (n : ℕ) (d : Drawn) → drawn_by m kind (offset_if repeated m.repetition n) ≡ Some d → first_copies m kind repeated (n + 1) ≡ first_copies m kind repeated n ++ d ∷ []
+one_copy : (m : ModalState) (kind : Kind) (repeated : Bool) (n : ℕ) (d : Drawn) → drawn_by m kind (offset_if repeated m.repetition n) ≡ Some d → first_copies m kind repeated (n + 1)
+    ≡ first_copies m kind repeated n ++ d ∷ []
 one_copy m kind repeated n d e = next_copy m kind repeated n ∙ ap (λ (o : Option Drawn). first_copies m kind repeated n ++ option_to_list o) e
 
 -- and drawn
-pub draws_next : {S : Type 0} (t : Store S) (m : ModalState) (kind : Kind) (repeated : Bool) (n : ℕ) (d : Drawn) (before now after : S) → drawn_by m kind (offset_if repeated m.repetition n) ≡ Some d → Draws t before (first_copies m kind repeated n) now → Draws t now (replicate 1 d) after → Draws t before (first_copies m kind repeated (n + 1)) after
+pub draws_next : {S : Type 0} (t : Store S) (m : ModalState) (kind : Kind) (repeated : Bool) (n : ℕ) (d : Drawn) (before now after : S) → drawn_by m kind (offset_if repeated m.repetition n)
+    ≡ Some d → Draws t before (first_copies m kind repeated n) now → Draws t now (replicate 1 d) after → Draws t before (first_copies m kind repeated (n + 1)) after
 draws_next t m kind repeated n d before now after e f g =
     subst (λ (ds : List Drawn). Draws t before ds after) (sym (one_copy m kind repeated n d e)) (draws_then t before now after (first_copies m kind repeated n) (d ∷ []) f g)
 
@@ -61,14 +65,23 @@ pub few_copies : (m : ModalState) (kind : Kind) (repeated : Bool) (n : ℕ) → 
 few_copies m kind repeated zero = omega arith
 few_copies m kind repeated (suc n) =
     let n1 : n + 1 ≡ suc n = omega arith in
-    omega (arith, ap (λ (k : ℕ). length (first_copies m kind repeated k)) n1, ap length (next_copy m kind repeated n), length-append (first_copies m kind repeated n) (option_to_list (drawn_by m kind (offset_if repeated m.repetition n))), at_most_one (drawn_by m kind (offset_if repeated m.repetition n)), few_copies m kind repeated n)
+    omega (
+      arith,
+      ap (λ (k : ℕ). length (first_copies m kind repeated k)) n1,
+      ap length (next_copy m kind repeated n),
+      length-append (first_copies m kind repeated n) (option_to_list (drawn_by m kind (offset_if repeated m.repetition n))),
+      at_most_one (drawn_by m kind (offset_if repeated m.repetition n)),
+      few_copies m kind repeated n,
+    )
 
 -- there is room for one more
-pub room_next : {S : Type 0} (t : Store S) (m : ModalState) (kind : Kind) (repeated : Bool) (n : ℕ) (before now : S) → Draws t before (first_copies m kind repeated n) now → t.count before ≤ 2 ^ 26 → n ≤ 2 ^ 26 → t.count now + 1 < 2 ^ 64
+pub room_next : {S : Type 0} (t : Store S) (m : ModalState) (kind : Kind) (repeated : Bool) (n : ℕ) (before now : S) → Draws t before (first_copies m kind repeated n) now → t.count before
+    ≤ 2 ^ 26 → n ≤ 2 ^ 26 → t.count now + 1 < 2 ^ 64
 room_next t m kind repeated n before now f room small = omega (arith, f.count, few_copies m kind repeated n, room, small)
 
 -- and it lies within the grid
-pub fit_next : (m : ModalState) (kind : Kind) (repeated : Bool) (n : ℕ) → ((i : ℕ) → i < n → fault_of (drawn_by m kind (offset_if repeated m.repetition i)) ≡ None) → fault_of (drawn_by m kind (offset_if repeated m.repetition n)) ≡ None → (i : ℕ) → i < n + 1 → fault_of (drawn_by m kind (offset_if repeated m.repetition i)) ≡ None
+pub fit_next : (m : ModalState) (kind : Kind) (repeated : Bool) (n : ℕ) → ((i : ℕ) → i < n → fault_of (drawn_by m kind (offset_if repeated m.repetition i)) ≡ None)
+    → fault_of (drawn_by m kind (offset_if repeated m.repetition n)) ≡ None → (i : ℕ) → i < n + 1 → fault_of (drawn_by m kind (offset_if repeated m.repetition i)) ≡ None
 fit_next m kind repeated n before last i below =
     elim (nat_lt i n) as (λ b. nat_lt i n ≡ b → fault_of (drawn_by m kind (offset_if repeated m.repetition i)) ≡ None) [
       | true ↦ λ e. before i (grind (arith, nat_tests))
@@ -80,11 +93,14 @@ one_weight : (m : ModalState) (kind : Kind) (repeated : Bool) (n : ℕ) (d : Dra
 one_weight m kind repeated n d e = ap weight_if (sym e) ∙ (drawn_alike m kind (offset_if repeated m.repetition n) still).0
 
 -- what the copies weigh together
-pub weight_next : (m : ModalState) (kind : Kind) (repeated : Bool) (n : ℕ) (d : Drawn) (weight : ℕ) → drawn_by m kind (offset_if repeated m.repetition n) ≡ Some d → weight ≡ n * weight_if (drawn_by m kind still) → weight + weight_so_far d ≡ (n + 1) * weight_if (drawn_by m kind still)
+pub weight_next : (m : ModalState) (kind : Kind) (repeated : Bool) (n : ℕ) (d : Drawn) (weight : ℕ) → drawn_by m kind (offset_if repeated m.repetition n) ≡ Some d → weight
+    ≡ n * weight_if (drawn_by m kind still) → weight + weight_so_far d ≡ (n + 1) * weight_if (drawn_by m kind still)
 weight_next m kind repeated n d weight e is = omega (arith, one_weight m kind repeated n d e, is)
 
 -- and that is no more than all do
-pub weight_room : (m : ModalState) (kind : Kind) (repeated : Bool) (n number : ℕ) (d : Drawn) (weight : ℕ) → drawn_by m kind (offset_if repeated m.repetition n) ≡ Some d → weight ≡ n * weight_if (drawn_by m kind still) → n < number → number * weight_if (drawn_by m kind still) ≤ 2 ^ 30 → weight + weight_so_far d < 2 ^ 64
+pub weight_room : (m : ModalState) (kind : Kind) (repeated : Bool) (n number : ℕ) (d : Drawn) (weight : ℕ) → drawn_by m kind (offset_if repeated m.repetition n) ≡ Some d → weight
+    ≡ n * weight_if (drawn_by m kind still) → n < number → number * weight_if (drawn_by m kind still) ≤ 2 ^ 30 → weight + weight_so_far d < 2 ^ 64
 weight_room m kind repeated n number d weight e is below light =
-    let most : (n + 1) * weight_if (drawn_by m kind still) ≤ number * weight_if (drawn_by m kind still) = mul-le (n + 1) (weight_if (drawn_by m kind still)) number (weight_if (drawn_by m kind still)) (omega arith) (omega arith) in
+    let most : (n + 1) * weight_if (drawn_by m kind still) ≤ number * weight_if (drawn_by m kind still) =
+    mul-le (n + 1) (weight_if (drawn_by m kind still)) number (weight_if (drawn_by m kind still)) (omega arith) (omega arith) in
     omega (arith, weight_next m kind repeated n d weight e is, most, light)

@@ -81,10 +81,12 @@ first_of_late e n (q ∷ qs) h late =
     ap (λ (r : Ordering). match_ordering r ((Named e, n) ∷ q ∷ qs) ((q.0, q.1 + n) ∷ qs) (q ∷ with_drawn qs (Named e) n)) (early_less e q.0 h late.0)
 
 -- of what is early
-with_early : (es : List (Element × ℕ)) (ds : List (Drawn × ℕ)) (e : Element) (n : ℕ) → is_early (Named e) ≡ true → AllLate ds → with_drawn (as_drawn es ++ ds) (Named e) n ≡ as_drawn (with_more es e n) ++ ds
+with_early : (es : List (Element × ℕ)) (ds : List (Drawn × ℕ)) (e : Element) (n : ℕ) → is_early (Named e) ≡ true → AllLate ds → with_drawn (as_drawn es ++ ds) (Named e) n
+    ≡ as_drawn (with_more es e n) ++ ds
 with_early [] ds e n h late = first_of_late e n ds h late
 with_early (p ∷ ps) ds e n h late =
-    elim (element_cmp e p.0) as (λ (r : Ordering). match_ordering r ((Named e, n) ∷ (Named p.0, p.1) ∷ (as_drawn ps ++ ds)) ((Named p.0, p.1 + n) ∷ (as_drawn ps ++ ds)) ((Named p.0, p.1) ∷ with_drawn (as_drawn ps ++ ds) (Named e) n) ≡ as_drawn (match_ordering r ((e, n) ∷ p ∷ ps) ((p.0, p.1 + n) ∷ ps) (p ∷ with_more ps e n)) ++ ds) [
+    elim (element_cmp e p.0) as (λ (r : Ordering). match_ordering r ((Named e, n) ∷ (Named p.0, p.1) ∷ (as_drawn ps ++ ds)) ((Named p.0, p.1 + n) ∷ (as_drawn ps ++ ds))
+    ((Named p.0, p.1) ∷ with_drawn (as_drawn ps ++ ds) (Named e) n) ≡ as_drawn (match_ordering r ((e, n) ∷ p ∷ ps) ((p.0, p.1 + n) ∷ ps) (p ∷ with_more ps e n)) ++ ds) [
       | Less ↦ refl
       | Equal ↦ refl
       | Greater ↦ ap (λ (xs : List (Drawn × ℕ)). (Named p.0, p.1) ∷ xs) (with_early ps ds e n h late)
@@ -94,7 +96,8 @@ with_early (p ∷ ps) ds e n h late =
 with_late : (es : List (Element × ℕ)) (ds : List (Drawn × ℕ)) (d : Drawn) (n : ℕ) → is_early d ≡ false → AllEarly es → with_drawn (as_drawn es ++ ds) d n ≡ as_drawn es ++ with_drawn ds d n
 with_late [] ds d n g early = refl
 with_late (p ∷ ps) ds d n g early =
-    ap (λ (r : Ordering). match_ordering r ((d, n) ∷ (Named p.0, p.1) ∷ (as_drawn ps ++ ds)) ((Named p.0, p.1 + n) ∷ (as_drawn ps ++ ds)) ((Named p.0, p.1) ∷ with_drawn (as_drawn ps ++ ds) d n)) (later_greater d p.0 g early.0)
+    ap (λ (r : Ordering). match_ordering r ((d, n) ∷ (Named p.0, p.1) ∷ (as_drawn ps ++ ds)) ((Named p.0, p.1 + n) ∷ (as_drawn ps ++ ds)) ((Named p.0, p.1) ∷ with_drawn (as_drawn ps ++ ds) d n))
+    (later_greater d p.0 g early.0)
     ∙ ap (λ (xs : List (Drawn × ℕ)). (Named p.0, p.1) ∷ xs) (with_late ps ds d n g early.1)
 
 early-put_more : (es : List (Element × ℕ)) (e : Element) (n : ℕ) → is_early (Named e) ≡ true → AllEarly es → AllEarly (put_more element_cmp es e n)
@@ -120,7 +123,14 @@ late-insert_entry R (x ∷ xs) d n h a =
 pub both_count : (es : List (Element × ℕ)) (ds : List (Drawn × ℕ)) → length (items (as_drawn es ++ ds)) ≡ length (items es) + length (items ds)
 both_count [] ds = omega arith
 both_count (p ∷ ps) ds =
-    omega (arith, both_count ps ds, length-append (replicate p.1 (Named p.0)) (items (as_drawn ps ++ ds)), length-replicate p.1 (Named p.0), length-append (replicate p.1 p.0) (items ps), length-replicate p.1 p.0)
+    omega (
+      arith,
+      both_count ps ds,
+      length-append (replicate p.1 (Named p.0)) (items (as_drawn ps ++ ds)),
+      length-replicate p.1 (Named p.0),
+      length-append (replicate p.1 p.0) (items ps),
+      length-replicate p.1 p.0,
+    )
 
 -- each is there
 pub both_positive : (es : List (Element × ℕ)) (ds : List (Drawn × ℕ)) → IsSplit es ds → AllByRecursion (λ p. 0 < p.1) (as_drawn es ++ ds)
@@ -144,7 +154,8 @@ module _ (v : Held) (cell : CellRef) (es : List (Element × ℕ)) (ds : List (Dr
   count_before = ap (λ (w : Held). length (items w.1)) (sym view) ∙ both_count es ds
 
   -- after more of an element that is early
-  pub more_early : (d : Drawn) (e : Element) (n : ℕ) (fs : List (Element × ℕ)) → d ≡ Named e → is_early d ≡ true → fs ≡ with_more es e n → held_pair cell (as_drawn fs ++ ds) ≡ held_pair v.0 (with_drawn v.1 d n)
+  pub more_early : (d : Drawn) (e : Element) (n : ℕ) (fs : List (Element × ℕ)) → d ≡ Named e → is_early d ≡ true → fs ≡ with_more es e n → held_pair cell (as_drawn fs ++ ds)
+      ≡ held_pair v.0 (with_drawn v.1 d n)
   more_early d e n fs is early more =
       let first : is_early (Named e) ≡ true = ap is_early (sym is) ∙ early in
       ap (λ (gs : List (Element × ℕ)). held_pair cell (as_drawn gs ++ ds)) more
@@ -174,6 +185,7 @@ module _ (v : Held) (cell : CellRef) (es : List (Element × ℕ)) (ds : List (Dr
   }
 
 -- what has its name lacks none
-pub none_lacks : (names strings : List (ℕ × List ℕ)) (es : List (Element × ℕ)) (ds : List (Drawn × ℕ)) → list_any (is_unnamed names strings) (keys_of (as_drawn es ++ ds)) ≡ list_any (is_unnamed names strings) (keys_of ds)
+pub none_lacks : (names strings : List (ℕ × List ℕ)) (es : List (Element × ℕ)) (ds : List (Drawn × ℕ)) → list_any (is_unnamed names strings) (keys_of (as_drawn es ++ ds))
+    ≡ list_any (is_unnamed names strings) (keys_of ds)
 none_lacks names strings [] ds = refl
 none_lacks names strings (p ∷ ps) ds = none_lacks names strings ps ds

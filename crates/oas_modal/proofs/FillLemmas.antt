@@ -1,5 +1,35 @@
 -- A draft that is filled with cells.
-use Rattle.std.proofs.Common.{◌≡◌, ℕ, zero, suc, ◌+◌, ◌*◌, ◌<◌, ◌≤◌, List, [], ◌∷◌, ◌++◌, Bool, true, false, cond, Option, None, Some, is_some, unwrap_or, length, refl, sym, ◌∙◌, ap, subst, arith, append_assoc}
+use Rattle.std.proofs.Common.{
+  ◌≡◌,
+  ℕ,
+  zero,
+  suc,
+  ◌+◌,
+  ◌*◌,
+  ◌<◌,
+  ◌≤◌,
+  List,
+  [],
+  ◌∷◌,
+  ◌++◌,
+  Bool,
+  true,
+  false,
+  cond,
+  Option,
+  None,
+  Some,
+  is_some,
+  unwrap_or,
+  length,
+  refl,
+  sym,
+  ◌∙◌,
+  ap,
+  subst,
+  arith,
+  append_assoc,
+}
 use Rattle.std.specs.Prelude.{◌==◌, option_map}
 use Rattle.std.specs.List.{AllByRecursion, IsDistinct}
 use Rattle.std.specs.List.Sorted.{IsStrictlySortedBy, IsPermutation}
@@ -55,7 +85,8 @@ kept profile es [] = es
 kept profile es (p ∷ ps) = kept profile (with_more es (normal profile p.0) p.1) ps
 
 -- what the last cell holds then
-given-last : (unit : Ratio) (limits : Limits) (profile : Profile) (cs : List Cell) (name : List ℕ) (es ps : List (Element × ℕ)) (spelled : ℕ) → given (state unit limits profile (cs ++ (name, es) ∷ []) spelled) (length cs) ps ≡ state unit limits profile (cs ++ (name, kept profile es ps) ∷ []) (spelled + total weight_of ps)
+given-last : (unit : Ratio) (limits : Limits) (profile : Profile) (cs : List Cell) (name : List ℕ) (es ps : List (Element × ℕ)) (spelled : ℕ)
+    → given (state unit limits profile (cs ++ (name, es) ∷ []) spelled) (length cs) ps ≡ state unit limits profile (cs ++ (name, kept profile es ps) ∷ []) (spelled + total weight_of ps)
 given-last unit limits profile cs name es [] spelled = let same : spelled ≡ spelled + 0 = omega arith in ap (λ (k : ℕ). state unit limits profile (cs ++ (name, es) ∷ []) k) same
 given-last unit limits profile cs name es (p ∷ ps) spelled =
     let sum : (spelled + p.1 * weight_of p.0) + total weight_of ps ≡ spelled + (p.1 * weight_of p.0 + total weight_of ps) = omega arith in
@@ -76,7 +107,8 @@ last-with_more (q ∷ qs) e n h =
 abbrev Below : List (Element × ℕ) → List (Element × ℕ) → Type 0
 Below held es = AllByRecursion (λ p. AllByRecursion (λ q. element_cmp q.0 p.0 ≡ Less) held) es
 
-below_last : (held : List (Element × ℕ)) (p : Element × ℕ) (e : Element) → AllByRecursion (λ q. element_cmp q.0 e ≡ Less) held → element_cmp p.0 e ≡ Less → AllByRecursion (λ q. element_cmp q.0 e ≡ Less) (held ++ p ∷ [])
+below_last : (held : List (Element × ℕ)) (p : Element × ℕ) (e : Element) → AllByRecursion (λ q. element_cmp q.0 e ≡ Less) held → element_cmp p.0 e ≡ Less
+    → AllByRecursion (λ q. element_cmp q.0 e ≡ Less) (held ++ p ∷ [])
 below_last [] p e h l = (l, tt)
 below_last (q ∷ qs) p e h l = (h.0, below_last qs p e h.1 l)
 
@@ -85,7 +117,8 @@ below_more held p [] a b = tt
 below_more held p (x ∷ xs) a b = (below_last held p x.0 a.0 b.0, below_more held p xs a.1 b.1)
 
 -- they are kept as they stand
-kept-ascending : (profile : Profile) (held es : List (Element × ℕ)) → AllByRecursion (λ p. IsNormal profile p.0) es → IsStrictlySortedBy element_cmp (keys_of es) → Below held es → kept profile held es ≡ held ++ es
+kept-ascending : (profile : Profile) (held es : List (Element × ℕ)) → AllByRecursion (λ p. IsNormal profile p.0) es → IsStrictlySortedBy element_cmp (keys_of es) → Below held es
+    → kept profile held es ≡ held ++ es
 kept-ascending profile held [] norm s below = sym (append-nil held)
 kept-ascending profile held (p ∷ ps) norm s below =
     ap (λ (e : Element). kept profile (with_more held e p.1) ps) norm.0
@@ -98,7 +131,8 @@ below_none [] = tt
 below_none (p ∷ ps) = (tt, below_none ps)
 
 -- so a new cell that is given them one by one is the cell of them
-pub given-plain : (d : Contents) (name : List ℕ) (es : List (Element × ℕ)) → AllByRecursion (λ p. IsNormal d.profile p.0) es → IsStrictlySortedBy element_cmp (keys_of es) → given (with_cell d name) (length d.cells) es ≡ with_plain d name es
+pub given-plain : (d : Contents) (name : List ℕ) (es : List (Element × ℕ)) → AllByRecursion (λ p. IsNormal d.profile p.0) es → IsStrictlySortedBy element_cmp (keys_of es)
+    → given (with_cell d name) (length d.cells) es ≡ with_plain d name es
 given-plain d name es norm s =
     let sum : (d.spelled + (1 + length name)) + total weight_of es ≡ d.spelled + weight_with name es = omega (arith, sum_by-items weight_of es) in
     given-last d.unit d.limits d.profile d.cells name [] es (d.spelled + (1 + length name))
@@ -110,7 +144,8 @@ kept_cells profile [] = []
 kept_cells profile (c ∷ cs) = (c.0, kept profile [] c.1) ∷ kept_cells profile cs
 
 -- what a draft of these cells holds
-all-is : (unit : Ratio) (limits : Limits) (profile : Profile) (cs ms : List Cell) (spelled : ℕ) → with_all (state unit limits profile cs spelled) ms ≡ state unit limits profile (cs ++ kept_cells profile ms) (spelled + cells_weight (expanded ms))
+all-is : (unit : Ratio) (limits : Limits) (profile : Profile) (cs ms : List Cell) (spelled : ℕ) → with_all (state unit limits profile cs spelled) ms
+    ≡ state unit limits profile (cs ++ kept_cells profile ms) (spelled + cells_weight (expanded ms))
 all-is unit limits profile cs [] spelled =
     let same : spelled ≡ spelled + 0 = omega arith in
     (λ i. state unit limits profile (sym (append-nil-cells cs) i) (same i)) where
@@ -127,11 +162,13 @@ all-is unit limits profile cs (m ∷ ms) spelled =
 -- ---- what is refused
 
 -- more of an element that has its points and lies within the grid is refused for its weight alone
-pub refused_many : (d : Contents) (e : Element) (n : ℕ) (why : Why) → refusal d e n ≡ Some why → lacks_points e ≡ false → fits_grid e ≡ true → element_count (expanded d.cells) + n ≤ d.limits.elements → (why ≡ TooHeavy) × (d.limits.weight < d.spelled + n * weight_of e)
+pub refused_many : (d : Contents) (e : Element) (n : ℕ) (why : Why) → refusal d e n ≡ Some why → lacks_points e ≡ false → fits_grid e ≡ true → element_count (expanded d.cells) + n
+    ≤ d.limits.elements → (why ≡ TooHeavy) × (d.limits.weight < d.spelled + n * weight_of e)
 refused_many d e n why h points inside few = grind (arith, nat_tests)
 
 -- a cell of another name likewise
-pub refused_plain : (d : Contents) (name : List ℕ) (es : List (Element × ℕ)) (why : Why) → plain_refusal d name es ≡ Some why → has_cell d.cells name ≡ false → element_count (expanded d.cells) + length (items es) ≤ d.limits.elements → (why ≡ TooHeavy) × (d.limits.weight < d.spelled + weight_with name es)
+pub refused_plain : (d : Contents) (name : List ℕ) (es : List (Element × ℕ)) (why : Why) → plain_refusal d name es ≡ Some why → has_cell d.cells name ≡ false → element_count (expanded d.cells)
+    + length (items es) ≤ d.limits.elements → (why ≡ TooHeavy) × (d.limits.weight < d.spelled + weight_with name es)
 refused_plain d name es why h apart few = grind (arith, nat_tests)
 
 -- and what is taken is light enough
@@ -152,27 +189,36 @@ kept-count profile q es (p ∷ ps) =
     let all = sum_by-items (λ x. cond (same_element profile q x) 1 0) (p ∷ ps) in
     let tail = sum_by-items (λ x. cond (same_element profile q x) 1 0) ps in
     split (same_element profile q p.0) refl one rest all tail where
-      split : (b : Bool) → same_element profile q p.0 ≡ b → count_of profile q (items (with_more es (normal profile p.0) p.1)) ≡ count_of profile q (items es) + cond (same_element profile q p.0) p.1 0 → count_of profile q (items (kept profile (with_more es (normal profile p.0) p.1) ps)) ≡ count_of profile q (items (with_more es (normal profile p.0) p.1)) + count_of profile q (items ps) → count_of profile q (items (p ∷ ps)) ≡ p.1 * cond (same_element profile q p.0) 1 0 + total (λ x. cond (same_element profile q x) 1 0) ps → count_of profile q (items ps) ≡ total (λ x. cond (same_element profile q x) 1 0) ps → count_of profile q (items (kept profile es (p ∷ ps))) ≡ count_of profile q (items es) + count_of profile q (items (p ∷ ps))
+      split : (b : Bool) → same_element profile q p.0 ≡ b → count_of profile q (items (with_more es (normal profile p.0) p.1)) ≡ count_of profile q (items es)
+          + cond (same_element profile q p.0) p.1 0 → count_of profile q (items (kept profile (with_more es (normal profile p.0) p.1) ps))
+          ≡ count_of profile q (items (with_more es (normal profile p.0) p.1)) + count_of profile q (items ps) → count_of profile q (items (p ∷ ps)) ≡ p.1 * cond (same_element profile q p.0) 1 0
+          + total (λ x. cond (same_element profile q x) 1 0) ps → count_of profile q (items ps) ≡ total (λ x. cond (same_element profile q x) 1 0) ps
+          → count_of profile q (items (kept profile es (p ∷ ps))) ≡ count_of profile q (items es) + count_of profile q (items (p ∷ ps))
       split true e one rest all tail =
           let o : count_of profile q (items (with_more es (normal profile p.0) p.1)) ≡ count_of profile q (items es) + p.1 = rw e at one in
-          let a : count_of profile q (items (p ∷ ps)) ≡ p.1 * 1 + total (λ x. cond (same_element profile q x) 1 0) ps = all ∙ ap (λ b. p.1 * cond b 1 0 + total (λ x. cond (same_element profile q x) 1 0) ps) e in
+          let a : count_of profile q (items (p ∷ ps)) ≡ p.1 * 1 + total (λ x. cond (same_element profile q x) 1 0) ps =
+          all ∙ ap (λ b. p.1 * cond b 1 0 + total (λ x. cond (same_element profile q x) 1 0) ps) e in
           omega (arith, o, a, rest, tail)
       split false e one rest all tail =
           let o : count_of profile q (items (with_more es (normal profile p.0) p.1)) ≡ count_of profile q (items es) + 0 = rw e at one in
-          let a : count_of profile q (items (p ∷ ps)) ≡ p.1 * 0 + total (λ x. cond (same_element profile q x) 1 0) ps = all ∙ ap (λ b. p.1 * cond b 1 0 + total (λ x. cond (same_element profile q x) 1 0) ps) e in
+          let a : count_of profile q (items (p ∷ ps)) ≡ p.1 * 0 + total (λ x. cond (same_element profile q x) 1 0) ps =
+          all ∙ ap (λ b. p.1 * cond b 1 0 + total (λ x. cond (same_element profile q x) 1 0) ps) e in
           omega (arith, o, a, rest, tail)
 
 -- the same cells are there
 kept-there : (profile : Profile) (name : List ℕ) (ms : List Cell) → is_some (elements_of name (expanded (kept_cells profile ms))) ≡ is_some (elements_of name (expanded ms))
 kept-there profile name [] = refl
 kept-there profile name (m ∷ ms) =
-    elim (pointwise ◌==◌ name m.0) as (λ b. is_some (cond b (Some (items (kept profile [] m.1))) (elements_of name (expanded (kept_cells profile ms)))) ≡ is_some (cond b (Some (items m.1)) (elements_of name (expanded ms)))) [ true ↦ refl | false ↦ kept-there profile name ms ]
+    elim (pointwise ◌==◌ name m.0) as (λ b. is_some (cond b (Some (items (kept profile [] m.1))) (elements_of name (expanded (kept_cells profile ms))))
+    ≡ is_some (cond b (Some (items m.1)) (elements_of name (expanded ms)))) [ true ↦ refl | false ↦ kept-there profile name ms ]
 
 -- with the same counts
-kept-same : (profile : Profile) (name : List ℕ) (q : Element) (ms : List Cell) → count_of profile q (unwrap_or (elements_of name (expanded (kept_cells profile ms))) []) ≡ count_of profile q (unwrap_or (elements_of name (expanded ms)) [])
+kept-same : (profile : Profile) (name : List ℕ) (q : Element) (ms : List Cell) → count_of profile q (unwrap_or (elements_of name (expanded (kept_cells profile ms))) [])
+    ≡ count_of profile q (unwrap_or (elements_of name (expanded ms)) [])
 kept-same profile name q [] = refl
 kept-same profile name q (m ∷ ms) =
-    elim (pointwise ◌==◌ name m.0) as (λ b. count_of profile q (unwrap_or (cond b (Some (items (kept profile [] m.1))) (elements_of name (expanded (kept_cells profile ms)))) []) ≡ count_of profile q (unwrap_or (cond b (Some (items m.1)) (elements_of name (expanded ms))) [])) [
+    elim (pointwise ◌==◌ name m.0) as (λ b. count_of profile q (unwrap_or (cond b (Some (items (kept profile [] m.1))) (elements_of name (expanded (kept_cells profile ms)))) [])
+    ≡ count_of profile q (unwrap_or (cond b (Some (items m.1)) (elements_of name (expanded ms))) [])) [
       | true ↦ kept-count profile q [] m.1 ∙ zero_first
       | false ↦ kept-same profile name q ms
     ] where
@@ -183,7 +229,8 @@ kept-same profile name q (m ∷ ms) =
 elements_of-lookup : (name : List ℕ) (cs : List Cell) → elements_of name (expanded cs) ≡ option_map items (lookup (pointwise ◌==◌ name) cs)
 elements_of-lookup name [] = refl
 elements_of-lookup name (c ∷ cs) =
-    elim (pointwise ◌==◌ name c.0) as (λ b. cond b (Some (items c.1)) (elements_of name (expanded cs)) ≡ option_map items (cond b (Some c.1) (lookup (pointwise ◌==◌ name) cs))) [ true ↦ refl | false ↦ elements_of-lookup name cs ]
+    elim (pointwise ◌==◌ name c.0) as (λ b. cond b (Some (items c.1)) (elements_of name (expanded cs)) ≡ option_map items (cond b (Some c.1) (lookup (pointwise ◌==◌ name) cs)))
+    [ true ↦ refl | false ↦ elements_of-lookup name cs ]
 
 -- names that are alike are one
 alike : (x y : List ℕ) → pointwise ◌==◌ x y ≡ true → x ≡ y
@@ -205,15 +252,18 @@ sealed-lookup cs ds name p s = found (lookup (pointwise ◌==◌ name) cs) (look
   found : (o r : Option (List (Element × ℕ))) → lookup (pointwise ◌==◌ name) cs ≡ o → lookup (pointwise ◌==◌ name) ds ≡ r → r ≡ o
   found None None e f = refl
   found (Some x) r e f = sym f ∙ lookup-from_Contains nat_list_eq_equiv name x ds late (Contains-permutation cs ds (name, x) p (Contains-from_lookup alike name x cs e))
-  found None (Some y) e f = sym (sym e ∙ lookup-from_Contains nat_list_eq_equiv name y cs early (Contains-permutation ds cs (name, y) (IsPermutation-sym cs ds p) (Contains-from_lookup alike name y ds f)))
+  found None (Some y) e f = sym (sym e ∙ lookup-from_Contains nat_list_eq_equiv name y cs early
+      (Contains-permutation ds cs (name, y) (IsPermutation-sym cs ds p) (Contains-from_lookup alike name y ds f)))
 
 -- a sealed draft of cells is the layout that they mean
-pub sealed-same : (unit : Ratio) (limits : Limits) (profile : Profile) (ms : List Cell) (d l : Contents) → d ≡ with_all (nothing unit limits profile) ms → IsSealed d l → SameLayout profile (meaning_of l) (record { unit = unit; cells = expanded ms })
+pub sealed-same : (unit : Ratio) (limits : Limits) (profile : Profile) (ms : List Cell) (d l : Contents) → d ≡ with_all (nothing unit limits profile) ms → IsSealed d l
+    → SameLayout profile (meaning_of l) (record { unit = unit; cells = expanded ms })
 sealed-same unit limits profile ms d l is sealed =
     let all : d ≡ state unit limits profile (kept_cells profile ms) (0 + cells_weight (expanded ms)) = is ∙ all-is unit limits profile [] ms 0 in
     let cells : d.cells ≡ kept_cells profile ms = ap (λ (v : Contents). v.cells) all in
     let here : (name : List ℕ) → elements_of name (expanded l.cells) ≡ elements_of name (expanded (kept_cells profile ms)) =
-    λ name. elements_of-lookup name l.cells ∙ ap (option_map items) (sealed-lookup d.cells l.cells name sealed.cells sealed.ascending) ∙ sym (elements_of-lookup name d.cells) ∙ ap (λ (cs : List Cell). elements_of name (expanded cs)) cells in
+    λ name. elements_of-lookup name l.cells ∙ ap (option_map items) (sealed-lookup d.cells l.cells name sealed.cells sealed.ascending) ∙ sym (elements_of-lookup name d.cells)
+    ∙ ap (λ (cs : List Cell). elements_of name (expanded cs)) cells in
     record {
       unit = sealed.unit ∙ ap (λ (v : Contents). v.unit) all;
       cells = λ name. ap is_some (here name) ∙ kept-there profile name ms;
@@ -221,7 +271,8 @@ sealed-same unit limits profile ms d l is sealed =
     }
 
 -- what it was given, and under what limits
-pub all_given : (unit : Ratio) (limits : Limits) (profile : Profile) (ms : List Cell) (d : Contents) → d ≡ with_all (nothing unit limits profile) ms → (d.limits ≡ limits) × (d.profile ≡ profile) × (d.spelled ≡ cells_weight (expanded ms))
+pub all_given : (unit : Ratio) (limits : Limits) (profile : Profile) (ms : List Cell) (d : Contents) → d ≡ with_all (nothing unit limits profile) ms → (d.limits ≡ limits) × (d.profile ≡ profile)
+    × (d.spelled ≡ cells_weight (expanded ms))
 all_given unit limits profile ms d is =
     let all : d ≡ state unit limits profile (kept_cells profile ms) (0 + cells_weight (expanded ms)) = is ∙ all-is unit limits profile [] ms 0 in
     let weight : d.spelled ≡ 0 + cells_weight (expanded ms) = ap (λ (v : Contents). v.spelled) all in

@@ -1,5 +1,35 @@
 -- A draft that is being filled, step by step.
-use Rattle.std.proofs.Common.{◌≡◌, ℕ, zero, suc, ◌+◌, ◌*◌, ◌<◌, ◌≤◌, ◌⊎◌, List, [], ◌∷◌, ◌++◌, true, false, Option, None, Some, length, replicate, refl, sym, ◌∙◌, ap, subst, arith, inl, inr, length-append}
+use Rattle.std.proofs.Common.{
+  ◌≡◌,
+  ℕ,
+  zero,
+  suc,
+  ◌+◌,
+  ◌*◌,
+  ◌<◌,
+  ◌≤◌,
+  ◌⊎◌,
+  List,
+  [],
+  ◌∷◌,
+  ◌++◌,
+  true,
+  false,
+  Option,
+  None,
+  Some,
+  length,
+  replicate,
+  refl,
+  sym,
+  ◌∙◌,
+  ap,
+  subst,
+  arith,
+  inl,
+  inr,
+  length-append,
+}
 use Rattle.std.specs.List.{AllByRecursion}
 use Rattle.std.specs.Option.{option_map}
 use Rattle.std.proofs.lemmas.List.{length-replicate}
@@ -50,7 +80,9 @@ meant_inside names strings (TextBy number textlayer texttype x y) e h p = by (na
   by (Some name) h = let same : Text name textlayer texttype x y ≡ e = cc in subst (λ y. fits_grid y ≡ true) same p
 
 -- what is not taken is refused for want of memory, or for its weight
-pub one_refused : (names strings : List (ℕ × List ℕ)) (d : Contents) (x : Drawn) (e : Element) (n : ℕ) (why : Why) → element_by names strings x ≡ Some e → IsFit x → element_count (expanded d.cells) + n ≤ d.limits.elements → ((why ≡ Memory) × (refusal d e n ≡ None)) ⊎ (refusal d e n ≡ Some why) → (why ≡ Memory) ⊎ ((why ≡ TooHeavy) × (d.limits.weight < d.spelled + total weight_of (with_counted (element_by names strings x) n [])))
+pub one_refused : (names strings : List (ℕ × List ℕ)) (d : Contents) (x : Drawn) (e : Element) (n : ℕ) (why : Why) → element_by names strings x ≡ Some e → IsFit x
+    → element_count (expanded d.cells) + n ≤ d.limits.elements → ((why ≡ Memory) × (refusal d e n ≡ None)) ⊎ (refusal d e n ≡ Some why) → (why ≡ Memory)
+    ⊎ ((why ≡ TooHeavy) × (d.limits.weight < d.spelled + total weight_of (with_counted (element_by names strings x) n [])))
 one_refused names strings d x e n why is fit few (inl m) = inl m.0
 one_refused names strings d x e n why is fit few (inr h) =
     let heavy = refused_many d e n why h (meant_points names strings x e is fit.points) (meant_inside names strings x e is fit.inside) few in
@@ -94,18 +126,21 @@ pub record Filling (names strings : List (ℕ × List ℕ)) (initial d : Content
   pub light : d.spelled ≤ d.limits.weight
 
 -- as it begins
-pub filling_begins : (names strings : List (ℕ × List ℕ)) (d : Contents) (i : ℕ) (all : List (Drawn × ℕ)) → i < length d.cells → AllByRecursion (λ p. 0 < p.1) all → AllFit all → element_count (expanded d.cells) + length (items all) ≤ d.limits.elements → d.spelled ≤ d.limits.weight → Filling names strings d d i all all
+pub filling_begins : (names strings : List (ℕ × List ℕ)) (d : Contents) (i : ℕ) (all : List (Drawn × ℕ)) → i < length d.cells → AllByRecursion (λ p. 0 < p.1) all → AllFit all
+    → element_count (expanded d.cells) + length (items all) ≤ d.limits.elements → d.spelled ≤ d.limits.weight → Filling names strings d d i all all
 filling_begins names strings d i all inside positive fit few light = record { fills = refl; weighs = refl; limits = refl; inside = inside; positive = positive; fit = fit; few = few; light = light }
 
 -- after one more
-pub filling_more : (names strings : List (ℕ × List ℕ)) (initial d new : Contents) (i : ℕ) (all rest : List (Drawn × ℕ)) (p : Drawn × ℕ) → Filling names strings initial d i all (p ∷ rest) → new ≡ given d i (with_counted (element_by names strings p.0) p.1 []) → new.spelled ≤ d.limits.weight → Filling names strings initial new i all rest
+pub filling_more : (names strings : List (ℕ × List ℕ)) (initial d new : Contents) (i : ℕ) (all rest : List (Drawn × ℕ)) (p : Drawn × ℕ) → Filling names strings initial d i all (p ∷ rest) → new
+    ≡ given d i (with_counted (element_by names strings p.0) p.1 []) → new.spelled ≤ d.limits.weight → Filling names strings initial new i all rest
 filling_more names strings initial d new i all rest p f is light =
     let o : Option Element = element_by names strings p.0 in
     let es : List (Element × ℕ) = counted_meant names strings rest in
     let spelled : new.spelled ≡ d.spelled + total weight_of (with_counted o p.1 []) = ap (λ (v : Contents). v.spelled) is ∙ spelled-counted o p.1 d i in
     let limits : new.limits ≡ d.limits = ap (λ (v : Contents). v.limits) is ∙ limits-counted o p.1 d i in
     let many : length new.cells ≡ length d.cells = ap (λ (v : Contents). length v.cells) is ∙ length-counted o p.1 d i in
-    let count : element_count (expanded new.cells) ≤ element_count (expanded d.cells) + p.1 = subst (λ (v : Contents). element_count (expanded v.cells) ≤ element_count (expanded d.cells) + p.1) (sym is) (count-counted o p.1 d i f.inside) in
+    let count : element_count (expanded new.cells) ≤ element_count (expanded d.cells) + p.1 =
+    subst (λ (v : Contents). element_count (expanded v.cells) ≤ element_count (expanded d.cells) + p.1) (sym is) (count-counted o p.1 d i f.inside) in
     let most : new.limits.elements ≡ d.limits.elements = ap (λ l. l.elements) limits in
     let heaviest : new.limits.weight ≡ d.limits.weight = ap (λ l. l.weight) limits in
     record {
@@ -120,14 +155,17 @@ filling_more names strings initial d new i all rest p f is light =
     }
 
 -- what is refused on the way
-pub filling_refused : (names strings : List (ℕ × List ℕ)) (initial d : Contents) (i : ℕ) (all rest : List (Drawn × ℕ)) (p : Drawn × ℕ) (why : Why) → Filling names strings initial d i all (p ∷ rest) → (why ≡ Memory) ⊎ ((why ≡ TooHeavy) × (d.limits.weight < d.spelled + total weight_of (with_counted (element_by names strings p.0) p.1 []))) → (why ≡ Memory) ⊎ ((why ≡ TooHeavy) × (initial.limits.weight < initial.spelled + total weight_of (counted_meant names strings all)))
+pub filling_refused : (names strings : List (ℕ × List ℕ)) (initial d : Contents) (i : ℕ) (all rest : List (Drawn × ℕ)) (p : Drawn × ℕ) (why : Why)
+    → Filling names strings initial d i all (p ∷ rest) → (why ≡ Memory) ⊎ ((why ≡ TooHeavy) × (d.limits.weight < d.spelled + total weight_of (with_counted (element_by names strings p.0) p.1 [])))
+    → (why ≡ Memory) ⊎ ((why ≡ TooHeavy) × (initial.limits.weight < initial.spelled + total weight_of (counted_meant names strings all)))
 filling_refused names strings initial d i all rest p why f (inl m) = inl m
 filling_refused names strings initial d i all rest p why f (inr h) =
     let heaviest : d.limits.weight ≡ initial.limits.weight = ap (λ l. l.weight) f.limits in
     inr (h.0, omega (arith, h.1, heaviest, f.weighs, total-counted (element_by names strings p.0) p.1 d i (counted_meant names strings rest)))
 
 -- there is room for one more
-pub filling_room : (names strings : List (ℕ × List ℕ)) (initial d : Contents) (i : ℕ) (all rest : List (Drawn × ℕ)) (p : Drawn × ℕ) → Filling names strings initial d i all (p ∷ rest) → element_count (expanded d.cells) + p.1 ≤ d.limits.elements
+pub filling_room : (names strings : List (ℕ × List ℕ)) (initial d : Contents) (i : ℕ) (all rest : List (Drawn × ℕ)) (p : Drawn × ℕ) → Filling names strings initial d i all (p ∷ rest)
+    → element_count (expanded d.cells) + p.1 ≤ d.limits.elements
 filling_room names strings initial d i all rest p f = omega (arith, f.few, length-append (replicate p.1 p.0) (items rest), length-replicate p.1 p.0)
 
 -- ---- what a filled cell leaves

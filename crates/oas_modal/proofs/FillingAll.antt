@@ -1,5 +1,34 @@
 -- A draft that is being filled with cells, cell by cell.
-use Rattle.std.proofs.Common.{◌≡◌, ℕ, ◌+◌, ◌<◌, ◌≤◌, ◌⊎◌, List, [], ◌∷◌, ◌++◌, Bool, true, false, ◌||◌, Option, None, Some, length, refl, sym, ◌∙◌, ap, subst, arith, inl, inr, length-append, append_assoc}
+use Rattle.std.proofs.Common.{
+  ◌≡◌,
+  ℕ,
+  ◌+◌,
+  ◌<◌,
+  ◌≤◌,
+  ◌⊎◌,
+  List,
+  [],
+  ◌∷◌,
+  ◌++◌,
+  Bool,
+  true,
+  false,
+  ◌||◌,
+  Option,
+  None,
+  Some,
+  length,
+  refl,
+  sym,
+  ◌∙◌,
+  ap,
+  subst,
+  arith,
+  inl,
+  inr,
+  length-append,
+  append_assoc,
+}
 use Rattle.std.specs.List.{AllByRecursion, list_any}
 use Rattle.std.specs.Prelude.{Result, Ok, Err, IfErr, OnOk}
 use Rattle.std.specs.Cmp.Lexicographic.{nat_list_eq_equiv}
@@ -58,7 +87,8 @@ module _ (o : Option (List ℕ)) (es : List (Element × ℕ)) (d : Contents) whe
   grown-all ms = elim o as (λ o. with_all d (with_counted_cell o es ms) ≡ with_all (with_all d (with_counted_cell o es [])) ms) [ None ↦ refl | Some name ↦ refl ]
 
   pub grown-weight : (ms : List (List ℕ × List (Element × ℕ))) → cells_weight (expanded (with_counted_cell o es ms)) ≡ cells_weight (expanded (with_counted_cell o es [])) + cells_weight (expanded ms)
-  grown-weight ms = elim o as (λ o. cells_weight (expanded (with_counted_cell o es ms)) ≡ cells_weight (expanded (with_counted_cell o es [])) + cells_weight (expanded ms)) [ None ↦ omega arith | Some name ↦ omega arith ]
+  grown-weight ms = elim o as (λ o. cells_weight (expanded (with_counted_cell o es ms)) ≡ cells_weight (expanded (with_counted_cell o es [])) + cells_weight (expanded ms))
+      [ None ↦ omega arith | Some name ↦ omega arith ]
 
   pub grown-limits : grown.limits ≡ d.limits
   grown-limits = elim o as (λ o. (with_all d (with_counted_cell o es [])).limits ≡ d.limits) [ None ↦ refl | Some name ↦ given-limits (with_cell d name) (length d.cells) es ]
@@ -112,7 +142,8 @@ pub record Begun (mid : Contents) (place : ℕ) (ps : List (Drawn × ℕ)) : Typ
   pub few : element_count (expanded mid.cells) + length (items ps) ≤ mid.limits.elements
   pub light : mid.spelled ≤ mid.limits.weight
 
-module _ (table strings : List (ℕ × List ℕ)) (d : Contents) (name : List ℕ) (o : Option (List ℕ)) (whole : List (Drawn × ℕ)) (es : List (Element × ℕ)) (ds : List (Drawn × ℕ)) (named : o ≡ Some name) (is : as_drawn es ++ ds ≡ whole) (split : IsSplit es ds) where
+module _ (table strings : List (ℕ × List ℕ)) (d : Contents) (name : List ℕ) (o : Option (List ℕ)) (whole : List (Drawn × ℕ)) (es : List (Element × ℕ)) (ds : List (Drawn × ℕ))
+    (named : o ≡ Some name) (is : as_drawn es ++ ds ≡ whole) (split : IsSplit es ds) where
   abbrev rest : List (Element × ℕ)
   rest = counted_meant table strings ds
 
@@ -127,7 +158,8 @@ module _ (table strings : List (ℕ × List ℕ)) (d : Contents) (name : List �
 
   weighs : cells_weight (expanded (with_counted_cell o all [])) ≡ weight_with name es + total weight_of rest
   weighs =
-      let there : cells_weight (expanded (with_counted_cell o all [])) ≡ cells_weight (expanded ((name, all) ∷ [])) = ap (λ (r : Option (List ℕ)). cells_weight (expanded (with_counted_cell r all []))) named in
+      let there : cells_weight (expanded (with_counted_cell o all [])) ≡ cells_weight (expanded ((name, all) ∷ [])) =
+      ap (λ (r : Option (List ℕ)). cells_weight (expanded (with_counted_cell r all []))) named in
       let parts : total weight_of all ≡ total weight_of (es ++ rest) = ap (total weight_of) meant in
       omega (arith, there, parts, sum_by-items weight_of all, sum_by-items weight_of es, total-append es rest)
 
@@ -140,7 +172,8 @@ module _ (table strings : List (ℕ × List ℕ)) (d : Contents) (name : List �
       ∙ (sym (given-append (with_cell d name) (length d.cells) es rest)
       ∙ (ap (λ (xs : List (Element × ℕ)). given (with_cell d name) (length d.cells) xs) (sym meant) ∙ ap (λ (r : Option (List ℕ)). grown r all d) (sym named)))))
 
-  pub begins : (mid : Contents) (place : ℕ) → plain_refusal d name es ≡ None → place ≡ length d.cells → mid ≡ with_plain d name es → element_count (expanded d.cells) + length (items whole) ≤ d.limits.elements → Begun mid place ds
+  pub begins : (mid : Contents) (place : ℕ) → plain_refusal d name es ≡ None → place ≡ length d.cells → mid ≡ with_plain d name es → element_count (expanded d.cells) + length (items whole)
+      ≤ d.limits.elements → Begun mid place ds
   begins mid place taken at first few =
       let cells : length mid.cells ≡ length (d.cells ++ (name, es) ∷ []) = ap (λ (v : Contents). length v.cells) first in
       let many : element_count (expanded mid.cells) ≡ element_count (expanded (d.cells ++ (name, es) ∷ [])) = ap (λ (v : Contents). element_count (expanded v.cells)) first in
@@ -154,14 +187,16 @@ module _ (table strings : List (ℕ × List ℕ)) (d : Contents) (name : List �
       }
 
   -- why putting the first part is refused
-  pub plain_refused : (why : Why) → IsFresh d o → element_count (expanded d.cells) + length (items whole) ≤ d.limits.elements → ((why ≡ Memory) × (plain_refusal d name es ≡ None)) ⊎ (plain_refusal d name es ≡ Some why) → (why ≡ Memory) ⊎ ((why ≡ TooHeavy) × (d.limits.weight < d.spelled + cells_weight (expanded (with_counted_cell o all []))))
+  pub plain_refused : (why : Why) → IsFresh d o → element_count (expanded d.cells) + length (items whole) ≤ d.limits.elements → ((why ≡ Memory) × (plain_refusal d name es ≡ None))
+      ⊎ (plain_refusal d name es ≡ Some why) → (why ≡ Memory) ⊎ ((why ≡ TooHeavy) × (d.limits.weight < d.spelled + cells_weight (expanded (with_counted_cell o all []))))
   plain_refused why fresh few (inl m) = inl m.0
   plain_refused why fresh few (inr h) =
       let heavy = refused_plain d name es why h (subst (IsFresh d) named fresh) (omega (arith, few, count)) in
       inr (heavy.0, omega (arith, heavy.1, weighs))
 
   -- and why the rest is
-  pub rest_refused : (mid : Contents) (why : Why) → mid ≡ with_plain d name es → (why ≡ Memory) ⊎ ((why ≡ TooHeavy) × (mid.limits.weight < mid.spelled + total weight_of rest)) → (why ≡ Memory) ⊎ ((why ≡ TooHeavy) × (d.limits.weight < d.spelled + cells_weight (expanded (with_counted_cell o all []))))
+  pub rest_refused : (mid : Contents) (why : Why) → mid ≡ with_plain d name es → (why ≡ Memory) ⊎ ((why ≡ TooHeavy) × (mid.limits.weight < mid.spelled + total weight_of rest)) → (why ≡ Memory)
+      ⊎ ((why ≡ TooHeavy) × (d.limits.weight < d.spelled + cells_weight (expanded (with_counted_cell o all []))))
   rest_refused mid why first (inl m) = inl m
   rest_refused mid why first (inr h) =
       let heaviest : mid.limits.weight ≡ d.limits.weight = ap (λ (v : Contents). v.limits.weight) first in
@@ -180,7 +215,8 @@ pub record FillingAll (table strings : List (ℕ × List ℕ)) (initial d : Cont
   pub light : d.spelled ≤ d.limits.weight
   pub apart : has_twice (names d.cells ++ names_held table rest) ≡ false
 
-pub all_begins : (table strings : List (ℕ × List ℕ)) (d : Contents) (all : List Held) → d.cells ≡ [] → has_twice (names_held table all) ≡ false → AllByRecursion (λ h. AllFit h.1) all → drawn_total (drawn_cells all) ≤ d.limits.elements → d.spelled ≤ d.limits.weight → FillingAll table strings d d all all
+pub all_begins : (table strings : List (ℕ × List ℕ)) (d : Contents) (all : List Held) → d.cells ≡ [] → has_twice (names_held table all) ≡ false → AllByRecursion (λ h. AllFit h.1) all
+    → drawn_total (drawn_cells all) ≤ d.limits.elements → d.spelled ≤ d.limits.weight → FillingAll table strings d d all all
 all_begins table strings d all empty apart fit few light =
     let none : element_count (expanded d.cells) ≡ 0 = ap (λ (cs : List (List ℕ × List (Element × ℕ))). element_count (expanded cs)) empty in
     record {
@@ -194,7 +230,8 @@ all_begins table strings d all empty apart fit few light =
     }
 
 -- after one more cell
-pub all_more : (table strings : List (ℕ × List ℕ)) (initial d new : Contents) (all rest : List Held) (h : Held) → FillingAll table strings initial d all (h ∷ rest) → new ≡ grown (cell_by table h.0) (counted_meant table strings h.1) d → new.spelled ≤ d.limits.weight → FillingAll table strings initial new all rest
+pub all_more : (table strings : List (ℕ × List ℕ)) (initial d new : Contents) (all rest : List Held) (h : Held) → FillingAll table strings initial d all (h ∷ rest) → new
+    ≡ grown (cell_by table h.0) (counted_meant table strings h.1) d → new.spelled ≤ d.limits.weight → FillingAll table strings initial new all rest
 all_more table strings initial d new all rest h f is light =
     let o : Option (List ℕ) = cell_by table h.0 in
     let es : List (Element × ℕ) = counted_meant table strings h.1 in
@@ -203,7 +240,8 @@ all_more table strings initial d new all rest h f is light =
     let limits : new.limits ≡ d.limits = ap (λ (v : Contents). v.limits) is ∙ grown-limits o es d in
     let most : new.limits.elements ≡ d.limits.elements = ap (λ l. l.elements) limits in
     let heaviest : new.limits.weight ≡ d.limits.weight = ap (λ l. l.weight) limits in
-    let count : element_count (expanded new.cells) ≤ element_count (expanded d.cells) + length (items es) = subst (λ (v : Contents). element_count (expanded v.cells) ≤ element_count (expanded d.cells) + length (items es)) (sym is) (grown-count o es d) in
+    let count : element_count (expanded new.cells) ≤ element_count (expanded d.cells) + length (items es) =
+    subst (λ (v : Contents). element_count (expanded v.cells) ≤ element_count (expanded d.cells) + length (items es)) (sym is) (grown-count o es d) in
     record {
       fills = ap (λ (v : Contents). with_all v ms) is ∙ sym (grown-all o es d ms) ∙ f.fills;
       weighs = omega (arith, spelled, grown-weight o es d ms, f.weighs);
@@ -215,7 +253,9 @@ all_more table strings initial d new all rest h f is light =
     }
 
 -- what is refused on the way
-pub all_refused : (table strings : List (ℕ × List ℕ)) (initial d : Contents) (all rest : List Held) (h : Held) (why : Why) → FillingAll table strings initial d all (h ∷ rest) → (why ≡ Memory) ⊎ ((why ≡ TooHeavy) × (d.limits.weight < d.spelled + cells_weight (expanded (with_counted_cell (cell_by table h.0) (counted_meant table strings h.1) [])))) → (why ≡ Memory) ⊎ ((why ≡ TooHeavy) × (initial.limits.weight < initial.spelled + cells_weight (expanded (held_meant table strings all))))
+pub all_refused : (table strings : List (ℕ × List ℕ)) (initial d : Contents) (all rest : List Held) (h : Held) (why : Why) → FillingAll table strings initial d all (h ∷ rest) → (why ≡ Memory)
+    ⊎ ((why ≡ TooHeavy) × (d.limits.weight < d.spelled + cells_weight (expanded (with_counted_cell (cell_by table h.0) (counted_meant table strings h.1) [])))) → (why ≡ Memory)
+    ⊎ ((why ≡ TooHeavy) × (initial.limits.weight < initial.spelled + cells_weight (expanded (held_meant table strings all))))
 all_refused table strings initial d all rest h why f (inl m) = inl m
 all_refused table strings initial d all rest h why f (inr r) =
     let heaviest : d.limits.weight ≡ initial.limits.weight = ap (λ l. l.weight) f.limits in
@@ -229,7 +269,8 @@ all_fresh table strings initial d all rest h f = by (cell_by table h.0) f.apart 
   by (Some name) a = is_some-lookup (same_string name) d.cells ∙ once_before (names d.cells) name (names_held table rest) a
 
 -- and there is room for it
-pub all_room : (table strings : List (ℕ × List ℕ)) (initial d : Contents) (all rest : List Held) (h : Held) → FillingAll table strings initial d all (h ∷ rest) → element_count (expanded d.cells) + length (items h.1) ≤ d.limits.elements
+pub all_room : (table strings : List (ℕ × List ℕ)) (initial d : Contents) (all rest : List Held) (h : Held) → FillingAll table strings initial d all (h ∷ rest) → element_count (expanded d.cells)
+    + length (items h.1) ≤ d.limits.elements
 all_room table strings initial d all rest h f = omega (arith, f.few)
 
 -- what holds of an error

@@ -91,6 +91,8 @@ module _ (failed : Option OneRefusal) (p : Parts Held) (t : ReaderState Held) (r
   finish_means l same =
       let means = alike_meanings p.names.named p.strings.named p.limits p.unit p.profile (drawn_cells (cells p)) (cells_drawn elements_at (reverse rs)) alike in
       let there : SameLayout p.profile l (records_mean p.unit rs) =
-      subst (λ (m : Meaning). SameLayout p.profile l m) (meaning_same p.names.named (named cell_names (reverse rs)) p.strings.named (named text_strings (reverse rs)) kept.named.agrees kept.strung.agrees p.unit (cells_drawn elements_at (reverse rs)))
+      subst (λ (m : Meaning). SameLayout p.profile l m)
+      (meaning_same p.names.named (named cell_names (reverse rs)) p.strings.named (named text_strings (reverse rs)) kept.named.agrees kept.strung.agrees p.unit
+      (cells_drawn elements_at (reverse rs)))
       (same_twice p.profile l _ _ same means.same) in
       subst (λ (v : ReaderState Held). SameLayout v.profile l (records_mean v.unit rs)) view there

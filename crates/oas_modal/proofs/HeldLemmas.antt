@@ -56,7 +56,14 @@ with_drawn-inserted ds es d n held is =
 pub IsSplit-empty : (es : List (Element × ℕ)) (ds : List (Drawn × ℕ)) → es ≡ [] → ds ≡ [] → IsSplit es ds
 unfolding IsStrictlySortedBy
 IsSplit-empty es ds e f =
-    subst (λ (xs : List (Element × ℕ)). IsSplit xs ds) (sym e) (record { tally = record { ascending = tt; positive = tt }; first = tt; held = IsHeld-empty ds f; late = subst (λ (xs : List (Drawn × ℕ)). AllByRecursion (λ p. is_early p.0 ≡ false) xs) (sym f) tt })
+    subst (λ (xs : List (Element × ℕ)). IsSplit xs ds) (sym e)
+    (record {
+      tally = record { ascending = tt; positive = tt };
+      first = tt;
+      held = IsHeld-empty ds f;
+      late =
+          subst (λ (xs : List (Drawn × ℕ)). AllByRecursion (λ p. is_early p.0 ≡ false) xs) (sym f) tt;
+    })
 
 -- how often one thing is drawn is no more than how many there are
 pub times_few : (ps : List (Drawn × ℕ)) (d : Drawn) → times_drawn ps d ≤ length (items ps)

@@ -1,5 +1,6 @@
 pub mod HeldLemmas
 pub mod EarlyLemmas
+pub mod NameTables
 pub mod NameLemmas
 pub mod ReferenceLemmas
 pub mod MeaningLemmas
@@ -9,10 +10,14 @@ pub mod FillingAll
 pub mod Twice
 pub mod Alike
 pub mod StoreLemmas
+pub mod CountLemmas
+pub mod WeighLemmas
 pub mod StandingSteps
 pub mod CopyLemmas
 pub mod PlaceLemmas
 pub mod TakeLemmas
 pub mod DrawLemmas
+pub mod JudgedDraws
 pub mod ReaderLemmas
 pub mod FinishLemmas
+pub mod AcceptLemmas

@@ -44,7 +44,8 @@ module _ (names strings : List (ℕ × List ℕ)) where
   cells-expanded [] = refl
   cells-expanded (h ∷ hs) =
       (λ i. with_named (cell_by names h.0) (elements-items h.1 i) (cells-expanded hs i))
-      ∙ elim (cell_by names h.0) as (λ o. with_named o (items (counted_meant names strings h.1)) (expanded (held_meant names strings hs)) ≡ expanded (with_counted_cell o (counted_meant names strings h.1) (held_meant names strings hs))) [ None ↦ refl | Some name ↦ refl ]
+      ∙ elim (cell_by names h.0) as (λ o. with_named o (items (counted_meant names strings h.1)) (expanded (held_meant names strings hs))
+      ≡ expanded (with_counted_cell o (counted_meant names strings h.1) (held_meant names strings hs))) [ None ↦ refl | Some name ↦ refl ]
 
   -- no more elements are meant than are drawn
   pub counted_length : (ps : List (Drawn × ℕ)) → length (items (counted_meant names strings ps)) ≤ length (items ps)
@@ -82,7 +83,8 @@ any-items f (p ∷ ps) h = once p.1 h.0 ∙ ap (λ b. f p.0 || b) (any-items f p
   once (suc n) z = any_many f n p.0 (items ps)
 
 -- what one cell lacks
-pub lacks-is : (names strings : List (ℕ × List ℕ)) (v : Held) (cell : CellRef) (ps : List (Drawn × ℕ)) → ◌≡◌ {A = Held} (cell, ps) v → AllByRecursion (λ p. 0 < p.1) ps → (is_none (cell_by names cell) || list_any (is_unnamed names strings) (keys_of ps)) ≡ cell_lacks names strings (v.0, items v.1)
+pub lacks-is : (names strings : List (ℕ × List ℕ)) (v : Held) (cell : CellRef) (ps : List (Drawn × ℕ)) → ◌≡◌ {A = Held} (cell, ps) v → AllByRecursion (λ p. 0 < p.1) ps
+    → (is_none (cell_by names cell) || list_any (is_unnamed names strings) (keys_of ps)) ≡ cell_lacks names strings (v.0, items v.1)
 lacks-is names strings v cell ps view all =
     ap (λ b. is_none (cell_by names cell) || b) (sym (any-items (is_unnamed names strings) ps all)) ∙ ap (λ (u : Held). cell_lacks names strings (u.0, items u.1)) view
 
@@ -104,12 +106,16 @@ names-is names strings (h ∷ hs) =
 module _ (names strings : List (ℕ × List ℕ)) (limits : Limits) (hs : List Held) where
   -- a number lacks a name
   pub end_unknown : list_any (λ h. cell_lacks names strings (h.0, items h.1)) hs ≡ true → end_reason names strings limits (drawn_cells hs) ≡ Some UnknownReference
-  end_unknown lacks = ap (λ b. cond b (Some UnknownReference) (cond (has_twice (keys_of (cells_meant names strings (drawn_cells hs)))) (Some DuplicateCell) (cond (nat_lt limits.weight (cells_weight (cells_meant names strings (drawn_cells hs)))) (Some TooHeavy) None))) (sym (lacks_drawn names strings hs) ∙ lacks)
+  end_unknown lacks = ap (λ b. cond b (Some UnknownReference)
+      (cond (has_twice (keys_of (cells_meant names strings (drawn_cells hs)))) (Some DuplicateCell)
+      (cond (nat_lt limits.weight (cells_weight (cells_meant names strings (drawn_cells hs)))) (Some TooHeavy) None))) (sym (lacks_drawn names strings hs) ∙ lacks)
 
   -- none lacks one
-  end_known : list_any (λ h. cell_lacks names strings (h.0, items h.1)) hs ≡ false → end_reason names strings limits (drawn_cells hs) ≡ cond (has_twice (names_held names hs)) (Some DuplicateCell) (cond (nat_lt limits.weight (cells_weight (expanded (held_meant names strings hs)))) (Some TooHeavy) None)
+  end_known : list_any (λ h. cell_lacks names strings (h.0, items h.1)) hs ≡ false → end_reason names strings limits (drawn_cells hs)
+      ≡ cond (has_twice (names_held names hs)) (Some DuplicateCell) (cond (nat_lt limits.weight (cells_weight (expanded (held_meant names strings hs)))) (Some TooHeavy) None)
   end_known lacks =
-      ap (λ b. cond b (Some UnknownReference) (cond (has_twice (keys_of (cells_meant names strings (drawn_cells hs)))) (Some DuplicateCell) (cond (nat_lt limits.weight (cells_weight (cells_meant names strings (drawn_cells hs)))) (Some TooHeavy) None))) (sym (lacks_drawn names strings hs) ∙ lacks)
+      ap (λ b. cond b (Some UnknownReference) (cond (has_twice (keys_of (cells_meant names strings (drawn_cells hs)))) (Some DuplicateCell)
+      (cond (nat_lt limits.weight (cells_weight (cells_meant names strings (drawn_cells hs)))) (Some TooHeavy) None))) (sym (lacks_drawn names strings hs) ∙ lacks)
       ∙ (λ i. cond (has_twice (names-is names strings hs i)) (Some DuplicateCell) (cond (nat_lt limits.weight (cells_weight (cells-expanded names strings hs i))) (Some TooHeavy) None))
 
   -- two cells have one name
@@ -117,16 +123,22 @@ module _ (names strings : List (ℕ × List ℕ)) (limits : Limits) (hs : List H
   end_twice lacks twice = end_known lacks ∙ ap (λ b. cond b (Some DuplicateCell) (cond (nat_lt limits.weight (cells_weight (expanded (held_meant names strings hs)))) (Some TooHeavy) None)) twice
 
   -- they weigh too much
-  pub end_heavy : list_any (λ h. cell_lacks names strings (h.0, items h.1)) hs ≡ false → has_twice (names_held names hs) ≡ false → limits.weight < cells_weight (expanded (held_meant names strings hs)) → end_reason names strings limits (drawn_cells hs) ≡ Some TooHeavy
-  end_heavy lacks twice heavy = end_known lacks ∙ ap (λ b. cond b (Some DuplicateCell) (cond (nat_lt limits.weight (cells_weight (expanded (held_meant names strings hs)))) (Some TooHeavy) None)) twice ∙ by (cells_weight (expanded (held_meant names strings hs))) heavy where
-    by : (w : ℕ) → limits.weight < w → cond (nat_lt limits.weight w) (Some TooHeavy) None ≡ Some TooHeavy
-    by w h = grind (arith, nat_tests)
+  pub end_heavy : list_any (λ h. cell_lacks names strings (h.0, items h.1)) hs ≡ false → has_twice (names_held names hs) ≡ false
+      → limits.weight < cells_weight (expanded (held_meant names strings hs)) → end_reason names strings limits (drawn_cells hs) ≡ Some TooHeavy
+  end_heavy lacks twice heavy = end_known lacks
+      ∙ ap (λ b. cond b (Some DuplicateCell) (cond (nat_lt limits.weight (cells_weight (expanded (held_meant names strings hs)))) (Some TooHeavy) None)) twice
+      ∙ by (cells_weight (expanded (held_meant names strings hs))) heavy where
+        by : (w : ℕ) → limits.weight < w → cond (nat_lt limits.weight w) (Some TooHeavy) None ≡ Some TooHeavy
+        by w h = grind (arith, nat_tests)
 
   -- nothing is wrong
-  pub end_none : list_any (λ h. cell_lacks names strings (h.0, items h.1)) hs ≡ false → has_twice (names_held names hs) ≡ false → cells_weight (expanded (held_meant names strings hs)) ≤ limits.weight → end_reason names strings limits (drawn_cells hs) ≡ None
-  end_none lacks twice light = end_known lacks ∙ ap (λ b. cond b (Some DuplicateCell) (cond (nat_lt limits.weight (cells_weight (expanded (held_meant names strings hs)))) (Some TooHeavy) None)) twice ∙ by (cells_weight (expanded (held_meant names strings hs))) light where
-    by : (w : ℕ) → w ≤ limits.weight → ◌≡◌ {A = Option Why} (cond (nat_lt limits.weight w) (Some TooHeavy) None) None
-    by w h = grind (arith, nat_tests)
+  pub end_none : list_any (λ h. cell_lacks names strings (h.0, items h.1)) hs ≡ false → has_twice (names_held names hs) ≡ false → cells_weight (expanded (held_meant names strings hs))
+      ≤ limits.weight → end_reason names strings limits (drawn_cells hs) ≡ None
+  end_none lacks twice light = end_known lacks
+      ∙ ap (λ b. cond b (Some DuplicateCell) (cond (nat_lt limits.weight (cells_weight (expanded (held_meant names strings hs)))) (Some TooHeavy) None)) twice
+      ∙ by (cells_weight (expanded (held_meant names strings hs))) light where
+        by : (w : ℕ) → w ≤ limits.weight → ◌≡◌ {A = Option Why} (cond (nat_lt limits.weight w) (Some TooHeavy) None) None
+        by w h = grind (arith, nat_tests)
 
 -- what a test of an equal thing said
 pub told : {X : Type 0} (f : X → Bool) (x y : X) (r b : Bool) → r ≡ f x → x ≡ y → r ≡ b → f y ≡ b

@@ -1,9 +1,6 @@
--- Tables of names against the records for which they stand.
-use Rattle.std.proofs.Common.{◌≡◌, ◌≢◌, ℕ, ◌+◌, ◌≤◌, List, [], ◌∷◌, ◌++◌, length, refl, sym, ◌∙◌, ap, subst, ◌⊎◌, inl, inr, arith, Bool, true, false, not, cond}
+-- What name records name, and which of them are refused.
+use Rattle.std.proofs.Common.{◌≡◌, ◌≢◌, ℕ, ◌+◌, List, [], ◌∷◌, ◌++◌, refl, sym, ◌∙◌, ap, subst, ◌⊎◌, inl, inr, arith, Bool, true, false, not, cond}
 use Rattle.std.specs.Prelude.{Option, None, Some, unwrap_or, nat_eq}
-use Rattle.std.specs.Ordering.{nat_cmp}
-use Rattle.std.specs.Map.{lookup}
-use Rattle.std.specs.BTreeMap.{insert_entry}
 use Rattle.std.specs.Cmp.Lexicographic.{bytes_decides}
 use Rattle.std.proofs.lemmas.Bool.Decides.{nat_tests}
 use Rattle.oas_num.specs.declared.refusals.Why.{Why}
@@ -12,105 +9,24 @@ use Rattle.oas_record.specs.declared.records.Record.{Record}
 use Rattle.oas_drawing.specs.Reasons.{first_of}
 use Rattle.oas_modal.specs.declared.names.Numbering.{Numbering}
 use Rattle.oas_modal.specs.declared.names.Numbering.TheVariants.{Implicit, Explicit}
-use Rattle.oas_modal.specs.Names.{same_string, numbering_given, numbering_after, numbering_of, counted, next_after, next_number, named_after, named, name_of, is_mixed, is_other, naming_reason, reason_given, name_reason, AllowedNames, Table, no_names, table_reason, with_name, NamesStand}
+use Rattle.oas_modal.specs.Names.{
+  same_string,
+  numbering_given,
+  numbering_after,
+  numbering_of,
+  next_number,
+  named_after,
+  named,
+  name_of,
+  is_mixed,
+  is_other,
+  naming_reason,
+  reason_given,
+  name_reason,
+  AllowedNames,
+}
 use Rattle.oas_modal.specs.Laws.NameLaws.{GivesName, HasNumbering, other_numbering, NumberingIsOfEach, StringIsGiven, NoStringIsGiven, MixedWhere, TwiceWhere}
-
--- ---- one entry more
-
-lookup_step : {S : Type 0} (e : ℕ × S) (es : List (ℕ × S)) (k : ℕ) (v : S) (q : ℕ) → lookup (nat_eq q) (insert_entry nat_cmp es k v) ≡ cond (nat_eq q k) (Some v) (lookup (nat_eq q) es) → lookup (nat_eq q) (insert_entry nat_cmp (e ∷ es) k v) ≡ cond (nat_eq q k) (Some v) (lookup (nat_eq q) (e ∷ es))
-lookup_step e es k v q h = grind (arith, nat_tests)
-
-lookup_insert : {S : Type 0} (es : List (ℕ × S)) (k : ℕ) (v : S) (q : ℕ) → lookup (nat_eq q) (insert_entry nat_cmp es k v) ≡ cond (nat_eq q k) (Some v) (lookup (nat_eq q) es)
-lookup_insert [] k v q = refl
-lookup_insert (e ∷ es) k v q = lookup_step e es k v q (lookup_insert es k v q)
-
-length_step : {S : Type 0} (e : ℕ × S) (es : List (ℕ × S)) (k : ℕ) (v : S) → (lookup (nat_eq k) es ≡ None → length (insert_entry nat_cmp es k v) ≡ length es + 1) → lookup (nat_eq k) (e ∷ es) ≡ None → length (insert_entry nat_cmp (e ∷ es) k v) ≡ length (e ∷ es) + 1
-length_step e es k v h none = grind (arith, nat_tests)
-
-length_insert : {S : Type 0} (es : List (ℕ × S)) (k : ℕ) (v : S) → lookup (nat_eq k) es ≡ None → length (insert_entry nat_cmp es k v) ≡ length es + 1
-length_insert [] k v none = refl
-length_insert (e ∷ es) k v none = length_step e es k v (length_insert es k v) none
-
--- ---- a table after one more record
-
--- what a table has where its records have this numbering, this next number and these names
-record HasNames {S : Type 0} (t : Table S) (numbering : Option Numbering) (next : ℕ) (names : List (ℕ × S)) : Type 0 where
-  numbering_is : t.numbering ≡ numbering
-  agrees : (q : ℕ) → name_of t.named q ≡ name_of names q
-  next_is : numbering ≢ Some Explicit → length t.named ≡ next
-  free : numbering ≢ Some Explicit → (q : ℕ) → next ≤ q → name_of names q ≡ None
-
-not_explicit : (numbering : Option Numbering) → is_mixed numbering Implicit ≡ false → numbering ≢ Some Explicit
-not_explicit None h e = cc
-not_explicit (Some Implicit) h e = cc
-not_explicit (Some Explicit) h e = cc
-
-first_false : (a b : Bool) (w x : Why) → first_of ((a, w) ∷ (b, x) ∷ []) ≡ None → a ≡ false
-first_false false b w x h = refl
-first_false true b w x h = cc
-
-insert_agrees : {S : Type 0} (held names : List (ℕ × S)) (n n' : ℕ) (string : S) (q : ℕ) → n ≡ n' → name_of held q ≡ name_of names q → name_of (insert_entry nat_cmp held n string) q ≡ name_of ((n', string) ∷ names) q
-insert_agrees held names n n' string q e h = lookup_insert held n string q ∙ (ap (λ k. cond (nat_eq q k) (Some string) (name_of held q)) e ∙ ap (λ o. cond (nat_eq q n') (Some string) o) h)
-
-free_more : {S : Type 0} (names : List (ℕ × S)) (next : ℕ) (string : S) (q : ℕ) → next + 1 ≤ q → name_of names q ≡ None → name_of ((next, string) ∷ names) q ≡ None
-free_more names next string q le h = grind (arith, nat_tests)
-
-more_named : {S : Type 0} (same : S → S → Bool) (t : Table S) (numbering : Option Numbering) (next : ℕ) (names : List (ℕ × S)) (string : S) (number : Option ℕ) → HasNames t numbering next names → naming_reason same numbering next names string number ≡ None →
-    HasNames (with_name t (Some (string, number))) (Some (numbering_given number)) (counted number next) ((unwrap_or number next, string) ∷ names)
-more_named same t numbering next names string (Some k) h none =
-    record {
-      numbering_is = refl;
-      agrees = λ q. insert_agrees t.named names k k string q refl (h.agrees q);
-      next_is = λ f. absurd (f refl);
-      free = λ f. absurd (f refl);
-    }
-more_named same t numbering next names string None h none =
-    let implicit : numbering ≢ Some Explicit = not_explicit numbering (first_false _ _ _ _ none) in
-    let at = h.next_is implicit in
-    let few : length (insert_entry nat_cmp t.named (length t.named) string) ≡ length t.named + 1 =
-    length_insert t.named (length t.named) string (h.agrees (length t.named) ∙ h.free implicit (length t.named) (omega (arith, at))) in
-    record {
-      numbering_is = refl;
-      agrees = λ q. insert_agrees t.named names (length t.named) next string q at (h.agrees q);
-      next_is = λ f. few ∙ ap (λ n. n + 1) at;
-      free = λ f q le. free_more names next string q le (h.free implicit q (omega (arith, le)));
-    }
-
-more_given : {S : Type 0} (same : S → S → Bool) (t : Table S) (numbering : Option Numbering) (next : ℕ) (names : List (ℕ × S)) (o : Option (S × Option ℕ)) → HasNames t numbering next names → reason_given same numbering next names o ≡ None →
-    HasNames (with_name t o) (numbering_after o numbering) (next_after o next) (named_after o next names)
-more_given same t numbering next names None h none = h
-more_given same t numbering next names (Some g) h none = more_named same t numbering next names g.0 g.1 h none
-
-pub one_more : {S : Type 0} (same : S → S → Bool) (given : Record → Option (S × Option ℕ)) (t : Table S) (before : List Record) (r : Record) → NamesStand given t before → name_reason same given before r ≡ None → NamesStand given (with_name t (given r)) (r ∷ before)
-one_more same given t before r h none =
-    let had : HasNames t (numbering_of given before) (next_number given before) (named given before) = record { numbering_is = h.numbering; agrees = h.agrees; next_is = h.next; free = h.free } in
-    let has = more_given same t (numbering_of given before) (next_number given before) (named given before) (given r) had none in
-    record { numbering = has.numbering_is; agrees = has.agrees; next = has.next_is; free = has.free }
-
-pub none_stand : {S : Type 0} (given : Record → Option (S × Option ℕ)) → NamesStand given no_names []
-none_stand given = record { numbering = refl; agrees = λ q. refl; next = λ f. refl; free = λ f q le. refl }
-
--- what isn't asked where the first condition holds
-first_or : (a b b' : Bool) (w x : Why) → (a ≡ false → b ≡ b') → first_of ((a, w) ∷ (b, x) ∷ []) ≡ first_of ((a, w) ∷ (b', x) ∷ [])
-first_or true b b' w x f = refl
-first_or false b b' w x f = ap (λ c. first_of ((c, x) ∷ [])) (f refl)
-
-same_naming : {S : Type 0} (same : S → S → Bool) (t : Table S) (numbering : Option Numbering) (next : ℕ) (names : List (ℕ × S)) (string : S) (number : Option ℕ) → HasNames t numbering next names →
-    naming_reason same numbering (length t.named) t.named string number ≡ naming_reason same numbering next names string number
-same_naming same t numbering next names string (Some k) h = first_or (is_mixed numbering Explicit) _ _ _ _ (λ f. ap (λ o. is_other same o string) (h.agrees k))
-same_naming same t numbering next names string None h =
-    first_or (is_mixed numbering Implicit) _ _ _ _ (λ f. ap (λ o. is_other same o string) (h.agrees (length t.named) ∙ ap (name_of names) (h.next_is (not_explicit numbering f))))
-
-same_given : {S : Type 0} (same : S → S → Bool) (t : Table S) (numbering : Option Numbering) (next : ℕ) (names : List (ℕ × S)) (o : Option (S × Option ℕ)) → HasNames t numbering next names →
-    reason_given same numbering (length t.named) t.named o ≡ reason_given same numbering next names o
-same_given same t numbering next names None h = refl
-same_given same t numbering next names (Some g) h = same_naming same t numbering next names g.0 g.1 h
-
-pub same_reason : {S : Type 0} (same : S → S → Bool) (given : Record → Option (S × Option ℕ)) (t : Table S) (before : List Record) (r : Record) → NamesStand given t before → table_reason same t (given r) ≡ name_reason same given before r
-same_reason same given t before r h =
-    let had : HasNames t (numbering_of given before) (next_number given before) (named given before) = record { numbering_is = h.numbering; agrees = h.agrees; next_is = h.next; free = h.free } in
-    ap (λ numbering. reason_given same numbering (length t.named) t.named (given r)) h.numbering ∙
-    same_given same t (numbering_of given before) (next_number given before) (named given before) (given r) had
+use Rattle.oas_modal.proofs.NameTables.{first_false}
 
 -- ---- what the records name
 
@@ -122,7 +38,17 @@ is_same Explicit Implicit h = cc
 is_same Explicit Explicit h = refl
 
 numbering_past : (given : Record → Option (List ℕ × Option ℕ)) (r : Record) (rs : List Record) (numbering : Numbering) → HasNumbering given rs numbering → HasNumbering given (r ∷ rs) numbering
-numbering_past given r rs numbering h = record { after = r ∷ h.after; by = h.by; before = h.before; string = h.string; said = h.said; split = ap (λ xs. r ∷ xs) h.split; gave = h.gave; numbering_is = h.numbering_is }
+numbering_past given r rs numbering h = record {
+  after = r ∷ h.after;
+  by = h.by;
+  before = h.before;
+  string = h.string;
+  said = h.said;
+  split = ap (λ xs. r ∷ xs) h.split;
+  gave =
+      h.gave;
+  numbering_is = h.numbering_is;
+}
 
 pub numbering_found : (given : Record → Option (List ℕ × Option ℕ)) (rs : List Record) (numbering : Numbering) → numbering_of given rs ≡ Some numbering → HasNumbering given rs numbering
 numbering_found given [] numbering h = cc
@@ -132,13 +58,15 @@ numbering_found given (r ∷ rs) numbering h =
       | Some g ↦ λ e k. record { after = []; by = r; before = rs; string = g.0; said = g.1; split = refl; gave = e; numbering_is = (cc) }
     ] refl h
 
-numbering_stays : (o : Option (List ℕ × Option ℕ)) (had : Option Numbering) (numbering : Numbering) (next : ℕ) (names : List (ℕ × List ℕ)) → had ≡ Some numbering → reason_given same_string had next names o ≡ None → numbering_after o had ≡ Some numbering
+numbering_stays : (o : Option (List ℕ × Option ℕ)) (had : Option Numbering) (numbering : Numbering) (next : ℕ) (names : List (ℕ × List ℕ)) → had ≡ Some numbering
+    → reason_given same_string had next names o ≡ None → numbering_after o had ≡ Some numbering
 numbering_stays None had numbering next names e none = e
 numbering_stays (Some g) had numbering next names e none =
     let one : is_mixed had (numbering_given g.1) ≡ false = first_false _ _ _ _ none in
     ap (λ f. Some f) (is_same numbering (numbering_given g.1) (subst (λ (x : Option Numbering). is_mixed x (numbering_given g.1) ≡ false) e one))
 
-numbering_at : (given : Record → Option (List ℕ × Option ℕ)) (rs : List Record) (numbering : Numbering) (after : List Record) (by : Record) (before : List Record) (string : List ℕ) (said : Option ℕ) → AllowedNames same_string given rs →
+numbering_at : (given : Record → Option (List ℕ × Option ℕ)) (rs : List Record) (numbering : Numbering) (after : List Record) (by : Record) (before : List Record) (string : List ℕ)
+    (said : Option ℕ) → AllowedNames same_string given rs →
     rs ≡ after ++ by ∷ before → given by ≡ Some (string, said) → numbering_given said ≡ numbering → numbering_of given rs ≡ Some numbering
 numbering_at given [] numbering [] by before string said allowed split gave is = cc
 numbering_at given [] numbering (a ∷ after) by before string said allowed split gave is = cc
@@ -149,7 +77,8 @@ numbering_at given (r ∷ rs) numbering (a ∷ after) by before string said allo
     let rest : rs ≡ after ++ by ∷ before = cc in
     numbering_stays (given r) (numbering_of given rs) numbering (next_number given rs) (named given rs) (numbering_at given rs numbering after by before string said allowed.0 rest gave is) allowed.1
 
-numbering_only : (given : Record → Option (List ℕ × Option ℕ)) (rs : List Record) (numbering : Numbering) → AllowedNames same_string given rs → HasNumbering given rs numbering → numbering_of given rs ≡ Some numbering
+numbering_only : (given : Record → Option (List ℕ × Option ℕ)) (rs : List Record) (numbering : Numbering) → AllowedNames same_string given rs → HasNumbering given rs numbering
+    → numbering_of given rs ≡ Some numbering
 numbering_only given rs numbering allowed h = numbering_at given rs numbering h.after h.by h.before h.string h.said allowed h.split h.gave h.numbering_is
 
 pub numbering_of_each : (given : Record → Option (List ℕ × Option ℕ)) → NumberingIsOfEach given
@@ -195,7 +124,8 @@ same_had (Some x) had string e h =
     let yes : same_string x string ≡ true = elim (same_string x string) as (λ b. not b ≡ false → b ≡ true) [ true ↦ λ k. refl | false ↦ λ k. sym k ] h in
     sym ((bytes_decides x string).0 yes) ∙ is
 
-string_stays : (o : Option (List ℕ × Option ℕ)) (numbering : Option Numbering) (next : ℕ) (names : List (ℕ × List ℕ)) (number : ℕ) (string : List ℕ) → name_of names number ≡ Some string → reason_given same_string numbering next names o ≡ None → name_of (named_after o next names) number ≡ Some string
+string_stays : (o : Option (List ℕ × Option ℕ)) (numbering : Option Numbering) (next : ℕ) (names : List (ℕ × List ℕ)) (number : ℕ) (string : List ℕ) → name_of names number ≡ Some string
+    → reason_given same_string numbering next names o ≡ None → name_of (named_after o next names) number ≡ Some string
 string_stays None numbering next names number string h none = h
 string_stays (Some g) numbering next names number string h none =
     let two : is_other same_string (name_of names (unwrap_or g.1 next)) g.0 ≡ false =
@@ -205,7 +135,8 @@ string_stays (Some g) numbering next names number string h none =
       | false ↦ λ e. h
     ] refl
 
-string_at : (given : Record → Option (List ℕ × Option ℕ)) (rs : List Record) (number : ℕ) (string : List ℕ) (after : List Record) (by : Record) (before : List Record) (said : Option ℕ) → AllowedNames same_string given rs →
+string_at : (given : Record → Option (List ℕ × Option ℕ)) (rs : List Record) (number : ℕ) (string : List ℕ) (after : List Record) (by : Record) (before : List Record) (said : Option ℕ)
+    → AllowedNames same_string given rs →
     rs ≡ after ++ by ∷ before → given by ≡ Some (string, said) → number ≡ unwrap_or said (next_number given before) → name_of (named given rs) number ≡ Some string
 string_at given [] number string [] by before said allowed split gave is = cc
 string_at given [] number string (a ∷ after) by before said allowed split gave is = cc
@@ -218,7 +149,8 @@ string_at given (r ∷ rs) number string (a ∷ after) by before said allowed sp
     let rest : rs ≡ after ++ by ∷ before = cc in
     string_stays (given r) (numbering_of given rs) (next_number given rs) (named given rs) number string (string_at given rs number string after by before said allowed.0 rest gave is) allowed.1
 
-string_only : (given : Record → Option (List ℕ × Option ℕ)) (rs : List Record) (number : ℕ) (string : List ℕ) → AllowedNames same_string given rs → GivesName given rs number string → name_of (named given rs) number ≡ Some string
+string_only : (given : Record → Option (List ℕ × Option ℕ)) (rs : List Record) (number : ℕ) (string : List ℕ) → AllowedNames same_string given rs → GivesName given rs number string
+    → name_of (named given rs) number ≡ Some string
 string_only given rs number string allowed h = string_at given rs number string h.after h.by h.before h.said allowed h.split h.gave h.number_is
 
 pub string_is_given : (given : Record → Option (List ℕ × Option ℕ)) → StringIsGiven given
@@ -290,7 +222,8 @@ no_other : (numbering : Option Numbering) (f : Numbering) → is_mixed numbering
 no_other numbering f h e = let yes = ap (λ (x : Option Numbering). is_mixed x f) e ∙ is_mixed-other f in cc
 
 -- the reason of a record that gives this
-reason_is : (given : Record → Option (List ℕ × Option ℕ)) (before : List Record) (r : Record) (string : List ℕ) (number : Option ℕ) → given r ≡ Some (string, number) → name_reason same_string given before r ≡ naming_reason same_string (numbering_of given before) (next_number given before) (named given before) string number
+reason_is : (given : Record → Option (List ℕ × Option ℕ)) (before : List Record) (r : Record) (string : List ℕ) (number : Option ℕ) → given r ≡ Some (string, number)
+    → name_reason same_string given before r ≡ naming_reason same_string (numbering_of given before) (next_number given before) (named given before) string number
 reason_is given before r string number e = ap (λ o. reason_given same_string (numbering_of given before) (next_number given before) (named given before) o) e
 
 pub mixed_where : (given : Record → Option (List ℕ × Option ℕ)) → MixedWhere given
@@ -299,7 +232,8 @@ mixed_where given before r string number allowed e =
       λ h. numbering_found given before (other_numbering (numbering_given number)) (mixed_is (numbering_of given before) (numbering_given number) (mixed_true _ _ (sym is ∙ h))),
       λ h. is ∙
           ap (λ b. first_of ((b, MixedNumbering) ∷ (is_other same_string (name_of (named given before) (unwrap_or number (next_number given before))) string, NumberTwice) ∷ []))
-          (ap (λ (x : Option Numbering). is_mixed x (numbering_given number)) (numbering_only given before (other_numbering (numbering_given number)) allowed h) ∙ is_mixed-other (numbering_given number)),
+          (ap (λ (x : Option Numbering). is_mixed x (numbering_given number)) (numbering_only given before (other_numbering (numbering_given number)) allowed h)
+          ∙ is_mixed-other (numbering_given number)),
     )
 
 -- what another string is
@@ -326,7 +260,8 @@ twice_where given before r string number allowed e =
     let m = unwrap_or number (next_number given before) in (
       λ h.
           let other = other_had (name_of (named given before) m) string (twice_second _ _ (sym is ∙ h)) in (
-            λ numbering. no_other (numbering_of given before) (numbering_given number) (twice_first _ _ (sym is ∙ h)) (numbering_only given before (other_numbering (numbering_given number)) allowed numbering),
+            λ numbering. no_other (numbering_of given before) (numbering_given number) (twice_first _ _ (sym is ∙ h))
+                (numbering_only given before (other_numbering (numbering_given number)) allowed numbering),
             (other.0, string_found given before m other.0 other.1, other.2),
           ),
       λ h. is ∙
@@ -344,7 +279,9 @@ pub allowed_front : (given : Record → Option (List ℕ × Option ℕ)) (later 
 allowed_front given [] before allowed = allowed
 allowed_front given (r ∷ later) before allowed = allowed_front given later before allowed.0
 
-pub names_stay : (given : Record → Option (List ℕ × Option ℕ)) (later before : List Record) (number : ℕ) (string : List ℕ) → AllowedNames same_string given (later ++ before) → name_of (named given before) number ≡ Some string → name_of (named given (later ++ before)) number ≡ Some string
+pub names_stay : (given : Record → Option (List ℕ × Option ℕ)) (later before : List Record) (number : ℕ) (string : List ℕ) → AllowedNames same_string given (later ++ before)
+    → name_of (named given before) number ≡ Some string → name_of (named given (later ++ before)) number ≡ Some string
 names_stay given [] before number string allowed h = h
 names_stay given (r ∷ later) before number string allowed h =
-    string_stays (given r) (numbering_of given (later ++ before)) (next_number given (later ++ before)) (named given (later ++ before)) number string (names_stay given later before number string allowed.0 h) allowed.1
+    string_stays (given r) (numbering_of given (later ++ before)) (next_number given (later ++ before)) (named given (later ++ before)) number string
+    (names_stay given later before number string allowed.0 h) allowed.1

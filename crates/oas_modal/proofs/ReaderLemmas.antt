@@ -17,7 +17,7 @@ use Rattle.oas_modal.specs.Standing.{Standing, took, reason, MayWant, drawn_afte
 use Rattle.oas_modal.specs.Stores.{Store, HoldCells}
 use Rattle.oas_modal.specs.Stands.{seen, refused_after, refusal, ReaderState, StandsFor}
 use Rattle.oas_modal.specs.Parts.{standing, cells, reason_of, Took}
-use Rattle.oas_modal.proofs.NameLemmas.{same_reason, one_more}
+use Rattle.oas_modal.proofs.NameTables.{same_reason, one_more}
 use Rattle.oas_modal.proofs.StandingSteps.{seen_step}
 
 -- ---- what is drawn
@@ -39,7 +39,8 @@ drawn_more before (record_of.Circle p) = refl
 
 -- ---- names
 
-cells_allowed : (limits : Limits) (N S : Record → Option Why) (s : Standing) (before : List Record) (r : Record) → ((x : Record) → N x ≡ name_reason same_string cell_names before x) → reason limits N S s r ≡ None → name_reason same_string cell_names before r ≡ None
+cells_allowed : (limits : Limits) (N S : Record → Option Why) (s : Standing) (before : List Record) (r : Record) → ((x : Record) → N x ≡ name_reason same_string cell_names before x)
+    → reason limits N S s r ≡ None → name_reason same_string cell_names before r ≡ None
 cells_allowed limits N S s before (record_of.CellName name number) n h = sym (n (record_of.CellName name number)) ∙ h
 cells_allowed limits N S s before record_of.Pad n h = refl
 cells_allowed limits N S s before record_of.End n h = refl
@@ -54,7 +55,8 @@ cells_allowed limits N S s before (record_of.Polygon p) n h = refl
 cells_allowed limits N S s before (record_of.Path p) n h = refl
 cells_allowed limits N S s before (record_of.Circle p) n h = refl
 
-strings_allowed : (limits : Limits) (N S : Record → Option Why) (s : Standing) (before : List Record) (r : Record) → ((x : Record) → S x ≡ name_reason same_string text_strings before x) → reason limits N S s r ≡ None → name_reason same_string text_strings before r ≡ None
+strings_allowed : (limits : Limits) (N S : Record → Option Why) (s : Standing) (before : List Record) (r : Record) → ((x : Record) → S x ≡ name_reason same_string text_strings before x)
+    → reason limits N S s r ≡ None → name_reason same_string text_strings before r ≡ None
 strings_allowed limits N S s before (record_of.TextString label number) n h = sym (n (record_of.TextString label number)) ∙ h
 strings_allowed limits N S s before record_of.Pad n h = refl
 strings_allowed limits N S s before record_of.End n h = refl
@@ -96,10 +98,14 @@ module _ {S : Type 0} (t : Store S) where
         at = there;
         named =
             subst (λ (n : Table (List ℕ)). NamesStand cell_names n (r ∷ before)) (sym took_one.names)
-            (one_more same_string cell_names p.names before r k.named (cells_allowed p.limits (λ x. table_reason same_string p.names (cell_names x)) (λ x. table_reason same_string p.strings (text_strings x)) (standing p) before r (λ x. same_reason same_string cell_names p.names before x k.named) none));
+            (one_more same_string cell_names p.names before r k.named
+            (cells_allowed p.limits (λ x. table_reason same_string p.names (cell_names x)) (λ x. table_reason same_string p.strings (text_strings x)) (standing p) before r
+            (λ x. same_reason same_string cell_names p.names before x k.named) none));
         strung =
             subst (λ (n : Table (List ℕ)). NamesStand text_strings n (r ∷ before)) (sym took_one.strings)
-            (one_more same_string text_strings p.strings before r k.strung (strings_allowed p.limits (λ x. table_reason same_string p.names (cell_names x)) (λ x. table_reason same_string p.strings (text_strings x)) (standing p) before r (λ x. same_reason same_string text_strings p.strings before x k.strung) none));
+            (one_more same_string text_strings p.strings before r k.strung
+            (strings_allowed p.limits (λ x. table_reason same_string p.names (cell_names x)) (λ x. table_reason same_string p.strings (text_strings x)) (standing p) before r
+            (λ x. same_reason same_string text_strings p.strings before x k.strung) none));
         holds = subst (λ (ds : List DrawnCell). HoldCells t (cells q) ds) drawn (took_one.cells (cells_drawn elements_at before) k.holds);
       }
 
@@ -108,7 +114,8 @@ module _ {S : Type 0} (t : Store S) where
       let g : StandsFor t (seen_as failed p) rs = subst (λ (v : ReaderState S). StandsFor t v rs) (sym view) h in
       record { at = g.standing; named = g.names; strung = g.strings; holds = g.cells }
 
-  pub take_ok : (failed : Option OneRefusal) (p q : Parts S) (s : ReaderState S) (rs : List Record) (r : Record) → ◌≡◌ {A = ReaderState S} (seen_as failed p) s → StandsFor t s rs → reason_of p r ≡ None → Took t p r q → (refusal s.limits rs r ≡ None) × StandsFor t (seen_as failed q) (rs ++ r ∷ [])
+  pub take_ok : (failed : Option OneRefusal) (p q : Parts S) (s : ReaderState S) (rs : List Record) (r : Record) → ◌≡◌ {A = ReaderState S} (seen_as failed p) s → StandsFor t s rs → reason_of p r
+      ≡ None → Took t p r q → (refusal s.limits rs r ≡ None) × StandsFor t (seen_as failed q) (rs ++ r ∷ [])
   take_ok failed p q s rs r view h none took_one =
       let k : KeptFor t p (reverse rs) = kept_of failed p s rs view h in
       let back : r ∷ reverse rs ≡ reverse (rs ++ r ∷ []) = sym (reverse-append rs (r ∷ [])) in
@@ -117,7 +124,8 @@ module _ {S : Type 0} (t : Store S) where
         record { sound = ap (λ (v : ReaderState S). v.failed) view ∙ h.sound; standing = more.at; names = more.named; strings = more.strung; cells = more.holds },
       )
 
-  pub take_err : (failed : Option OneRefusal) (p : Parts S) (s : ReaderState S) (rs : List Record) (r : Record) (why : Why) → ◌≡◌ {A = ReaderState S} (seen_as failed p) s → StandsFor t s rs → ((why ≡ Memory) × MayWant (reason_of p r)) ⊎ (reason_of p r ≡ Some why) → ((why ≡ Memory) × MayWant (refusal s.limits rs r)) ⊎ (refusal s.limits rs r ≡ Some why)
+  pub take_err : (failed : Option OneRefusal) (p : Parts S) (s : ReaderState S) (rs : List Record) (r : Record) (why : Why) → ◌≡◌ {A = ReaderState S} (seen_as failed p) s → StandsFor t s rs
+      → ((why ≡ Memory) × MayWant (reason_of p r)) ⊎ (reason_of p r ≡ Some why) → ((why ≡ Memory) × MayWant (refusal s.limits rs r)) ⊎ (refusal s.limits rs r ≡ Some why)
   take_err failed p s rs r why view h refused =
       let judged : reason_of p r ≡ refusal s.limits rs r = judged_as p (reverse rs) r (kept_of failed p s rs view h) ∙ ap (λ (v : ReaderState S). refusal v.limits rs r) view in
       subst (λ (o : Option Why). ((why ≡ Memory) × MayWant o) ⊎ (o ≡ Some why)) judged refused

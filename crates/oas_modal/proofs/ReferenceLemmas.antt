@@ -36,7 +36,8 @@ none_is (Some x) h = cc
 used_past : (used : Record → Option ℕ) (r : Record) (rs : List Record) (number : ℕ) → IsUsed used rs number → IsUsed used (r ∷ rs) number
 used_past used r rs number h = record { after = r ∷ h.after; by = h.by; before = h.before; split = ap (λ xs. r ∷ xs) h.split; gave = h.gave }
 
-used_here : (used : Record → Option ℕ) (names : List (ℕ × List ℕ)) (r : Record) (rs : List Record) (o : Option ℕ) → used r ≡ o → is_unknown names o ≡ true → (number : ℕ) × IsUsed used (r ∷ rs) number × (name_of names number ≡ None)
+used_here : (used : Record → Option ℕ) (names : List (ℕ × List ℕ)) (r : Record) (rs : List Record) (o : Option ℕ) → used r ≡ o → is_unknown names o ≡ true → (number : ℕ)
+    × IsUsed used (r ∷ rs) number × (name_of names number ≡ None)
 used_here used names r rs None e h = cc
 used_here used names r rs (Some number) e h = (number, record { after = []; by = r; before = rs; split = refl; gave = e }, none_is (name_of names number) h)
 
@@ -48,7 +49,8 @@ used_found used names (r ∷ rs) h =
       | inr w ↦ let found = used_found used names rs w in (found.0, used_past used r rs found.0 found.1, found.2)
     ]
 
-used_at : (used : Record → Option ℕ) (names : List (ℕ × List ℕ)) (rs : List Record) (number : ℕ) (after : List Record) (by : Record) (before : List Record) → rs ≡ after ++ by ∷ before → used by ≡ Some number → name_of names number ≡ None → uses_unknown used names rs ≡ true
+used_at : (used : Record → Option ℕ) (names : List (ℕ × List ℕ)) (rs : List Record) (number : ℕ) (after : List Record) (by : Record) (before : List Record) → rs ≡ after ++ by ∷ before → used by
+    ≡ Some number → name_of names number ≡ None → uses_unknown used names rs ≡ true
 used_at used names [] number [] by before split gave none = cc
 used_at used names [] number (a ∷ after) by before split gave none = cc
 used_at used names (r ∷ rs) number [] by before split gave none =
@@ -80,7 +82,8 @@ same_uses : (used : Record → Option ℕ) (names names' : List (ℕ × List ℕ
 same_uses used names names' [] h = refl
 same_uses used names names' (r ∷ rs) h = ap (λ b. b || uses_unknown used names rs) (same_unknown names names' (used r) h) ∙ ap (λ b. is_unknown names' (used r) || b) (same_uses used names names' rs h)
 
-pub lacks_tables : (cells strings : Table (List ℕ)) (rs : List Record) → NamesStand cell_names cells rs → NamesStand text_strings strings rs → uses_unknown cell_used cells.named rs || uses_unknown string_used strings.named rs ≡ lacks_name rs
+pub lacks_tables : (cells strings : Table (List ℕ)) (rs : List Record) → NamesStand cell_names cells rs → NamesStand text_strings strings rs
+    → uses_unknown cell_used cells.named rs || uses_unknown string_used strings.named rs ≡ lacks_name rs
 lacks_tables cells strings rs c s =
     ap (λ b. b || uses_unknown string_used strings.named rs) (same_uses cell_used cells.named (named cell_names rs) rs c.agrees) ∙
     ap (λ b. uses_unknown cell_used (named cell_names rs) rs || b) (same_uses string_used strings.named (named text_strings rs) rs s.agrees)

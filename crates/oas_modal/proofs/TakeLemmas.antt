@@ -75,7 +75,8 @@ module _ {S : Type 0} (t : Store S) where
   }
 
   -- likewise, by what the record is
-  pub took_mode : (relative : Bool) (p : Parts S) (r : Record) (m : ModalState) → r ≡ cond relative record_of.XyRelative record_of.XyAbsolute → m ≡ stepped p.modal (cond relative record_of.XyRelative record_of.XyAbsolute) → Took t p r (record p { modal = m })
+  pub took_mode : (relative : Bool) (p : Parts S) (r : Record) (m : ModalState) → r ≡ cond relative record_of.XyRelative record_of.XyAbsolute → m
+      ≡ stepped p.modal (cond relative record_of.XyRelative record_of.XyAbsolute) → Took t p r (record p { modal = m })
   took_mode true p r m e is = subst (λ (x : Record). Took t p x (record p { modal = m })) (sym e) (took_relative p m is)
   took_mode false p r m e is = subst (λ (x : Record). Took t p x (record p { modal = m })) (sym e) (took_absolute p m is)
 
@@ -83,7 +84,8 @@ module _ {S : Type 0} (t : Store S) where
   ended_cells : (p q : Parts S) → q.cell ≡ None → q.done.items ≡ cells p → cells q ≡ cells p
   ended_cells p q none done = (λ i. done i ++ option_to_list (none i)) ∙ append_none (cells p)
 
-  pub took_name : (p q : Parts S) (name : List ℕ) (number : Option ℕ) (n : Table (List ℕ)) → n ≡ with_name p.names (Some (name, number)) → q ≡ record p { names = n; done = q.done; cell = None } → q.done.items ≡ cells p → Took t p (record_of.CellName name number) q
+  pub took_name : (p q : Parts S) (name : List ℕ) (number : Option ℕ) (n : Table (List ℕ)) → n ≡ with_name p.names (Some (name, number)) → q ≡ record p { names = n; done = q.done; cell = None }
+      → q.done.items ≡ cells p → Took t p (record_of.CellName name number) q
   took_name p q name number n is e done = record {
     file = record { unit = ap (λ (a : Parts S). a.unit) e; limits = ap (λ (a : Parts S). a.limits) e; profile = ap (λ (a : Parts S). a.profile) e };
     standing = ap (λ (a : Parts S). standing a) e ∙ no_more p.modal false p.count p.weight;
@@ -92,7 +94,8 @@ module _ {S : Type 0} (t : Store S) where
     cells = hold_same (cells p) (cells q) (ended_cells p q (ap (λ (a : Parts S). a.cell) e) done);
   }
 
-  pub took_string : (p q : Parts S) (label : List ℕ) (number : Option ℕ) (n : Table (List ℕ)) → n ≡ with_name p.strings (Some (label, number)) → q ≡ record p { strings = n; done = q.done; cell = None } → q.done.items ≡ cells p → Took t p (record_of.TextString label number) q
+  pub took_string : (p q : Parts S) (label : List ℕ) (number : Option ℕ) (n : Table (List ℕ)) → n ≡ with_name p.strings (Some (label, number)) → q
+      ≡ record p { strings = n; done = q.done; cell = None } → q.done.items ≡ cells p → Took t p (record_of.TextString label number) q
   took_string p q label number n is e done = record {
     file = record { unit = ap (λ (a : Parts S). a.unit) e; limits = ap (λ (a : Parts S). a.limits) e; profile = ap (λ (a : Parts S). a.profile) e };
     standing = ap (λ (a : Parts S). standing a) e ∙ no_more p.modal false p.count p.weight;
@@ -105,7 +108,8 @@ module _ {S : Type 0} (t : Store S) where
   abbrev begun_with : Parts S → ModalState → S → ℕ → Parts S
   begun_with a m s w = record a { modal = m; cell = Some s; weight = a.weight + w }
 
-  pub took_cell : (p a : Parts S) (c : CellRef) (m : ModalState) (s : S) (w : ℕ) → a ≡ record p { done = a.done; cell = None } → a.done.items ≡ cells p → m ≡ stepped a.modal (record_of.Cell c) → IsBegun t c s → w ≡ cell_weight c → Took t p (record_of.Cell c) (begun_with a m s w)
+  pub took_cell : (p a : Parts S) (c : CellRef) (m : ModalState) (s : S) (w : ℕ) → a ≡ record p { done = a.done; cell = None } → a.done.items ≡ cells p → m ≡ stepped a.modal (record_of.Cell c)
+      → IsBegun t c s → w ≡ cell_weight c → Took t p (record_of.Cell c) (begun_with a m s w)
   took_cell p a c m s w e done is empty weighs = record {
     file = record { unit = ap (λ (b : Parts S). b.unit) e; limits = ap (λ (b : Parts S). b.limits) e; profile = ap (λ (b : Parts S). b.profile) e };
     standing = (λ i. standing_of (is i) true (((ap (λ (b : Parts S). b.count) e) ∙ none_more p.count) i) ((ap (λ (b : Parts S). b.weight) e) i + weighs i));
@@ -114,7 +118,8 @@ module _ {S : Type 0} (t : Store S) where
     cells = λ ds h. subst (λ (ss : List S). HoldCells t (ss ++ s ∷ []) (ds ++ (c, []) ∷ [])) (sym done) (hold_begun t c s empty (cells p) ds h);
   }
 
-  pub sound_cell : (p a : Parts S) (c : CellRef) (m : ModalState) (s : S) (w : ℕ) → Sound t p → a ≡ record p { done = a.done; cell = None } → a.done.items ≡ cells p → m ≡ stepped a.modal (record_of.Cell c) → IsBegun t c s → p.weight + w ≤ p.limits.weight → Sound t (begun_with a m s w)
+  pub sound_cell : (p a : Parts S) (c : CellRef) (m : ModalState) (s : S) (w : ℕ) → Sound t p → a ≡ record p { done = a.done; cell = None } → a.done.items ≡ cells p → m
+      ≡ stepped a.modal (record_of.Cell c) → IsBegun t c s → p.weight + w ≤ p.limits.weight → Sound t (begun_with a m s w)
   sound_cell p a c m s w before e done is empty light =
       let there : cells (begun_with a m s w) ≡ cells p ++ s ∷ [] = (λ i. done i ++ s ∷ []) in
       record {

@@ -5,6 +5,7 @@ pub mod Meaning
 pub mod Finish
 pub mod Alike
 pub mod Stores
+pub mod Counted
 pub mod Standing
 pub mod Stands
 pub mod Parts

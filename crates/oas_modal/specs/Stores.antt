@@ -45,6 +45,11 @@ HoldCells t [] (d ∷ ds) = ⊥
 HoldCells t (s ∷ ss) [] = ⊥
 HoldCells t (s ∷ ss) (d ∷ ds) = (t.cell s ≡ d.0) × t.Holds s d.1 × HoldCells t ss ds
 
+-- the same cells, in which nothing is drawn
+abbrev pub bare : {S : Type 0} → Store S → List S → List Held
+bare t [] = []
+bare t (s ∷ ss) = (t.cell s, []) ∷ bare t ss
+
 -- what is held of a cell: it stands for all lists in which each thing is drawn as often
 abbrev pub held_store : Store Held
 held_store = record {

@@ -15,7 +15,7 @@ use oas_num::Why;
 use std::alloc::Global;
 
 /// What it weighs as long as numbers have no names.
-fn weight_so_far(drawn: &Drawn) -> u64
+pub(crate) fn weight_so_far(drawn: &Drawn) -> u64
     ensures { result ≡ weight_so_far drawn.now }
 {
     match drawn {

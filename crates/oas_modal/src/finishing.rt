@@ -9,10 +9,12 @@ ghost use Rattle.oas_layout.specs.Meaning.{SameLayout};
 ghost use Rattle.oas_layout.specs.Contents.{meaning_of};
 ghost use Rattle.oas_modal.specs.Meaning.{is_unnamed, cell_lacks, has_twice, meaning_by, end_reason};
 ghost use Rattle.oas_modal.specs.Finish.{drawn_cells, IsWithinLimits, names_held};
+ghost use Rattle.oas_modal.specs.Stores.{bare};
 
 use crate::held::HeldCell;
 use crate::names::{NameTable, cell_meant};
 use crate::putting::put_all;
+use crate::stores::CellStore;
 use oas_drawing::Drawn;
 use oas_layout::{Draft, Layout, Limits, Profile};
 use oas_num::{Fraction, Label, Name, Why};
@@ -95,13 +97,17 @@ fn lacks_name(cells: &[HeldCell], names: &NameTable<Name>, strings: &NameTable<L
 }
 
 /// Whether two cells have one name. The set is ordered, so that no choice of names makes it slow.
-fn names_twice(alloc: Global, cells: &[HeldCell], names: &NameTable<Name>) -> Result<bool, Why>
-    ensures twice { IfOk result (λ b. b ≡ has_twice (names_held names.now.named cells.now)) }
+pub(crate) fn names_twice<S: CellStore>(
+    alloc: Global,
+    cells: &[S],
+    names: &NameTable<Name>,
+) -> Result<bool, Why>
+    ensures twice { IfOk result (λ b. b ≡ has_twice (names_held names.now.named (bare S.store cells.now))) }
     ensures err { IfErr result (λ why. why ≡ Memory) }
 {
     let mut seen = BTreeSet::new(alloc);
     for cell in cells {
-        if let Some(name) = cell_meant(names, &cell.cell) {
+        if let Some(name) = cell_meant(names, cell.cell()) {
             if !seen.insert(name)? {
                 return Ok(true);
             }

@@ -107,6 +107,10 @@ impl CellStore for HeldCell {
         HeldCell::new(alloc, cell)
     }
 
+    fn cell(&self) -> &CellRef {
+        &self.cell
+    }
+
     fn draw(&mut self, drawn: Drawn, times: u64) -> Result<(), AllocError> {
         if let Err(_) = self.add(drawn, times) {
             return Err(AllocError);

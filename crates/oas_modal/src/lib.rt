@@ -6,16 +6,14 @@
 //! - [`HeldCell`] holds a CELL's reference and what its records draw, equal things once beside their count: the ascending
 //!   list of both (specs/Held.antt). Placements, texts and rectangles that have their names are held as the layout will hold
 //!   them, and aren't searched for again. A refused growth changes nothing.
-//! - A [`NameTable`] is the numbers that the name records of one class, CELLNAME or TEXTSTRING, give to strings. It refuses
+//! - Of the numbers that the name records of one class, CELLNAME or TEXTSTRING, give to strings a table is kept. It refuses
 //!   a record exactly where, and by the first reason that, `table_reason` (specs/Names.antt) says, and for want of memory
 //!   only where it says none; a refusal changes nothing. What it holds afterwards is `with_name` of what it held before.
-//! - It stands for a list of records (`NamesStand`) if it has their form, and names each number as they do. [`name_laws`]
+//! - The table stands for a list of records (`NamesStand`) if it has their form, and names each number as they do. [`name_laws`]
 //!   says that it then refuses what the records refuse, and that it stands for one record more once that is taken.
-//! - [`cell_meant`] and [`string_meant`] answer what a reference means by a table (`cell_by`, `string_by`,
-//!   specs/References.antt); None is a number that no record names.
-//! - [`finish`] makes a layout of what is held by the tables of the whole file, and it is the same as what the cells mean
-//!   (`meaning_by`, specs/Meaning.antt). It refuses exactly where, and by the first reason that, `end_reason` says, or else
-//!   for want of memory.
+//! - At END a layout is made of what is held, by the tables of the whole file, and it is the same as what the cells mean
+//!   (`meaning_by`, specs/Meaning.antt). It is refused exactly where, and by the first reason that, `end_reason` says, or
+//!   else for want of memory.
 //! - [`laws`] says, over the definitions alone, that more of what is drawn adds to its count alone, and that cells mean the
 //!   same in which each thing is drawn as often.
 //! - A [`CellStore`] collects what the records of one CELL draw. It says of itself of which CELL it is, how many elements were
@@ -27,11 +25,16 @@
 //!   refusal is answered again from then on. The `finish` of one with held cells gives a layout that is the same as what the
 //!   records mean (`records_mean`), or refuses by `end_refusal`, or else for want of memory. [`reader_laws`]: one more record
 //!   changes where it stands by itself alone, and what held cells stand for.
+//! - A [`CountedCell`] is a store that keeps no element: only counts, weights, and how often each number is used
+//!   (specs/Counted.antt). The `finish_counting` of a reader with such cells accepts exactly the records that END doesn't refuse,
+//!   and refuses others by `end_refusal`, or for want of memory.
 //!
 //! The modal variables, and what a record draws by them, are those of `oas_drawing`.
 #![tactic(auto)]
 
+mod accepting;
 mod copying;
+mod counted;
 mod finishing;
 mod held;
 pub mod laws;
@@ -44,8 +47,8 @@ pub mod reader_laws;
 mod stores;
 mod taking;
 
-pub use finishing::finish;
+pub use counted::CountedCell;
 pub use held::HeldCell;
-pub use names::{NameTable, Numbering, cell_meant, string_meant};
+pub use names::Numbering;
 pub use reader::Reader;
 pub use stores::CellStore;

@@ -4,10 +4,10 @@ ghost use Rattle.std.specs.Prelude.{◌≡◌, ◌⊎◌, length, unwrap_or, Som
 ghost use Rattle.std.specs.Option.{option_copied};
 ghost use Rattle.oas_num.specs.declared.refusals.Why.TheVariants.{Memory};
 ghost use Rattle.oas_modal.specs.Names.{numbering_given, is_mixed, name_of, is_other, no_names, table_reason, with_name};
-ghost use Rattle.oas_modal.specs.References.{cell_by, string_by};
+ghost use Rattle.oas_modal.specs.References.{cell_by};
 
-use oas_num::{Label, Name, Why};
-use oas_record::{CellRef, TextRef};
+use oas_num::{Name, Why};
+use oas_record::CellRef;
 use std::alloc::Global;
 use std::collections::BTreeMap;
 use std::marker::Model;
@@ -137,15 +137,5 @@ pub fn cell_meant<'a>(names: &'a NameTable<Name>, cell: &'a CellRef) -> Option<&
     match cell {
         CellRef::Number(number) => names.get(*number),
         CellRef::Name(name) => Some(name),
-    }
-}
-
-/// The text string that is meant, by the table of the whole file; None where it is a number that no record names.
-pub fn string_meant<'a>(names: &'a NameTable<Label>, text: &'a TextRef) -> Option<&'a Label>
-    ensures { option_copied result ≡ string_by names.now.named text.now }
-{
-    match text {
-        TextRef::Number(number) => names.get(*number),
-        TextRef::Label(label) => Some(label),
     }
 }

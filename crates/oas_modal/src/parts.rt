@@ -13,6 +13,7 @@ ghost use Rattle.oas_modal.specs.Stores.{held_store};
 use crate::finishing::finish;
 use crate::held::HeldCell;
 use crate::names::NameTable;
+use crate::stores::CellStore;
 use oas_drawing::ModalVariables;
 use oas_layout::{Layout, Limits, Profile};
 use oas_num::{Fraction, Label, Name, Why};
@@ -62,7 +63,7 @@ pub(crate) fn layout_of(parts: Parts<HeldCell>) -> Result<Layout, Why>
 }
 
 /// The open cell, if there is one, with those before it.
-fn all_cells(done: Vec<HeldCell>, cell: Option<HeldCell>) -> Result<Vec<HeldCell>, Why>
+pub(crate) fn all_cells<S: CellStore>(done: Vec<S>, cell: Option<S>) -> Result<Vec<S>, Why>
     ensures { IfOk result (λ cells. cells.items ≡ done.items ++ option_to_list cell) }
 {
     let mut cells = done;

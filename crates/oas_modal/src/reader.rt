@@ -7,9 +7,12 @@ ghost use Rattle.oas_record.specs.declared.records.Record.{Record as OneRecord};
 ghost use Rattle.oas_modal.specs.Standing.{MayWant};
 ghost use Rattle.oas_modal.specs.Stands.{StandsFor, refusal, records_mean, end_refusal};
 ghost use Rattle.oas_modal.specs.Stores.{held_store};
+ghost use Rattle.oas_modal.specs.Counted.{counted_store};
 ghost use Rattle.oas_layout.specs.Meaning.{SameLayout};
 ghost use Rattle.oas_layout.specs.Contents.{meaning_of};
 
+use crate::accepting::accept_end;
+use crate::counted::CountedCell;
 use crate::held::HeldCell;
 use crate::names::NameTable;
 use crate::parts::{Parts, layout_of};
@@ -112,6 +115,25 @@ impl Reader<HeldCell> {
         match layout_of(parts) {
             Ok(layout) => Ok(layout),
             Err(why) => Err(Refusal { at, why }),
+        }
+    }
+}
+
+impl Reader<CountedCell> {
+    /// Accepts the records that were taken; END starts at byte `at`. They are refused where, and for the reason for which,
+    /// `finish` refuses them, or by `Memory`; and after a refusal by the same one.
+    pub fn finish_counting(self, at: u64) -> Result<(), Refusal>
+        ensures again { (e : OneRefusal) → self.failed ≡ Some e → result ≡ Err e }
+        ensures accepted { (rs : List OneRecord) → StandsFor counted_store self rs → OnOk result (end_refusal self.limits rs ≡ None) }
+        ensures refused { (rs : List OneRecord) → StandsFor counted_store self rs → IfErr result (λ e. (e.at ≡ at) × ((e.why ≡ Memory) ⊎ (end_refusal self.limits rs ≡ Some e.why))) }
+    {
+        let Reader { failed, parts } = self;
+        if let Some(refusal) = failed {
+            return Err(refusal);
+        }
+        match accept_end(parts) {
+            Ok(()) => Ok(()),
+            Err(why) => Err(Refusal { why, at }),
         }
     }
 }

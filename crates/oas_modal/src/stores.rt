@@ -17,6 +17,10 @@ pub trait CellStore: Sized + Drop {
     fn begin(alloc: Global, cell: CellRef) -> Self
         ensures { IsBegun store cell result };
 
+    /// The CELL that it is of.
+    fn cell(&self) -> &CellRef
+        ensures { result.now ≡ store.cell self.now };
+
     /// Draws something that lies within the grid so many times more. Where memory is refused nothing is drawn.
     fn draw(&mut self, drawn: Drawn, times: u64) -> Result<(), AllocError>
         requires some { 0 < times }

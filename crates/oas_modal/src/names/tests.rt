@@ -3,9 +3,9 @@
 mod layouts;
 pub(crate) mod memory;
 
-use crate::{NameTable, cell_meant, string_meant};
-use oas_num::{Label, Name, SliceSource, Spelled, Why};
-use oas_record::{CellRef, TextRef};
+use crate::names::{NameTable, cell_meant};
+use oas_num::{Name, SliceSource, Spelled, Why};
+use oas_record::CellRef;
 use std::alloc::{AllocError, Global};
 use std::process::Abort;
 use std::test::Fail;
@@ -21,11 +21,6 @@ fn spelled(alloc: Global, text: &str) -> Result<Vec<u8>, AllocError> {
 pub(crate) fn name(alloc: Global, text: &str) -> Result<Name, Fail> {
     let bytes = spelled(alloc, text)?;
     Ok(Name::read(alloc, &mut SliceSource::new(&bytes, 1000))?)
-}
-
-fn label(alloc: Global, text: &str) -> Result<Label, Fail> {
-    let bytes = spelled(alloc, text)?;
-    Ok(Label::read(alloc, &mut SliceSource::new(&bytes, 1000))?)
 }
 
 /// Whether the number has exactly this name, or none where none is wanted.
@@ -76,11 +71,5 @@ fn references_mean_names(rt: HostRuntime) -> Result<(), Fail> {
     assert!(rt; cell_meant(&names, &CellRef::Number(0)) == Some(&name(alloc, "A")?));
     assert!(rt; cell_meant(&names, &CellRef::Number(1)).is_none());
     assert!(rt; cell_meant(&names, &by_name) == Some(&name(alloc, "B")?));
-    let mut strings = NameTable::new(alloc);
-    strings.name(label(alloc, "")?, Some(7))?;
-    let itself = TextRef::Label(label(alloc, "a b")?);
-    assert!(rt; string_meant(&strings, &TextRef::Number(7)) == Some(&label(alloc, "")?));
-    assert!(rt; string_meant(&strings, &TextRef::Number(0)).is_none());
-    assert!(rt; string_meant(&strings, &itself) == Some(&label(alloc, "a b")?));
     Ok(())
 }

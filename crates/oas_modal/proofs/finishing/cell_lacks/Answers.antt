@@ -14,4 +14,5 @@ returns-else-is_none c =
     let named : is_none (cell_by c.args.names.now.named c.cell.inside.cell) ≡ false = search rules in
     c.any_unnamed.ensures ∙ (sym (none_lacks c.args.names.now.named c.args.strings.now.named c.cell.inside.early c.cell.inside.others.entries)
     ∙ (ap (λ b. b || list_any (is_unnamed c.args.names.now.named c.args.strings.now.named) (keys_of (as_drawn c.cell.inside.early ++ c.cell.inside.others.entries))) (sym named)
-    ∙ lacks-is c.args.names.now.named c.args.strings.now.named c.args.cell.now c.cell.inside.cell (as_drawn c.cell.inside.early ++ c.cell.inside.others.entries) c.cell.view_is (both_positive c.cell.inside.early c.cell.inside.others.entries c.cell.invariant)))
+    ∙ lacks-is c.args.names.now.named c.args.strings.now.named c.args.cell.now c.cell.inside.cell (as_drawn c.cell.inside.early ++ c.cell.inside.others.entries) c.cell.view_is
+    (both_positive c.cell.inside.early c.cell.inside.others.entries c.cell.invariant)))

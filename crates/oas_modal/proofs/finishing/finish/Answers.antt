@@ -13,6 +13,7 @@ use Rattle.oas_modal.specs.Held.{Held}
 use Rattle.oas_modal.specs.Meaning.{cell_lacks, has_twice, end_reason}
 use Rattle.oas_modal.specs.Finish.{drawn_cells, names_held, held_meant, with_all}
 use Rattle.oas_modal.proofs.MeaningLemmas.{told, end_unknown, end_twice, end_heavy, end_none, cells-expanded}
+use Rattle.oas_modal.proofs.Twice.{bare_names}
 use Rattle.oas_modal.proofs.FillLemmas.{all_given, sealed-same}
 use Rattle.oas_modal.proofs.finishing.finish.Goals as goal
 
@@ -31,19 +32,19 @@ returns-then-lacks_name-clause-why c =
 pub returns-then-branch-clause-why : goal.returns-then-branch-clause-why
 returns-then-branch-clause-why c =
     let lacks = told (list_any (λ h. cell_lacks c.args.names.now.named c.args.strings.now.named (h.0, items h.1))) c.deref.result.now c.args.cells.items c.lacks_name.result false c.lacks_name.ensures c.deref.ensures.value c.if-lacks_name.false in
-    let twice = told (λ hs. has_twice (names_held c.args.names.now.named hs)) c.deref-2.result.now c.args.cells.items c.in_ok-names_twice.field-0 true c.in_ok-names_twice.ensures.twice c.deref-2.ensures.value c.if-branch.true in
+    let twice = told (λ hs. has_twice (names_held c.args.names.now.named hs)) c.deref-2.result.now c.args.cells.items c.in_ok-names_twice.field-0 true (c.in_ok-names_twice.ensures.twice ∙ ap has_twice (bare_names c.args.names.now.named c.deref-2.result.now)) c.deref-2.ensures.value c.if-branch.true in
     inr (end_twice c.args.names.now.named c.args.strings.now.named c.args.limits c.args.cells.items lacks twice)
 
 pub returns-in-Err-clause-why : goal.returns-in-Err-clause-why
 returns-in-Err-clause-why c =
     let lacks = told (list_any (λ h. cell_lacks c.args.names.now.named c.args.strings.now.named (h.0, items h.1))) c.deref.result.now c.args.cells.items c.lacks_name.result false c.lacks_name.ensures c.deref.ensures.value c.if-lacks_name.false in
-    let twice = told (λ hs. has_twice (names_held c.args.names.now.named hs)) c.deref-2.result.now c.args.cells.items c.in_ok-names_twice.field-0 false c.in_ok-names_twice.ensures.twice c.deref-2.ensures.value c.if-branch.false in
+    let twice = told (λ hs. has_twice (names_held c.args.names.now.named hs)) c.deref-2.result.now c.args.cells.items c.in_ok-names_twice.field-0 false (c.in_ok-names_twice.ensures.twice ∙ ap has_twice (bare_names c.args.names.now.named c.deref-2.result.now)) c.deref-2.ensures.value c.if-branch.false in
     refused c.args.names.now.named c.args.strings.now.named c.args.unit c.args.limits c.args.profile c.args.cells.items c.in-Ok.draft c.in-Err.why c.in-Ok.ensures lacks twice c.in-Err.ensures.why
 
 pub returns-clause-ok : goal.returns-clause-ok
 returns-clause-ok c =
     let lacks = told (list_any (λ h. cell_lacks c.args.names.now.named c.args.strings.now.named (h.0, items h.1))) c.deref.result.now c.args.cells.items c.lacks_name.result false c.lacks_name.ensures c.deref.ensures.value c.if-lacks_name.false in
-    let twice = told (λ hs. has_twice (names_held c.args.names.now.named hs)) c.deref-2.result.now c.args.cells.items c.in_ok-names_twice.field-0 false c.in_ok-names_twice.ensures.twice c.deref-2.ensures.value c.if-branch.false in
+    let twice = told (λ hs. has_twice (names_held c.args.names.now.named hs)) c.deref-2.result.now c.args.cells.items c.in_ok-names_twice.field-0 false (c.in_ok-names_twice.ensures.twice ∙ ap has_twice (bare_names c.args.names.now.named c.deref-2.result.now)) c.deref-2.ensures.value c.if-branch.false in
     let given = all_given c.args.unit c.args.limits c.args.profile (held_meant c.args.names.now.named c.args.strings.now.named c.args.cells.items) c.put_all.new.draft (c.in_default-put_all.ensures.ok ∙ ap (λ (v : Contents). with_all v (held_meant c.args.names.now.named c.args.strings.now.named c.args.cells.items)) c.in-Ok.ensures) in
     let heaviest = ap (λ (v : Contents). v.limits.weight) c.in-Ok.ensures in
     end_none c.args.names.now.named c.args.strings.now.named c.args.limits c.args.cells.items lacks twice (omega (arith, given.2, heaviest, c.in_default-put_all.ensures.light))
@@ -60,3 +61,7 @@ returns-clause-limits c =
 pub returns-clause-profile : goal.returns-clause-profile
 returns-clause-profile c =
     c.in-Ok-seal.ensures.profile ∙ (all_given c.args.unit c.args.limits c.args.profile (held_meant c.args.names.now.named c.args.strings.now.named c.args.cells.items) c.put_all.new.draft (c.in_default-put_all.ensures.ok ∙ ap (λ (v : Contents). with_all v (held_meant c.args.names.now.named c.args.strings.now.named c.args.cells.items)) c.in-Ok.ensures)).1
+
+pub put_all-requires-clause-apart : goal.put_all-requires-clause-apart
+put_all-requires-clause-apart c =
+    told (λ hs. has_twice (names_held c.args.names.now.named hs)) c.deref-2.result.now c.args.cells.items c.in_ok-names_twice.field-0 false (c.in_ok-names_twice.ensures.twice ∙ ap has_twice (bare_names c.args.names.now.named c.deref-2.result.now)) c.deref-2.ensures.value c.if-branch.false

@@ -1,5 +1,5 @@
 use Rattle.oas_modal.specs.Names.{same_string}
-use Rattle.oas_modal.proofs.NameLemmas.{same_reason, one_more}
+use Rattle.oas_modal.proofs.NameTables.{same_reason, one_more}
 use Rattle.oas_modal.proofs.name_laws.one_more_record.Goals as goal
 
 pub returns-clause-reason : goal.returns-clause-reason

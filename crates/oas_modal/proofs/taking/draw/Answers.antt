@@ -1,6 +1,7 @@
 use Rattle.std.proofs.Common.{arith, sym, ◌∙◌, inr}
 use Rattle.std.proofs.lemmas.Result.{err_from_is_err_and}
-use Rattle.oas_modal.proofs.DrawLemmas.{InCell, is_passed, refused_number, refused_copy, allowed_draw, took_draw, sound_draw, number_fits, held_room}
+use Rattle.oas_modal.proofs.DrawLemmas.{is_passed}
+use Rattle.oas_modal.proofs.JudgedDraws.{InCell, refused_number, refused_copy, allowed_draw, took_draw, sound_draw, number_fits, held_room}
 use Rattle.oas_modal.proofs.taking.draw.Goals as goal
 
 pub returns-in_err-number-clause-err : goal.returns-in_err-number-clause-err
@@ -32,10 +33,12 @@ hold_copies-requires-clause-light g c =
     omega (arith, fits.1, c.args.parts.now.limits.light)
 
 pub hold_copies-requires-clause-room : goal.hold_copies-requires-clause-room
-hold_copies-requires-clause-room g c = omega (arith, held_room g.S.CellStore.store c.args.parts.now c.in-Some.held c.requires.sound (sym c.take.ensures.value ∙ c.in-Some.is), c.args.parts.now.limits.few)
+hold_copies-requires-clause-room g c = omega
+    (arith, held_room g.S.CellStore.store c.args.parts.now c.in-Some.held c.requires.sound (sym c.take.ensures.value ∙ c.in-Some.is), c.args.parts.now.limits.few)
 
 pub hold_copies-requires-clause-points : goal.hold_copies-requires-clause-points
-hold_copies-requires-clause-points g c = (is_passed c.args.parts.now.limits c.args.parts.now.count c.args.parts.now.weight c.step.new.modal c.args.kind c.repeats-repeated.result c.in_ok-number.ensures.ok.0).points
+hold_copies-requires-clause-points g c = (is_passed c.args.parts.now.limits c.args.parts.now.count c.args.parts.now.weight c.step.new.modal c.args.kind c.repeats-repeated.result
+    c.in_ok-number.ensures.ok.0).points
 
 pub overflow_add-parts : goal.overflow_add-parts
 overflow_add-parts g c =

@@ -1,7 +1,9 @@
 //! Cells by name and by number, and what END refuses, with answers from outside.
 
 use super::name;
-use crate::{HeldCell, NameTable, finish};
+use crate::HeldCell;
+use crate::finishing::finish;
+use crate::names::NameTable;
 use oas_layout::{Layout, Limits, Profile};
 use oas_num::{Fraction, Label, Name, Why};
 use oas_record::CellRef;

@@ -5,7 +5,8 @@
 
 ghost use Rattle.oas_modal.specs.Finish.{IsFit};
 
-use crate::{HeldCell, NameTable};
+use crate::HeldCell;
+use crate::names::NameTable;
 use oas_drawing::Drawn;
 use oas_layout::Element;
 use oas_num::Why;

@@ -17,8 +17,10 @@ add-requires-clause-few c = omega (arith, count_before c.args.self.now c.self.in
 
 pub invariant_of-self-2 : goal.invariant_of-self-2
 invariant_of-self-2 c =
-    split_early c.args.self.now c.self.inside.cell c.self.inside.early c.self.inside.others.entries c.self.view_is c.self.invariant (Named c.args.element) c.args.element c.args.times c.add.new.self refl c.requires.early c.in_default.ensures.ok c.in_default.ensures.tally
+    split_early c.args.self.now c.self.inside.cell c.self.inside.early c.self.inside.others.entries c.self.view_is c.self.invariant (Named c.args.element) c.args.element c.args.times
+    c.add.new.self refl c.requires.early c.in_default.ensures.ok c.in_default.ensures.tally
 
 pub returns-clause-ok : goal.returns-clause-ok
 returns-clause-ok c =
-    more_early c.args.self.now c.self.inside.cell c.self.inside.early c.self.inside.others.entries c.self.view_is c.self.invariant (Named c.args.element) c.args.element c.args.times c.add.new.self refl c.requires.early c.in_default.ensures.ok
+    more_early c.args.self.now c.self.inside.cell c.self.inside.early c.self.inside.others.entries c.self.view_is c.self.invariant (Named c.args.element) c.args.element c.args.times
+    c.add.new.self refl c.requires.early c.in_default.ensures.ok

@@ -13,9 +13,12 @@ count_up-requires c =
 
 pub invariant_of-self-2 : goal.invariant_of-self-2
 invariant_of-self-2 c =
-    split_late c.args.self.now c.self.inside.cell c.self.inside.early c.self.inside.others.entries c.self.view_is c.self.invariant c.args.drawn c.args.times (unwrap_or (get derived_cmp c.self.inside.others c.args.drawn) 0 + c.args.times) _ c.requires.late
-    (IsHeld-insert_entry c.self.inside.others.entries _ c.args.drawn (unwrap_or (get derived_cmp c.self.inside.others c.args.drawn) 0 + c.args.times) c.self.invariant.held (omega arith) c.in_default.ensures.ordered c.in_default.ensures.entries) c.in_default.ensures.entries
+    split_late c.args.self.now c.self.inside.cell c.self.inside.early c.self.inside.others.entries c.self.view_is c.self.invariant c.args.drawn c.args.times
+    (unwrap_or (get derived_cmp c.self.inside.others c.args.drawn) 0 + c.args.times) _ c.requires.late
+    (IsHeld-insert_entry c.self.inside.others.entries _ c.args.drawn (unwrap_or (get derived_cmp c.self.inside.others c.args.drawn) 0 + c.args.times) c.self.invariant.held
+    (omega arith) c.in_default.ensures.ordered c.in_default.ensures.entries) c.in_default.ensures.entries
 
 pub returns-clause-ok : goal.returns-clause-ok
 returns-clause-ok c =
-    more_late c.args.self.now c.self.inside.cell c.self.inside.early c.self.inside.others.entries c.self.view_is c.self.invariant c.args.drawn c.args.times _ c.requires.late (with_drawn-inserted c.self.inside.others.entries _ c.args.drawn c.args.times c.self.invariant.held c.in_default.ensures.entries)
+    more_late c.args.self.now c.self.inside.cell c.self.inside.early c.self.inside.others.entries c.self.view_is c.self.invariant c.args.drawn c.args.times _ c.requires.late
+    (with_drawn-inserted c.self.inside.others.entries _ c.args.drawn c.args.times c.self.invariant.held c.in_default.ensures.entries)

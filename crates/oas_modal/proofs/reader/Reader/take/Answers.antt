@@ -3,7 +3,9 @@ use Rattle.oas_modal.proofs.ReaderLemmas.{take_ok, take_err}
 use Rattle.oas_modal.proofs.reader.Reader.take.Goals as goal
 
 pub returns-in-Ok-clause-taken : goal.returns-in-Ok-clause-taken
-returns-in-Ok-clause-taken g c = λ rs h. take_ok g.S.CellStore.store c.self.inside.failed c.self.inside.parts c.accept.new.parts c.args.self.now rs c.args.next c.self.view_is h c.in-Ok.ensures.reason c.in-Ok.ensures.new
+returns-in-Ok-clause-taken g c = λ rs h. take_ok g.S.CellStore.store c.self.inside.failed c.self.inside.parts c.accept.new.parts c.args.self.now rs c.args.next c.self.view_is h
+    c.in-Ok.ensures.reason c.in-Ok.ensures.new
 
 pub returns-in-Err-clause-refused : goal.returns-in-Err-clause-refused
-returns-in-Err-clause-refused g c = λ rs h. (refl, take_err g.S.CellStore.store c.self.inside.failed c.self.inside.parts c.args.self.now rs c.args.next c.in-Err.why c.self.view_is h c.in-Err.ensures.err)
+returns-in-Err-clause-refused g c = λ rs h.
+    (refl, take_err g.S.CellStore.store c.self.inside.failed c.self.inside.parts c.args.self.now rs c.args.next c.in-Err.why c.self.view_is h c.in-Err.ensures.err)

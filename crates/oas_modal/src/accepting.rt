@@ -1,0 +1,134 @@
+//! What END refuses of cells of which nothing is kept but counts.
+
+ghost use Rattle.std.specs.Prelude.{◌≡◌, ◌⊎◌, List, None, Some, OnOk, IfErr};
+ghost use Rattle.std.specs.List.{AllByRecursion};
+ghost use Rattle.oas_num.specs.declared.refusals.Why.TheVariants.{Memory};
+ghost use Rattle.oas_modal.specs.Meaning.{DrawnCell, end_reason};
+ghost use Rattle.oas_modal.specs.References.{cell_by};
+ghost use Rattle.oas_modal.specs.Stores.{HoldCells};
+ghost use Rattle.oas_modal.specs.Counted.{AllUsed, counted_store, joined, head_weight, names_weight, counted_weight, all_weight};
+ghost use Rattle.oas_modal.specs.Parts.{Sound, cells};
+
+use crate::counted::{CountedCell, UsedNumbers};
+use crate::finishing::names_twice;
+use crate::names::{NameTable, cell_meant};
+use crate::parts::{Parts, all_cells};
+use oas_layout::Limits;
+use oas_num::{Label, Name, Why};
+use oas_record::CellRef;
+use std::alloc::Global;
+
+/// Accepts what is counted: exactly what END doesn't refuse.
+pub(crate) fn accept_end(parts: Parts<CountedCell>) -> Result<(), Why>
+    requires { Sound counted_store parts }
+    ensures ok { (ds : List DrawnCell) → HoldCells counted_store (cells parts) ds → OnOk result (end_reason parts.names.named parts.strings.named parts.limits ds ≡ None) }
+    ensures err { (ds : List DrawnCell) → HoldCells counted_store (cells parts) ds → IfErr result (λ why. (why ≡ Memory) ⊎ (end_reason parts.names.named parts.strings.named parts.limits ds ≡ Some why)) }
+{
+    let Parts {
+        alloc,
+        limits,
+        names,
+        strings,
+        done,
+        cell,
+        ..
+    } = parts;
+    let Ok(cells) = all_cells(done, cell) else {
+        return Err(Why::Memory);
+    };
+    accept_cells(alloc, limits, cells, &names, &strings)
+}
+
+/// Accepts cells by the tables of the whole file, or refuses them as a layout of them would be.
+fn accept_cells(
+    alloc: Global,
+    limits: Limits,
+    cells: Vec<CountedCell>,
+    names: &NameTable<Name>,
+    strings: &NameTable<Label>,
+) -> Result<(), Why>
+    requires { AllByRecursion (λ c. AllUsed c.placed × AllUsed c.written) cells.items }
+    ensures ok { (ds : List DrawnCell) → HoldCells counted_store cells.items ds → OnOk result (end_reason names.now.named strings.now.named limits ds ≡ None) }
+    ensures err { (ds : List DrawnCell) → HoldCells counted_store cells.items ds → IfErr result (λ why. (why ≡ Memory) ⊎ (end_reason names.now.named strings.now.named limits ds ≡ Some why)) }
+{
+    let twice = names_twice(alloc, &cells, names)?;
+    let Some(weight) = all_weight(cells, names, strings) else {
+        return Err(Why::UnknownReference);
+    };
+    if twice {
+        return Err(Why::DuplicateCell);
+    }
+    if weight > limits.weight() {
+        return Err(Why::TooHeavy);
+    }
+    Ok(())
+}
+
+/// What all cells weigh with all names, as far as 64 bits tell it; None where a number has no name.
+fn all_weight(
+    cells: Vec<CountedCell>,
+    names: &NameTable<Name>,
+    strings: &NameTable<Label>,
+) -> Option<u64>
+    ensures { result ≡ all_weight names.now.named strings.now.named cells.items }
+{
+    let mut weight = 0u64;
+    for cell in cells {
+        weight = weight.saturating_add(counted_weight(cell, names, strings)?);
+    }
+    Some(weight)
+}
+
+/// What a cell weighs with all names.
+fn counted_weight(
+    counted: CountedCell,
+    names: &NameTable<Name>,
+    strings: &NameTable<Label>,
+) -> Option<u64>
+    ensures { result ≡ counted_weight names.now.named strings.now.named counted }
+{
+    let CountedCell {
+        cell,
+        weight,
+        placed,
+        written,
+        ..
+    } = counted;
+    let head = head_weight(&cell, names)?;
+    let placed = cells_weight(placed, names)?;
+    let written = strings_weight(written, strings)?;
+    let drawn = weight.saturating_add(placed.saturating_add(written));
+    Some(head.saturating_add(drawn))
+}
+
+/// What a cell weighs without its elements: one and the bytes of its name.
+fn head_weight(cell: &CellRef, names: &NameTable<Name>) -> Option<u64>
+    ensures { result ≡ head_weight (cell_by names.now.named cell.now) }
+{
+    let name = cell_meant(names, cell)?;
+    Some((name.as_bytes().len() as u64).saturating_add(1))
+}
+
+/// The bytes of the names of cells that are placed by number.
+fn cells_weight(used: UsedNumbers, names: &NameTable<Name>) -> Option<u64>
+    ensures { result ≡ names_weight names.now.named used }
+{
+    let mut weight = 0u64;
+    for (number, times) in used.times {
+        let bytes = names.get(number)?.as_bytes().len() as u64;
+        weight = weight.saturating_add(times.saturating_mul(bytes));
+    }
+    Some(weight)
+}
+
+/// The bytes of the text strings that are written by number.
+fn strings_weight(used: UsedNumbers, strings: &NameTable<Label>) -> Option<u64>
+    ensures { result ≡ names_weight strings.now.named used }
+{
+    let mut weight = 0u64;
+    for (number, times) in used.times {
+        let bytes = strings.get(number)?.as_bytes().len() as u64;
+        weight = weight.saturating_add(times.saturating_mul(bytes));
+    }
+    Some(weight)
+}

@@ -1,0 +1,133 @@
+//! What is counted of a CELL, where none of its elements is kept.
+
+ghost use Rattle.std.specs.Prelude.{◌≡◌, ◌+◌, ◌<◌, ◌^◌, [], unwrap_or, OnOk, OnErr};
+ghost use Rattle.std.specs.Map.{lookup};
+ghost use Rattle.std.specs.BTreeMap.{is_at};
+ghost use Rattle.std.specs.Ordering.{nat_cmp};
+ghost use Rattle.oas_layout.specs.Bag.{put_more};
+ghost use Rattle.oas_layout.specs.Laws.BagLaws.{total};
+ghost use Rattle.oas_modal.specs.Counted.{counted_store, placed_more, written_more};
+
+use crate::copying::weight_so_far;
+use crate::stores::CellStore;
+use oas_drawing::Drawn;
+use oas_record::CellRef;
+use std::alloc::{AllocError, Global};
+use std::collections::BTreeMap;
+use std::marker::Model;
+
+/// How often each number is used that stands for a name. The map is ordered, so that no choice of numbers makes it slow.
+#[derive(Drop)]
+pub struct UsedNumbers {
+    pub(crate) times: BTreeMap<u64, u64>,
+}
+
+impl Model for UsedNumbers {
+    ghost use Rattle.std.specs.Prelude.{ℕ, List};
+    ghost use Rattle.std.specs.List.Sorted.{IsStrictlySortedBy};
+    ghost use Rattle.std.specs.Map.{keys_of};
+    ghost use Rattle.std.specs.Ordering.{nat_cmp};
+
+    ghost Value = { List (ℕ × ℕ) };
+
+    ghost view = { λ a. a.times.entries };
+
+    ghost invariant = { λ a. IsStrictlySortedBy nat_cmp (keys_of a.times.entries) };
+}
+
+impl UsedNumbers {
+    /// No numbers.
+    fn new(alloc: Global) -> UsedNumbers
+        ensures { result ≡ [] }
+    {
+        UsedNumbers {
+            times: BTreeMap::new(alloc),
+        }
+    }
+
+    /// Uses a number so many times more. Where memory is refused nothing changes.
+    fn add(&mut self, number: u64, times: u64) -> Result<(), AllocError>
+        requires { total (λ _. 1) self.old + times < 2 ^ 64 }
+        ensures ok { OnOk result (self.new ≡ put_more nat_cmp self.old number times) }
+        ensures err { OnErr result (self.new ≡ self.old) }
+    {
+        let had = self.times_of(number);
+        self.times.insert(number, had + times)?;
+        Ok(())
+    }
+
+    /// How often a number is used.
+    fn times_of(&self, number: u64) -> u64
+        ensures { result ≡ unwrap_or (lookup (is_at (nat_cmp number)) self.now) 0 }
+    {
+        self.times.get(&number).copied().unwrap_or(0)
+    }
+}
+
+/// A CELL, by its name or a number, and of what its records draw just what decides at END whether it is refused: how many
+/// elements there are, what they weigh, and how often each number is used. Its memory is that of the numbers.
+#[derive(Drop)]
+pub struct CountedCell {
+    pub(crate) cell: CellRef,
+    pub(crate) count: u64,
+    /// As long as numbers have no names; at most what 64 bits hold, which is more than any limits allow.
+    pub(crate) weight: u64,
+    /// Of cells, by placements.
+    pub(crate) placed: UsedNumbers,
+    /// Of text strings, by texts.
+    pub(crate) written: UsedNumbers,
+}
+
+impl Model for CountedCell {
+    ghost use Rattle.std.specs.Prelude.{◌≤◌};
+    ghost use Rattle.oas_layout.specs.Laws.BagLaws.{total};
+    ghost use Rattle.oas_modal.specs.Counted.{Counted};
+
+    ghost Value = { Counted };
+
+    ghost view = { λ a. record { cell = a.cell; count = a.count; weight = a.weight; placed = a.placed; written = a.written } };
+
+    ghost invariant = { λ a. (total (λ _. 1) a.placed ≤ a.count) × (total (λ _. 1) a.written ≤ a.count) };
+}
+
+impl CountedCell {
+    /// Counts something that is drawn so many times, and the uses of the number by which it is, if it is.
+    fn count_up(&mut self, drawn: &Drawn, times: u64) -> Result<(), AllocError>
+        requires { self.old.count + times < 2 ^ 64 }
+        ensures ok { OnOk result (self.new ≡ record self.old { count = self.old.count + times; placed = placed_more drawn.now times self.old.placed; written = written_more drawn.now times self.old.written }) }
+        ensures err { OnErr result (self.new ≡ self.old) }
+    {
+        match drawn {
+            Drawn::Named(_) => {}
+            Drawn::PlacementBy { number, .. } => self.placed.add(*number, times)?,
+            Drawn::TextBy { number, .. } => self.written.add(*number, times)?,
+        }
+        self.count += times;
+        Ok(())
+    }
+}
+
+impl CellStore for CountedCell {
+    ghost store = { counted_store };
+
+    fn begin(alloc: Global, cell: CellRef) -> CountedCell {
+        CountedCell {
+            cell,
+            count: 0,
+            weight: 0,
+            placed: UsedNumbers::new(alloc),
+            written: UsedNumbers::new(alloc),
+        }
+    }
+
+    fn cell(&self) -> &CellRef {
+        &self.cell
+    }
+
+    fn draw(&mut self, drawn: Drawn, times: u64) -> Result<(), AllocError> {
+        self.count_up(&drawn, times)?;
+        let weight = weight_so_far(&drawn).saturating_mul(times);
+        self.weight = self.weight.saturating_add(weight);
+        Ok(())
+    }
+}
