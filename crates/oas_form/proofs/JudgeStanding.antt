@@ -28,7 +28,8 @@ use Rattle.oas_form.specs.Judging.{
   JudgeRefuses,
 }
 use Rattle.oas_form.proofs.JudgeRecords.{judge_steps}
-use Rattle.oas_form.proofs.JudgeBytes.{IsDrawing, by_kind, bytes_go_on, kept_bytes}
+use Rattle.oas_form.proofs.JudgeMatches.{IsDrawing, by_kind}
+use Rattle.oas_form.proofs.JudgeBytes.{bytes_go_on, kept_bytes}
 
 pub judge_stands_first : JudgeStandsFirst
 judge_stands_first profile = record { holds_is = (λ t. tt, λ m. refl); name_is = λ t. refl; element_is = λ t. refl }

@@ -13,10 +13,12 @@ pub mod FieldsGiven
 pub mod Forms
 pub mod Held
 pub mod InGrid
+pub mod JudgeMatches
 pub mod JudgeBytes
 pub mod JudgeElements
 pub mod JudgeRecords
 pub mod JudgeStanding
+pub mod ShortFields
 pub mod KindLemmas
 pub mod LargerLimits
 pub mod LayoutForms
