@@ -1,14 +1,10 @@
 /* The names of the statuses. */
 #include "oascanon.h"
 
+/* The reasons stand at their numbers: scripts/library makes reasons.h of their definition in crates/oas_num. */
 static const char *const reasons[] = {
-    "Done",          "Magic",           "Truncated",       "IntegerRange",   "StringByte",
-    "EmptyName",     "FloatReal",       "RealType",        "Unit",           "Version",
-    "OffsetFlag",    "RecordLeftOut",   "UnknownRecord",   "OutOfPlace",     "InfoByte",
-    "ListKind",      "PointCount",      "RepetitionKind",  "ModalUndefined", "Magnification",
-    "Angle",         "MixedNumbering",  "NumberTwice",     "CoordinateRange", "TooManyElements",
-    "TooHeavy",      "UnknownReference", "DuplicateCell",  "EndLength",      "ValidationScheme",
-    "TrailingBytes", "InputTooLong",    "Read",            "Write",          "Memory",
+    [0] = "Done",
+#include "reasons.h"
 };
 
 const char *oascanon_status_name(uint32_t status) {

@@ -1,0 +1,53 @@
+//! The command `diff`: its arguments, and what they ask for.
+
+use crate::usage::{About, pair};
+use clap::{Arg, ArgAction, ArgMatches, Command, Error, value_parser};
+use oas_difference::{Detail, Options};
+use std::alloc::Global;
+
+/// What stands below the help.
+const AFTER_DIFF: &str = "Example:
+  oascanon diff --brief before.oas after.oas
+  oascanon diff --markers changes.lyrdb before.oas after.oas
+
+Status:
+  0  the same layout
+  1  refused (NAME: refused REASON at OFFSET), or a file can't be opened
+  2  the command line isn't understood
+  3  different layouts";
+
+/// `diff A B`
+pub fn diff<'a>(alloc: Global) -> Result<Command<'a>, Error> {
+    let about = About {
+        name: "diff",
+        about: "Lists what one of two files has more often than the other",
+        after: AFTER_DIFF,
+    };
+    let brief = Arg::new(alloc, "brief")
+        .long("brief")
+        .action(ArgAction::SetTrue)
+        .help("Prints for each cell how many elements only one has");
+    let limit = Arg::new(alloc, "limit")
+        .long("limit")
+        .value_name("N")
+        .value_parser(value_parser!(u64))
+        .help("Prints N lines, and a line ... where there are more");
+    let markers = Arg::new(alloc, "markers")
+        .long("markers")
+        .value_name("FILE")
+        .help("Writes the whole difference to FILE too, for KLayout");
+    Ok(pair(alloc, about)?.arg(brief)?.arg(limit)?.arg(markers)?)
+}
+
+/// What these matches ask for.
+pub fn options_of(found: &ArgMatches<'_>) -> Options {
+    let detail = if found.get_flag("brief") {
+        Detail::Counts
+    } else {
+        Detail::Elements
+    };
+    Options {
+        detail,
+        limit: found.get_one::<u64>("limit"),
+    }
+}
