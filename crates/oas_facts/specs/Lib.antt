@@ -1,2 +1,4 @@
+pub mod Facts
 pub mod Groups
+pub mod Names
 pub mod Laws

@@ -1,6 +1,6 @@
 //! A layout of each kind, with numbers that were counted by hand.
 
-use crate::{Group, count_groups};
+use crate::{Group, count_groups, facts_of};
 use oas_layout::{Draft, Element, Layout, Limits, Profile, Turns};
 use oas_num::{Fraction, Label, Name, SliceSource, Spelled};
 use oas_ring::{Point, Points};
@@ -80,5 +80,55 @@ fn each_group(rt: HostRuntime) -> Result<(), Fail> {
     for (group, number) in &expected {
         assert_eq!(rt; numbers.get(group), Some(number));
     }
+    Ok(())
+}
+
+/// Whether the list has just these names, in their order.
+fn are(names: &[Name], expected: &[&[u8]]) -> bool {
+    if names.len() != expected.len() {
+        return false;
+    }
+    for (name, bytes) in names.iter().zip(expected) {
+        if name.as_bytes() != *bytes {
+            return false;
+        }
+    }
+    true
+}
+
+/// Puts a placement of the cell whose name is spelled so.
+fn place(alloc: Global, draft: &mut Draft, cell: usize, spelled: &[u8]) -> Result<(), Fail> {
+    for x in 0..2 {
+        let placed = name(alloc, spelled)?;
+        put(
+            draft,
+            cell,
+            Element::placement(placed, x, 0, Turns::T0, false),
+            3,
+        )?;
+    }
+    Ok(())
+}
+
+#[test]
+fn names_that_are_placed_and_not_defined(rt: HostRuntime) -> Result<(), Fail> {
+    let alloc = rt.alloc();
+    let unit = Fraction::reduced(1000, 1).ok_or("no unit")?;
+    let mut draft = Draft::new(alloc, unit, Limits::standard(), Profile::Two)?;
+    let top = draft.add_cell(name(alloc, b"\x03TOP")?)?;
+    let a = draft.add_cell(name(alloc, b"\x01A")?)?;
+    draft.add_cell(name(alloc, b"\x01B")?)?;
+    place(alloc, &mut draft, top, b"\x01A")?;
+    place(alloc, &mut draft, top, b"\x01Z")?;
+    place(alloc, &mut draft, a, b"\x02ZZ")?;
+    place(alloc, &mut draft, a, b"\x01Z")?;
+    place(alloc, &mut draft, a, b"\x01C")?;
+    let facts = facts_of(alloc, &draft.seal()?)?;
+    assert_eq!(rt; facts.unit, unit);
+    assert_eq!(rt; facts.cells, 3);
+    assert_eq!(rt; facts.elements, 30);
+    assert_eq!(rt; facts.weight, (1 + 3) + (1 + 1) + (1 + 1) + 6 * (4 * 2 + 3));
+    assert!(rt; are(&facts.undefined, &[b"C".as_slice(), b"Z", b"ZZ"]));
+    assert!(rt; are(&facts.unplaced, &[b"B".as_slice(), b"TOP"]));
     Ok(())
 }

@@ -1,0 +1,4 @@
+pub mod Form
+pub mod Info
+pub mod Json
+pub mod Text

@@ -1,0 +1,38 @@
+//! What is told of a layout.
+
+ghost use Rattle.std.specs.Prelude.{◌≡◌, length, IfOk};
+ghost use Rattle.oas_layout.specs.Contents.{meaning_of};
+ghost use Rattle.oas_form.specs.Bytes.{canonical_bytes};
+ghost use Rattle.oas_info.specs.Info.{IsInfo};
+
+use oas_facts::{Facts, facts_of};
+use oas_form::put_canonical;
+use oas_layout::Layout;
+use oas_num::Counter;
+use std::alloc::{AllocError, Global};
+
+/// The facts of a layout, and how many bytes its canonical form has.
+#[derive(Drop)]
+pub struct Info {
+    pub facts: Facts,
+    pub size: u64,
+}
+
+/// How many bytes the canonical form of a layout has.
+fn canonical_size(layout: &Layout) -> u64
+    ensures { result ≡ length (canonical_bytes (meaning_of layout.now)) }
+{
+    put_canonical(layout, &mut Counter::new()).unwrap_or(0)
+}
+
+/// What is told of a layout. It goes over the elements once and over the distinct ones twice, and takes memory for groups and
+/// names.
+pub fn info_of(alloc: Global, layout: &Layout) -> Result<Info, AllocError>
+    ensures { IfOk result (λ info. IsInfo (meaning_of layout.now) info) }
+{
+    let facts = facts_of(alloc, layout)?;
+    Ok(Info {
+        facts,
+        size: canonical_size(layout),
+    })
+}

@@ -1,0 +1,168 @@
+//! The JSON in which a layout's facts are told.
+
+ghost use Rattle.std.specs.Prelude.{◌≡◌, ◌++◌, map, IfOk, OnOk};
+ghost use Rattle.oas_facts.specs.Groups.{number_of};
+ghost use Rattle.serde_json.specs.Data.{string, array};
+ghost use Rattle.serde_json.specs.View.{view, items_of};
+ghost use Rattle.oas_info.specs.Json.{strings, unit_data, kinds_data, layer_data, textlayer_data, as_layer, as_textlayer, layers, textlayers, info_data, info_json};
+
+use crate::info::Info;
+use oas_facts::Group;
+use oas_num::{Fraction, Name};
+use serde_json::{Value, json};
+use std::alloc::{AllocError, Global};
+use std::collections::BTreeMap;
+
+/// A name as a string.
+fn name_value(alloc: Global, name: &Name) -> Result<Value, AllocError>
+    ensures { IfOk result (λ value. view value ≡ string name.now) }
+{
+    Ok(Value::from(String::from_utf8_lossy(alloc, name.as_bytes())?))
+}
+
+/// Names as strings.
+fn names_value(alloc: Global, names: &[Name]) -> Result<Value, AllocError>
+    ensures { IfOk result (λ value. view value ≡ strings names.now) }
+{
+    let mut list = Vec::new(alloc);
+    for name in names {
+        list.push(name_value(alloc, name)?)?;
+    }
+    Ok(Value::Array(list))
+}
+
+/// A unit as its two numbers.
+fn unit_value(alloc: Global, unit: Fraction) -> Result<Value, AllocError>
+    ensures { IfOk result (λ value. view value ≡ unit_data unit) }
+{
+    json!(in alloc; {"num": unit.num(), "den": unit.den()})
+}
+
+/// The number beside a group, or 0.
+fn number_in(groups: &BTreeMap<Group, u64>, group: Group) -> u64
+    ensures { result ≡ number_of groups.now.entries group }
+{
+    groups.get(&group).copied().unwrap_or(0)
+}
+
+/// How many elements of each kind there are.
+fn kinds_value(alloc: Global, groups: &BTreeMap<Group, u64>) -> Result<Value, AllocError>
+    ensures { IfOk result (λ value. view value ≡ kinds_data groups.now.entries) }
+{
+    json!(in alloc; {
+        "placements": number_in(groups, Group::Placements),
+        "texts": number_in(groups, Group::Texts),
+        "rectangles": number_in(groups, Group::Rectangles),
+        "polygons": number_in(groups, Group::Polygons),
+        "paths": number_in(groups, Group::Paths),
+        "circles": number_in(groups, Group::Circles)
+    })
+}
+
+/// How many elements of a layer there are.
+fn layer_value(alloc: Global, layer: u64, datatype: u64, number: u64) -> Result<Value, AllocError>
+    ensures { IfOk result (λ value. view value ≡ layer_data layer datatype number) }
+{
+    json!(in alloc; {"layer": layer, "datatype": datatype, "elements": number})
+}
+
+/// How many texts of a textlayer there are.
+fn textlayer_value(
+    alloc: Global,
+    textlayer: u64,
+    texttype: u64,
+    number: u64,
+) -> Result<Value, AllocError>
+    ensures { IfOk result (λ value. view value ≡ textlayer_data textlayer texttype number) }
+{
+    json!(in alloc; {"textlayer": textlayer, "texttype": texttype, "elements": number})
+}
+
+/// Adds a group that is a layer.
+fn push_layer(
+    alloc: Global,
+    list: &mut Vec<Value>,
+    group: &Group,
+    number: u64,
+) -> Result<(), AllocError>
+    ensures { OnOk result (map view list.new.items ≡ map view list.old.items ++ as_layer group.now number) }
+{
+    match group {
+        Group::Layer { layer, datatype } => {
+            Ok(list.push(layer_value(alloc, *layer, *datatype, number)?)?)
+        }
+        _ => Ok(()),
+    }
+}
+
+/// Adds a group that is a textlayer.
+fn push_textlayer(
+    alloc: Global,
+    list: &mut Vec<Value>,
+    group: &Group,
+    number: u64,
+) -> Result<(), AllocError>
+    ensures { OnOk result (map view list.new.items ≡ map view list.old.items ++ as_textlayer group.now number) }
+{
+    match group {
+        Group::TextLayer {
+            textlayer,
+            texttype,
+        } => Ok(list.push(textlayer_value(alloc, *textlayer, *texttype, number)?)?),
+        _ => Ok(()),
+    }
+}
+
+/// The groups that are layers.
+fn layers_value(alloc: Global, groups: &BTreeMap<Group, u64>) -> Result<Value, AllocError>
+    ensures { IfOk result (λ value. view value ≡ array (items_of (layers groups.now.entries))) }
+{
+    let mut list = Vec::new(alloc);
+    for (group, number) in groups.iter() {
+        push_layer(alloc, &mut list, group, *number)?;
+    }
+    Ok(Value::Array(list))
+}
+
+/// The groups that are textlayers.
+fn textlayers_value(alloc: Global, groups: &BTreeMap<Group, u64>) -> Result<Value, AllocError>
+    ensures { IfOk result (λ value. view value ≡ array (items_of (textlayers groups.now.entries))) }
+{
+    let mut list = Vec::new(alloc);
+    for (group, number) in groups.iter() {
+        push_textlayer(alloc, &mut list, group, *number)?;
+    }
+    Ok(Value::Array(list))
+}
+
+/// What is told of a layout, as an object.
+fn info_value(alloc: Global, info: &Info) -> Result<Value, AllocError>
+    ensures { IfOk result (λ value. view value ≡ info_data info.now) }
+{
+    let facts = &info.facts;
+    let unit = unit_value(alloc, facts.unit)?;
+    let kinds = kinds_value(alloc, &facts.groups)?;
+    let layers = layers_value(alloc, &facts.groups)?;
+    let textlayers = textlayers_value(alloc, &facts.groups)?;
+    let undefined = names_value(alloc, &facts.undefined)?;
+    let unplaced = names_value(alloc, &facts.unplaced)?;
+    json!(in alloc; {
+        "cells": facts.cells,
+        "elements": facts.elements,
+        "kinds": kinds,
+        "layers": layers,
+        "size": info.size,
+        "textlayers": textlayers,
+        "undefined": undefined,
+        "unit": unit,
+        "unplaced": unplaced,
+        "weight": facts.weight
+    })
+}
+
+/// What is told of a layout, as the compact text of a JSON object.
+pub fn json_of(alloc: Global, info: &Info) -> Result<Vec<u8>, AllocError>
+    ensures { IfOk result (λ text. text.items ≡ info_json info.now) }
+{
+    info_value(alloc, info)?.to_vec(alloc)
+}
