@@ -99,7 +99,7 @@ module _ (profile : Profile) (es fs : List (Element × ℕ)) (b : IsBag profile 
   entry_held [] h = tt
   entry_held (x ∷ xs) h = (λ i. change_at x (count_held profile es fs b c es x b h.0 i) (count_held profile es fs b c fs x c h.0 i), entry_held xs h.1)
 
-  changed_held : changed profile (items es) (items fs) ≡ held_changed es fs
+  pub changed_held : changed profile (items es) (items fs) ≡ held_changed es fs
   changed_held =
       let ks = ascending element_cmp (keys_of es ++ keys_of fs) in
       ap (flat_map (λ e. change_at e (count_of profile e (items es)) (count_of profile e (items fs)))) (items_keys element_total es fs b.tally.positive c.tally.positive)

@@ -1,6 +1,6 @@
 //! What has changed in each cell.
 
-ghost use Rattle.std.specs.Prelude.{◌≡◌, true, unwrap_or, option_map, IfSome};
+ghost use Rattle.std.specs.Prelude.{◌≡◌, ◌+◌, ◌<◌, ◌∷◌, [], length, true, unwrap_or, option_map, IfSome, MatchOption};
 ghost use Rattle.std.specs.Ordering.{nat_cmp};
 ghost use Rattle.std.specs.Cmp.Lexicographic.{slice_cmp};
 ghost use Rattle.std.specs.List.Sorted.{IsStrictlySortedBy};
@@ -11,7 +11,7 @@ ghost use Rattle.oas_layout.specs.Bag.{IsTally};
 ghost use Rattle.oas_layout.specs.Contents.{IsLayout};
 ghost use Rattle.oas_layout.specs.Element.{element_cmp};
 ghost use Rattle.oas_difference.specs.Difference.{cell_line, place_line, signed, below_name};
-ghost use Rattle.oas_difference.specs.Pairs.{head_key, least, taken};
+ghost use Rattle.oas_difference.specs.Pairs.{head_key, least, taken, side_by_side};
 ghost use Rattle.oas_difference.specs.Held.{held_by, held_cell, held_changes, held_lines};
 
 use crate::brief::put_brief_cell;
@@ -26,7 +26,7 @@ use std::marker::Model;
 
 /// The cells of a layout from one on, seen as the list of them.
 #[derive(Drop)]
-pub(crate) struct Cells<'a> {
+pub struct Cells<'a> {
     layout: &'a Layout,
     count: usize,
     next: usize,
@@ -45,7 +45,7 @@ impl<'a> Model for Cells<'a> {
 
 impl<'a> Cells<'a> {
     /// All of them.
-    pub(crate) fn new(layout: &'a Layout) -> Cells<'a>
+    pub fn new(layout: &'a Layout) -> Cells<'a>
         ensures cells { result ≡ layout.now.cells }
         ensures layout { IsLayout layout.now }
     {
@@ -100,6 +100,33 @@ fn first_name<'a>(left: Option<&'a Name>, right: Option<&'a Name>) -> Option<&'a
             _ => Some(name),
         },
     }
+}
+
+/// A cell that one of two layouts has, or both: its name, and its elements where it is there.
+#[derive(Drop)]
+pub struct CellPair<'a> {
+    pub name: &'a Name,
+    pub before: Option<Elements<'a>>,
+    pub after: Option<Elements<'a>>,
+}
+
+/// Takes the cell away on both sides whose name is the first, if there is one.
+pub fn next_cell<'a>(before: &mut Cells<'a>, after: &mut Cells<'a>) -> Option<CellPair<'a>>
+    requires before { IsStrictlySortedBy (slice_cmp nat_cmp) (keys_of before.old) }
+    requires after { IsStrictlySortedBy (slice_cmp nat_cmp) (keys_of after.old) }
+    ensures pair { MatchOption result (side_by_side (slice_cmp nat_cmp) before.old after.old ≡ [])
+        (λ p. side_by_side (slice_cmp nat_cmp) before.old after.old ≡ (p.name.now, (p.before, p.after)) ∷ side_by_side (slice_cmp nat_cmp) before.new after.new) }
+    ensures tally { IfSome result (λ p. IfSome p.before IsTally × IfSome p.after IsTally) }
+    ensures fewer { IfSome result (λ _. length before.new + length after.new < length before.old + length after.old) }
+    ensures before { IsStrictlySortedBy (slice_cmp nat_cmp) (keys_of before.new) }
+    ensures after { IsStrictlySortedBy (slice_cmp nat_cmp) (keys_of after.new) }
+{
+    let name = first_name(before.name(), after.name())?;
+    Some(CellPair {
+        name,
+        before: before.take(name),
+        after: after.take(name),
+    })
 }
 
 /// Puts the line of a cell that only one layout has.

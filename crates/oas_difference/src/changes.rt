@@ -18,14 +18,14 @@ use oas_num::{Sink, SinkFault};
 
 /// An element that is not there as often after as before.
 #[derive(Clone, Copy)]
-pub(crate) struct Change<'a> {
-    pub(crate) element: &'a Element,
-    pub(crate) before: u64,
-    pub(crate) after: u64,
+pub struct Change<'a> {
+    pub element: &'a Element,
+    pub before: u64,
+    pub after: u64,
 }
 
 /// Takes elements away on both sides until one is not there as often on both.
-pub(crate) fn next_change<'a>(before: &mut Side<'a>, after: &mut Side<'a>) -> Option<Change<'a>>
+pub fn next_change<'a>(before: &mut Side<'a>, after: &mut Side<'a>) -> Option<Change<'a>>
     requires before { IsStrictlySortedBy element_cmp (keys_of before.old) }
     requires after { IsStrictlySortedBy element_cmp (keys_of after.old) }
     ensures change { MatchOption result (held_changes before.old after.old ≡ [])

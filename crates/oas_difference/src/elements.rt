@@ -12,7 +12,7 @@ use std::marker::Model;
 
 /// The elements of a cell, if there is one, with the first of them in hand; seen as the list of them.
 #[derive(Drop)]
-pub(crate) struct Side<'a> {
+pub struct Side<'a> {
     first: Option<(&'a Element, u64)>,
     rest: Option<Elements<'a>>,
 }
@@ -31,7 +31,7 @@ impl<'a> Model for Side<'a> {
 
 impl<'a> Side<'a> {
     /// All of these elements.
-    pub(crate) fn new(mut elements: Option<Elements<'a>>) -> Side<'a>
+    pub fn new(mut elements: Option<Elements<'a>>) -> Side<'a>
         ensures { result ≡ unwrap_or elements.entry [] }
     {
         let first = next_of(&mut elements);

@@ -18,6 +18,9 @@
 //! oas_num's specs/Written.antt); or it fails, by [`oas_num::Why::Write`], and then it took as many of the first of them as
 //! the refusal's place says (`IsCutOff`). No memory is taken. There is no line exactly if the layouts are the same
 //! ([`laws`]).
+//!
+//! For other texts of a difference [`next_cell`] goes over the cells of two layouts, and [`next_change`] over the elements
+//! that are not as often in both.
 #![tactic(auto)]
 
 mod brief;
@@ -29,6 +32,9 @@ mod limiting;
 mod options;
 mod writing;
 
+pub use cells::{CellPair, Cells, next_cell};
+pub use changes::{Change, next_change};
+pub use elements::Side;
 pub use options::{Detail, Options};
 pub use writing::write_difference;
 

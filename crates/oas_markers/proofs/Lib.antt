@@ -1,0 +1,4 @@
+pub mod NumberLemmas
+pub mod Steps
+pub mod HeldLemmas
+pub mod WrittenLemmas

@@ -1,0 +1,17 @@
+use Rattle.std.proofs.Common.{◌+◌, length}
+use Rattle.std.specs.List.Sorted.{IsStrictlySortedBy}
+use Rattle.std.specs.Map.{keys_of}
+use Rattle.oas_num.proofs.PuttingLemmas.{PutSoFar}
+use Rattle.oas_layout.specs.Element.{element_cmp}
+use Rattle.oas_markers.specs.Held.{change_items}
+use Rattle.oas_markers.proofs.cells.put_changes.Given as goal
+
+abbrev pub invariant-loop-change : goal.invariant-loop-change
+invariant-loop-change g l = record {
+  put : PutSoFar g.K.Sink.given g.K.Sink.failures (change_items l.gone l.come l.name l.fn.before l.fn.after) (change_items l.gone l.come l.name l.before l.after) l.fn.sink l.sink;
+  before : IsStrictlySortedBy element_cmp (keys_of l.before);
+  after : IsStrictlySortedBy element_cmp (keys_of l.after);
+}
+
+abbrev pub decreases-loop-change : goal.decreases-loop-change
+decreases-loop-change g l = length l.before + length l.after

@@ -1,0 +1,20 @@
+use Rattle.std.proofs.Common.{◌≡◌, ◌∙◌, ap, decimal}
+use Rattle.std.proofs.lemmas.Result.{err_from_is_err_and}
+use Rattle.oas_num.proofs.PuttingLemmas.{first, begins, fails_at, ends, ◌▸◌}
+use Rattle.oas_markers.proofs.items.put_cell_entry.Goals as goal
+
+pub returns-in_err-put_all : goal.returns-in_err-put_all
+returns-in_err-put_all g c =
+    let p = err_from_is_err_and c.from_residual.result c.from_residual.ensures.1 in
+    rw p.1 (fails_at _ (begins _ _) c.in_err-put_all.ensures)
+
+pub returns-in_err-put_escaped : goal.returns-in_err-put_escaped
+returns-in_err-put_escaped g c =
+    let p = err_from_is_err_and c.from_residual-in_err-put_escaped.result c.from_residual-in_err-put_escaped.ensures.1 in
+    let name : c.as_bytes.result.now ≡ c.args.name.now = c.as_bytes.ensures.bytes in
+    rw (p.1, ← name) (fails_at _ (first _ c.in_ok-put_all.ensures) c.in_err-put_escaped.ensures)
+
+pub returns : goal.returns
+returns g c =
+    let name : c.as_bytes.result.now ≡ c.args.name.now = c.as_bytes.ensures.bytes in
+    rw (← name) (ends _ _ (first _ c.in_ok-put_all.ensures ▸ c.in_ok-put_escaped.ensures) c.put_all-2.ensures)

@@ -1,0 +1,16 @@
+use Rattle.std.proofs.Common.{SFits, rules, w64}
+use Rattle.std.proofs.lemmas.Int.{to_z-of_z}
+use Rattle.std.proofs.lemmas.Result.{err_from_is_err_and}
+use Rattle.oas_num.proofs.PuttingLemmas.{first, begins, fails_at, ends, ◌▸◌}
+use Rattle.oas_markers.proofs.numbers.put_next.Goals as goal
+
+pub returns-in_err-put : goal.returns-in_err-put
+returns-in_err-put g c =
+    let p = err_from_is_err_and c.from_residual.result c.from_residual.ensures.1 in
+    rw p.1 (fails_at _ (begins _ _) c.in_err-put.ensures)
+
+pub returns : goal.returns
+returns g c =
+    let fx : SFits w64 c.args.point.now.x = search rules in
+    let fy : SFits w64 c.args.point.now.y = search rules in
+    ends _ _ (first _ c.in_ok-put.ensures) (simp to_z-of_z at c.put_place.ensures)

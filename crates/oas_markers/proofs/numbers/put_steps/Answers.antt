@@ -1,0 +1,12 @@
+use Rattle.std.proofs.Common.{◌≡◌, ◌∙◌, ◌*◌, ℕ, ℤ, List, subst, ap, arith, rules, SFits, w64}
+use Rattle.std.specs.Int.{w128}
+use Rattle.std.specs.Prelude.{pos, ◌+ℤ◌}
+use Rattle.std.proofs.lemmas.Int.{to_z-of_z}
+use Rattle.oas_num.specs.Writing.{Writes}
+use Rattle.oas_markers.specs.Numbers.{counted, length_in, microns}
+use Rattle.oas_markers.proofs.NumberLemmas.{length_of, coordinate_of, far_of}
+use Rattle.oas_markers.proofs.numbers.put_steps.Goals as goal
+
+pub returns : goal.returns
+returns g c =
+    subst (λ (bs : List ℕ). Writes g.K.Sink.given g.K.Sink.failures c.args.sink.now bs c.put_length.result c.put_length.new.sink) (ap (length_in c.args.unit) c.from.ensures) c.put_length.ensures

@@ -1,0 +1,5 @@
+use Rattle.oas_num.proofs.PuttingLemmas.{nothing_left, ends}
+use Rattle.oas_markers.proofs.writing.put_and_close.Goals as goal
+
+pub returns-clause-writes : goal.returns-clause-writes
+returns-clause-writes g c = ends _ _ (nothing_left c.in_ok-put_markers.ensures) c.close.ensures.writes

@@ -1,0 +1,6 @@
+pub mod Numbers
+pub mod Texts
+pub mod Shapes
+pub mod Markers
+pub mod Held
+pub mod Written

@@ -1,0 +1,42 @@
+-- Grid steps as microns.
+use Rattle.std.specs.Prelude.{ℕ, ℤ, pos, nat_abs, zero, suc, ◌+◌, ◌*◌, ◌/◌, ◌%◌, ◌-◌, ◌^◌, min, List, [], ◌∷◌, ◌++◌, flat_map, decimal, if◌then◌else◌}
+use Rattle.std.specs.Int.Signed.{lt_z}
+use Rattle.oas_num.specs.Ratio.{Ratio}
+use Rattle.oas_ring.specs.declared.point.Point.{Point}
+
+-- The digits behind the point of rest / den, where rest is below den: by long division, up to the last one that isn't zero,
+-- and at most so many. A finite decimal whose denominator is below 2^64 has no more than 63.
+abbrev pub decimals : ℕ → ℕ → ℕ → List ℕ
+decimals den zero rest = []
+decimals den (suc k) zero = []
+decimals den (suc k) (suc r) = (48 + (10 * suc r) / den) ∷ decimals den k ((10 * suc r) % den)
+
+-- a point before them, if there are any
+abbrev pub pointed : List ℕ → List ℕ
+pointed [] = []
+pointed (d ∷ ds) = 46 ∷ d ∷ ds
+
+-- num / den as a decimal number: exactly if it is a finite one, and else its first 64 digits behind the point
+abbrev pub quotient : ℕ → ℕ → List ℕ
+quotient num den = decimal (num / den) ++ pointed (decimals den 64 (num % den))
+
+-- As far as 64 bits count: every length of a layout is below 2^62.
+abbrev pub counted : ℕ → ℕ
+counted n = min n (2 ^ 64 - 1)
+
+-- a length of so many grid steps, of which there are num / den in a micron
+abbrev pub length_in : Ratio → ℕ → List ℕ
+length_in unit n = quotient (counted n * unit.den) unit.num
+
+-- a coordinate
+abbrev pub microns : Ratio → ℤ → List ℕ
+microns unit z = if lt_z z (pos 0) then 45 ∷ length_in unit (nat_abs z) else length_in unit (nat_abs z)
+
+-- X,Y
+abbrev pub place : Ratio → ℤ → ℤ → List ℕ
+place unit x y = microns unit x ++ (44 ∷ microns unit y)
+
+-- X,Y;X,Y;..
+abbrev pub places : Ratio → List Point → List ℕ
+places unit [] = []
+places unit (p ∷ ps) = place unit p.x p.y ++ flat_map (λ q. 59 ∷ place unit q.x q.y) ps

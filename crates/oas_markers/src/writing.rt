@@ -1,0 +1,71 @@
+//! Writing the markers.
+
+ghost use Rattle.std.specs.Prelude.{◌≡◌, IfErr, IfOk, OnOk};
+ghost use Rattle.oas_num.specs.Outlets.{IsGiven, IsSent, failures_of};
+ghost use Rattle.oas_num.specs.Writing.{Writes};
+ghost use Rattle.oas_layout.specs.Contents.{meaning_of};
+ghost use Rattle.oas_markers.specs.Markers.{markers};
+ghost use Rattle.oas_markers.specs.Written.{IsMarked, IsMarkedUpTo};
+
+use crate::cells::{put_entries, put_items};
+use crate::items::put_head;
+use oas_difference::Cells;
+use oas_layout::Layout;
+use oas_num::{Outlet, Refusal, Sink, SinkFault, Why};
+use std::io::Write;
+
+/// Puts the markers of two layouts.
+fn put_markers<K: Sink>(sink: &mut K, before: &Layout, after: &Layout) -> Result<(), SinkFault>
+    requires { before.now.profile ≡ after.now.profile }
+    ensures { Writes K.given K.failures sink.old (markers before.now.profile (meaning_of before.now) (meaning_of after.now)) result sink.new }
+{
+    let entries_before = Cells::new(before);
+    let entries_after = Cells::new(after);
+    let items_before = Cells::new(before);
+    let items_after = Cells::new(after);
+    let gone = before.unit();
+    let come = after.unit();
+    put_head(sink, gone, come)?;
+    put_entries(sink, entries_before, entries_after)?;
+    sink.put_all(b" </cells>\n <items>\n")?;
+    put_items(sink, gone, come, items_before, items_after)?;
+    sink.put_all(b" </items>\n</report-database>\n")
+}
+
+/// Puts the markers of two layouts into an outlet, and has its writer take all of them.
+fn put_and_close<W: Write>(
+    before: &Layout,
+    after: &Layout,
+    outlet: &mut Outlet<'_, W>,
+) -> Result<(), SinkFault>
+    requires { before.now.profile ≡ after.now.profile }
+    ensures writes { Writes (IsGiven W.contents) failures_of outlet.old (markers before.now.profile (meaning_of before.now) (meaning_of after.now)) result outlet.new }
+    ensures all { OnOk result (IsSent outlet.new) }
+{
+    put_markers(outlet, before, after)?;
+    outlet.close()
+}
+
+/// Writes the markers of two layouts of one profile, and answers how many bytes that is; at `u64::MAX` the count stays. It
+/// takes no memory. Where the layouts are the same there is no item.
+///
+/// A fault of the writer is `Why::Write`, and its place is the number of bytes that the writer took: those are the first
+/// of the markers. Where it is the number of all of them, the flush failed.
+pub fn write_markers<W: Write>(
+    before: &Layout,
+    after: &Layout,
+    writer: &mut W,
+) -> Result<u64, Refusal>
+    requires { before.now.profile ≡ after.now.profile }
+    ensures written { IfOk result (IsMarked W.contents writer.old (markers before.now.profile (meaning_of before.now) (meaning_of after.now)) writer.new) }
+    ensures refused { IfErr result (IsMarkedUpTo W.contents writer.old (markers before.now.profile (meaning_of before.now) (meaning_of after.now)) writer.new) }
+{
+    let mut outlet = Outlet::new(writer);
+    match put_and_close(before, after, &mut outlet) {
+        Ok(()) => Ok(outlet.taken()),
+        Err(_) => Err(Refusal {
+            at: outlet.taken(),
+            why: Why::Write,
+        }),
+    }
+}
