@@ -1,0 +1,63 @@
+//! Lists of names, and names as they are printed.
+
+use crate::listing::Names;
+use crate::opening::Input;
+use crate::printing::Printed;
+use std::alloc::Global;
+use std::fs;
+use std::process::Abort;
+use std::test::Fail;
+
+/// Asserts how a name is printed, and whether it was escaped.
+fn expect_printed(
+    rt: &impl Abort,
+    alloc: Global,
+    name: &str,
+    text: &str,
+    is_escaped: bool,
+) -> Result<(), Fail> {
+    let printed = Printed::new(alloc, name)?;
+    assert_eq!(rt; printed.as_str(), text);
+    assert_eq!(rt; printed.is_escaped(), is_escaped, "of {text}");
+    Ok(())
+}
+
+#[test]
+fn names_in_one_line(rt: HostRuntime) -> Result<(), Fail> {
+    let alloc = rt.alloc();
+    expect_printed(&rt, alloc, "", "", false)?;
+    expect_printed(&rt, alloc, "a b.oas", "a b.oas", false)?;
+    expect_printed(&rt, alloc, "a\\nb", "a\\nb", false)?;
+    expect_printed(&rt, alloc, "a\nb", "a\\nb", true)?;
+    expect_printed(&rt, alloc, "\r\n", "\\r\\n", true)?;
+    expect_printed(&rt, alloc, "\\\n", "\\\\\\n", true)
+}
+
+/// The names of a list, with `;` behind each.
+fn names_of(rt: &HostRuntime, list: &[u8]) -> Result<String, Fail> {
+    let alloc = rt.alloc();
+    fs::write(rt, "list", list)?;
+    let mut names = Names::new(alloc, Input::open(rt, Some("list"))?)?;
+    let mut found = String::new(alloc);
+    for _ in 0..list.len() {
+        match names.next()? {
+            Some(name) => {
+                found.push_str(str::from_utf8(name).unwrap_or("?"))?;
+                found.push(';')?;
+            }
+            None => break,
+        }
+    }
+    fs::remove_file(rt, "list")?;
+    Ok(found)
+}
+
+#[test]
+fn names_of_a_list(rt: HostRuntime) -> Result<(), Fail> {
+    assert_eq!(rt; names_of(&rt, b"")?.as_str(), "");
+    assert_eq!(rt; names_of(&rt, b"a\0b\0")?.as_str(), "a;b;");
+    assert_eq!(rt; names_of(&rt, b"a\0b c\nd")?.as_str(), "a;b c\nd;");
+    assert_eq!(rt; names_of(&rt, b"\0\0-\0")?.as_str(), ";;-;");
+    assert_eq!(rt; names_of(&rt, b"\xff\0a\0")?.as_str(), "?;a;");
+    Ok(())
+}
