@@ -1,5 +1,6 @@
 """What differs between two files."""
 import subprocess, time
+from xml.etree import ElementTree
 
 from layouts import RESPELLED, SMALL, cell, file_of, large, rectangle
 
@@ -109,3 +110,58 @@ def test_limit_of_many(program, folder):
     code, text = answer(program, folder, large(200_000), file_of(cell(b"A")), "--limit", "3")
     assert code == 3 and text == "@ cell A\n- 1 rectangle 1 0 10 20 0 0\n- 1 rectangle 1 0 10 20 1 0\n...\n"
     assert answer(program, folder, large(200_000), file_of(cell(b"A")), "--brief") == (3, "@ cell A - 200000 + 0\n")
+
+
+def items(path):
+    """The items of a report database: category, cell, multiplicity and values of each."""
+    root = ElementTree.parse(path).getroot()
+    assert root.tag == "report-database"
+    return [(item.findtext("category"), item.findtext("cell"), int(item.findtext("multiplicity")), [value.text for value in item.find("values")])
+            for item in root.find("items")]
+
+
+def test_markers(program, folder):
+    lines = answer(program, folder, BEFORE, AFTER)
+    assert answer(program, folder, BEFORE, AFTER, "--markers", folder / "m") == lines
+    assert items(folder / "m") == [
+        ("removed.rectangle", "A", 2, ["box: (0,0;0.01,0.02)", "text: 'layer 1/0'"]),
+        ("added.rectangle", "A", 1, ["box: (0.007,0.008;0.008,0.009)", "text: 'layer 4/0'"]),
+        ("removed.cell", "B", 1, ["text: 'cell'"]),
+        ("added.cell", "C", 1, ["text: 'cell'"]),
+        ("added.rectangle", "C", 1, ["box: (0,0;0.005,0.005)", "text: 'layer 2/0'"]),
+    ]
+
+
+def test_markers_have_the_whole(program, folder):
+    assert answer(program, folder, BEFORE, AFTER, "--markers", folder / "m", "--brief", "--limit=0") == (3, "...\n")
+    assert len(items(folder / "m")) == 5
+    assert answer(program, folder, SMALL, RESPELLED, "--markers", folder / "m") == (0, "")
+    assert items(folder / "m") == []
+
+
+def test_markers_of_a_refused_file(program, folder):
+    done = diff(program, folder, SMALL, SMALL[:-1], "--markers", folder / "m")
+    assert (done.returncode, done.stdout, done.stderr) == (1, b"", f"{folder}/b: refused 2 at 45\n".encode())
+    assert not (folder / "m").exists()
+    (folder / "m").write_text("kept")
+    assert diff(program, folder, SMALL[:-1], SMALL, "--markers", folder / "m").returncode == 1
+    assert (folder / "m").read_text() == "kept"
+
+
+def test_markers_to_a_full_device(program, folder):
+    done = diff(program, folder, BEFORE, AFTER, "--markers", "/dev/full")
+    assert (done.returncode, done.stderr) == (1, b"/dev/full: refused 33 at 0\n")
+    assert done.stdout.decode() == answer(program, folder, BEFORE, AFTER)[1]
+
+
+def test_markers_without_the_lines(program, folder):
+    (folder / "a").write_bytes(BEFORE)
+    (folder / "b").write_bytes(AFTER)
+    with open("/dev/full", "wb") as full:
+        done = subprocess.run([program, "diff", "--markers", folder / "m", folder / "a", folder / "b"], stdout=full, stderr=subprocess.PIPE)
+    assert (done.returncode, done.stderr) == (1, f"{folder}/a: refused 33 at 0\n".encode())
+    assert not (folder / "m").exists()
+
+
+def test_markers_to_standard_output(program, folder):
+    assert diff(program, folder, SMALL, SMALL, "--markers", "-").returncode == 2

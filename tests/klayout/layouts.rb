@@ -35,6 +35,10 @@ top = drawn(coincident, coincident.layer(1, 0), coincident.layer(2, 5))
 3.times { top.shapes(coincident.layer(4, 0)).insert(RBA::Box::new(0, 0, 10, 10)) }
 written(coincident, "coincident")
 
+empty = RBA::Layout::new
+empty.create_cell("TOP")
+written(empty, "empty")
+
 magnified = RBA::Layout::new
 metal = magnified.layer(1, 0)
 top = drawn(magnified, metal, magnified.layer(2, 5))

@@ -9,7 +9,7 @@ use Rattle.oas_command.specs.Runs.{status_after}
 use Rattle.oas_command.specs.Diff.{diff_text, text_status, length_status, diff_status}
 use Rattle.oas_command.proofs.RunLemmas.{answer_after}
 
-length_says : (text : List ℕ) → length_status (length text) ≡ text_status text
+pub length_says : (text : List ℕ) → length_status (length text) ≡ text_status text
 length_says [] = refl
 length_says (b ∷ bs) = refl
 

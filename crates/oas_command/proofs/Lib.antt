@@ -1,3 +1,4 @@
 pub mod DiffLemmas
+pub mod MarkLemmas
 pub mod MessageLemmas
 pub mod RunLemmas

@@ -1,6 +1,8 @@
 pub mod Lines
 pub mod Calls
 pub mod Diff
+pub mod Info
+pub mod Marking
 pub mod Runs
 pub mod Unopened
 pub mod Rekeying

@@ -13,6 +13,10 @@
 //!   output as above, in `same` under the name of the refused file.
 //! - [`run_keys`] does as `run_show`: its text is the key of each cell (`cell_key_lines`, of `oas_canon`'s
 //!   specs/CellKeys.antt).
+//! - [`run_info`] finds the facts of the layout that was read, or that memory is wanting for them or their text (`Informs`,
+//!   specs/Info.antt), and delivers that text, in the form that is asked for. The status and the error output are as above.
+//! - [`run_marking`] reads two files and delivers their difference, and after that has another writer take its markers, or a
+//!   front of them where that failed (`Marks`, specs/Marking.antt), whose refusal is under the markers' own name.
 //! - [`run_rekey`] answers status 0 where `oas_canon::rekey` re-keyed, 3 where it answered that the file isn't canonical by
 //!   profile one, and 1 where it refused, and hands on all that the contract of that call says (`RekeysFile`); what the
 //!   error output took is a front of the line of that answer (`rekey_said`, specs/Rekeying.antt).
@@ -36,10 +40,11 @@ mod unopened;
 pub use lines::write_line;
 pub use messages::put_refusal;
 pub use oas_difference::{Detail, Options};
+pub use oas_info::Form;
 pub use runs::{
-    canon_telling, check_telling, diff_telling, key_telling, keys_telling, named_check_telling,
-    named_key_telling, rekey_telling, run_canon, run_check, run_diff, run_key, run_keys,
-    run_named_check, run_named_key, run_refused, run_rekey, run_same, run_show, same_telling,
-    show_telling, worse,
+    canon_telling, check_telling, diff_telling, info_telling, key_telling, keys_telling,
+    marking_telling, named_check_telling, named_key_telling, rekey_telling, run_canon, run_check,
+    run_diff, run_info, run_key, run_keys, run_marking, run_named_check, run_named_key,
+    run_refused, run_rekey, run_same, run_show, same_telling, show_telling, worse,
 };
 pub use unopened::{name_of, put_unopened, run_unopened};

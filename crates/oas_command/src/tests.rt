@@ -1,8 +1,10 @@
 //! The worked rows, and what no contract says: readers and writers that cut, fail or never end, and want of memory.
 
 mod answers;
+mod by_name;
 mod devices;
 mod faults;
+mod marking;
 mod memory;
 mod modal_table;
 mod readings;

@@ -1,45 +1,33 @@
 //! The command `oascanon`: the canonical form of an OASIS file, and what can be asked of one.
 //!
-//! The words of the command line are read by [`commands`], as [`usage`] has them. [`opening`] opens an input by its name,
-//! and [`creating`] has an output that is created at its first byte. [`many`] asks a question of many files, whose names may
-//! stand in a list ([`listing`]), and [`printing`] has each name in one line. The work is done by the runs of `oas_command`;
-//! `main` opens the streams of the process and calls them. [`session`] has what each of them is given beside its files: a run
-//! says its line into memory, and `oas_explain` tells it on standard error, with its reason explained where that is asked for.
+//! What its words ask for is answered by `oas_request`; [`words`] has them of the process, and prints the help and what is
+//! wrong with them. Files by name are those of `oas_files`. The work is done by the runs of `oas_command`; `main` opens the
+//! streams of the process and calls them, and [`many`] asks a question of many files, whose names may stand in a list.
+//! [`session`] has what each run is given beside its files: a run says its line into memory, and `oas_explain` tells it on
+//! standard error, with its reason explained where that is asked for.
 //!
-//! - [`opening::Input`] opens a file by its name, or standard input without one (`is_named`, specs/Opening.antt).
-//!   [`opening::file_meant`] takes the word `-` for no file's name.
-//! - [`creating::NewFile`] creates nothing as long as no byte is written to it (`is_created`, specs/Creating.antt).
-//! - [`replacing::Replacement`] is in the place of the file that stood there once it is flushed, and not before (`Stage`).
-//! - [`commands::limits_of`] answers the limits with the flag `--large` and without it.
-//!
-//! Not under a contract: which words `clap` understands, and that `main` hands each run what it opened.
+//! Not under a contract: that `main` hands each run what it opened.
 #![tactic(auto)]
 
-mod commands;
-mod creating;
-mod differing;
-mod listing;
 mod many;
-mod opening;
-mod printing;
-mod replacing;
 mod session;
-#[cfg(test)]
-mod tests;
-mod usage;
+mod words;
 
-use commands::{Request, Task, limits_of};
 use many::{ask, printed};
-use oas_command::{Options, name_of, run_canon, run_diff, run_keys, run_rekey, run_same, run_show};
+use oas_command::{
+    Form, Options, name_of, run_canon, run_diff, run_info, run_keys, run_marking, run_rekey,
+    run_same, run_show,
+};
 use oas_explain::{REASONS, run_explain};
+use oas_request::{Request, Task, limits_of, parse};
 use session::Session;
 use std::process::ExitCode;
 
 fn main(rt: HostRuntime) -> ExitCode {
-    let status = match commands::words_of(&rt) {
-        Ok(words) => match commands::parse(rt.alloc(), words.as_slice()) {
+    let status = match words::words_of(&rt) {
+        Ok(words) => match parse(rt.alloc(), words.as_slice()) {
             Ok(request) => answer(&rt, request),
-            Err(error) => commands::end(&rt, &error),
+            Err(error) => words::end(&rt, &error),
         },
         Err(status) => status,
     };
@@ -62,9 +50,17 @@ fn answer(rt: &HostRuntime, request: Request<'_>) -> u8 {
             first,
             second,
             options,
+            markers: None,
         } => diff(&session, first, second, options),
+        Task::Diff {
+            first,
+            second,
+            options,
+            markers: Some(markers),
+        } => mark(&session, first, second, options, markers),
         Task::Show { input } => show(&session, input),
         Task::Keys { input } => keys(&session, input),
+        Task::Info { input, is_json } => info(&session, input, is_json),
         Task::Rekey { old, new } => rekey(&session, old, new),
         Task::Explain { number } => {
             let (mut out, mut err) = (rt.stdout(), rt.stderr());
@@ -159,6 +155,45 @@ fn diff(
     Ok(status)
 }
 
+/// `diff --markers FILE A B`: both are opened before one is read.
+fn mark<'a>(
+    session: &Session<'a>,
+    first: Option<&str>,
+    second: Option<&str>,
+    options: Options,
+    markers: &'a str,
+) -> Result<u8, u8> {
+    let alloc = session.rt.alloc();
+    let name_a = printed(session, name_of(first))?;
+    let name_b = printed(session, name_of(second))?;
+    let own = printed(session, markers)?;
+    let (name_a, name_b, own) = (name_a.as_str(), name_b.as_str(), own.as_str());
+    let mut a = session.source(first, name_a)?;
+    let mut b = session.source(second, name_b)?;
+    let bytes = name_a.len().max(name_b.len()).max(own.len());
+    let mut said = session.voice().room(alloc, name_a, bytes)?;
+    let mut out = session.output(None);
+    let mut marked = session.output(Some(markers));
+    let status = run_marking(
+        alloc,
+        name_a,
+        &mut a,
+        name_b,
+        &mut b,
+        options,
+        &mut out,
+        own,
+        &mut marked,
+        &mut said,
+        session.limits,
+    );
+    match marked.fault() {
+        Some(fault) => session.tell(&said, Some(markers), Some(fault)),
+        None => session.tell(&said, None, out.fault()),
+    }
+    Ok(status)
+}
+
 /// `show [IN]`
 fn show(session: &Session<'_>, input: Option<&str>) -> Result<u8, u8> {
     let (alloc, name) = (session.rt.alloc(), printed(session, name_of(input))?);
@@ -183,6 +218,29 @@ fn keys(session: &Session<'_>, input: Option<&str>) -> Result<u8, u8> {
         session.voice().room(alloc, name, name.len())?,
     );
     let status = run_keys(alloc, name, &mut from, &mut out, &mut said, session.limits);
+    session.tell(&said, None, out.fault());
+    Ok(status)
+}
+
+/// `info [IN]`
+fn info(session: &Session<'_>, input: Option<&str>, is_json: bool) -> Result<u8, u8> {
+    let form = if is_json { Form::Json } else { Form::Text };
+    let (alloc, name) = (session.rt.alloc(), printed(session, name_of(input))?);
+    let name = name.as_str();
+    let mut from = session.source(input, name)?;
+    let (mut out, mut said) = (
+        session.output(None),
+        session.voice().room(alloc, name, name.len())?,
+    );
+    let status = run_info(
+        alloc,
+        name,
+        &mut from,
+        form,
+        &mut out,
+        &mut said,
+        session.limits,
+    );
     session.tell(&said, None, out.fault());
     Ok(status)
 }

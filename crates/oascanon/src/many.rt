@@ -1,12 +1,10 @@
 //! Questions that are asked of many files.
 
-use crate::commands::{Inputs, Question};
-use crate::listing::Names;
-use crate::opening::Input;
-use crate::printing::Printed;
 use crate::session::Session;
 use oas_canon::{Refusal, Why};
 use oas_command::{name_of, run_check, run_key, run_named_check, run_named_key, worse};
+use oas_files::{Input, Names, Printed};
+use oas_request::{Inputs, Question};
 use std::io;
 use std::io::ErrorKind;
 

@@ -1,10 +1,8 @@
 //! What each run is given beside its files: limits, progress, and the way in which messages are told.
 
-use crate::creating::Output;
-use crate::opening::Input;
-use crate::printing::Printed;
 use oas_canon::{Limits, ReaderSource, Refusal, Why};
 use oas_explain::{Recorded, Voice};
+use oas_files::{Input, Output, Printed};
 use oas_progress::{Meter, Reading, Writing};
 use std::io;
 use std::io::Stderr;

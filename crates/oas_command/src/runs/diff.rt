@@ -68,7 +68,7 @@ pub fn diff_telling<S: Source, T: Source, W: Write, K: Sink>(
 }
 
 /// The status of a run that wrote a difference of so many bytes.
-fn status_of_length(written: Result<u64, Refusal>) -> u8
+pub(super) fn status_of_length(written: Result<u64, Refusal>) -> u8
     ensures { IfOk written (λ n. result ≡ length_status n) }
 {
     match written {
@@ -79,7 +79,7 @@ fn status_of_length(written: Result<u64, Refusal>) -> u8
 
 /// The layouts of two sources. The first is read whole before the second is begun, and where it is refused nothing is read
 /// of the second.
-fn read_both<S: Source, T: Source>(
+pub(super) fn read_both<S: Source, T: Source>(
     alloc: Global,
     a: &mut S,
     b: &mut T,

@@ -1,0 +1,26 @@
+-- What the command `diff` writes beside its lines where markers are asked for.
+use Rattle.std.specs.Prelude.{◌≡◌, ℕ, List, Option, Result, Ok, Err}
+use Rattle.std.specs.Io.KnownBytes.{Appends}
+use Rattle.oas_num.specs.declared.refusals.Refusal.{Refusal}
+use Rattle.oas_layout.specs.Contents.{Contents, meaning_of}
+use Rattle.oas_canon.specs.declared.profile.TheConstants.{PROFILE}
+use Rattle.oas_canon.specs.declared.sameness.Which.{Which}
+use Rattle.oas_markers.specs.Markers.{markers}
+use Rattle.oas_markers.specs.Written.{IsMarkedUpTo}
+use Rattle.oas_command.specs.Runs.{blamed}
+
+-- the markers of two layouts
+abbrev pub marks : Contents × Contents → List ℕ
+marks found = markers PROFILE (meaning_of found.0) (meaning_of found.1)
+
+-- After the lines the markers were written, and that is the last answer; or the writer failed and took a front of them, as long
+-- as the place of the last answer's refusal says, as far as 64 bits count. Without the lines no marker was written.
+abbrev pub Marks : {W : Type 0} → (W → Option (List ℕ)) → W → Result (Contents × Contents) Refusal → Result (Contents × Contents) Refusal → W → Type 0
+Marks contents before (Ok found) (Ok last) after = (last ≡ found) × Appends (contents before) (contents after) (marks found)
+Marks contents before (Ok found) (Err refusal) after = IsMarkedUpTo contents before (marks found) after refusal
+Marks contents before (Err refusal) last after = (last ≡ Err refusal) × (after ≡ before)
+
+-- the name of what failed: the markers' own after the lines, and before that as without markers
+abbrev pub blamed_marking : List ℕ → List ℕ → List ℕ → Result (Contents × Contents) (Which × Refusal) → Result (Contents × Contents) Refusal → List ℕ
+blamed_marking a b own found (Ok value) = own
+blamed_marking a b own found (Err refusal) = blamed a b found

@@ -1,0 +1,93 @@
+//! The command `info`.
+
+ghost use Rattle.std.specs.Prelude.{◌≡◌, Result, IfOk, IfErr};
+ghost use Rattle.oas_num.specs.declared.refusals.Refusal.{Refusal as Refused};
+ghost use Rattle.oas_num.specs.declared.refusals.Why.TheVariants.{Memory as NoMemory};
+ghost use Rattle.oas_layout.specs.Contents.{Contents, meaning_of};
+ghost use Rattle.oas_file.specs.Reading.{ReadsLayout};
+ghost use Rattle.oas_info.specs.declared.info.Info.{Info as Told};
+ghost use Rattle.oas_info.specs.Info.{IsInfo};
+ghost use Rattle.oas_info.specs.Form.{form_text};
+ghost use Rattle.oas_command.specs.Info.{Informs, info_lines};
+ghost use Rattle.oas_command.specs.Runs.{status_of, Delivers, said, Ends, AppendsFront};
+
+use super::ends::{DONE, conclude, refuse};
+use crate::lines::write_line;
+use oas_canon::{Layout, Limits, PROFILE, read_layout};
+use oas_info::{Form, Info, info_of, text_in};
+use oas_num::{Outlet, Refusal, Sink, Source, Why};
+use std::alloc::{AllocError, Global};
+use std::io::Write;
+
+/// Writes the facts of the layout that all that `from` gives within these limits means to `out`, in this form, and answers the
+/// status of the command: 0, or 1 after a refusal, which is named on `err` in a line that begins with `name`. Want of memory
+/// for the facts or their text is the refusal `Why::Memory`, and nothing is written. A fault of `out` is the refusal
+/// `Why::Write`; a fault of `err` changes nothing.
+pub fn run_info<S: Source, W: Write, E: Write>(
+    alloc: Global,
+    name: &str,
+    from: &mut S,
+    form: Form,
+    out: &mut W,
+    err: &mut E,
+    limits: Limits,
+) -> u8
+    ensures { (read : Result Contents Refused) × (found : Result Told Refused) × (answer : Result Told Refused) × (result ≡ status_of answer)
+        × ReadsLayout limits PROFILE (S.script from.old) read (S.script from.new)
+        × Informs read found
+        × Delivers W.contents (info_lines form) out.old found answer out.new
+        × AppendsFront (E.contents err.old) (E.contents err.new) (said name.now answer) }
+{
+    let mut told = Outlet::new(err);
+    let status = info_telling(alloc, name, from, form, out, &mut told, limits);
+    let _ = told.close();
+    status
+}
+
+/// As `run_info`, with a sink for the line of a refusal.
+pub fn info_telling<S: Source, W: Write, K: Sink>(
+    alloc: Global,
+    name: &str,
+    from: &mut S,
+    form: Form,
+    out: &mut W,
+    told: &mut K,
+    limits: Limits,
+) -> u8
+    ensures { (read : Result Contents Refused) × (found : Result Told Refused) × (answer : Result Told Refused) × (result ≡ status_of answer)
+        × ReadsLayout limits PROFILE (S.script from.old) read (S.script from.new)
+        × Informs read found
+        × Delivers W.contents (info_lines form) out.old found answer out.new
+        × Ends K.given K.failures name.now told.old answer told.new }
+{
+    match read_layout(alloc, from, limits, PROFILE) {
+        Ok(layout) => match facts_and_text(alloc, &layout, form) {
+            Ok((_, text)) => {
+                let written = write_line(out, text.as_slice());
+                conclude(name, written, DONE, told)
+            }
+            Err(_) => refuse(name, no_memory(from.at()), told),
+        },
+        Err(refusal) => refuse(name, refusal, told),
+    }
+}
+
+/// The refusal for want of memory, behind what was read.
+fn no_memory(at: u64) -> Refusal
+    ensures { result.why ≡ NoMemory }
+{
+    Refusal {
+        at,
+        why: Why::Memory,
+    }
+}
+
+/// The facts of a layout, and their text in this form.
+fn facts_and_text(alloc: Global, layout: &Layout, form: Form) -> Result<(Info, Vec<u8>), AllocError>
+    ensures facts { IfOk result (λ both. IsInfo (meaning_of layout.now) both.0) }
+    ensures text { IfOk result (λ both. both.1.items ≡ form_text form both.0) }
+{
+    let info = info_of(alloc, layout)?;
+    let text = text_in(alloc, form, &info)?;
+    Ok((info, text))
+}
