@@ -28,7 +28,7 @@ install-built:
 	if [ -e $(LIBRARY)/liboascanon.a ]; then $(MAKE) --no-print-directory install-lib; fi
 
 # The library that is there, its header, and its pkg-config file.
-VERSION = $(shell sed -n 's/^const VERSION.*"\([0-9.]*\) .*/\1/p' crates/oascanon/src/usage.rt)
+VERSION = $(shell sed -n 's/^const VERSION.*"\([0-9.]*\) .*/\1/p' crates/oas_request/src/usage.rt)
 install-lib:
 	install -D -m 644 include/oascanon.h $(DESTDIR)$(PREFIX)/include/oascanon.h
 	install -D -m 644 $(LIBRARY)/liboascanon.a $(DESTDIR)$(PREFIX)/lib/liboascanon.a
@@ -93,6 +93,7 @@ bench: all
 	cd crates/inflate_bench && rt run --jobs $(JOBS) </dev/null >/dev/null
 	bench/inflate
 	bench/canon ./oascanon
+	bench/questions ./oascanon
 
 clean:
 	rm -rf crates/*/out oascanon lib
