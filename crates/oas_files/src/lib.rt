@@ -1,7 +1,8 @@
-//! Files by name, as a command line has them: opened, created, replaced; and names that are listed and printed.
+//! Files by name, as a command line has them: meant, opened, created, replaced; and names that are listed and printed.
 //!
 //! What this crate promises to the program:
 //!
+//! - [`file_meant`] takes the word `-` for no file's name, and each other word for the file of that name.
 //! - [`Input`] opens a file by its name, or standard input without one (`is_named`, specs/Opening.antt).
 //! - [`NewFile`] creates nothing as long as no byte is written to it (`is_created`, specs/Creating.antt), and an [`Output`] is
 //!   one of these, or standard output (`IsOutput`).
@@ -18,9 +19,11 @@ mod printing;
 mod replacing;
 #[cfg(test)]
 mod tests;
+mod words;
 
 pub use creating::{NewFile, Output};
 pub use listing::Names;
 pub use opening::Input;
 pub use printing::Printed;
 pub use replacing::{Replacement, Stage};
+pub use words::file_meant;

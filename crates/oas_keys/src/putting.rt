@@ -1,8 +1,9 @@
 //! An element's key.
 
-ghost use Rattle.std.specs.Prelude.{◌≡◌, ◌++◌, OnOk, OnErr};
+ghost use Rattle.std.specs.Prelude.{◌≡◌, ◌+◌, ◌<◌, ◌≤◌, ◌⊎◌, ◌++◌, ◌∷◌, [], OnOk, OnErr, vec_len, vec_capacity};
+ghost use Rattle.oas_layout.specs.Element.{kind};
 ghost use Rattle.oas_layout.specs.Sound.{IsSound};
-ghost use Rattle.oas_keys.specs.Keys.{key_of, room_of};
+ghost use Rattle.oas_keys.specs.Keys.{key_of, fields_key, room_of};
 
 use crate::fields::{put_points, put_text, turned};
 use crate::numbers::{put_signed_pair, put_unsigned, put_unsigned_pair};
@@ -23,13 +24,27 @@ fn room_for(element: &Element) -> usize
     }
 }
 
-/// Puts an element's key behind what `out` has (own rule, specs/Keys.antt). Where memory is refused, `out` has what it had.
-pub fn put_key(element: &Element, out: &mut Vec<u8>) -> Result<(), AllocError>
-    requires { IsSound element.now }
-    ensures ok { OnOk result (out.new.items ≡ out.old.items ++ key_of element.now) }
-    ensures err { OnErr result (out.new.items ≡ out.old.items) }
+/// The byte for an element's kind.
+fn kind_byte(element: &Element) -> u8
+    ensures { result ≡ kind element.now + 1 }
 {
-    out.reserve(room_for(element))?;
+    match element {
+        Element::Placement { .. } => 1,
+        Element::Text { .. } => 2,
+        Element::Rectangle { .. } => 3,
+        Element::Polygon { .. } => 4,
+        Element::Path { .. } => 5,
+        Element::Circle { .. } => 6,
+    }
+}
+
+/// Puts the fields of a placement or a text.
+fn put_named(element: &Element, out: &mut Vec<u8>)
+    requires sound { IsSound element.now }
+    requires kind { kind element.now < 2 }
+    requires room { vec_len out.old + room_of element.now ≤ vec_capacity out.old + 1 }
+    ensures { out.new.items ≡ out.old.items ++ fields_key element.now }
+{
     match element {
         Element::Placement {
             cell,
@@ -38,7 +53,6 @@ pub fn put_key(element: &Element, out: &mut Vec<u8>) -> Result<(), AllocError>
             turns,
             flip,
         } => {
-            out.push_reserved(1);
             put_text(cell.as_bytes(), out);
             put_signed_pair(*x, *y, out);
             out.push_reserved(turned(*turns, *flip));
@@ -50,11 +64,22 @@ pub fn put_key(element: &Element, out: &mut Vec<u8>) -> Result<(), AllocError>
             x,
             y,
         } => {
-            out.push_reserved(2);
             put_text(string.as_bytes(), out);
             put_unsigned_pair(*textlayer, *texttype, out);
             put_signed_pair(*x, *y, out);
         }
+        _ => {}
+    }
+}
+
+/// Puts the fields of a rectangle or a circle.
+fn put_placed(element: &Element, out: &mut Vec<u8>)
+    requires sound { IsSound element.now }
+    requires kind { (kind element.now ≡ 2) ⊎ (kind element.now ≡ 5) }
+    requires room { vec_len out.old + room_of element.now ≤ vec_capacity out.old + 1 }
+    ensures { out.new.items ≡ out.old.items ++ fields_key element.now }
+{
+    match element {
         Element::Rectangle {
             layer,
             datatype,
@@ -63,17 +88,38 @@ pub fn put_key(element: &Element, out: &mut Vec<u8>) -> Result<(), AllocError>
             x,
             y,
         } => {
-            out.push_reserved(3);
             put_unsigned_pair(*layer, *datatype, out);
             put_unsigned_pair(*width, *height, out);
             put_signed_pair(*x, *y, out);
         }
+        Element::Circle {
+            layer,
+            datatype,
+            radius,
+            x,
+            y,
+        } => {
+            put_unsigned_pair(*layer, *datatype, out);
+            put_unsigned(*radius, out);
+            put_signed_pair(*x, *y, out);
+        }
+        _ => {}
+    }
+}
+
+/// Puts the fields of a polygon or a path.
+fn put_pointed(element: &Element, out: &mut Vec<u8>)
+    requires sound { IsSound element.now }
+    requires kind { (kind element.now ≡ 3) ⊎ (kind element.now ≡ 4) }
+    requires room { vec_len out.old + room_of element.now ≤ vec_capacity out.old + 1 }
+    ensures { out.new.items ≡ out.old.items ++ fields_key element.now }
+{
+    match element {
         Element::Polygon {
             layer,
             datatype,
             points,
         } => {
-            out.push_reserved(4);
             put_unsigned_pair(*layer, *datatype, out);
             put_points(points.as_slice(), out);
         }
@@ -85,24 +131,27 @@ pub fn put_key(element: &Element, out: &mut Vec<u8>) -> Result<(), AllocError>
             end,
             points,
         } => {
-            out.push_reserved(5);
             put_unsigned_pair(*layer, *datatype, out);
             put_unsigned(*half_width, out);
             put_signed_pair(*start, *end, out);
             put_points(points.as_slice(), out);
         }
-        Element::Circle {
-            layer,
-            datatype,
-            radius,
-            x,
-            y,
-        } => {
-            out.push_reserved(6);
-            put_unsigned_pair(*layer, *datatype, out);
-            put_unsigned(*radius, out);
-            put_signed_pair(*x, *y, out);
-        }
+        _ => {}
+    }
+}
+
+/// Puts an element's key behind what `out` has (own rule, specs/Keys.antt). Where memory is refused, `out` has what it had.
+pub fn put_key(element: &Element, out: &mut Vec<u8>) -> Result<(), AllocError>
+    requires { IsSound element.now }
+    ensures ok { OnOk result (out.new.items ≡ out.old.items ++ key_of element.now) }
+    ensures err { OnErr result (out.new.items ≡ out.old.items) }
+{
+    out.reserve(room_for(element))?;
+    out.push_reserved(kind_byte(element));
+    match element {
+        Element::Placement { .. } | Element::Text { .. } => put_named(element, out),
+        Element::Rectangle { .. } | Element::Circle { .. } => put_placed(element, out),
+        Element::Polygon { .. } | Element::Path { .. } => put_pointed(element, out),
     }
     Ok(())
 }

@@ -1,15 +1,11 @@
 //! What the words of the command line ask for.
 
-ghost use Rattle.std.specs.Prelude.{◌≡◌, ◌^◌, true, false};
-ghost use Rattle.oas_layout.specs.Limits.{AreLimits};
-
 use crate::differing::options_of;
-use crate::files::file_meant;
 use crate::usage::oascanon;
 use clap::error::ErrorKind;
 use clap::{ArgMatches, Error};
 use oas_difference::Options;
-use oas_layout::Limits;
+use oas_files::file_meant;
 use std::alloc::{AllocError, Global};
 use std::convert::AsStr;
 
@@ -85,18 +81,6 @@ pub enum Inputs<'a> {
     Named(Vec<Option<&'a str>>),
     /// The files that the list of this name, or that on standard input, names.
     Listed(Option<&'a str>),
-}
-
-/// The limits with the flag `--large` and without it.
-pub fn limits_of(is_large: bool) -> Limits
-    ensures large { is_large ≡ true → AreLimits result (2 ^ 26) (2 ^ 30) (2 ^ 38) }
-    ensures standard { is_large ≡ false → AreLimits result (2 ^ 24) (2 ^ 28) (2 ^ 36) }
-{
-    if is_large {
-        Limits::large()
-    } else {
-        Limits::standard()
-    }
 }
 
 /// What the words ask for.

@@ -1,8 +1,9 @@
-//! Lists of names, and names as they are printed.
+//! Words that are names, lists of names, and names as they are printed.
 
 use crate::listing::Names;
 use crate::opening::Input;
 use crate::printing::Printed;
+use crate::words::file_meant;
 use std::alloc::Global;
 use std::fs;
 use std::process::Abort;
@@ -20,6 +21,13 @@ fn expect_printed(
     assert_eq!(rt; printed.as_str(), text);
     assert_eq!(rt; printed.is_escaped(), is_escaped, "of {text}");
     Ok(())
+}
+
+#[test]
+fn words_that_are_names(rt: HostRuntime) {
+    assert!(rt; file_meant("-").is_none());
+    assert!(rt; file_meant("./-") == Some("./-"));
+    assert!(rt; file_meant("--") == Some("--"));
 }
 
 #[test]

@@ -1,3 +1,0 @@
-//! What no clause says: what command lines ask for.
-
-mod words;
