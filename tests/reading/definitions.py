@@ -21,11 +21,17 @@ BEGINS = re.compile(r"^(abbrev|unfoldable|record|data|pub)\b")
 
 
 def blocks(text):
-    """The definitions of a file, each with all of its lines, without comments and imports."""
-    lines = []
+    """The definitions of a file, each with all of its lines, without comments and imports. Those of a module within the file stand
+    further in."""
+    lines, is_within = [], False
     for line in text.split("\n"):
-        if line.startswith(("--", "use ", "pub use ", "pub mod ")) or not line.strip():
+        if line.lstrip().startswith("--") or line.startswith(("use ", "pub use ", "pub mod ")) or not line.strip():
             continue
+        if line.startswith("module "):
+            is_within = True
+            continue
+        is_within = is_within and line.startswith("  ")
+        line = line[2:] if is_within else line
         if BEGINS.match(line) and lines:
             yield lines
             lines = []

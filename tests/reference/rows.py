@@ -1,10 +1,10 @@
-"""The rows of the gate, from the tests of crates/oas_command: what a command has to answer to files."""
+"""The rows of the gate, from crates/command_tests: what a command has to answer to files."""
 
 import pathlib
 import re
 from collections import namedtuple
 
-TESTS = pathlib.Path(__file__).resolve().parents[2] / "crates/oas_command/src/tests"
+TESTS = pathlib.Path(__file__).resolve().parents[2] / "crates/command_tests/src/tests"
 STANDARD = (2**24, 2**28, 2**36)
 # As in rows.rt.
 WORDS = {
