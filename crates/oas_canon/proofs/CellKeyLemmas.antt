@@ -24,7 +24,8 @@ length-expanded [] = refl
 length-expanded (c ∷ cs) = ap suc (length-expanded cs)
 
 -- the line, of its parts as they are put
-pub line_is : (unit : Ratio) (c : List ℕ × List Element) (text name : List ℕ) → text ≡ encode_lower (cell_key unit c) → c.0 ≡ name → cell_key_line unit c ≡ text ++ ((32 ∷ 32 ∷ []) ++ (name ++ (10 ∷ [])))
+pub line_is : (unit : Ratio) (c : List ℕ × List Element) (text name : List ℕ) → text ≡ encode_lower (cell_key unit c) → c.0 ≡ name → cell_key_line unit c ≡ text
+    ++ ((32 ∷ 32 ∷ []) ++ (name ++ (10 ∷ [])))
 line_is unit c text name t n = λ i. sym t i ++ ((32 ∷ 32 ∷ []) ++ (n i ++ (10 ∷ [])))
 
 -- ---- one line after another
@@ -34,7 +35,8 @@ module _ {K : Type 0} {given : K → List ℕ → K → Type 0} {failures : K �
     below : i < length (expanded l.cells)
     below = omega (arith, lt, length-expanded l.cells)
 
-    pub line_put : {new : K} → Puts given failures mid (cell_key_line l.unit (cell_at l i)) new → PutSoFar given failures whole (flat_map (cell_key_line l.unit) (drop (i + 1) (expanded l.cells))) old new
+    pub line_put : {new : K} → Puts given failures mid (cell_key_line l.unit (cell_at l i)) new →
+        PutSoFar given failures whole (flat_map (cell_key_line l.unit) (drop (i + 1) (expanded l.cells))) old new
     line_put {new} q = item_put (cell_key_line l.unit) (expanded l.cells) i ([], []) below p q
 
     pub line_fails : {new : K} → PutsFront given failures mid (cell_key_line l.unit (cell_at l i)) new → PutsFront given failures old whole new

@@ -112,6 +112,7 @@ module _ {start now : Script} {name same : GName} {kept : List ℕ} {ending : En
 
     pub kept_refused : RefusesKept limits start (record { at = at; why = reason_by ending why }) now
     kept_refused = by_cases (reason_cases ending why) where
-      by_cases : ((ending ≡ endings.NoRoom) × (why ≡ Read)) ⊎ ((reason_by ending why ≡ why) × (why ≡ Read → ending ≢ endings.NoRoom)) → RefusesKept limits start (record { at = at; why = reason_by ending why }) now
+      by_cases : ((ending ≡ endings.NoRoom) × (why ≡ Read)) ⊎ ((reason_by ending why ≡ why) × (why ≡ Read → ending ≢ endings.NoRoom)) →
+          RefusesKept limits start (record { at = at; why = reason_by ending why }) now
       by_cases (inl h) = subst (λ (w : Why). RefusesKept limits start (record { at = at; why = w }) now) (sym (λ i. reason_by (h.0 i) (h.1 i))) wants_room
       by_cases (inr h) = subst (λ (w : Why). RefusesKept limits start (record { at = at; why = w }) now) (sym h.0) (stands h.1)

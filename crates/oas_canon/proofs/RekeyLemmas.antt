@@ -54,7 +54,8 @@ module _ {limits : Limits} {bytes : List ℕ} {new : Script} where
     by_cause (Room e) = e
 
 module _ (limits : Limits) (profile : Profile) (bytes : List ℕ) (new : Script) where
-  pub outcome_read : (r : Result Contents Refusal) → ReadsLayout limits profile (slice_script bytes (length bytes) 0) r new → IfOk r (λ l. IsLayout l → IsCanonicalOf limits profile bytes (canonical_bytes (meaning_of l)))
+  pub outcome_read : (r : Result Contents Refusal) → ReadsLayout limits profile (slice_script bytes (length bytes) 0) r new →
+      IfOk r (λ l. IsLayout l → IsCanonicalOf limits profile bytes (canonical_bytes (meaning_of l)))
   outcome_read (Ok l) r = bytes_read r
   outcome_read (Err refusal) r = tt
 

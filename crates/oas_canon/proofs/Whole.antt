@@ -31,7 +31,8 @@ module _ {limits : Limits} {profile : Profile} {old new : Script} {l : Contents}
   pub is_form : IsLayout l → IsCanonicalOf limits profile read.bytes (canonical_bytes (meaning_of l))
   is_form held = record { form = form held; source = read.meaning; target = meaning_of l; means = read.means; becomes = (canonical_form l held).1; same = read.same }
 
-  pub done : {W : Type 0} (contents : W → Option (List ℕ)) (before after : W) (r : Result ℕ Refusal) → IsLayout l → IfOk r (IsWritten contents before (canonical_bytes (meaning_of l)) after) → IfOk r (λ n. IsDone limits profile old new (contents before) (contents after) n)
+  pub done : {W : Type 0} (contents : W → Option (List ℕ)) (before after : W) (r : Result ℕ Refusal) → IsLayout l →
+      IfOk r (IsWritten contents before (canonical_bytes (meaning_of l)) after) → IfOk r (λ n. IsDone limits profile old new (contents before) (contents after) n)
   done contents before after (Ok n) held written =
       record {
         bytes = read.bytes;
@@ -43,7 +44,9 @@ module _ {limits : Limits} {profile : Profile} {old new : Script} {l : Contents}
       }
   done contents before after (Err refusal) held written = tt
 
-  pub cut : {W : Type 0} (contents : W → Option (List ℕ)) (before after : W) (r : Result ℕ Refusal) → IsLayout l → IfErr r (IsCutOff contents before (canonical_bytes (meaning_of l)) after) → IfErr r (λ refusal. refusal.why ≡ Write → IsCut limits profile old new (contents before) (contents after) refusal.at)
+  pub cut : {W : Type 0} (contents : W → Option (List ℕ)) (before after : W) (r : Result ℕ Refusal) → IsLayout l →
+      IfErr r (IsCutOff contents before (canonical_bytes (meaning_of l)) after) →
+      IfErr r (λ refusal. refusal.why ≡ Write → IsCut limits profile old new (contents before) (contents after) refusal.at)
   cut contents before after (Ok n) held h = tt
   cut contents before after (Err refusal) held h = λ _. record {
     bytes = read.bytes;
@@ -71,7 +74,8 @@ module _ {limits : Limits} {profile : Profile} {old new : Script} {l : Contents}
   is_spelled : (says : Bool) → IsLayout l → (IsTrue says ↔ (canonical_bytes (meaning_of l) ≡ read.bytes)) → IsTrue says ↔ CanonicalForm limits profile read.bytes
   is_spelled says held h = (
     λ t. subst (CanonicalForm limits profile) (h.0 t) (form held),
-    λ f. h.1 (sym (form_is_bytes limits read.bytes read.meaning l (subst (λ (p : Profile). CanonicalForm limits p read.bytes) (sym read.by) f) read.means held (subst (λ (p : Profile). SameLayout p read.meaning (meaning_of l)) (sym read.by) read.same))),
+    λ f. h.1 (sym (form_is_bytes limits read.bytes read.meaning l (subst (λ (p : Profile). CanonicalForm limits p read.bytes) (sym read.by) f) read.means held
+        (subst (λ (p : Profile). SameLayout p read.meaning (meaning_of l)) (sym read.by) read.same))),
   )
 
   pub judged : (kept : List ℕ) (says : Bool) → Takes old kept new → IsLayout l → (IsTrue says ↔ (canonical_bytes (meaning_of l) ≡ kept)) → IsJudged limits profile old new says
@@ -84,7 +88,8 @@ module _ {limits : Limits} {profile : Profile} {old new : Script} {l : Contents}
 -- ---- two files
 
 -- the answer of the layouts is that of the meanings
-pub compared : {limits : Limits} {profile : Profile} {old new mid last : Script} {l k : Contents} {same : Bool} → IsRead limits profile old l new → IsRead limits profile mid k last → (IsTrue same ↔ SameLayout l.profile (meaning_of l) (meaning_of k)) → IsCompared limits profile old new mid last same
+pub compared : {limits : Limits} {profile : Profile} {old new mid last : Script} {l k : Contents} {same : Bool} → IsRead limits profile old l new →
+    IsRead limits profile mid k last → (IsTrue same ↔ SameLayout l.profile (meaning_of l) (meaning_of k)) → IsCompared limits profile old new mid last same
 compared {profile = profile} {l = l} {k = k} first second h =
     let one = first.meaning in
     let other = second.meaning in
@@ -102,7 +107,8 @@ compared {profile = profile} {l = l} {k = k} first second h =
             let s : SameLayout profile (meaning_of l) (meaning_of k) = subst (λ (p : Profile). SameLayout p (meaning_of l) (meaning_of k)) first.by (h.0 t) in
             transitive profile one (meaning_of l) other first.same (transitive profile (meaning_of l) (meaning_of k) other s (symmetric profile other (meaning_of k) second.same)),
         λ s.
-            let t : SameLayout profile (meaning_of l) (meaning_of k) = transitive profile (meaning_of l) one (meaning_of k) (symmetric profile one (meaning_of l) first.same) (transitive profile one other (meaning_of k) s second.same) in
+            let t : SameLayout profile (meaning_of l) (meaning_of k) =
+            transitive profile (meaning_of l) one (meaning_of k) (symmetric profile one (meaning_of l) first.same) (transitive profile one other (meaning_of k) s second.same) in
             h.1 (subst (λ (p : Profile). SameLayout p (meaning_of l) (meaning_of k)) (sym first.by) t),
       );
     }
@@ -135,7 +141,8 @@ pub within_not : (bytes : List ℕ) (rest : Rest) (new : Option Rest) → Gave (
 within_not bytes rest None g n e = absurd g
 within_not bytes rest (Some r) g n e = let h : ◌≡◌ {A = Bool} true false = sym n.1 ∙ g.1 ∙ e in cc
 
-pub front_not : {limits : Limits} (bytes : List ℕ) (rest : Rest) (new : Option Rest) → Gave (Some rest) bytes new → ((more : List ℕ) → Accepted limits (bytes ++ more) → ⊥) → Accepted limits rest.bytes → ⊥
+pub front_not : {limits : Limits} (bytes : List ℕ) (rest : Rest) (new : Option Rest) → Gave (Some rest) bytes new →
+    ((more : List ℕ) → Accepted limits (bytes ++ more) → ⊥) → Accepted limits rest.bytes → ⊥
 front_not bytes rest None g n a = absurd g
 front_not {limits = limits} bytes rest (Some r) g n a = n r.bytes (subst (Accepted limits) g.0 a)
 
@@ -165,6 +172,7 @@ exactly_unwritten T limits old new refusal e = by_rest old.rest where
   by_rest None w z = tt
   by_rest (Some rest) w z = inl e
 
-pub exactly_written : {limits : Limits} {profile : Profile} {old new : Script} {l : Contents} {W : Type 0} (contents : W → Option (List ℕ)) (before after : W) (r : Result ℕ Refusal) → IsRead limits profile old l new → IfErr r (IsCutOff contents before (canonical_bytes (meaning_of l)) after) → Exactly limits old r new
+pub exactly_written : {limits : Limits} {profile : Profile} {old new : Script} {l : Contents} {W : Type 0} (contents : W → Option (List ℕ)) (before after : W)
+    (r : Result ℕ Refusal) → IsRead limits profile old l new → IfErr r (IsCutOff contents before (canonical_bytes (meaning_of l)) after) → Exactly limits old r new
 exactly_written contents before after (Ok n) read h = exactly_taken n (taken read)
 exactly_written {limits = limits} {old = old} {new = new} contents before after (Err refusal) read h = exactly_unwritten ℕ limits old new refusal h.reason

@@ -60,6 +60,3 @@ pub use oas_ring::{Point, Points};
 pub use profile::PROFILE;
 pub use rekeying::{Rekeyed, rekey};
 pub use sameness::{Which, same_files};
-
-#[cfg(test)]
-mod tests;

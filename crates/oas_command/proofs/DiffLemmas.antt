@@ -14,6 +14,8 @@ length_says [] = refl
 length_says (b ∷ bs) = refl
 
 -- its status
-pub differs : (options : Options) {W : Type 0} (contents : W → Option (List ℕ)) (before after : W) (found : Contents × Contents) (written : Result ℕ Refusal) (status r : ℕ) → IfOk written (IsWritten contents before (diff_text options found) after) → IfOk written (λ n. status ≡ length_status n) → r ≡ status_after status written → r ≡ diff_status options (answer_after found written)
+pub differs : (options : Options) {W : Type 0} (contents : W → Option (List ℕ)) (before after : W) (found : Contents × Contents) (written : Result ℕ Refusal)
+    (status r : ℕ) → IfOk written (IsWritten contents before (diff_text options found) after) → IfOk written (λ n. status ≡ length_status n) → r
+    ≡ status_after status written → r ≡ diff_status options (answer_after found written)
 differs options contents before after found (Ok n) status r whole says ends = ends ∙ says ∙ ap length_status whole.count_is ∙ length_says (diff_text options found)
 differs options contents before after found (Err refusal) status r whole says ends = ends

@@ -39,7 +39,8 @@ module _ {W : Type 0} (contents : W → Option (List ℕ)) (writer : MutBor W) w
   ended o now name (Err refusal) opens tells = told o now (refusal_line name (number_of refusal.why) refusal.at) opens tells
 
   -- the same of a run that was to re-key
-  pub rekey_ended : (o now : Outlet W) (name : List ℕ) (answer : Result Rekeyed Refusal) → Opens writer o → EndsRekeying (IsGiven contents) failures_of name o answer now → GivenFront o (rekey_said name answer) now
+  pub rekey_ended : (o now : Outlet W) (name : List ℕ) (answer : Result Rekeyed Refusal) → Opens writer o →
+      EndsRekeying (IsGiven contents) failures_of name o answer now → GivenFront o (rekey_said name answer) now
   rekey_ended o now name (Ok (Done n)) opens same = ended o now name (Ok n) opens same
   rekey_ended o now name (Ok NotProfile1) opens tells = told o now (not_profile_1_line name) opens tells
   rekey_ended o now name (Err refusal) opens tells = told o now (refusal_line name (number_of refusal.why) refusal.at) opens tells

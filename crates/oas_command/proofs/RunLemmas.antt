@@ -15,11 +15,14 @@ module _ {T : Type 0} (value : T) where
   done (Ok count) r same = same
   done (Err refusal) r same = same
 
-  pub delivers : {W : Type 0} (contents : W → Option (List ℕ)) (text : T → List ℕ) (written : Result ℕ Refusal) (before after : W) → IfOk written (IsWritten contents before (text value) after) → IfErr written (IsCutOff contents before (text value) after) → Delivers contents text before (Ok value) (answer_after written) after
+  pub delivers : {W : Type 0} (contents : W → Option (List ℕ)) (text : T → List ℕ) (written : Result ℕ Refusal) (before after : W) →
+      IfOk written (IsWritten contents before (text value) after) → IfErr written (IsCutOff contents before (text value) after) →
+      Delivers contents text before (Ok value) (answer_after written) after
   delivers contents text (Ok count) before after whole cut = (refl, whole.took)
   delivers contents text (Err refusal) before after whole cut = cut
 
-  pub tells : {K : Type 0} (given : K → List ℕ → K → Type 0) (failures : K → ℕ) (name : List ℕ) (old : K) (written : Result ℕ Refusal) (new : K) → Ends given failures name old written new → Ends given failures name old (answer_after written) new
+  pub tells : {K : Type 0} (given : K → List ℕ → K → Type 0) (failures : K → ℕ) (name : List ℕ) (old : K) (written : Result ℕ Refusal) (new : K) →
+      Ends given failures name old written new → Ends given failures name old (answer_after written) new
   tells given failures name old (Ok count) new ends = ends
   tells given failures name old (Err refusal) new ends = ends
 

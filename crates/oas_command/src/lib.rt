@@ -22,6 +22,7 @@
 //!   error output took is a front of the line of that answer (`rekey_said`, specs/Rekeying.antt).
 //! - [`canon_telling`] and the like are the same over a sink for that line, whose contract counts failures: the line was
 //!   put, unless the sink failed (`Ends`, `EndsRekeying`).
+//! - [`limits_of`] answers the limits with the flag `--large` and without it.
 //! - [`write_line`] writes a line to an output, or a front of it (`IsWritten`, `IsCutOff`).
 //! - [`put_refusal`] puts the line `NAME: refused N at OFFSET` (`refusal_line`, specs/Lines.antt), and [`put_unopened`] the
 //!   line `NAME: cannot be opened` (`unopened_line`, specs/Unopened.antt). The line of a file that isn't canonical by
@@ -30,13 +31,13 @@
 //! A caller needs `oas_canon` beside this crate, for sources and limits.
 #![tactic(auto)]
 
+mod limits;
 mod lines;
 mod messages;
 mod runs;
-#[cfg(test)]
-mod tests;
 mod unopened;
 
+pub use limits::limits_of;
 pub use lines::write_line;
 pub use messages::put_refusal;
 pub use oas_difference::{Detail, Options};

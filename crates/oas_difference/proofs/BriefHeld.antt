@@ -1,5 +1,6 @@
 -- The difference in brief is that of what is held.
-use Rattle.std.proofs.Common.{◌≡◌, ℕ, ◌+◌, ◌<◌, ◌≤◌, ◌^◌, List, [], ◌∷◌, ◌++◌, length, flat_map, sum_by, Bool, true, false, cond, Option, None, Some, is_some, unwrap_or, refl, sym, ◌∙◌, ap, subst, arith}
+use Rattle.std.proofs.Common.{◌≡◌, ℕ, ◌+◌, ◌<◌, ◌≤◌, ◌^◌, List, [], ◌∷◌, ◌++◌, length, flat_map, sum_by, Bool, true, false, cond, Option, None, Some, is_some, unwrap_or, refl, sym}
+use Rattle.std.proofs.Common.{◌∙◌, ap, subst, arith}
 use Rattle.std.specs.Prelude.{◌-◌, ◌==◌, ◌==◌, option_map, IfSome, if◌then◌else◌}
 use Rattle.std.specs.Ordering.{nat_cmp}
 use Rattle.std.specs.Cmp.Lexicographic.{slice_cmp}
@@ -27,7 +28,8 @@ use Rattle.oas_difference.specs.Held.{pair_changed, held_changed, counted_to, he
 use Rattle.oas_difference.specs.Options.{detailed}
 use Rattle.oas_difference.proofs.Ascending.{all_append, all_ascending, items_keys}
 use Rattle.oas_difference.proofs.Held.{keys_normal, count_held, there, the_items, bag_of, bag_at, elements_found, keys_held, difference_held}
-use Rattle.oas_difference.proofs.Lengths.{sorted_ascending, weight_if, sum_found, unwrapped, held_length}
+use Rattle.oas_difference.proofs.Sums.{sorted_ascending, weight_if, sum_found}
+use Rattle.oas_difference.proofs.Lengths.{unwrapped, held_length}
 
 -- ---- a change more or less
 
@@ -57,13 +59,25 @@ module _ (es fs : List (Element × ℕ)) where
   unfolding lines
   first_few [] = omega arith
   first_few (k ∷ ks) =
-      omega (arith, first_more k (unwrap_or (found element_cmp es k) 0) (unwrap_or (found element_cmp fs k) 0) (lines ks), unwrapped k (found element_cmp es k), sum_by-cons (λ k. beside k (found element_cmp es k)) k ks, first_few ks)
+      omega (
+        arith,
+        first_more k (unwrap_or (found element_cmp es k) 0) (unwrap_or (found element_cmp fs k) 0) (lines ks),
+        unwrapped k (found element_cmp es k),
+        sum_by-cons (λ k. beside k (found element_cmp es k)) k ks,
+        first_few ks,
+      )
 
   second_few : (ks : List Element) → only_second (lines ks) ≤ sum_by (λ k. beside k (found element_cmp fs k)) ks
   unfolding lines
   second_few [] = omega arith
   second_few (k ∷ ks) =
-      omega (arith, second_more k (unwrap_or (found element_cmp es k) 0) (unwrap_or (found element_cmp fs k) 0) (lines ks), unwrapped k (found element_cmp fs k), sum_by-cons (λ k. beside k (found element_cmp fs k)) k ks, second_few ks)
+      omega (
+        arith,
+        second_more k (unwrap_or (found element_cmp es k) 0) (unwrap_or (found element_cmp fs k) 0) (lines ks),
+        unwrapped k (found element_cmp fs k),
+        sum_by-cons (λ k. beside k (found element_cmp fs k)) k ks,
+        second_few ks,
+      )
 
   both : List Element
   both = ascending element_cmp (keys_of es ++ keys_of fs)
@@ -75,12 +89,24 @@ module _ (es fs : List (Element × ℕ)) where
   first_short : only_first (held_changed es fs) ≤ length (items es)
   unfolding both
   first_short =
-      omega (arith, ap only_first listed, first_few both, sum_found element_cmp element_total exact_elements (λ e n. n) both (sorted_ascending element_cmp element_total (keys_of es ++ keys_of fs)) es, held_length es)
+      omega (
+        arith,
+        ap only_first listed,
+        first_few both,
+        sum_found element_cmp element_total exact_elements (λ e n. n) both (sorted_ascending element_cmp element_total (keys_of es ++ keys_of fs)) es,
+        held_length es,
+      )
 
   second_short : only_second (held_changed es fs) ≤ length (items fs)
   unfolding both
   second_short =
-      omega (arith, ap only_second listed, second_few both, sum_found element_cmp element_total exact_elements (λ e n. n) both (sorted_ascending element_cmp element_total (keys_of es ++ keys_of fs)) fs, held_length fs)
+      omega (
+        arith,
+        ap only_second listed,
+        second_few both,
+        sum_found element_cmp element_total exact_elements (λ e n. n) both (sorted_ascending element_cmp element_total (keys_of es ++ keys_of fs)) fs,
+        held_length fs,
+      )
 
   fits_first : length (items es) < 2 ^ 64 → only_first (held_changed es fs) ≡ counted_to (only_first (held_changed es fs))
   fits_first h = omega (arith, h, first_short)
@@ -95,7 +121,8 @@ map_lists f g [] h = refl
 map_lists f g (x ∷ xs) h = λ i. h.0 i ++ map_lists f g xs h.1 i
 
 module _ (profile : Profile) (es fs : List (Element × ℕ)) (b : IsBag profile es) (c : IsBag profile fs) where
-  entry_held : (xs : List Element) → AllByRecursion (IsNormal profile) xs → AllByRecursion (λ e. change_at e (count_of profile e (items es)) (count_of profile e (items fs)) ≡ pair_changed (e, (found element_cmp es e, found element_cmp fs e))) xs
+  entry_held : (xs : List Element) → AllByRecursion (IsNormal profile) xs →
+      AllByRecursion (λ e. change_at e (count_of profile e (items es)) (count_of profile e (items fs)) ≡ pair_changed (e, (found element_cmp es e, found element_cmp fs e))) xs
   entry_held [] h = tt
   entry_held (x ∷ xs) h = (λ i. change_at x (count_held profile es fs b c es x b h.0 i) (count_held profile es fs b c fs x c h.0 i), entry_held xs h.1)
 
@@ -103,7 +130,9 @@ module _ (profile : Profile) (es fs : List (Element × ℕ)) (b : IsBag profile 
   changed_held =
       let ks = ascending element_cmp (keys_of es ++ keys_of fs) in
       ap (flat_map (λ e. change_at e (count_of profile e (items es)) (count_of profile e (items fs)))) (items_keys element_total es fs b.tally.positive c.tally.positive)
-      ∙ map_lists _ (λ e. pair_changed (e, (found element_cmp es e, found element_cmp fs e))) ks (entry_held ks (all_ascending (IsNormal profile) element_cmp (keys_of es ++ keys_of fs) (all_append (IsNormal profile) (keys_of es) (keys_of fs) (keys_normal profile es b.normal) (keys_normal profile fs c.normal))))
+      ∙ map_lists _ (λ e. pair_changed (e, (found element_cmp es e, found element_cmp fs e))) ks
+      (entry_held ks (all_ascending (IsNormal profile) element_cmp (keys_of es ++ keys_of fs)
+      (all_append (IsNormal profile) (keys_of es) (keys_of fs) (keys_normal profile es b.normal) (keys_normal profile fs c.normal))))
       ∙ sym (flat_map-map pair_changed (λ e. (e, (found element_cmp es e, found element_cmp fs e))) ks)
 
   module _ (few : length (items es) < 2 ^ 64) (less : length (items fs) < 2 ^ 64) where
@@ -132,33 +161,40 @@ unfolding IsFew
 all_few [] h = tt
 all_few (c ∷ cs) h = (omega (arith, h), all_few cs (omega (arith, h)))
 
-brief_held : (profile : Profile) (name : List ℕ) (o p : Option (List (Element × ℕ))) → IfSome o (IsBag profile) → IfSome p (IsBag profile) → IfSome o IsFew → IfSome p IsFew → cell_brief profile name (option_map items o) (option_map items p) ≡ held_brief (name, (o, p))
+brief_held : (profile : Profile) (name : List ℕ) (o p : Option (List (Element × ℕ))) → IfSome o (IsBag profile) → IfSome p (IsBag profile) → IfSome o IsFew →
+    IfSome p IsFew → cell_brief profile name (option_map items o) (option_map items p) ≡ held_brief (name, (o, p))
 unfolding IsFew
 brief_held profile name o p b c few less =
     let es = unwrap_or o [] in
     let fs = unwrap_or p [] in
     let d = bag_of profile o b in
     let e = bag_of profile p c in
-    (λ i. brief_of (there profile o i) (there profile p i) name (only_first (changed profile (the_items profile o i) (the_items profile p i))) (only_second (changed profile (the_items profile o i) (the_items profile p i))))
+    (λ i. brief_of (there profile o i) (there profile p i) name (only_first (changed profile (the_items profile o i) (the_items profile p i)))
+    (only_second (changed profile (the_items profile o i) (the_items profile p i))))
     ∙ (λ i. brief_of (is_some o) (is_some p) name (first_held profile es fs d e (few_of o few) (few_of p less) i) (second_held profile es fs d e (few_of o few) (few_of p less) i))
 
 -- ---- the cells
 
-module _ (profile : Profile) (cs ds : List Cell) (p : AllByRecursion (IsCell profile) cs) (q : AllByRecursion (IsCell profile) ds) (few : AllByRecursion (λ c. IsFew c.1) cs) (less : AllByRecursion (λ c. IsFew c.1) ds) where
-  line_held : (name : List ℕ) → cell_brief profile name (elements_of name (expanded cs)) (elements_of name (expanded ds)) ≡ held_brief (name, (found (slice_cmp nat_cmp) cs name, found (slice_cmp nat_cmp) ds name))
+module _ (profile : Profile) (cs ds : List Cell) (p : AllByRecursion (IsCell profile) cs) (q : AllByRecursion (IsCell profile) ds)
+    (few : AllByRecursion (λ c. IsFew c.1) cs) (less : AllByRecursion (λ c. IsFew c.1) ds) where
+  line_held : (name : List ℕ) → cell_brief profile name (elements_of name (expanded cs)) (elements_of name (expanded ds))
+      ≡ held_brief (name, (found (slice_cmp nat_cmp) cs name, found (slice_cmp nat_cmp) ds name))
   line_held name =
       let at = is_at (slice_cmp nat_cmp name) in
       (λ i. cell_brief profile name (elements_found name cs i) (elements_found name ds i))
       ∙ brief_held profile name (found (slice_cmp nat_cmp) cs name) (found (slice_cmp nat_cmp) ds name) (bag_at profile at cs p) (bag_at profile at ds q) (few_at at cs few) (few_at at ds less)
 
-  lines_held : flat_map (λ name. cell_brief profile name (elements_of name (expanded cs)) (elements_of name (expanded ds))) (ascending (slice_cmp nat_cmp) (keys_of (expanded cs) ++ keys_of (expanded ds))) ≡ held_lines Counts cs ds
+  lines_held : flat_map (λ name. cell_brief profile name (elements_of name (expanded cs)) (elements_of name (expanded ds)))
+      (ascending (slice_cmp nat_cmp) (keys_of (expanded cs) ++ keys_of (expanded ds))) ≡ held_lines Counts cs ds
   lines_held =
       (λ i. flat_map (λ name. line_held name i) (ascending (slice_cmp nat_cmp) (keys_held cs i ++ keys_held ds i)))
       ∙ sym (flat_map-map held_brief (λ name. (name, (found (slice_cmp nat_cmp) cs name, found (slice_cmp nat_cmp) ds name))) (ascending (slice_cmp nat_cmp) (keys_of cs ++ keys_of ds)))
 
 -- the lines of the units, and then those of the cells that are held
-pub detailed_held : (detail : Detail) (a b : Contents) → IsLayout a → IsLayout b → a.profile ≡ b.profile → detailed detail a.profile (meaning_of a) (meaning_of b) ≡ unit_changes a.unit b.unit ++ held_lines detail a.cells b.cells
+pub detailed_held : (detail : Detail) (a b : Contents) → IsLayout a → IsLayout b → a.profile ≡ b.profile →
+    detailed detail a.profile (meaning_of a) (meaning_of b) ≡ unit_changes a.unit b.unit ++ held_lines detail a.cells b.cells
 detailed_held Elements a b k l alike = difference_held a b k l alike
 detailed_held Counts a b k l alike =
     let cells = subst (λ p. AllByRecursion (IsCell p) b.cells) (sym alike) l.cells in
-    ap (λ (text : List ℕ). unit_changes a.unit b.unit ++ text) (lines_held a.profile a.cells b.cells k.cells cells (all_few a.cells (omega (arith, k.few, k.limits.few))) (all_few b.cells (omega (arith, l.few, l.limits.few))))
+    ap (λ (text : List ℕ). unit_changes a.unit b.unit ++ text)
+    (lines_held a.profile a.cells b.cells k.cells cells (all_few a.cells (omega (arith, k.few, k.limits.few))) (all_few b.cells (omega (arith, l.few, l.limits.few))))

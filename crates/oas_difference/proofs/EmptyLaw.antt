@@ -229,7 +229,8 @@ module _ (profile : Profile) where
     none_from_same : SameLayout profile a b → difference profile a b ≡ []
     unfolding lines_of
     none_from_same s =
-        λ i. one_unit a.unit b.unit s.unit i ++ none_of_all lines_of (λ name. same_cell name _ _ (record { both = s.cells name; counts = s.counts name })) (ascending (slice_cmp nat_cmp) (keys_of a.cells ++ keys_of b.cells)) i
+        λ i. one_unit a.unit b.unit s.unit i ++ none_of_all lines_of (λ name. same_cell name _ _ (record { both = s.cells name; counts = s.counts name }))
+        (ascending (slice_cmp nat_cmp) (keys_of a.cells ++ keys_of b.cells)) i
 
 pub empty_if_same : (profile : Profile) → EmptyIfSame profile
 empty_if_same profile a b = (same_from_none profile a b, none_from_same profile a b)

@@ -158,8 +158,10 @@ module _ (profile : Profile) (a b : Meaning) where
 by_detail : (limit : Option ℕ) (detail : Detail) (profile : Profile) (a b : Meaning) → (limited limit (detailed detail profile a b) ≡ []) ↔ SameLayout profile a b
 by_detail limit Elements profile a b =
     (λ e. (empty_if_same profile a b).0 (limited_none limit (difference profile a b) e), λ s. none_limited limit (difference profile a b) ((empty_if_same profile a b).1 s))
-by_detail limit Counts profile a b =
-    (λ e. (empty_if_same profile a b).0 (none_from_brief profile a b (limited_none limit (brief profile a b) e)), λ s. none_limited limit (brief profile a b) (brief_from_none profile a b ((empty_if_same profile a b).1 s)))
+by_detail limit Counts profile a b = (
+  λ e. (empty_if_same profile a b).0 (none_from_brief profile a b (limited_none limit (brief profile a b) e)),
+  λ s. none_limited limit (brief profile a b) (brief_from_none profile a b ((empty_if_same profile a b).1 s)),
+)
 
 pub empty_by_options : (options : Options) (profile : Profile) → EmptyByOptions options profile
 empty_by_options options profile a b = by_detail options.limit options.detail profile a b

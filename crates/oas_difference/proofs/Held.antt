@@ -42,7 +42,9 @@ module _ (profile : Profile) where
     pub count_held : (gs : List (Element × ℕ)) (e : Element) → IsBag profile gs → IsNormal profile e → count_of profile e (items gs) ≡ unwrap_or (found element_cmp gs e) 0
     count_held gs e g n = held profile gs e g ∙ ap (count_at gs) n
 
-    line_held : (xs : List Element) → AllByRecursion (IsNormal profile) xs → AllByRecursion (λ e. change (count_of profile e (items es)) (count_of profile e (items fs)) (element_line e) ≡ pair_line (e, (found element_cmp es e, found element_cmp fs e))) xs
+    line_held : (xs : List Element) → AllByRecursion (IsNormal profile) xs →
+        AllByRecursion (λ e. change (count_of profile e (items es)) (count_of profile e (items fs)) (element_line e)
+        ≡ pair_line (e, (found element_cmp es e, found element_cmp fs e))) xs
     line_held [] h = tt
     line_held (x ∷ xs) h = (λ i. change (count_held es x b h.0 i) (count_held fs x c h.0 i) (element_line x), line_held xs h.1)
 
@@ -50,7 +52,9 @@ module _ (profile : Profile) where
     unfolding both
     changes_held =
         ap (flat_map (λ e. change (count_of profile e (items es)) (count_of profile e (items fs)) (element_line e))) (items_keys element_total es fs b.tally.positive c.tally.positive)
-        ∙ flat_map_alike _ (λ e. pair_line (e, (found element_cmp es e, found element_cmp fs e))) both (line_held both (all_ascending (IsNormal profile) element_cmp (keys_of es ++ keys_of fs) (all_append (IsNormal profile) (keys_of es) (keys_of fs) (keys_normal es b.normal) (keys_normal fs c.normal))))
+        ∙ flat_map_alike _ (λ e. pair_line (e, (found element_cmp es e, found element_cmp fs e))) both
+        (line_held both (all_ascending (IsNormal profile) element_cmp (keys_of es ++ keys_of fs)
+        (all_append (IsNormal profile) (keys_of es) (keys_of fs) (keys_normal es b.normal) (keys_normal fs c.normal))))
         ∙ sym (flat_map-map pair_line (λ e. (e, (found element_cmp es e, found element_cmp fs e))) both)
 
   -- ---- a cell
@@ -71,7 +75,8 @@ module _ (profile : Profile) where
   the_items None = refl
   the_items (Some es) = refl
 
-  cell_held : (name : List ℕ) (o p : Option (List (Element × ℕ))) → IfSome o (IsBag profile) → IfSome p (IsBag profile) → cell_changes profile name (option_map items o) (option_map items p) ≡ held_cell (name, (o, p))
+  cell_held : (name : List ℕ) (o p : Option (List (Element × ℕ))) → IfSome o (IsBag profile) → IfSome p (IsBag profile) →
+      cell_changes profile name (option_map items o) (option_map items p) ≡ held_cell (name, (o, p))
   cell_held name o p b c =
       (λ i. below_name (there o i) (there p i) name (element_changes profile (the_items o i) (the_items p i)))
       ∙ ap (below_name (is_some o) (is_some p) name) (changes_held (unwrap_or o []) (unwrap_or p []) (bag_of o b) (bag_of p c))
@@ -85,7 +90,8 @@ module _ (profile : Profile) where
 elements_held : (name : List ℕ) (cs : List Cell) → elements_of name (expanded cs) ≡ option_map items (lookup (pointwise ◌==◌ name) cs)
 elements_held name [] = refl
 elements_held name (c ∷ cs) =
-    elim (pointwise ◌==◌ name c.0) as (λ b. cond b (Some (items c.1)) (elements_of name (expanded cs)) ≡ option_map items (cond b (Some c.1) (lookup (pointwise ◌==◌ name) cs))) [ true ↦ refl | false ↦ elements_held name cs ]
+    elim (pointwise ◌==◌ name c.0) as (λ b. cond b (Some (items c.1)) (elements_of name (expanded cs))
+    ≡ option_map items (cond b (Some c.1) (lookup (pointwise ◌==◌ name) cs))) [ true ↦ refl | false ↦ elements_held name cs ]
 
 pub elements_found : (name : List ℕ) (cs : List Cell) → elements_of name (expanded cs) ≡ option_map items (found (slice_cmp nat_cmp) cs name)
 elements_found name cs = elements_held name cs ∙ (λ i. option_map items (lookup (λ k. texts_ties name k i) cs))
@@ -95,12 +101,15 @@ keys_held [] = refl
 keys_held (c ∷ cs) = λ i. c.0 ∷ keys_held cs i
 
 module _ (profile : Profile) (cs ds : List Cell) (p : AllByRecursion (IsCell profile) cs) (q : AllByRecursion (IsCell profile) ds) where
-  name_held : (name : List ℕ) → cell_changes profile name (elements_of name (expanded cs)) (elements_of name (expanded ds)) ≡ held_cell (name, (found (slice_cmp nat_cmp) cs name, found (slice_cmp nat_cmp) ds name))
+  name_held : (name : List ℕ) → cell_changes profile name (elements_of name (expanded cs)) (elements_of name (expanded ds))
+      ≡ held_cell (name, (found (slice_cmp nat_cmp) cs name, found (slice_cmp nat_cmp) ds name))
   name_held name =
       (λ i. cell_changes profile name (elements_found name cs i) (elements_found name ds i))
-      ∙ cell_held profile name (found (slice_cmp nat_cmp) cs name) (found (slice_cmp nat_cmp) ds name) (bag_at profile (is_at (slice_cmp nat_cmp name)) cs p) (bag_at profile (is_at (slice_cmp nat_cmp name)) ds q)
+      ∙ cell_held profile name (found (slice_cmp nat_cmp) cs name) (found (slice_cmp nat_cmp) ds name) (bag_at profile (is_at (slice_cmp nat_cmp name)) cs p)
+      (bag_at profile (is_at (slice_cmp nat_cmp name)) ds q)
 
-  cells_held : flat_map (λ name. cell_changes profile name (elements_of name (expanded cs)) (elements_of name (expanded ds))) (ascending (slice_cmp nat_cmp) (keys_of (expanded cs) ++ keys_of (expanded ds))) ≡ held_cells cs ds
+  cells_held : flat_map (λ name. cell_changes profile name (elements_of name (expanded cs)) (elements_of name (expanded ds)))
+      (ascending (slice_cmp nat_cmp) (keys_of (expanded cs) ++ keys_of (expanded ds))) ≡ held_cells cs ds
   cells_held =
       (λ i. flat_map (λ name. name_held name i) (ascending (slice_cmp nat_cmp) (keys_held cs i ++ keys_held ds i)))
       ∙ sym (flat_map-map held_cell (λ name. (name, (found (slice_cmp nat_cmp) cs name, found (slice_cmp nat_cmp) ds name))) (ascending (slice_cmp nat_cmp) (keys_of cs ++ keys_of ds)))

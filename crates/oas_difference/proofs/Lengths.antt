@@ -1,19 +1,15 @@
 -- The difference of two layouts is short enough for its length to be counted.
-use Rattle.std.proofs.Common.{◌≡◌, ℕ, ◌+◌, ◌*◌, ◌^◌, ◌<◌, ◌≤◌, zero, suc, List, [], ◌∷◌, ◌++◌, length, flat_map, sum_by, cond, Bool, true, false, Option, None, Some, unwrap_or, decimal, replicate, length-append, refl, ◌∙◌, ap, subst, arith}
+use Rattle.std.proofs.Common.{◌≡◌, ℕ, ◌+◌, ◌*◌, ◌^◌, ◌<◌, ◌≤◌, zero, suc, List, [], ◌∷◌, ◌++◌, length, sum_by, Bool, true, false, Option, None, Some, unwrap_or}
+use Rattle.std.proofs.Common.{decimal, replicate, length-append, refl, ap, arith}
 use Rattle.std.specs.Prelude.{codes, nat_lt, ◌-◌, if◌then◌else◌}
-use Rattle.std.specs.Ordering.{nat_cmp, is_eq, match_ordering, ordering_reverse}
+use Rattle.std.specs.Ordering.{nat_cmp}
 use Rattle.std.specs.Cmp.{IsTotalOrder}
 use Rattle.std.specs.Cmp.Lexicographic.{slice_cmp, nat_list_cmp_total}
-use Rattle.std.specs.declared.cmp.Ordering.{Ordering}
-use Rattle.std.specs.declared.cmp.Ordering.TheVariants.{Less, Equal, Greater}
 use Rattle.std.specs.List.{AllByRecursion}
-use Rattle.std.specs.List.Sorted.{IsStrictlySortedBy}
-use Rattle.std.proofs.lemmas.Map.Keys.{sorted_head, sorted_tail}
 use Rattle.std.proofs.lemmas.List.Folds.{flat_map-map}
 use Rattle.std.specs.Map.{keys_of}
-use Rattle.std.specs.BTreeSet.{insert_key}
 use Rattle.std.proofs.lemmas.List.Sums.{sum_by-cons, sum_by-append}
-use Rattle.std.proofs.lemmas.Map.Lookups.{CmpEqualImpliesEq, exact_bytes}
+use Rattle.std.proofs.lemmas.Map.Lookups.{exact_bytes}
 use Rattle.oas_num.specs.Ratio.{Ratio}
 use Rattle.oas_layout.specs.declared.profile.Profile.{Profile}
 use Rattle.oas_layout.specs.declared.element.Element.{Element}
@@ -34,113 +30,7 @@ use Rattle.oas_difference.specs.Brief.{only_first, only_second, brief_line, brie
 use Rattle.oas_difference.specs.Held.{pair_line, held_changes, held_changed, counted_to, held_cell, held_brief, held_by, held_lines}
 use Rattle.oas_difference.specs.declared.options.Detail.{Detail}
 use Rattle.oas_difference.specs.declared.options.Detail.TheVariants.{Elements, Counts}
-use Rattle.oas_difference.proofs.Ascending.{Below, below_chain, above, all_insert}
-
--- ---- sums over what is ascending
-
-module _ {K : Type 0} (R : K → K → Ordering) where
-  sum_insert : (g : K → ℕ) (ks : List K) (k : K) → sum_by g (insert_key R ks k) ≤ g k + sum_by g ks
-  sum_insert g [] k = omega (arith, sum_by-cons g k [])
-  sum_insert g (x ∷ xs) k =
-      elim (R k x) as (λ r. sum_by g (match_ordering r (k ∷ x ∷ xs) (x ∷ xs) (x ∷ insert_key R xs k)) ≤ g k + sum_by g (x ∷ xs)) [
-        | Less ↦ omega (arith, sum_by-cons g k (x ∷ xs))
-        | Equal ↦ omega arith
-        | Greater ↦ omega (arith, sum_by-cons g x (insert_key R xs k), sum_by-cons g x xs, sum_insert g xs k)
-      ]
-
-  -- once each is no more than each as often as it is there
-  sum_ascending : (g : K → ℕ) (xs : List K) → sum_by g (ascending R xs) ≤ sum_by g xs
-  sum_ascending g [] = omega arith
-  sum_ascending g (x ∷ xs) = omega (arith, sum_insert g (ascending R xs) x, sum_ascending g xs, sum_by-cons g x xs)
-
-  module _ (o : IsTotalOrder R) where
-    sorted_insert : (ks : List K) (k : K) → IsStrictlySortedBy R ks → IsStrictlySortedBy R (insert_key R ks k)
-    unfolding IsStrictlySortedBy
-    sorted_insert [] k s = (tt, tt)
-    sorted_insert (x ∷ xs) k s =
-        elim (R k x) as (λ r. R k x ≡ r → IsStrictlySortedBy R (match_ordering r (k ∷ x ∷ xs) (x ∷ xs) (x ∷ insert_key R xs k))) [
-          | Less ↦ λ h. ((h, below_chain o k x xs h (sorted_head R x xs s)), s)
-          | Equal ↦ λ h. s
-          | Greater ↦ λ h. (all_insert (λ y. R x y ≡ Less) R xs k (sorted_head R x xs s) (o.antisymm x k ∙ ap ordering_reverse h), sorted_insert xs k (sorted_tail R x xs s))
-        ] refl
-
-    pub sorted_ascending : (xs : List K) → IsStrictlySortedBy R (ascending R xs)
-    unfolding IsStrictlySortedBy
-    sorted_ascending [] = tt
-    sorted_ascending (x ∷ xs) = sorted_insert (ascending R xs) x (sorted_ascending xs)
-
-    module _ (exact : CmpEqualImpliesEq R) (F : K → ℕ) (j : K) where
-      -- what a key that ties with j gives
-      at_tie : K → ℕ
-      at_tie k = cond (is_eq (R k j)) (F k) 0
-
-      -- none of those that are above j
-      sum_above : (ks : List K) → Below o j ks → sum_by at_tie ks ≡ 0
-      unfolding at_tie
-      sum_above [] b = refl
-      sum_above (k ∷ ks) b =
-          let none : cond (is_eq (R k j)) (F k) 0 ≡ 0 = ap (λ r. cond (is_eq r) (F k) 0) (above o j k b.0) in
-          omega (arith, sum_by-cons at_tie k ks, none, sum_above ks b.1)
-
-      -- at most one of those that strictly ascend ties with j
-      sum_once : (ks : List K) → IsStrictlySortedBy R ks → sum_by at_tie ks ≤ F j
-      unfolding at_tie
-      sum_once [] s = omega arith
-      sum_once (k ∷ ks) s = by_order (R k j) refl (sum_once ks (sorted_tail R k ks s)) where
-        by_order : (r : Ordering) → R k j ≡ r → sum_by at_tie ks ≤ F j → sum_by at_tie (k ∷ ks) ≤ F j
-        by_order Less h later =
-            let none : cond (is_eq (R k j)) (F k) 0 ≡ 0 = ap (λ r. cond (is_eq r) (F k) 0) h in
-            omega (arith, sum_by-cons at_tie k ks, none, later)
-        by_order Greater h later =
-            let none : cond (is_eq (R k j)) (F k) 0 ≡ 0 = ap (λ r. cond (is_eq r) (F k) 0) h in
-            omega (arith, sum_by-cons at_tie k ks, none, later)
-        by_order Equal h later =
-            let is : k ≡ j = exact k j h in
-            let one : cond (is_eq (R k j)) (F k) 0 ≡ F j = ap (λ r. cond (is_eq r) (F k) 0) h ∙ ap F is in
-            let none : sum_by at_tie ks ≡ 0 = sum_above ks (subst (λ (x : K). Below o x ks) is (sorted_head R k ks s)) in
-            omega (arith, sum_by-cons at_tie k ks, one, none)
-
-module _ {A : Type 0} where
-  pub sum_le : (f g : A → ℕ) → ((x : A) → f x ≤ g x) → (xs : List A) → sum_by f xs ≤ sum_by g xs
-  sum_le f g h [] = omega arith
-  sum_le f g h (x ∷ xs) = omega (arith, sum_by-cons f x xs, sum_by-cons g x xs, h x, sum_le f g h xs)
-
-  two_sums : (f g h : A → ℕ) → ((x : A) → f x ≤ g x + h x) → (xs : List A) → sum_by f xs ≤ sum_by g xs + sum_by h xs
-  two_sums f g h p [] = omega arith
-  two_sums f g h p (x ∷ xs) = omega (arith, sum_by-cons f x xs, sum_by-cons g x xs, sum_by-cons h x xs, p x, two_sums f g h p xs)
-
-  length-texts : (f : A → List ℕ) (xs : List A) → length (flat_map f xs) ≡ sum_by (λ x. length (f x)) xs
-  length-texts f [] = refl
-  length-texts f (x ∷ xs) = omega (arith, length-append (f x) (flat_map f xs), sum_by-cons (λ x. length (f x)) x xs, length-texts f xs)
-
--- ---- sums over what stands beside keys
-
-module _ {K V : Type 0} (R : K → K → Ordering) (o : IsTotalOrder R) (exact : CmpEqualImpliesEq R) (w : K → V → ℕ) where
-  -- what an entry weighs, if there is one
-  pub weight_if : K → Option V → ℕ
-  weight_if k None = 0
-  weight_if k (Some v) = w k v
-
-  pub entries_sum : List (K × V) → ℕ
-  entries_sum [] = 0
-  entries_sum (e ∷ es) = w e.0 e.1 + entries_sum es
-
-  sum_nothing : (ks : List K) → sum_by (λ k. weight_if k None) ks ≡ 0
-  unfolding weight_if
-  sum_nothing [] = refl
-  sum_nothing (k ∷ ks) = omega (arith, sum_by-cons (λ k. weight_if k None) k ks, sum_nothing ks)
-
-  one_more : (b : Bool) (k : K) (v : V) (x : Option V) → weight_if k (cond b (Some v) x) ≤ cond b (w k v) 0 + weight_if k x
-  unfolding weight_if
-  one_more true k v x = omega arith
-  one_more false k v x = omega arith
-
-  -- found by keys that strictly ascend, no entry is weighed twice
-  pub sum_found : (ks : List K) → IsStrictlySortedBy R ks → (es : List (K × V)) → sum_by (λ k. weight_if k (found R es k)) ks ≤ entries_sum es
-  unfolding weight_if entries_sum
-  sum_found ks s [] = omega (arith, sum_nothing ks)
-  sum_found ks s (e ∷ es) =
-      omega (arith, two_sums (λ k. weight_if k (found R (e ∷ es) k)) (at_tie R o exact (λ k. w k e.1) e.0) (λ k. weight_if k (found R es k)) (λ k. unfold at_tie in one_more (is_eq (R k e.0)) k e.1 (found R es k)) ks, sum_once R o exact (λ k. w k e.1) e.0 ks s, sum_found ks s es)
+use Rattle.oas_difference.proofs.Sums.{sum_ascending, sorted_ascending, sum_le, two_sums, length-texts, weight_if, entries_sum, sum_found}
 
 -- ---- numbers beside elements
 
@@ -180,7 +70,15 @@ unfolding line_most
 length-changes es fs =
     let ks = ascending element_cmp (keys_of es ++ keys_of fs) in
     let pair : Element → Element × (Option ℕ × Option ℕ) = λ k. (k, (found element_cmp es k, found element_cmp fs k)) in
-    omega (arith, ap length (flat_map-map pair_line pair ks), length-texts (λ k. pair_line (pair k)) ks, sum_le (λ k. length (pair_line (pair k))) line_most (λ k. length-change (unwrap_or (found element_cmp es k) 0) (unwrap_or (found element_cmp fs k) 0) (element_line k)) ks, sum_ascending element_cmp line_most (keys_of es ++ keys_of fs), sum_by-append line_most (keys_of es) (keys_of fs))
+    omega (
+      arith,
+      ap length (flat_map-map pair_line pair ks),
+      length-texts (λ k. pair_line (pair k)) ks,
+      sum_le (λ k. length (pair_line (pair k))) line_most
+          (λ k. length-change (unwrap_or (found element_cmp es k) 0) (unwrap_or (found element_cmp fs k) 0) (element_line k)) ks,
+      sum_ascending element_cmp line_most (keys_of es ++ keys_of fs),
+      sum_by-append line_most (keys_of es) (keys_of fs),
+    )
 
 -- what a cell gives at most
 cell_most : List ℕ → List (Element × ℕ) → ℕ
@@ -202,7 +100,8 @@ length-below false false name changes = omega arith
 names_total : IsTotalOrder (slice_cmp nat_cmp)
 names_total = nat_list_cmp_total
 
-length-held_cell : (name : List ℕ) (x y : Option (List (Element × ℕ))) → length (held_cell (name, (x, y))) ≤ weight_if (slice_cmp nat_cmp) names_total exact_bytes cell_most name x + weight_if (slice_cmp nat_cmp) names_total exact_bytes cell_most name y
+length-held_cell : (name : List ℕ) (x y : Option (List (Element × ℕ))) → length (held_cell (name, (x, y)))
+    ≤ weight_if (slice_cmp nat_cmp) names_total exact_bytes cell_most name x + weight_if (slice_cmp nat_cmp) names_total exact_bytes cell_most name y
 unfolding weight_if cell_most
 length-held_cell name None None = omega arith
 length-held_cell name (Some es) None = omega (arith, length-below true false name (held_changes es []), length-changes es [])
@@ -211,13 +110,21 @@ length-held_cell name (Some es) (Some fs) = omega (arith, length-below true true
 
 length-brief_line : (sign : ℕ) (name : List ℕ) (n m : ℕ) → length (brief_line sign name n m) ≤ 200 + length name
 length-brief_line sign name n m =
-    omega (arith, length-append name ((codes " - " ++ decimal n) ++ ((codes " + " ++ decimal m) ++ 10 ∷ [])), length-append (decimal n) ((codes " + " ++ decimal m) ++ 10 ∷ []), length-append (decimal m) (10 ∷ []), length-decimal n, length-decimal m)
+    omega (
+      arith,
+      length-append name ((codes " - " ++ decimal n) ++ ((codes " + " ++ decimal m) ++ 10 ∷ [])),
+      length-append (decimal n) ((codes " + " ++ decimal m) ++ 10 ∷ []),
+      length-append (decimal m) (10 ∷ []),
+      length-decimal n,
+      length-decimal m,
+    )
 
 length-signed_brief : (o : Option ℕ) (name : List ℕ) (n m : ℕ) → length (signed_brief o name n m) ≤ 200 + length name
 length-signed_brief None name n m = omega arith
 length-signed_brief (Some sign) name n m = length-brief_line sign name n m
 
-length-held_brief : (name : List ℕ) (x y : Option (List (Element × ℕ))) → length (held_brief (name, (x, y))) ≤ weight_if (slice_cmp nat_cmp) names_total exact_bytes cell_most name x + weight_if (slice_cmp nat_cmp) names_total exact_bytes cell_most name y
+length-held_brief : (name : List ℕ) (x y : Option (List (Element × ℕ))) → length (held_brief (name, (x, y)))
+    ≤ weight_if (slice_cmp nat_cmp) names_total exact_bytes cell_most name x + weight_if (slice_cmp nat_cmp) names_total exact_bytes cell_most name y
 unfolding weight_if cell_most
 length-held_brief name None None = omega arith
 length-held_brief name (Some es) None =
@@ -229,17 +136,27 @@ length-held_brief name (Some es) (Some fs) =
     let m : ℕ = counted_to (only_second (held_changed es fs)) in
     omega (arith, length-signed_brief (brief_sign true true n m) name n m)
 
-length-held_by : (detail : Detail) (name : List ℕ) (x y : Option (List (Element × ℕ))) → length (held_by detail (name, (x, y))) ≤ weight_if (slice_cmp nat_cmp) names_total exact_bytes cell_most name x + weight_if (slice_cmp nat_cmp) names_total exact_bytes cell_most name y
+length-held_by : (detail : Detail) (name : List ℕ) (x y : Option (List (Element × ℕ))) → length (held_by detail (name, (x, y)))
+    ≤ weight_if (slice_cmp nat_cmp) names_total exact_bytes cell_most name x + weight_if (slice_cmp nat_cmp) names_total exact_bytes cell_most name y
 length-held_by Elements name x y = length-held_cell name x y
 length-held_by Counts name x y = length-held_brief name x y
 
-length-held_lines : (detail : Detail) (cs ds : List Cell) → length (held_lines detail cs ds) ≤ entries_sum (slice_cmp nat_cmp) names_total exact_bytes cell_most cs + entries_sum (slice_cmp nat_cmp) names_total exact_bytes cell_most ds
+length-held_lines : (detail : Detail) (cs ds : List Cell) → length (held_lines detail cs ds)
+    ≤ entries_sum (slice_cmp nat_cmp) names_total exact_bytes cell_most cs + entries_sum (slice_cmp nat_cmp) names_total exact_bytes cell_most ds
 length-held_lines detail cs ds =
     let R = slice_cmp nat_cmp in
     let ks = ascending R (keys_of cs ++ keys_of ds) in
     let s = sorted_ascending R names_total (keys_of cs ++ keys_of ds) in
     let pair : List ℕ → List ℕ × (Option (List (Element × ℕ)) × Option (List (Element × ℕ))) = λ k. (k, (found R cs k, found R ds k)) in
-    omega (arith, ap length (flat_map-map (held_by detail) pair ks), length-texts (λ k. held_by detail (pair k)) ks, two_sums (λ k. length (held_by detail (pair k))) (λ k. weight_if R names_total exact_bytes cell_most k (found R cs k)) (λ k. weight_if R names_total exact_bytes cell_most k (found R ds k)) (λ k. length-held_by detail k (found R cs k) (found R ds k)) ks, sum_found R names_total exact_bytes cell_most ks s cs, sum_found R names_total exact_bytes cell_most ks s ds)
+    omega (
+      arith,
+      ap length (flat_map-map (held_by detail) pair ks),
+      length-texts (λ k. held_by detail (pair k)) ks,
+      two_sums (λ k. length (held_by detail (pair k))) (λ k. weight_if R names_total exact_bytes cell_most k (found R cs k))
+          (λ k. weight_if R names_total exact_bytes cell_most k (found R ds k)) (λ k. length-held_by detail k (found R cs k) (found R ds k)) ks,
+      sum_found R names_total exact_bytes cell_most ks s cs,
+      sum_found R names_total exact_bytes cell_most ks s ds,
+    )
 
 -- ---- by what the cells weigh
 
@@ -275,10 +192,28 @@ length-units : (u v : Ratio) → length (unit_changes u v) ≤ 600
 length-units u v =
     elim (same_ratio u v) as (λ b. length (if b then [] else change 1 0 (unit_line u) ++ change 0 1 (unit_line v)) ≤ 600) [
       | true ↦ omega arith
-      | false ↦ omega (arith, length-append (change 1 0 (unit_line u)) (change 0 1 (unit_line v)), length-change 1 0 (unit_line u), length-change 0 1 (unit_line v), length-unit_line u, length-unit_line v)
+      | false ↦ omega (
+        arith,
+        length-append (change 1 0 (unit_line u)) (change 0 1 (unit_line v)),
+        length-change 1 0 (unit_line u),
+        length-change 0 1 (unit_line v),
+        length-unit_line u,
+        length-unit_line v,
+      )
     ]
 
 -- and no layout weighs more than 2^30
 pub short_enough : (detail : Detail) (a b : Contents) → IsLayout a → IsLayout b → length (unit_changes a.unit b.unit ++ held_lines detail a.cells b.cells) < 2 ^ 63
 short_enough detail a b k l =
-    omega (arith, length-append (unit_changes a.unit b.unit) (held_lines detail a.cells b.cells), length-units a.unit b.unit, length-held_lines detail a.cells b.cells, cells_weigh a.profile a.cells k.cells, cells_weigh b.profile b.cells l.cells, k.light, l.light, k.limits.light, l.limits.light)
+    omega (
+      arith,
+      length-append (unit_changes a.unit b.unit) (held_lines detail a.cells b.cells),
+      length-units a.unit b.unit,
+      length-held_lines detail a.cells b.cells,
+      cells_weigh a.profile a.cells k.cells,
+      cells_weigh b.profile b.cells l.cells,
+      k.light,
+      l.light,
+      k.limits.light,
+      l.limits.light,
+    )

@@ -7,3 +7,4 @@ pub mod Lengths
 pub mod LimitLemmas
 pub mod Pairs
 pub mod Steps
+pub mod Sums

@@ -1,5 +1,6 @@
 -- The first lines of a text, and of one text behind another.
-use Rattle.std.proofs.Common.{◌≡◌, ◌≢◌, ℕ, zero, suc, ◌<◌, ◌≤◌, ◌^◌, List, [], ◌∷◌, ◌++◌, length, Bool, true, false, Option, None, Some, unwrap_or, inl, inr, refl, sym, ◌∙◌, ap, subst, append_assoc, append-nil, length-append, arith, MutBor}
+use Rattle.std.proofs.Common.{◌≡◌, ◌≢◌, ℕ, zero, suc, ◌<◌, ◌≤◌, ◌^◌, List, [], ◌∷◌, ◌++◌, length, Bool, true, false, Option, None, Some, unwrap_or, inl, inr, refl, sym, ◌∙◌, ap}
+use Rattle.std.proofs.Common.{subst, append_assoc, append-nil, length-append, arith, MutBor}
 use Rattle.std.specs.Prelude.{◌-◌, ◌==◌, ◌||◌, if◌then◌else◌}
 use Rattle.std.proofs.lemmas.Bool.{eqb-true, eq-eqb}
 use Rattle.oas_num.specs.Outlet.{Outlet}
@@ -82,7 +83,8 @@ limited_short (Some n) text h = omega (arith, h, length-append (first_lines n te
 -- ---- the sink
 
 -- the sink below stands before the writer that it was made for
-pub opens_below : {W : Type 0} {writer : MutBor W} {o : Outlet W} {lines : Limited W} {n : ℕ} {cut failed : Bool} → lines ≡ record { sink = o; left = n; is_cut = cut; failed = failed } → Opens writer o → Opens writer lines.sink
+pub opens_below : {W : Type 0} {writer : MutBor W} {o : Outlet W} {lines : Limited W} {n : ℕ} {cut failed : Bool} → lines
+    ≡ record { sink = o; left = n; is_cut = cut; failed = failed } → Opens writer o → Opens writer lines.sink
 opens_below {W = W} {writer = writer} is h = subst (λ (l : Limited W). Opens writer l.sink) (sym is) h
 
 module _ {W : Type 0} (given : Outlet W → List ℕ → Outlet W → Type 0) (failures : Outlet W → ℕ) where
@@ -97,9 +99,12 @@ module _ {W : Type 0} (given : Outlet W → List ℕ → Outlet W → Type 0) (f
   passes_then old mid new a b works p q =
       let here : lines_left old.left a ≡ mid.left = sym (p.left works) in
       record {
-        puts = subst (λ (bs : List ℕ). Puts given failures old.sink bs new.sink) (ap (λ (n : ℕ). first_lines old.left a ++ first_lines n b) (p.left works) ∙ sym (first-append old.left a b)) (Puts-then given failures old.sink mid.sink new.sink (first_lines old.left a) (first_lines mid.left b) p.puts q.puts);
+        puts = subst (λ (bs : List ℕ). Puts given failures old.sink bs new.sink)
+            (ap (λ (n : ℕ). first_lines old.left a ++ first_lines n b) (p.left works) ∙ sym (first-append old.left a b))
+            (Puts-then given failures old.sink mid.sink new.sink (first_lines old.left a) (first_lines mid.left b) p.puts q.puts);
         left = λ e. q.left e ∙ ap (λ (n : ℕ). lines_left n b) (p.left works) ∙ sym (left-append old.left a b);
-        cut = λ e. q.cut e ∙ (λ i. p.cut works i || is_longer (p.left works i) b) ∙ or-assoc old.is_cut (is_longer old.left a) (is_longer (lines_left old.left a) b) ∙ ap (λ (t : Bool). old.is_cut || t) (sym (longer-append old.left a b));
+        cut = λ e. q.cut e ∙ (λ i. p.cut works i || is_longer (p.left works i) b)
+            ∙ or-assoc old.is_cut (is_longer old.left a) (is_longer (lines_left old.left a) b) ∙ ap (λ (t : Bool). old.is_cut || t) (sym (longer-append old.left a b));
         fault = λ e. elim (q.fault e) [
           | inl was ↦ (let no : ⊥ = cc in absurd no)
           | inr some ↦ inr some
@@ -144,7 +149,8 @@ module _ {W : Type 0} (given : Outlet W → List ℕ → Outlet W → Type 0) (f
   one_longer (suc n) b h = none_longer (if b == 10 then n else suc n)
 
   -- one that is passed on
-  handed : (old new : Limited W) (b : ℕ) → old.left ≢ 0 → Puts given failures old.sink (b ∷ []) new.sink → new.left ≡ lines_left old.left (b ∷ []) → new.is_cut ≡ old.is_cut → new.failed ≡ old.failed → Passes given failures old (b ∷ []) new
+  handed : (old new : Limited W) (b : ℕ) → old.left ≢ 0 → Puts given failures old.sink (b ∷ []) new.sink → new.left ≡ lines_left old.left (b ∷ []) → new.is_cut
+      ≡ old.is_cut → new.failed ≡ old.failed → Passes given failures old (b ∷ []) new
   handed old new b some p left cut same = record {
     puts = subst (λ (bs : List ℕ). Puts given failures old.sink bs new.sink) (sym (one_first old.left b some)) p;
     left = λ e. left;
@@ -152,10 +158,12 @@ module _ {W : Type 0} (given : Outlet W → List ℕ → Outlet W → Type 0) (f
     fault = λ e. inl (sym same ∙ e);
   }
 
-  pub handed_end : (old new : Limited W) (b : ℕ) → old.left ≢ 0 → Puts given failures old.sink (b ∷ []) new.sink → b ≡ 10 → new.left ≡ old.left - 1 → new.is_cut ≡ old.is_cut → new.failed ≡ old.failed → Passes given failures old (b ∷ []) new
+  pub handed_end : (old new : Limited W) (b : ℕ) → old.left ≢ 0 → Puts given failures old.sink (b ∷ []) new.sink → b ≡ 10 → new.left ≡ old.left - 1 → new.is_cut
+      ≡ old.is_cut → new.failed ≡ old.failed → Passes given failures old (b ∷ []) new
   handed_end old new b some p e left cut same = handed old new b some p (left ∙ left_end old.left b some e) cut same
 
-  pub handed_other : (old new : Limited W) (b : ℕ) → old.left ≢ 0 → Puts given failures old.sink (b ∷ []) new.sink → b ≢ 10 → new.left ≡ old.left → new.is_cut ≡ old.is_cut → new.failed ≡ old.failed → Passes given failures old (b ∷ []) new
+  pub handed_other : (old new : Limited W) (b : ℕ) → old.left ≢ 0 → Puts given failures old.sink (b ∷ []) new.sink → b ≢ 10 → new.left ≡ old.left → new.is_cut
+      ≡ old.is_cut → new.failed ≡ old.failed → Passes given failures old (b ∷ []) new
   handed_other old new b some p e left cut same = handed old new b some p (left ∙ left_other old.left b some e) cut same
 
   front_first : (n b : ℕ) (front back : List ℕ) → n ≢ 0 → b ∷ [] ≡ front ++ back → first_lines n front ≡ front
@@ -164,7 +172,8 @@ module _ {W : Type 0} (given : Outlet W → List ℕ → Outlet W → Type 0) (f
   front_first n b (x ∷ y ∷ front) back some e = absurd (omega (arith, ap length e))
 
   -- one on which the sink below fails
-  pub broke : (old new : Limited W) (b : ℕ) → old.left ≢ 0 → old.failed ≡ false → PutsFront given failures old.sink (b ∷ []) new.sink → new.failed ≡ true → PutsFront (Passes given failures) faults old (b ∷ []) new
+  pub broke : (old new : Limited W) (b : ℕ) → old.left ≢ 0 → old.failed ≡ false → PutsFront given failures old.sink (b ∷ []) new.sink → new.failed ≡ true →
+      PutsFront (Passes given failures) faults old (b ∷ []) new
   broke old new b some works p fails =
       let step : Passes given failures old p.front new = record {
         puts = subst (λ (bs : List ℕ). Puts given failures old.sink bs new.sink) (sym (front_first old.left b p.front p.back some p.joined)) p.puts;
@@ -202,11 +211,13 @@ module _ {W : Type 0} (given : Outlet W → List ℕ → Outlet W → Type 0) (f
     cut_is p whole fine = (has_passed text p).cut fine ∙ ap (λ (b : Bool). b || is_longer old.left text) whole
 
     -- of the whole the last line is left
-    pub lines_so_far : {whole : List ℕ} → whole ≡ first_lines old.left text ++ more_line (is_longer old.left text) → Puts (Passes given failures) faults old text mid → old.is_cut ≡ false → mid.failed ≡ false
+    pub lines_so_far : {whole : List ℕ} → whole ≡ first_lines old.left text ++ more_line (is_longer old.left text) →
+        Puts (Passes given failures) faults old text mid → old.is_cut ≡ false → mid.failed ≡ false
         → PutSoFar given failures whole (more_line mid.is_cut ++ []) old.sink mid.sink
     lines_so_far is p whole fine = record {
       front = first_lines old.left text;
-      joined = is ∙ ap (λ (b : Bool). first_lines old.left text ++ more_line b) (sym (cut_is p whole fine)) ∙ ap (λ (t : List ℕ). first_lines old.left text ++ t) (sym (append-nil (more_line mid.is_cut)));
+      joined = is ∙ ap (λ (b : Bool). first_lines old.left text ++ more_line b) (sym (cut_is p whole fine))
+          ∙ ap (λ (t : List ℕ). first_lines old.left text ++ t) (sym (append-nil (more_line mid.is_cut)));
       puts = lines_put p;
     }
 
@@ -228,7 +239,8 @@ module _ {W : Type 0} (given : Outlet W → List ℕ → Outlet W → Type 0) (f
         record {
           front = first_lines old.left p.front;
           back = first_lines (lines_left old.left p.front) p.back ++ more;
-          joined = ap (λ (t : List ℕ). t ++ more) (ap (first_lines old.left) p.joined ∙ first-append old.left p.front p.back) ∙ append_assoc (first_lines old.left p.front) (first_lines (lines_left old.left p.front) p.back) more;
+          joined = ap (λ (t : List ℕ). t ++ more) (ap (first_lines old.left) p.joined ∙ first-append old.left p.front p.back)
+              ∙ append_assoc (first_lines old.left p.front) (first_lines (lines_left old.left p.front) p.back) more;
           puts = step.puts;
           failed = has_failed p.front step fails;
         }

@@ -43,19 +43,25 @@ module _ {K V : Type 0} {R : K → K → Ordering} (o : IsTotalOrder R) where
     pub only_before : (v : V) → side_by_side R ((k, v) ∷ es) fs ≡ (k, (Some v, None)) ∷ side_by_side R es fs
     only_before v =
         ap (map (λ j. (j, (found R ((k, v) ∷ es) j, found R fs j)))) (first_before o k (keys_of es) (keys_of fs) b c)
-        ∙ (λ i. (k, (found_first k v es i, found_below k fs c i)) ∷ map_alike (λ j. (j, (found R ((k, v) ∷ es) j, found R fs j))) (λ j. (j, (found R es j, found R fs j))) (ascending R (keys_of es ++ keys_of fs)) (all_from _ _ _ (λ j h. (λ i. (j, (found_above k j v es h i, found R fs j)))) rest_above) i)
+        ∙ (λ i. (k, (found_first k v es i, found_below k fs c i))
+        ∷ map_alike (λ j. (j, (found R ((k, v) ∷ es) j, found R fs j))) (λ j. (j, (found R es j, found R fs j))) (ascending R (keys_of es ++ keys_of fs))
+        (all_from _ _ _ (λ j h. (λ i. (j, (found_above k j v es h i, found R fs j)))) rest_above) i)
 
     -- only the other has it
     pub only_after : (v : V) → side_by_side R es ((k, v) ∷ fs) ≡ (k, (None, Some v)) ∷ side_by_side R es fs
     only_after v =
         ap (map (λ j. (j, (found R es j, found R ((k, v) ∷ fs) j)))) (first_after o k (keys_of es) (keys_of fs) b c)
-        ∙ (λ i. (k, (found_below k es b i, found_first k v fs i)) ∷ map_alike (λ j. (j, (found R es j, found R ((k, v) ∷ fs) j))) (λ j. (j, (found R es j, found R fs j))) (ascending R (keys_of es ++ keys_of fs)) (all_from _ _ _ (λ j h. (λ i. (j, (found R es j, found_above k j v fs h i)))) rest_above) i)
+        ∙ (λ i. (k, (found_below k es b i, found_first k v fs i))
+        ∷ map_alike (λ j. (j, (found R es j, found R ((k, v) ∷ fs) j))) (λ j. (j, (found R es j, found R fs j))) (ascending R (keys_of es ++ keys_of fs))
+        (all_from _ _ _ (λ j h. (λ i. (j, (found R es j, found_above k j v fs h i)))) rest_above) i)
 
     -- both have it
     pub in_both : (v w : V) → side_by_side R ((k, v) ∷ es) ((k, w) ∷ fs) ≡ (k, (Some v, Some w)) ∷ side_by_side R es fs
     in_both v w =
         ap (map (λ j. (j, (found R ((k, v) ∷ es) j, found R ((k, w) ∷ fs) j)))) (first_both o k (keys_of es) (keys_of fs) b c)
-        ∙ (λ i. (k, (found_first k v es i, found_first k w fs i)) ∷ map_alike (λ j. (j, (found R ((k, v) ∷ es) j, found R ((k, w) ∷ fs) j))) (λ j. (j, (found R es j, found R fs j))) (ascending R (keys_of es ++ keys_of fs)) (all_from _ _ _ (λ j h. (λ i. (j, (found_above k j v es h i, found_above k j w fs h i)))) rest_above) i)
+        ∙ (λ i. (k, (found_first k v es i, found_first k w fs i))
+        ∷ map_alike (λ j. (j, (found R ((k, v) ∷ es) j, found R ((k, w) ∷ fs) j))) (λ j. (j, (found R es j, found R fs j)))
+        (ascending R (keys_of es ++ keys_of fs)) (all_from _ _ _ (λ j h. (λ i. (j, (found_above k j v es h i, found_above k j w fs h i)))) rest_above) i)
 
 -- ---- the first keys taken away
 
@@ -98,10 +104,12 @@ module _ {K V : Type 0} (R : K → K → Ordering) where
     take_none k e es h = ap (λ r. cond {A = Option V × List (K × V)} (is_eq r) (Some e.1, es) (None, e ∷ es)) h
 
     -- what was taken, in place of `taken`
-    of_taken : (k : K) (es fs es' fs' : List (K × V)) (v w : Option V) → taken R k es ≡ (v, es') → taken R k fs ≡ (w, fs') → side_by_side R es fs ≡ (k, (v, w)) ∷ side_by_side R es' fs' → length es' + length fs' < length es + length fs → Taken k es fs
+    of_taken : (k : K) (es fs es' fs' : List (K × V)) (v w : Option V) → taken R k es ≡ (v, es') → taken R k fs ≡ (w, fs') → side_by_side R es fs ≡ (k, (v, w))
+        ∷ side_by_side R es' fs' → length es' + length fs' < length es + length fs → Taken k es fs
     of_taken k es fs es' fs' v w p q listed fewer = record {
       listed = listed ∙ (λ i. (k, ((sym p i).0, (sym q i).0)) ∷ side_by_side R (sym p i).1 (sym q i).1);
-      fewer = subst (λ (t : Option V × List (K × V)). length t.1 + length (taken R k fs).1 < length es + length fs) (sym p) (subst (λ (t : Option V × List (K × V)). length es' + length t.1 < length es + length fs) (sym q) fewer);
+      fewer = subst (λ (t : Option V × List (K × V)). length t.1 + length (taken R k fs).1 < length es + length fs) (sym p)
+          (subst (λ (t : Option V × List (K × V)). length es' + length t.1 < length es + length fs) (sym q) fewer);
     }
 
     at_first : (e : K × V) (es : List (K × V)) → IsStrictlySortedBy R (keys_of (e ∷ es)) → Taken e.0 (e ∷ es) []

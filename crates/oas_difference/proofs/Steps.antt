@@ -1,5 +1,6 @@
 -- The difference of what is held, a line at a time.
-use Rattle.std.proofs.Common.{◌≡◌, ◌≢◌, ℕ, zero, suc, ◌+◌, ◌<◌, List, [], ◌∷◌, ◌++◌, length, drop, flat_map, decimal, Bool, true, false, cond, Option, None, Some, is_some, unwrap_or, slice_get, refl, sym, ◌∙◌, ap, subst, append_assoc, arith}
+use Rattle.std.proofs.Common.{◌≡◌, ◌≢◌, ℕ, zero, suc, ◌+◌, ◌<◌, List, [], ◌∷◌, ◌++◌, length, drop, flat_map, decimal, Bool, true, false, cond, Option, None, Some, is_some}
+use Rattle.std.proofs.Common.{unwrap_or, slice_get, refl, sym, ◌∙◌, ap, subst, append_assoc, arith}
 use Rattle.std.specs.Prelude.{◌-◌, nat_lt, IfSome, if◌then◌else◌}
 use Rattle.std.proofs.lemmas.Bool.{eq-eqb}
 use Rattle.std.specs.Borrow.{Bor}
@@ -41,11 +42,14 @@ no_changes es fs h = let none = none_left element_cmp es fs h in λ i. held_chan
 pub none_changed : (es fs : List (Element × ℕ)) → least element_cmp (head_key es) (head_key fs) ≡ None → held_changed es fs ≡ []
 none_changed es fs h = let none = none_left element_cmp es fs h in λ i. held_changed (none.0 i) (none.1 i)
 
-module _ (es fs : List (Element × ℕ)) (k : Element) (s : IsStrictlySortedBy element_cmp (keys_of es)) (t : IsStrictlySortedBy element_cmp (keys_of fs)) (h : least element_cmp (head_key es) (head_key fs) ≡ Some k) where
-  pub first_change : held_changes es fs ≡ change (unwrap_or (taken element_cmp k es).0 0) (unwrap_or (taken element_cmp k fs).0 0) (element_line k) ++ held_changes (taken element_cmp k es).1 (taken element_cmp k fs).1
+module _ (es fs : List (Element × ℕ)) (k : Element) (s : IsStrictlySortedBy element_cmp (keys_of es)) (t : IsStrictlySortedBy element_cmp (keys_of fs))
+    (h : least element_cmp (head_key es) (head_key fs) ≡ Some k) where
+  pub first_change : held_changes es fs ≡ change (unwrap_or (taken element_cmp k es).0 0) (unwrap_or (taken element_cmp k fs).0 0) (element_line k)
+      ++ held_changes (taken element_cmp k es).1 (taken element_cmp k fs).1
   first_change = ap (flat_map pair_line) (take_least element_cmp element_total exact_elements es fs k s t h).listed
 
-  pub first_changed : held_changed es fs ≡ change_at k (unwrap_or (taken element_cmp k es).0 0) (unwrap_or (taken element_cmp k fs).0 0) ++ held_changed (taken element_cmp k es).1 (taken element_cmp k fs).1
+  pub first_changed : held_changed es fs ≡ change_at k (unwrap_or (taken element_cmp k es).0 0) (unwrap_or (taken element_cmp k fs).0 0)
+      ++ held_changed (taken element_cmp k es).1 (taken element_cmp k fs).1
   first_changed = ap (flat_map pair_changed) (take_least element_cmp element_total exact_elements es fs k s t h).listed
 
   -- an element that is as often on both sides gives no line
@@ -57,7 +61,10 @@ module _ (es fs : List (Element × ℕ)) (k : Element) (s : IsStrictlySortedBy e
 pub no_cells : (detail : Detail) (cs ds : List Cell) → least (slice_cmp nat_cmp) (head_key cs) (head_key ds) ≡ None → held_lines detail cs ds ≡ []
 no_cells detail cs ds h = let none = none_left (slice_cmp nat_cmp) cs ds h in λ i. held_lines detail (none.0 i) (none.1 i)
 
-pub first_cell : (detail : Detail) (cs ds : List Cell) (name : List ℕ) → IsStrictlySortedBy (slice_cmp nat_cmp) (keys_of cs) → IsStrictlySortedBy (slice_cmp nat_cmp) (keys_of ds) → least (slice_cmp nat_cmp) (head_key cs) (head_key ds) ≡ Some name → held_lines detail cs ds ≡ held_by detail (name, ((taken (slice_cmp nat_cmp) name cs).0, (taken (slice_cmp nat_cmp) name ds).0)) ++ held_lines detail (taken (slice_cmp nat_cmp) name cs).1 (taken (slice_cmp nat_cmp) name ds).1
+pub first_cell : (detail : Detail) (cs ds : List Cell) (name : List ℕ) → IsStrictlySortedBy (slice_cmp nat_cmp) (keys_of cs) →
+    IsStrictlySortedBy (slice_cmp nat_cmp) (keys_of ds) → least (slice_cmp nat_cmp) (head_key cs) (head_key ds) ≡ Some name → held_lines detail cs ds
+    ≡ held_by detail (name, ((taken (slice_cmp nat_cmp) name cs).0, (taken (slice_cmp nat_cmp) name ds).0))
+    ++ held_lines detail (taken (slice_cmp nat_cmp) name cs).1 (taken (slice_cmp nat_cmp) name ds).1
 first_cell detail cs ds name s t h = ap (flat_map (held_by detail)) (take_least (slice_cmp nat_cmp) nat_list_cmp_total exact_bytes cs ds name s t h).listed
 
 -- ---- the first key
@@ -103,7 +110,9 @@ pub record Stepped (es fs : List (Element × ℕ)) (k : Element) (n m : ℕ) (es
   pub after : IsStrictlySortedBy element_cmp (keys_of fs')
   pub fewer : length es' + length fs' < length es + length fs
 
-pub stepped : (es fs : List (Element × ℕ)) (k : Element) (n m : ℕ) (es' fs' : List (Element × ℕ)) → IsStrictlySortedBy element_cmp (keys_of es) → IsStrictlySortedBy element_cmp (keys_of fs) → least element_cmp (head_key es) (head_key fs) ≡ Some k → n ≡ unwrap_or (taken element_cmp k es).0 0 → m ≡ unwrap_or (taken element_cmp k fs).0 0 → es' ≡ (taken element_cmp k es).1 → fs' ≡ (taken element_cmp k fs).1 → Stepped es fs k n m es' fs'
+pub stepped : (es fs : List (Element × ℕ)) (k : Element) (n m : ℕ) (es' fs' : List (Element × ℕ)) → IsStrictlySortedBy element_cmp (keys_of es) →
+    IsStrictlySortedBy element_cmp (keys_of fs) → least element_cmp (head_key es) (head_key fs) ≡ Some k → n ≡ unwrap_or (taken element_cmp k es).0 0 → m
+    ≡ unwrap_or (taken element_cmp k fs).0 0 → es' ≡ (taken element_cmp k es).1 → fs' ≡ (taken element_cmp k fs).1 → Stepped es fs k n m es' fs'
 stepped es fs k n m es' fs' s t h p q u v =
     let fewer = (take_least element_cmp element_total exact_elements es fs k s t h).fewer in
     record {
@@ -122,7 +131,8 @@ pub alike_changed : (e : Element) (n m : ℕ) (rest : List (Element × (ℕ × �
 alike_changed e n m rest h = ap (λ (b : Bool). (if b then [] else (e, (n, m)) ∷ []) ++ rest) (eq-eqb n m h)
 
 -- what is left, in other words
-pub left_is : {K : Type 0} {given : K → List ℕ → K → Type 0} {failures : K → ℕ} {whole b c : List ℕ} {old now : K} → PutSoFar given failures whole b old now → b ≡ c → PutSoFar given failures whole c old now
+pub left_is : {K : Type 0} {given : K → List ℕ → K → Type 0} {failures : K → ℕ} {whole b c : List ℕ} {old now : K} → PutSoFar given failures whole b old now → b
+    ≡ c → PutSoFar given failures whole c old now
 left_is {given = given} {failures = failures} {whole = whole} {old = old} {now = now} p e = subst (λ (x : List ℕ). PutSoFar given failures whole x old now) e p
 
 -- ---- a cell taken from both sides
@@ -133,7 +143,10 @@ pub record CellStepped (detail : Detail) (cs ds : List Cell) (name : List ℕ) (
   pub after : IsStrictlySortedBy (slice_cmp nat_cmp) (keys_of ds')
   pub fewer : length cs' + length ds' < length cs + length ds
 
-pub cell_stepped : (detail : Detail) (cs ds : List Cell) (name : List ℕ) (x y : Option (List (Element × ℕ))) (cs' ds' : List Cell) → IsStrictlySortedBy (slice_cmp nat_cmp) (keys_of cs) → IsStrictlySortedBy (slice_cmp nat_cmp) (keys_of ds) → least (slice_cmp nat_cmp) (head_key cs) (head_key ds) ≡ Some name → x ≡ (taken (slice_cmp nat_cmp) name cs).0 → y ≡ (taken (slice_cmp nat_cmp) name ds).0 → cs' ≡ (taken (slice_cmp nat_cmp) name cs).1 → ds' ≡ (taken (slice_cmp nat_cmp) name ds).1 → CellStepped detail cs ds name x y cs' ds'
+pub cell_stepped : (detail : Detail) (cs ds : List Cell) (name : List ℕ) (x y : Option (List (Element × ℕ))) (cs' ds' : List Cell) →
+    IsStrictlySortedBy (slice_cmp nat_cmp) (keys_of cs) → IsStrictlySortedBy (slice_cmp nat_cmp) (keys_of ds) →
+    least (slice_cmp nat_cmp) (head_key cs) (head_key ds) ≡ Some name → x ≡ (taken (slice_cmp nat_cmp) name cs).0 → y ≡ (taken (slice_cmp nat_cmp) name ds).0 →
+    cs' ≡ (taken (slice_cmp nat_cmp) name cs).1 → ds' ≡ (taken (slice_cmp nat_cmp) name ds).1 → CellStepped detail cs ds name x y cs' ds'
 cell_stepped detail cs ds name x y cs' ds' s t h p q u v =
     let fewer = (take_least (slice_cmp nat_cmp) nat_list_cmp_total exact_bytes cs ds name s t h).fewer in
     record {
@@ -162,13 +175,17 @@ unfolding IsStrictlySortedBy
 sorted_of None h = tt
 sorted_of (Some es) h = h.ascending
 
-pub only_before : (name : List ℕ) (o p : Option (List (Element × ℕ))) → is_some o ≡ true → is_some p ≡ false → held_cell (name, (o, p)) ≡ signed 45 1 (cell_line name) ++ held_changes (unwrap_or o []) (unwrap_or p [])
+pub only_before : (name : List ℕ) (o p : Option (List (Element × ℕ))) → is_some o ≡ true → is_some p ≡ false → held_cell (name, (o, p))
+    ≡ signed 45 1 (cell_line name) ++ held_changes (unwrap_or o []) (unwrap_or p [])
 only_before name o p e f = λ i. below_name (e i) (f i) name (held_changes (unwrap_or o []) (unwrap_or p []))
 
-pub only_after : (name : List ℕ) (o p : Option (List (Element × ℕ))) → is_some o ≡ false → is_some p ≡ true → held_cell (name, (o, p)) ≡ signed 43 1 (cell_line name) ++ held_changes (unwrap_or o []) (unwrap_or p [])
+pub only_after : (name : List ℕ) (o p : Option (List (Element × ℕ))) → is_some o ≡ false → is_some p ≡ true → held_cell (name, (o, p))
+    ≡ signed 43 1 (cell_line name) ++ held_changes (unwrap_or o []) (unwrap_or p [])
 only_after name o p e f = λ i. below_name (e i) (f i) name (held_changes (unwrap_or o []) (unwrap_or p []))
 
-pub brief_is : (name : List ℕ) (o p : Option (List (Element × ℕ))) (es fs : List (Element × ℕ)) (b c : Bool) (n m sign : ℕ) → b ≡ is_some o → c ≡ is_some p → es ≡ unwrap_or o [] → fs ≡ unwrap_or p [] → n ≡ counted_to (only_first (held_changed es fs)) → m ≡ counted_to (only_second (held_changed es fs)) → Some sign ≡ brief_sign b c n m → brief_line sign name n m ≡ held_brief (name, (o, p))
+pub brief_is : (name : List ℕ) (o p : Option (List (Element × ℕ))) (es fs : List (Element × ℕ)) (b c : Bool) (n m sign : ℕ) → b ≡ is_some o → c ≡ is_some p → es
+    ≡ unwrap_or o [] → fs ≡ unwrap_or p [] → n ≡ counted_to (only_first (held_changed es fs)) → m ≡ counted_to (only_second (held_changed es fs)) → Some sign
+    ≡ brief_sign b c n m → brief_line sign name n m ≡ held_brief (name, (o, p))
 brief_is name o p es fs b c n m sign hb hc he hf hn hm hs =
     let first : n ≡ counted_to (only_first (held_changed (unwrap_or o []) (unwrap_or p []))) = hn ∙ (λ i. counted_to (only_first (held_changed (he i) (hf i)))) in
     let second : m ≡ counted_to (only_second (held_changed (unwrap_or o []) (unwrap_or p []))) = hm ∙ (λ i. counted_to (only_second (held_changed (he i) (hf i)))) in
@@ -177,7 +194,9 @@ brief_is name o p es fs b c n m sign hb hc he hf hn hm hs =
 -- a change that is one has its line below the cell's
 pub unlike_line : (n m : ℕ) (name text rest : List ℕ) → n ≢ m → below_name true true name (change n m text ++ rest) ≡ place_line name ++ (change n m text ++ rest)
 unlike_line n m name text rest u = by_cases (nat_lt m n) (nat_lt n m) refl refl where
-  by_cases : (a b : Bool) → nat_lt m n ≡ a → nat_lt n m ≡ b → below_name true true name ((if a then signed 45 (n - m) text else if b then signed 43 (m - n) text else []) ++ rest) ≡ place_line name ++ ((if a then signed 45 (n - m) text else if b then signed 43 (m - n) text else []) ++ rest)
+  by_cases : (a b : Bool) → nat_lt m n ≡ a → nat_lt n m ≡ b →
+      below_name true true name ((if a then signed 45 (n - m) text else if b then signed 43 (m - n) text else []) ++ rest) ≡ place_line name
+      ++ ((if a then signed 45 (n - m) text else if b then signed 43 (m - n) text else []) ++ rest)
   by_cases true b p q = refl
   by_cases false true p q = refl
   by_cases false false p q = absurd (u (neither_below n m p q))

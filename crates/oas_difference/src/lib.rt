@@ -37,6 +37,3 @@ pub use changes::{Change, next_change};
 pub use elements::Side;
 pub use options::{Detail, Options};
 pub use writing::write_difference;
-
-#[cfg(test)]
-mod tests;

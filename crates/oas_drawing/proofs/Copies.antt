@@ -24,25 +24,8 @@ use Rattle.oas_drawing.specs.declared.kinds.Kind.TheVariants.{Placement, Text, R
 use Rattle.oas_drawing.specs.Modal.{ModalState}
 use Rattle.oas_drawing.specs.Turns.{turned}
 use Rattle.oas_drawing.specs.Drawn.{drawn_fits}
-use Rattle.oas_drawing.specs.Drawing.{
-  kind_of,
-  repeats,
-  placement_at,
-  text_at,
-  rectangle_at,
-  polygon_at,
-  path_at,
-  circle_at,
-  kind_at,
-  place_of,
-  point_from,
-  drawn_by,
-  offset_if,
-  number_if,
-  drawn_at,
-  copies_at,
-  first_offsets,
-}
+use Rattle.oas_drawing.specs.Drawing.{kind_of, repeats, placement_at, text_at, rectangle_at, polygon_at, path_at, circle_at, kind_at, place_of, point_from, drawn_by, offset_if}
+use Rattle.oas_drawing.specs.Drawing.{number_if, drawn_at, copies_at, first_offsets}
 use Rattle.oas_drawing.specs.Reasons.{first_of, fits_if, fault_of, kind_reason, all_fit, reason_if, draw_reason}
 use Rattle.std.specs.Prelude.{ℤ}
 

@@ -10,27 +10,9 @@ use Rattle.oas_record.specs.declared.records.Record.{Record}
 use Rattle.oas_record.specs.declared.records.Record.TheVariants as record_of
 use Rattle.oas_drawing.specs.declared.positions.Position.{Position}
 use Rattle.oas_drawing.specs.Looking.{latest}
-use Rattle.oas_drawing.specs.Values.{
-  gives_layer,
-  gives_datatype,
-  gives_textlayer,
-  gives_texttype,
-  gives_cell,
-  gives_string,
-  gives_width,
-  gives_height,
-  gives_polygon_points,
-  gives_path_points,
-  gives_half_width,
-  gives_start,
-  gives_end,
-  gives_radius,
-  gives_repetition,
-  is_relative,
-  new_repetition,
-  start_number,
-  end_number,
-}
+use Rattle.oas_drawing.specs.Values.{gives_layer, gives_datatype, gives_textlayer, gives_texttype, gives_cell, gives_string, gives_width, gives_height, gives_polygon_points}
+use Rattle.oas_drawing.specs.Values.{gives_path_points, gives_half_width, gives_start, gives_end, gives_radius, gives_repetition, is_relative, new_repetition, start_number}
+use Rattle.oas_drawing.specs.Values.{end_number}
 use Rattle.oas_drawing.specs.Positions.{position, Placement, Text, Geometry}
 
 pub record ModalState : Type 0 where

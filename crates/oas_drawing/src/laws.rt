@@ -44,14 +44,21 @@ pub fn drawn_order()
 
 /// An element record is refused copy by copy: for all but the places of its copies, then for the place of one of them.
 pub fn refused_copy_by_copy()
-    ensures before { (limits : Limits) (count weight : ℕ) (m : ModalState) (r : OneRecord) (kind : Kind) (why : Why) → kind_of r ≡ Some kind → kind_reason limits count weight m kind (repeats r) ≡ Some why → draw_reason limits count weight m r ≡ Some why }
-    ensures copy { (limits : Limits) (count weight : ℕ) (m : ModalState) (r : OneRecord) (kind : Kind) (i : ℕ) (why : Why) → kind_of r ≡ Some kind → kind_reason limits count weight m kind (repeats r) ≡ None → i < number_if (repeats r) m.repetition → fault_of (drawn_by m kind (offset_if (repeats r) m.repetition i)) ≡ Some why → draw_reason limits count weight m r ≡ Some why }
-    ensures none { (limits : Limits) (count weight : ℕ) (m : ModalState) (r : OneRecord) (kind : Kind) → kind_of r ≡ Some kind → kind_reason limits count weight m kind (repeats r) ≡ None → ((i : ℕ) → i < number_if (repeats r) m.repetition → fault_of (drawn_by m kind (offset_if (repeats r) m.repetition i)) ≡ None) → draw_reason limits count weight m r ≡ None }
+    ensures before { (limits : Limits) (count weight : ℕ) (m : ModalState) (r : OneRecord) (kind : Kind) (why : Why) → kind_of r ≡ Some kind →
+        kind_reason limits count weight m kind (repeats r) ≡ Some why → draw_reason limits count weight m r ≡ Some why }
+    ensures copy { (limits : Limits) (count weight : ℕ) (m : ModalState) (r : OneRecord) (kind : Kind) (i : ℕ) (why : Why) → kind_of r ≡ Some kind →
+        kind_reason limits count weight m kind (repeats r) ≡ None → i < number_if (repeats r) m.repetition →
+        fault_of (drawn_by m kind (offset_if (repeats r) m.repetition i)) ≡ Some why → draw_reason limits count weight m r ≡ Some why }
+    ensures none { (limits : Limits) (count weight : ℕ) (m : ModalState) (r : OneRecord) (kind : Kind) → kind_of r ≡ Some kind →
+        kind_reason limits count weight m kind (repeats r) ≡ None →
+        ((i : ℕ) → i < number_if (repeats r) m.repetition → fault_of (drawn_by m kind (offset_if (repeats r) m.repetition i)) ≡ None) → draw_reason limits count weight m r ≡ None }
 {}
 
 /// The elements of a record are those of its copies, one after another.
 pub fn one_more_copy()
     ensures none { (m : ModalState) (r : OneRecord) → copies_at m r (first_offsets m r 0) ≡ [] }
-    ensures more { (m : ModalState) (r : OneRecord) (n : ℕ) → copies_at m r (first_offsets m r (n + 1)) ≡ copies_at m r (first_offsets m r n) ++ option_to_list (drawn_at m r (offset_if (repeats r) m.repetition n)) }
-    ensures all { (r : OneRecord) (before : List OneRecord) → elements_at r before ≡ copies_at (modal_of (r ∷ before)) r (first_offsets (modal_of (r ∷ before)) r (number_if (repeats r) (modal_of (r ∷ before)).repetition)) }
+    ensures more { (m : ModalState) (r : OneRecord) (n : ℕ) → copies_at m r (first_offsets m r (n + 1)) ≡ copies_at m r (first_offsets m r n)
+        ++ option_to_list (drawn_at m r (offset_if (repeats r) m.repetition n)) }
+    ensures all { (r : OneRecord) (before : List OneRecord) → elements_at r before
+        ≡ copies_at (modal_of (r ∷ before)) r (first_offsets (modal_of (r ∷ before)) r (number_if (repeats r) (modal_of (r ∷ before)).repetition)) }
 {}

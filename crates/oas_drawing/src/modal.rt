@@ -48,7 +48,27 @@ impl Model for ModalVariables {
 
     ghost Value = { ModalState };
 
-    ghost view = { λ m. record { repetition = m.repetition; cell = m.cell; string = m.string; textlayer = m.textlayer; texttype = m.texttype; layer = m.layer; datatype = m.datatype; width = m.width; height = m.height; polygon_points = m.polygon_points; path_points = m.path_points; half_width = m.half_width; start = m.start; end = m.end; radius = m.radius; relative = m.relative; placement = m.placement; text = m.text; geometry = m.geometry } };
+    ghost view = { λ m. record {
+      repetition = m.repetition;
+      cell = m.cell;
+      string = m.string;
+      textlayer = m.textlayer;
+      texttype = m.texttype;
+      layer = m.layer;
+      datatype = m.datatype;
+      width = m.width;
+      height = m.height;
+      polygon_points = m.polygon_points;
+      path_points = m.path_points;
+      half_width = m.half_width;
+      start = m.start;
+      end = m.end;
+      radius = m.radius;
+      relative = m.relative;
+      placement = m.placement;
+      text = m.text;
+      geometry = m.geometry;
+    } };
 }
 
 impl ModalVariables {
@@ -125,7 +145,12 @@ impl ModalVariables {
     /// What all kinds of geometry set.
     fn draw(&mut self, layer: Option<u64>, datatype: Option<u64>, spot: Spot)
         requires { IsNear self.old.geometry }
-        ensures { self.new ≡ record self.old { repetition = option_or (new_repetition spot.repetition) self.old.repetition; layer = option_or layer self.old.layer; datatype = option_or datatype self.old.datatype; geometry = moved_by self.old.relative self.old.geometry spot } }
+        ensures { self.new ≡ record self.old {
+          repetition = option_or (new_repetition spot.repetition) self.old.repetition;
+          layer = option_or layer self.old.layer;
+          datatype = option_or datatype self.old.datatype;
+          geometry = moved_by self.old.relative self.old.geometry spot;
+        } }
     {
         set(&mut self.layer, layer);
         set(&mut self.datatype, datatype);
@@ -229,5 +254,3 @@ fn extension_numbers(
 
 mod checking;
 mod drawing;
-#[cfg(test)]
-mod tests;

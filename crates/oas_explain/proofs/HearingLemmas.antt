@@ -54,7 +54,8 @@ one_heard n rest low = ap (λ (ds : List ℕ). hears_all place.Blank (ds ++ rest
 
 two_heard : (n : ℕ) (rest : List ℕ) → 10 ≤ n → n < 100 → hears_all place.Blank (decimal n ++ rest) ≡ hears_all place.Blank ((48 + n / 10) ∷ (48 + n % 10) ∷ rest)
 two_heard n rest low high =
-    ap (λ (ds : List ℕ). hears_all place.Blank (ds ++ rest)) (decimal_step n low (omega (arith, high)) ∙ ap (λ (ds : List ℕ). ds ++ ((48 + n % 10) ∷ [])) (decimal_digit (n / 10) (omega (arith, high))))
+    ap (λ (ds : List ℕ). hears_all place.Blank (ds ++ rest))
+    (decimal_step n low (omega (arith, high)) ∙ ap (λ (ds : List ℕ). ds ++ ((48 + n % 10) ∷ [])) (decimal_digit (n / 10) (omega (arith, high))))
 
 digits_heard : (w : Why) (rest : List ℕ) → hears_all place.Blank (decimal (number_of w) ++ rest) ≡ hears_all (place.Number (number_of w)) rest
 digits_heard why.Magic rest = one_heard 1 rest (omega arith)

@@ -18,8 +18,6 @@ mod hearing;
 mod reasons;
 mod recording;
 mod telling;
-#[cfg(test)]
-mod tests;
 mod texts;
 mod voice;
 

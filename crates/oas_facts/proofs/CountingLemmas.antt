@@ -1,5 +1,6 @@
 -- Numbers beside groups, as they grow.
-use Rattle.std.proofs.Common.{◌≡◌, ℕ, zero, suc, ◌+◌, ◌*◌, ◌<◌, ◌≤◌, ◌^◌, Bool, true, false, List, [], ◌∷◌, length, drop, replicate, Option, None, Some, slice_get, refl, sym, ap, subst, ◌∙◌, add-one, arith}
+use Rattle.std.proofs.Common.{◌≡◌, ℕ, zero, suc, ◌+◌, ◌*◌, ◌<◌, ◌≤◌, ◌^◌, Bool, true, false, List, [], ◌∷◌, length, drop, replicate, Option, None, Some, slice_get, refl, sym, ap}
+use Rattle.std.proofs.Common.{subst, ◌∙◌, add-one, arith}
 use Rattle.std.specs.declared.alloc.AllocError.{AllocError}
 use Rattle.std.specs.Prelude.{Result, Ok, Err, OnOk, cond, sum_by, unwrap_or, option_to_list}
 use Rattle.std.specs.List.{AllByRecursion}
@@ -72,7 +73,8 @@ layer_times n g (Some h) = if_same_times n g h
 
 if_in_times : (n : ℕ) (g : Group) (e : Element) → n * if_in 1 g e ≡ if_in n g e
 if_in_times n g e =
-    ap (λ (k : ℕ). n * k) (in_element 1 g e) ∙ distributes (if_same 1 g (kind_of e)) (of_layer 1 g (layer_of e)) ∙ (λ i. if_same_times n g (kind_of e) i + layer_times n g (layer_of e) i) ∙ sym (in_element n g e)
+    ap (λ (k : ℕ). n * k) (in_element 1 g e) ∙ distributes (if_same 1 g (kind_of e)) (of_layer 1 g (layer_of e))
+    ∙ (λ i. if_same_times n g (kind_of e) i + layer_times n g (layer_of e) i) ∙ sym (in_element n g e)
   where
     distributes : (x y : ℕ) → n * (x + y) ≡ n * x + n * y
     distributes x y = omega arith
@@ -91,13 +93,25 @@ module _ (e : Element) (k : Group) (n : ℕ) (is : k ≡ kind_of e) (some : 0 < 
 
     module _ (h : Group) (layer : Some h ≡ layer_of e) where
       pub layer_room : ((g : Group) → number_of old.entries g + if_in n g e < 2 ^ 64) → unwrap_or (get derived_cmp mid h) 0 + n < 2 ^ 64
-      layer_room room = omega (arith, room h, ap (λ (o : Option ℕ). unwrap_or o 0) (by_stated mid h), grows old mid k n some updates h, in_element n h e, ap (if_same n h) is, ap (of_layer n h) layer, itself n h)
+      layer_room room = omega (
+        arith,
+        room h,
+        ap (λ (o : Option ℕ). unwrap_or o 0) (by_stated mid h),
+        grows old mid k n some updates h,
+        in_element n h e,
+        ap (if_same n h) is,
+        ap (of_layer n h) layer,
+        itself n h,
+      )
 
-      pub layer_counted : (new : BTreeMap Group ℕ) (r : Result Unit AllocError) → OnOk r (Updates derived_cmp mid new h (Some (unwrap_or (get derived_cmp mid h) 0 + n))) → OnOk r (Grows (λ g. if_in n g e) old.entries new.entries)
+      pub layer_counted : (new : BTreeMap Group ℕ) (r : Result Unit AllocError) →
+          OnOk r (Updates derived_cmp mid new h (Some (unwrap_or (get derived_cmp mid h) 0 + n))) → OnOk r (Grows (λ g. if_in n g e) old.entries new.entries)
       layer_counted new (Ok u) second = λ g. omega (arith, grows old mid k n some updates g, grows mid new h n some second g, in_element n g e, ap (if_same n g) is, ap (of_layer n g) layer)
       layer_counted new (Err x) second = tt
 
-pub layer_tally : (mid new : BTreeMap Group ℕ) (h : Group) (n : ℕ) (r : Result Unit AllocError) → 0 < n → OnOk r (Updates derived_cmp mid new h (Some (unwrap_or (get derived_cmp mid h) 0 + n))) → OnOk r (IsOrdered derived_cmp new) → IsTally mid.entries → OnOk r (IsTally new.entries)
+pub layer_tally : (mid new : BTreeMap Group ℕ) (h : Group) (n : ℕ) (r : Result Unit AllocError) → 0 < n →
+    OnOk r (Updates derived_cmp mid new h (Some (unwrap_or (get derived_cmp mid h) 0 + n))) → OnOk r (IsOrdered derived_cmp new) → IsTally mid.entries →
+    OnOk r (IsTally new.entries)
 layer_tally mid new h n (Ok u) some updates ordered t = tally mid new h n some updates t ordered
 layer_tally mid new h n (Err x) some updates ordered t = tt
 

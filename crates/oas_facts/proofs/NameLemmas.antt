@@ -87,7 +87,8 @@ naming q c = is_named c.0 q
 abbrev pub CellsLeft : (List ℕ → List ℕ × List Element → Bool) → List Cell → ℕ → List (List ℕ) → Type 0
 CellsLeft p cs i now = (q : List ℕ) → (has_name now q || in_cells (p q) (drop i cs)) ≡ in_cells (p q) cs
 
-next_bag : (cs : List Cell) (i : ℕ) (es : List (Element × ℕ)) → slice_get (bags cs) i ≡ Some es → (q : List ℕ) → in_cells (placing q) (drop i cs) ≡ (is_placed_in (items es) q || in_cells (placing q) (drop (suc i) cs))
+next_bag : (cs : List Cell) (i : ℕ) (es : List (Element × ℕ)) → slice_get (bags cs) i ≡ Some es → (q : List ℕ) → in_cells (placing q) (drop i cs)
+    ≡ (is_placed_in (items es) q || in_cells (placing q) (drop (suc i) cs))
 next_bag [] i es h q = let no : ⊥ = cc in absurd no
 next_bag (c ∷ cs) zero es h q =
     let same : c.1 ≡ es = cc in
@@ -107,7 +108,8 @@ drop_all [] (suc i) h = refl
 drop_all (c ∷ cs) zero h = absurd (omega (arith, h))
 drop_all (c ∷ cs) (suc i) h = drop_all cs i (omega (arith, h))
 
-pub bag_added : (cs : List Cell) (i : ℕ) (es : List (Element × ℕ)) (now new : List (List ℕ)) → slice_get (bags cs) i ≡ Some es → CellsLeft placing cs i now → Adds (is_placed_in (items es)) now new → CellsLeft placing cs (i + 1) new
+pub bag_added : (cs : List Cell) (i : ℕ) (es : List (Element × ℕ)) (now new : List (List ℕ)) → slice_get (bags cs) i ≡ Some es → CellsLeft placing cs i now →
+    Adds (is_placed_in (items es)) now new → CellsLeft placing cs (i + 1) new
 bag_added cs i es now new h left adds q =
     ap (λ (k : ℕ). has_name new q || in_cells (placing q) (drop k cs)) (add-one i)
     ∙ ap (λ (b : Bool). b || in_cells (placing q) (drop (suc i) cs)) (adds q)
@@ -115,7 +117,8 @@ bag_added cs i es now new h left adds q =
     ∙ ap (λ (b : Bool). has_name now q || b) (sym (next_bag cs i es h q))
     ∙ left q
 
-pub name_added : (cs : List Cell) (i : ℕ) (name : List ℕ) (now new : List (List ℕ)) → slice_get (names cs) i ≡ Some name → CellsLeft naming cs i now → Adds (is_named name) now new → CellsLeft naming cs (i + 1) new
+pub name_added : (cs : List Cell) (i : ℕ) (name : List ℕ) (now new : List (List ℕ)) → slice_get (names cs) i ≡ Some name → CellsLeft naming cs i now →
+    Adds (is_named name) now new → CellsLeft naming cs (i + 1) new
 name_added cs i name now new h left adds q =
     ap (λ (k : ℕ). has_name new q || in_cells (naming q) (drop k cs)) (add-one i)
     ∙ ap (λ (b : Bool). b || in_cells (naming q) (drop (suc i) cs)) (adds q)

@@ -14,8 +14,6 @@ mod counting;
 mod facts;
 mod group;
 mod names;
-#[cfg(test)]
-mod tests;
 
 pub use counting::count_groups;
 pub use facts::{Facts, facts_of};

@@ -50,7 +50,8 @@ module _ {C : Type 0} {t : Store C} {origin mid new : Script} {head : Head} {fir
     front = front_more m.front read.spelled
 
     -- a record is read and taken
-    pub gather_more : (after : ReaderState C) → (refusal_of s.limits m.records r ≡ None) × StandsFor t after (m.records ++ r ∷ []) → after.unit ≡ s.unit → after.limits ≡ s.limits → after.profile ≡ s.profile
+    pub gather_more : (after : ReaderState C) → (refusal_of s.limits m.records r ≡ None) × StandsFor t after (m.records ++ r ∷ []) → after.unit ≡ s.unit →
+        after.limits ≡ s.limits → after.profile ≡ s.profile
         → HasGathered t origin head first new after
     gather_more after h unit limits profile =
         let same = m.taken.same in

@@ -28,6 +28,3 @@ mod reading;
 
 pub use accepting::accept_file;
 pub use reading::read_layout;
-
-#[cfg(test)]
-mod tests;

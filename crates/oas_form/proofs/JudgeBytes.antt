@@ -19,21 +19,8 @@ use Rattle.oas_file.specs.Acceptance.{Allowed, Accepted}
 use Rattle.oas_file.specs.Laws.FileLaws.{one_reading, means_one}
 use Rattle.oas_form.specs.Bytes.{canonical_bytes}
 use Rattle.oas_form.specs.Canonical.{IsOrdered, CanonicalForm}
-use Rattle.oas_form.specs.Judging.{
-  Entry,
-  entry_records,
-  IsReadAs,
-  judge_of,
-  AreInOrder,
-  JudgedFile,
-  Matches,
-  AllMatch,
-  JudgedByBytes,
-  BytesJudge,
-  BytesGoOn,
-  KeptBytes,
-  FormIsOrderedBytes,
-}
+use Rattle.oas_form.specs.Judging.{Entry, entry_records, IsReadAs, judge_of, AreInOrder, JudgedFile, Matches, AllMatch, JudgedByBytes, BytesJudge, BytesGoOn, KeptBytes}
+use Rattle.oas_form.specs.Judging.{FormIsOrderedBytes}
 use Rattle.oas_form.proofs.FieldsGiven.{unit_given}
 use Rattle.oas_form.proofs.DrawnSound.{records_sound}
 use Rattle.oas_form.proofs.Forms.{shaped}

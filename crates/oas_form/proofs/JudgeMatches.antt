@@ -23,20 +23,7 @@ use Rattle.oas_modal.specs.Stands as stands
 use Rattle.oas_file.specs.Acceptance.{Allowed}
 use Rattle.oas_form.specs.Bytes.{element_bytes}
 use Rattle.oas_form.specs.Records.{element_record}
-use Rattle.oas_form.specs.Judging.{
-  Entry,
-  entry_records,
-  Judge,
-  IsDrawnInOrder,
-  IsInOrder,
-  judge_drawn,
-  judge_after,
-  judge_of,
-  AreInOrder,
-  MatchesDrawn,
-  Matches,
-  AllMatch,
-}
+use Rattle.oas_form.specs.Judging.{Entry, entry_records, Judge, IsDrawnInOrder, IsInOrder, judge_drawn, judge_after, judge_of, AreInOrder, MatchesDrawn, Matches, AllMatch}
 use Rattle.oas_form.proofs.FieldsGiven.{GivesFit, after_fits}
 use Rattle.oas_form.proofs.DrawsSound.{IsSoundDrawn, draws_sound}
 use Rattle.oas_form.proofs.DrawnSound.{drawn_sound}

@@ -21,26 +21,8 @@ use Rattle.oas_file.specs.Laws.FileLaws.{one_reading}
 use Rattle.oas_form.specs.Bytes.{string_bytes, element_bytes, head_bytes, end_bytes}
 use Rattle.oas_form.specs.Canonical.{IsOrdered, CanonicalForm}
 use Rattle.oas_form.specs.Records.{element_record, records_of}
-use Rattle.oas_form.specs.Judging.{
-  JudgedSoFar,
-  Entry,
-  entry_records,
-  entry_bytes,
-  IsReadAs,
-  judge_of,
-  AreInOrder,
-  JudgedFile,
-  JudgeIsRight,
-  IsReadAsSome,
-  JudgeBegins,
-  JudgeGoesOn,
-  JudgeStays,
-  JudgeSteps,
-  HeadIsBytes,
-  CellIsBytes,
-  ElementIsBytes,
-  EndIsBytes,
-}
+use Rattle.oas_form.specs.Judging.{JudgedSoFar, Entry, entry_records, entry_bytes, IsReadAs, judge_of, AreInOrder, JudgedFile, JudgeIsRight, IsReadAsSome, JudgeBegins, JudgeGoesOn}
+use Rattle.oas_form.specs.Judging.{JudgeStays, JudgeSteps, HeadIsBytes, CellIsBytes, ElementIsBytes, EndIsBytes}
 use Rattle.oas_form.proofs.ShortestLemmas.{shortest_is_canonical, shortest_has_points}
 use Rattle.oas_form.proofs.Spelling.{spelled, element_inner, cell_inner, head_spelled, end_spelled}
 use Rattle.oas_form.proofs.JudgeElements.{judged_if_ordered, ordered_if_judged}

@@ -10,23 +10,8 @@ use Rattle.oas_layout.specs.Same.{normal, IsNormal}
 use Rattle.oas_drawing.specs.declared.drawn.Drawn.TheVariants.{Named}
 use Rattle.oas_drawing.specs.Drawing.{elements_at}
 use Rattle.oas_form.specs.Bytes.{element_bytes}
-use Rattle.oas_form.specs.Judging.{
-  Entry,
-  entry_records,
-  Judge,
-  IsAbove,
-  IsNotBelow,
-  judge_drawn,
-  judge_of,
-  MatchesDrawn,
-  AllMatch,
-  AreRead,
-  JudgeStands,
-  JudgeStandsFirst,
-  JudgeDraws,
-  JudgeOpens,
-  JudgeRefuses,
-}
+use Rattle.oas_form.specs.Judging.{Entry, entry_records, Judge, IsAbove, IsNotBelow, judge_drawn, judge_of, MatchesDrawn, AllMatch, AreRead, JudgeStands, JudgeStandsFirst}
+use Rattle.oas_form.specs.Judging.{JudgeDraws, JudgeOpens, JudgeRefuses}
 use Rattle.oas_form.proofs.JudgeRecords.{judge_steps}
 use Rattle.oas_form.proofs.JudgeMatches.{IsDrawing, by_kind}
 use Rattle.oas_form.proofs.JudgeBytes.{bytes_go_on, kept_bytes}

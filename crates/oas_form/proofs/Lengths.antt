@@ -13,21 +13,8 @@ use Rattle.oas_layout.specs.declared.element.Element.TheVariants.{Placement, Tex
 use Rattle.oas_layout.specs.Weight.{weight_of}
 use Rattle.oas_layout.specs.Meaning.{cells_weight}
 use Rattle.oas_form.specs.Records.{Cells, first_of}
-use Rattle.oas_form.specs.Bytes.{
-  string_bytes,
-  place_bytes,
-  step_bytes,
-  steps_bytes,
-  list_bytes,
-  points_bytes,
-  element_bytes,
-  elements_bytes,
-  cells_bytes,
-  unit_bytes,
-  head_bytes,
-  end_bytes,
-  canonical_bytes,
-}
+use Rattle.oas_form.specs.Bytes.{string_bytes, place_bytes, step_bytes, steps_bytes, list_bytes, points_bytes, element_bytes, elements_bytes, cells_bytes, unit_bytes, head_bytes}
+use Rattle.oas_form.specs.Bytes.{end_bytes, canonical_bytes}
 use Rattle.oas_form.specs.Spelling.{HasPoint, CanonicalLength}
 
 -- ---- numbers

@@ -1,34 +1,6 @@
 -- Putting the steps between points.
-use Rattle.std.proofs.Common.{
-  ◌≡◌,
-  ℕ,
-  ◌+◌,
-  ◌*◌,
-  ◌-◌,
-  ◌<◌,
-  ◌≤◌,
-  ◌^◌,
-  true,
-  List,
-  ◌∷◌,
-  ◌++◌,
-  length,
-  drop,
-  get_or,
-  drop-cons,
-  sym,
-  ap,
-  subst,
-  ◌∙◌,
-  arith,
-  add-one,
-  w64,
-  FitsSigned,
-  to_z,
-  of_z,
-  Option,
-  Some,
-}
+use Rattle.std.proofs.Common.{◌≡◌, ℕ, ◌+◌, ◌*◌, ◌-◌, ◌<◌, ◌≤◌, ◌^◌, true, List, ◌∷◌, ◌++◌, length, drop, get_or, drop-cons, sym, ap, subst, ◌∙◌, arith, add-one, w64, FitsSigned}
+use Rattle.std.proofs.Common.{to_z, of_z, Option, Some}
 use Rattle.std.specs.Prelude.{ℤ, ◌-ℤ◌, nat_abs, MatchOption}
 use Rattle.std.specs.List.{list_all, IsFirstAndRest}
 use Rattle.std.specs.Borrow.{Bor}

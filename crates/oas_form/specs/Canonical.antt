@@ -48,7 +48,8 @@ pub record IsCanonicalOf (limits : Limits) (profile : Profile) (b c : List ℕ) 
 
 -- two canonical forms of one layout are equal, whatever their limits
 abbrev pub OneCanonicalForm : Type 0
-OneCanonicalForm = (one other : Limits) (profile : Profile) (c d : List ℕ) (m n : Meaning) → CanonicalForm one profile c → CanonicalForm other profile d → Means c m → Means d n → SameLayout profile m n → c ≡ d
+OneCanonicalForm = (one other : Limits) (profile : Profile) (c d : List ℕ) (m n : Meaning) → CanonicalForm one profile c → CanonicalForm other profile d →
+    Means c m → Means d n → SameLayout profile m n → c ≡ d
 
 -- a file that has canonical forms under two limits has one and the same under both
 abbrev pub LimitsApart : Type 0
@@ -56,11 +57,13 @@ LimitsApart = (one other : Limits) (profile : Profile) (b c d : List ℕ) → Is
 
 -- two accepted files mean the same layout exactly if they have one and the same canonical form, each under its limits
 abbrev pub SameExactly : Type 0
-SameExactly = (one other : Limits) (profile : Profile) (b d : List ℕ) (m n : Meaning) → Accepted one b → Accepted other d → Means b m → Means d n → SameLayout profile m n ↔ ((c : List ℕ) × IsCanonicalOf one profile b c × IsCanonicalOf other profile d c)
+SameExactly = (one other : Limits) (profile : Profile) (b d : List ℕ) (m n : Meaning) → Accepted one b → Accepted other d → Means b m → Means d n →
+    SameLayout profile m n ↔ ((c : List ℕ) × IsCanonicalOf one profile b c × IsCanonicalOf other profile d c)
 
 -- two files that have canonical forms mean the same layout exactly if these are equal
 abbrev pub FormsEqual : Type 0
-FormsEqual = (one other : Limits) (profile : Profile) (b d c e : List ℕ) (m n : Meaning) → IsCanonicalOf one profile b c → IsCanonicalOf other profile d e → Means b m → Means d n → SameLayout profile m n ↔ (c ≡ e)
+FormsEqual = (one other : Limits) (profile : Profile) (b d c e : List ℕ) (m n : Meaning) → IsCanonicalOf one profile b c → IsCanonicalOf other profile d e →
+    Means b m → Means d n → SameLayout profile m n ↔ (c ≡ e)
 
 -- the canonical form of a canonical form is that form
 abbrev pub CanonicalAgain : Type 0

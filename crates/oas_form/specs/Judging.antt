@@ -138,7 +138,8 @@ JudgeBegins = (profile : Profile) (head : Head) (start : List ℕ) → head_in S
 -- one more entry
 abbrev pub JudgeGoesOn : Type 0
 JudgeGoesOn = (profile : Profile) (head : Head) (start : List ℕ) (entries : List Entry) (e : Entry)
-    → JudgedSoFar profile head start (entries ++ e ∷ []) ↔ (JudgedSoFar profile head start entries × EntryJudged profile head (judge_of (reverse (entry_records entries))) e (elements_at e.0 (reverse (entry_records entries))))
+    → JudgedSoFar profile head start (entries ++ e ∷ [])
+    ↔ (JudgedSoFar profile head start entries × EntryJudged profile head (judge_of (reverse (entry_records entries))) e (elements_at e.0 (reverse (entry_records entries))))
 
 -- what was judged is judged at each place before, so a file that once failed fails however it goes on
 abbrev pub JudgeStays : Type 0
@@ -146,7 +147,8 @@ JudgeStays = (profile : Profile) (head : Head) (start : List ℕ) (entries more 
 
 -- and the judge after it
 abbrev pub JudgeSteps : Type 0
-JudgeSteps = (entries : List Entry) (e : Entry) → judge_of (reverse (entry_records (entries ++ e ∷ []))) ≡ judge_after (judge_of (reverse (entry_records entries))) e.0 (elements_at e.0 (reverse (entry_records entries)))
+JudgeSteps = (entries : List Entry) (e : Entry) → judge_of (reverse (entry_records (entries ++ e ∷ [])))
+    ≡ judge_after (judge_of (reverse (entry_records entries))) e.0 (elements_at e.0 (reverse (entry_records entries)))
 
 -- ---- what is spelled in the shortest style, by comparing bytes
 
@@ -206,7 +208,8 @@ KeptBytes = (limits : Limits) (profile : Profile) (entries : List Entry) (x : En
 
 -- an accepted file is a canonical form exactly if what it means is in order and its bytes are the canonical ones of that
 abbrev pub FormIsOrderedBytes : Type 0
-FormIsOrderedBytes = (limits : Limits) (profile : Profile) (b : List ℕ) (m : Meaning) → Accepted limits b → Means b m → CanonicalForm limits profile b ↔ (IsOrdered profile m.cells × (b ≡ canonical_bytes m))
+FormIsOrderedBytes = (limits : Limits) (profile : Profile) (b : List ℕ) (m : Meaning) → Accepted limits b → Means b m → CanonicalForm limits profile b
+    ↔ (IsOrdered profile m.cells × (b ≡ canonical_bytes m))
 
 -- ---- a judge in code
 

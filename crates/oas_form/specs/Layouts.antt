@@ -43,7 +43,8 @@ CanonicalBytes = (l : Contents) → IsLayout l → CanonicalForm l.limits l.prof
 
 -- a canonical form is what is written of each layout that is the same as what it means
 abbrev pub FormIsBytes : Type 0
-FormIsBytes = (limits : Limits) (c : List ℕ) (m : Meaning) (l : Contents) → CanonicalForm limits l.profile c → Means c m → IsLayout l → SameLayout l.profile m (meaning_of l) → c ≡ canonical_bytes (meaning_of l)
+FormIsBytes = (limits : Limits) (c : List ℕ) (m : Meaning) (l : Contents) → CanonicalForm limits l.profile c → Means c m → IsLayout l →
+    SameLayout l.profile m (meaning_of l) → c ≡ canonical_bytes (meaning_of l)
 
 -- a canonical form is the canonical bytes of what it means
 abbrev pub FormIsItsBytes : Type 0
@@ -51,14 +52,16 @@ FormIsItsBytes = (limits : Limits) (profile : Profile) (c : List ℕ) (m : Meani
 
 -- a canonical form is one within all limits that what it means keeps
 abbrev pub FormWithin : Type 0
-FormWithin = (one other : Limits) (profile : Profile) (c : List ℕ) (m : Meaning) → CanonicalForm one profile c → Means c m → element_count m.cells ≤ other.elements → cells_weight m.cells ≤ other.weight → CanonicalForm other profile c
+FormWithin = (one other : Limits) (profile : Profile) (c : List ℕ) (m : Meaning) → CanonicalForm one profile c → Means c m → element_count m.cells
+    ≤ other.elements → cells_weight m.cells ≤ other.weight → CanonicalForm other profile c
 
 -- ---- what a canonical form keeps
 
 -- The canonical form of an accepted file has as many elements as it, and weighs no more; under profile one it weighs as
 -- much.
 abbrev pub CanonicalWeight : Type 0
-CanonicalWeight = (limits : Limits) (profile : Profile) (b c : List ℕ) (m n : Meaning) → Accepted limits b → IsCanonicalOf limits profile b c → Means b m → Means c n → (element_count n.cells ≡ element_count m.cells) × (cells_weight n.cells ≤ cells_weight m.cells) × (profile ≡ One → cells_weight n.cells ≡ cells_weight m.cells)
+CanonicalWeight = (limits : Limits) (profile : Profile) (b c : List ℕ) (m n : Meaning) → Accepted limits b → IsCanonicalOf limits profile b c → Means b m →
+    Means c n → (element_count n.cells ≡ element_count m.cells) × (cells_weight n.cells ≤ cells_weight m.cells) × (profile ≡ One → cells_weight n.cells ≡ cells_weight m.cells)
 
 -- its length is bounded by the weight of the file
 abbrev pub FormLength : Type 0

@@ -44,10 +44,19 @@ spot_of points = spot_at (first_of points).x (first_of points).y
 abbrev pub element_record : Element → Record
 element_record (Placement name x y turns flip) = record_of.Placement (record { cell = Some (cell.Name name); turn = Quarters (turn_count turns); flip = flip; spot = spot_at x y })
 element_record (Text string textlayer texttype x y) = record_of.Text (record { string = Some (text.Label string); textlayer = Some textlayer; texttype = Some texttype; spot = spot_at x y })
-element_record (Rectangle layer datatype width height x y) = record_of.Rectangle (record { square = false; layer = Some layer; datatype = Some datatype; width = Some width; height = Some height; spot = spot_at x y })
+element_record (Rectangle layer datatype width height x y) =
+    record_of.Rectangle (record { square = false; layer = Some layer; datatype = Some datatype; width = Some width; height = Some height; spot = spot_at x y })
 element_record (Polygon layer datatype points) = record_of.Polygon (record { layer = Some layer; datatype = Some datatype; points = Some (line_of points); spot = spot_of points })
 element_record (Path layer datatype half_width start end points) =
-    record_of.Path (record { layer = Some layer; datatype = Some datatype; half_width = Some half_width; extensions = Some (record { start = Explicit start; end = Explicit end }); points = Some (line_of points); spot = spot_of points })
+    record_of.Path (record {
+      layer = Some layer;
+      datatype = Some datatype;
+      half_width = Some half_width;
+      extensions =
+          Some (record { start = Explicit start; end = Explicit end });
+      points = Some (line_of points);
+      spot = spot_of points;
+    })
 element_record (Circle layer datatype radius x y) = record_of.Circle (record { layer = Some layer; datatype = Some datatype; radius = Some radius; spot = spot_at x y })
 
 -- by name of a cell, its elements

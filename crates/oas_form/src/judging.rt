@@ -15,9 +15,6 @@ use crate::elements::put_element;
 use oas_layout::Element;
 use oas_num::Name;
 
-#[cfg(test)]
-mod tests;
-
 /// Whether a name is above that of the cell before it.
 fn is_above(before: &Option<Name>, name: &Name) -> bool
     ensures { IsTrue result ↔ IsAbove before.now name.now }

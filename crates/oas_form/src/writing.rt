@@ -16,9 +16,6 @@ use oas_layout::Layout;
 use oas_num::{Outlet, Refusal, Sink, SinkFault, Why};
 use std::io::Write;
 
-#[cfg(test)]
-mod tests;
-
 /// Puts the canonical bytes of a layout, and answers how many they are. At a fault a front of them was put.
 ///
 /// They are a canonical form within the layout's limits, and mean the layout. They number at most 320 and 64 for each unit

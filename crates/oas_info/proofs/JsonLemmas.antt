@@ -57,7 +57,8 @@ textlayers_no_float (p ∷ ps) = textlayer_no_float p.0 p.1 (textlayers ps) (tex
 pub no_float : (i : Info) → has_float (info_data i) ≡ false
 no_float i =
     let facts = i.facts in
-    neither _ _ (layers_no_float facts.groups.entries) (neither _ _ (textlayers_no_float facts.groups.entries) (neither _ _ (strings_no_float facts.undefined.items) (neither _ _ (strings_no_float facts.unplaced.items) refl)))
+    neither _ _ (layers_no_float facts.groups.entries)
+    (neither _ _ (textlayers_no_float facts.groups.entries) (neither _ _ (strings_no_float facts.undefined.items) (neither _ _ (strings_no_float facts.unplaced.items) refl)))
 
 -- ---- names
 

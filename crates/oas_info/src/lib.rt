@@ -22,8 +22,6 @@
 mod form;
 mod info;
 mod json;
-#[cfg(test)]
-mod tests;
 mod text;
 
 pub use form::{Form, text_in};

@@ -1,37 +1,6 @@
 -- A cell that is given more elements, and a new cell.
-use Rattle.std.proofs.Common.{
-  ◌≡◌,
-  ℕ,
-  zero,
-  suc,
-  ◌+◌,
-  ◌-◌,
-  ◌*◌,
-  ◌<◌,
-  ◌≤◌,
-  List,
-  [],
-  ◌∷◌,
-  ◌++◌,
-  Option,
-  None,
-  Some,
-  is_some,
-  true,
-  false,
-  length,
-  slice_get,
-  unwrap_or,
-  replicate,
-  refl,
-  sym,
-  ◌∙◌,
-  ap,
-  subst,
-  arith,
-  length-append,
-  mul_comm,
-}
+use Rattle.std.proofs.Common.{◌≡◌, ℕ, zero, suc, ◌+◌, ◌-◌, ◌*◌, ◌<◌, ◌≤◌, List, [], ◌∷◌, ◌++◌, Option, None, Some, is_some, true, false, length, slice_get, unwrap_or, replicate}
+use Rattle.std.proofs.Common.{refl, sym, ◌∙◌, ap, subst, arith, length-append, mul_comm}
 use Rattle.std.specs.Prelude.{sum_by}
 use Rattle.std.specs.Map.{values_of}
 use Rattle.std.specs.declared.cmp.Ordering.TheVariants.{Equal}

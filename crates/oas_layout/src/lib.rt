@@ -47,6 +47,3 @@ pub use layout::Layout;
 pub use limits::Limits;
 pub use plain::PlainElements;
 pub use profile::Profile;
-
-#[cfg(test)]
-mod tests;

@@ -1,32 +1,6 @@
 -- No line is much longer than what its element weighs.
-use Rattle.std.proofs.Common.{
-  ◌≡◌,
-  ℕ,
-  zero,
-  suc,
-  ◌+◌,
-  ◌*◌,
-  ◌^◌,
-  ◌/◌,
-  ◌%◌,
-  ◌==◌,
-  ◌≤◌,
-  Bool,
-  true,
-  false,
-  if◌then◌else◌,
-  List,
-  [],
-  ◌∷◌,
-  length,
-  map,
-  flat_map,
-  sum_by,
-  decimal,
-  length-append,
-  refl,
-  arith,
-}
+use Rattle.std.proofs.Common.{◌≡◌, ℕ, zero, suc, ◌+◌, ◌*◌, ◌^◌, ◌/◌, ◌%◌, ◌==◌, ◌≤◌, Bool, true, false, if◌then◌else◌, List, [], ◌∷◌, length, map, flat_map, sum_by, decimal}
+use Rattle.std.proofs.Common.{length-append, refl, arith}
 use Rattle.std.specs.Prelude.{ℤ, pos, negsuc, codes}
 use Rattle.std.specs.Fmt.{digits, digits_onto, digit_glyph, signed_decimal}
 use Rattle.std.proofs.lemmas.List.Sums.{sum_by-cons}

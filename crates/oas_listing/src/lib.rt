@@ -32,6 +32,3 @@ mod writing;
 pub use cells::{put_listing, put_name, put_unit};
 pub use elements::put_element;
 pub use writing::write_listing;
-
-#[cfg(test)]
-mod tests;

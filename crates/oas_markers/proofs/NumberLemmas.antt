@@ -37,7 +37,8 @@ length_of unit n m d u p q r = λ i. quotient (p i * q i) (r i)
 pub coordinate_of : (unit : Ratio) (x y : ℤ) → SFits w64 x → SFits w128 y → y ≡ to_z w64 (of_z w64 x) → microns unit (to_z w128 (of_z w128 y)) ≡ microns unit x
 coordinate_of unit x y f g e = ap (microns unit) (to_z-of_z w128 y g ∙ e ∙ to_z-of_z w64 x f)
 
-pub far_of : (unit : Ratio) (x y s : ℤ) (n : ℕ) → SFits w64 x → SFits w128 y → SFits w128 s → SFits w128 (y +ℤ s) → y ≡ to_z w64 (of_z w64 x) → s ≡ pos n → microns unit (to_z w128 (of_z w128 (to_z w128 (of_z w128 y) +ℤ to_z w128 (of_z w128 s)))) ≡ microns unit (x +ℤ pos n)
+pub far_of : (unit : Ratio) (x y s : ℤ) (n : ℕ) → SFits w64 x → SFits w128 y → SFits w128 s → SFits w128 (y +ℤ s) → y ≡ to_z w64 (of_z w64 x) → s ≡ pos n →
+    microns unit (to_z w128 (of_z w128 (to_z w128 (of_z w128 y) +ℤ to_z w128 (of_z w128 s)))) ≡ microns unit (x +ℤ pos n)
 far_of unit x y s n f g h k e p =
     let a = to_z-of_z w128 y g in
     let b = to_z-of_z w128 s h in

@@ -10,7 +10,8 @@ use Rattle.oas_difference.specs.Held.{held_changed}
 use Rattle.oas_markers.specs.Markers.{change_item}
 use Rattle.oas_markers.specs.Held.{change_items}
 
-pub left_is : {K : Type 0} {given : K → List ℕ → K → Type 0} {failures : K → ℕ} {whole b c : List ℕ} {old now : K} → PutSoFar given failures whole b old now → b ≡ c → PutSoFar given failures whole c old now
+pub left_is : {K : Type 0} {given : K → List ℕ → K → Type 0} {failures : K → ℕ} {whole b c : List ℕ} {old now : K} → PutSoFar given failures whole b old now → b
+    ≡ c → PutSoFar given failures whole c old now
 left_is {given = given} {failures = failures} {whole = whole} {old = old} {now = now} p e = subst (λ (x : List ℕ). PutSoFar given failures whole x old now) e p
 
 -- an element that is not as often in both is one entry
@@ -20,6 +21,7 @@ one_change e n m u = by_test (n == m) refl where
   by_test true q = absurd (u (eqb-true n m q))
   by_test false q = refl
 
-pub first_item : (u v : Ratio) (name : List ℕ) (es fs es' fs' : List (Element × ℕ)) (e : Element) (n m : ℕ) → n ≢ m → held_changed es fs ≡ change_at e n m ++ held_changed es' fs' → change_items u v name es fs ≡ change_item u v name (e, (n, m)) ++ change_items u v name es' fs'
+pub first_item : (u v : Ratio) (name : List ℕ) (es fs es' fs' : List (Element × ℕ)) (e : Element) (n m : ℕ) → n ≢ m → held_changed es fs ≡ change_at e n m
+    ++ held_changed es' fs' → change_items u v name es fs ≡ change_item u v name (e, (n, m)) ++ change_items u v name es' fs'
 first_item u v name es fs es' fs' e n m unlike h =
     ap (flat_map (change_item u v name)) h ∙ ap (λ (cs : List (Element × (ℕ × ℕ))). flat_map (change_item u v name) (cs ++ held_changed es' fs')) (one_change e n m unlike)

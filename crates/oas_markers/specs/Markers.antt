@@ -29,7 +29,10 @@ way_file Added = codes "B"
 -- the category of all that one layout has more often, with one below it for each kind
 abbrev pub category : Ratio → Way → List ℕ
 category unit way =
-    codes "  <category><name>" ++ (way_name way ++ (codes "</name><description>more often in " ++ (way_file way ++ (codes ", by " ++ (decimal unit.num ++ (47 ∷ (decimal unit.den ++ codes " grid steps in a micron</description><categories><category><name>cell</name></category><category><name>placement</name></category><category><name>text</name></category><category><name>rectangle</name></category><category><name>polygon</name></category><category><name>path</name></category><category><name>circle</name></category></categories></category>\n")))))))
+    codes "  <category><name>" ++ (way_name way
+    ++ (codes "</name><description>more often in "
+    ++ (way_file way ++ (codes ", by " ++ (decimal unit.num
+    ++ (47 ∷ (decimal unit.den ++ codes " grid steps in a micron</description><categories><category><name>cell</name></category><category><name>placement</name></category><category><name>text</name></category><category><name>rectangle</name></category><category><name>polygon</name></category><category><name>path</name></category><category><name>circle</name></category></categories></category>\n")))))))
 
 abbrev pub about : Bool → List ℕ
 about true = codes "The difference of A and B"
@@ -37,7 +40,8 @@ about false = codes "The difference of A and B, whose units differ: each marker 
 
 abbrev pub head : Ratio → Ratio → List ℕ
 head u v =
-    codes "<?xml version=\"1.0\" encoding=\"utf-8\"?>\n<report-database>\n <description>" ++ (about (same_ratio u v) ++ (codes "</description>\n <categories>\n" ++ (category u Removed ++ (category v Added ++ codes " </categories>\n <cells>\n"))))
+    codes "<?xml version=\"1.0\" encoding=\"utf-8\"?>\n<report-database>\n <description>"
+    ++ (about (same_ratio u v) ++ (codes "</description>\n <categories>\n" ++ (category u Removed ++ (category v Added ++ codes " </categories>\n <cells>\n"))))
 
 -- ---- items
 
@@ -48,7 +52,10 @@ cell_entry name = codes "  <cell><name>" ++ (escaped name ++ codes "</name></cel
 -- the item of an element of that cell, which is there so many times more
 abbrev pub item : Ratio → Way → List ℕ → ℕ → Element → List ℕ
 item unit way name count e =
-    codes "  <item><category>" ++ (way_name way ++ (46 ∷ (kind_name e ++ (codes "</category><cell>" ++ (escaped name ++ (codes "</cell><multiplicity>" ++ (decimal count ++ (codes "</multiplicity><values><value>" ++ (shape unit e ++ (codes "</value>" ++ (layer_value (layer_of e) ++ codes "</values></item>\n")))))))))))
+    codes "  <item><category>" ++ (way_name way
+    ++ (46 ∷ (kind_name e ++ (codes "</category><cell>"
+    ++ (escaped name ++ (codes "</cell><multiplicity>"
+    ++ (decimal count ++ (codes "</multiplicity><values><value>" ++ (shape unit e ++ (codes "</value>" ++ (layer_value (layer_of e) ++ codes "</values></item>\n")))))))))))
 
 -- the item of an element that is not as often in both, beside how often it is in either
 abbrev pub change_item : Ratio → Ratio → List ℕ → Element × (ℕ × ℕ) → List ℕ
@@ -59,7 +66,8 @@ change_item u v name c =
 -- the item of a cell that only one layout has
 abbrev pub cell_item : Way → List ℕ → List ℕ
 cell_item way name =
-    codes "  <item><category>" ++ (way_name way ++ (codes ".cell</category><cell>" ++ (escaped name ++ codes "</cell><multiplicity>1</multiplicity><values><value>text: 'cell'</value></values></item>\n")))
+    codes "  <item><category>" ++ (way_name way
+    ++ (codes ".cell</category><cell>" ++ (escaped name ++ codes "</cell><multiplicity>1</multiplicity><values><value>text: 'cell'</value></values></item>\n")))
 
 -- where it is said whether the cell is there before and after
 abbrev pub alone : Bool → Bool → List ℕ → List ℕ

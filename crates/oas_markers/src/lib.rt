@@ -21,6 +21,3 @@ mod texts;
 mod writing;
 
 pub use writing::write_markers;
-
-#[cfg(test)]
-mod tests;

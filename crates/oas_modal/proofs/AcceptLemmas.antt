@@ -47,17 +47,20 @@ lighter m v w s h e = let few : w ≤ m = grind arith in grind (arith, nat_tests
 -- ---- cells that are counted
 
 -- they have the names of those that they stand for
-counted_names : (names strings : List (ℕ × List ℕ)) (cs : List Counted) (ds : List DrawnCell) → HoldCells counted_store cs ds → names_held names (bare counted_store cs) ≡ keys_of (cells_meant names strings ds)
+counted_names : (names strings : List (ℕ × List ℕ)) (cs : List Counted) (ds : List DrawnCell) → HoldCells counted_store cs ds →
+    names_held names (bare counted_store cs) ≡ keys_of (cells_meant names strings ds)
 counted_names names strings [] [] h = refl
 counted_names names strings [] (d ∷ ds) h = absurd h
 counted_names names strings (c ∷ cs) [] h = absurd h
 counted_names names strings (c ∷ cs) (d ∷ ds) h =
     ap (λ r. with_name_held (cell_by names r) (names_held names (bare counted_store cs))) h.0 ∙ by (cell_by names d.0) (counted_names names strings cs ds h.2) where
-      by : (o : Option (List ℕ)) → names_held names (bare counted_store cs) ≡ keys_of (cells_meant names strings ds) → with_name_held o (names_held names (bare counted_store cs)) ≡ keys_of (with_named o (elements_meant names strings d.1) (cells_meant names strings ds))
+      by : (o : Option (List ℕ)) → names_held names (bare counted_store cs) ≡ keys_of (cells_meant names strings ds) →
+          with_name_held o (names_held names (bare counted_store cs)) ≡ keys_of (with_named o (elements_meant names strings d.1) (cells_meant names strings ds))
       by None e = e
       by (Some name) e = ap (λ (ns : List (List ℕ)). name ∷ ns) e
 
-module _ (names strings : List (ℕ × List ℕ)) (limits : Limits) (cs : List Counted) (ds : List DrawnCell) (a : AllByRecursion (λ c. AllUsed c.placed × AllUsed c.written) cs) (h : HoldCells counted_store cs ds) where
+module _ (names strings : List (ℕ × List ℕ)) (limits : Limits) (cs : List Counted) (ds : List DrawnCell)
+    (a : AllByRecursion (λ c. AllUsed c.placed × AllUsed c.written) cs) (h : HoldCells counted_store cs ds) where
   abbrev whole : ℕ
   whole = cells_weight (cells_meant names strings ds)
 
@@ -73,14 +76,16 @@ module _ (names strings : List (ℕ × List ℕ)) (limits : Limits) (cs : List C
       let twice : has_twice (keys_of (cells_meant names strings ds)) ≡ true = sym (ap has_twice (counted_names names strings cs ds h)) ∙ t in
       λ i. first_why (known.0 i) (twice i) (nat_lt limits.weight whole)
 
-  pub counted_heavy : (v : ℕ) → Some v ≡ all_weight names strings cs → has_twice (names_held names (bare counted_store cs)) ≡ false → limits.weight < v → end_reason names strings limits ds ≡ Some TooHeavy
+  pub counted_heavy : (v : ℕ) → Some v ≡ all_weight names strings cs → has_twice (names_held names (bare counted_store cs)) ≡ false → limits.weight < v →
+      end_reason names strings limits ds ≡ Some TooHeavy
   counted_heavy v e t w =
       let known = why_known (lacks_name names strings ds) v (capped whole) (e ∙ weighs) in
       let once : has_twice (keys_of (cells_meant names strings ds)) ≡ false = sym (ap has_twice (counted_names names strings cs ds h)) ∙ t in
       let heavy = heavier limits.weight v whole w known.1 in
       λ i. first_why (known.0 i) (once i) (heavy i)
 
-  pub counted_none : (v : ℕ) → Some v ≡ all_weight names strings cs → has_twice (names_held names (bare counted_store cs)) ≡ false → limits.weight ≤ 2 ^ 30 → v ≤ limits.weight → end_reason names strings limits ds ≡ None
+  pub counted_none : (v : ℕ) → Some v ≡ all_weight names strings cs → has_twice (names_held names (bare counted_store cs)) ≡ false → limits.weight ≤ 2 ^ 30 → v
+      ≤ limits.weight → end_reason names strings limits ds ≡ None
   counted_none v e t s w =
       let known = why_known (lacks_name names strings ds) v (capped whole) (e ∙ weighs) in
       let once : has_twice (keys_of (cells_meant names strings ds)) ≡ false = sym (ap has_twice (counted_names names strings cs ds h)) ∙ t in
@@ -89,7 +94,8 @@ module _ (names strings : List (ℕ × List ℕ)) (limits : Limits) (cs : List C
 
 -- ---- a reader that counts
 
-module _ (failed : Option OneRefusal) (p : Parts Counted) (t : ReaderState Counted) (rs : List Record) (view : ◌≡◌ {A = ReaderState Counted} (seen_as failed p) t) (h : StandsFor counted_store t rs) where
+module _ (failed : Option OneRefusal) (p : Parts Counted) (t : ReaderState Counted) (rs : List Record)
+    (view : ◌≡◌ {A = ReaderState Counted} (seen_as failed p) t) (h : StandsFor counted_store t rs) where
   kept : KeptFor counted_store p (reverse rs)
   kept = kept_of counted_store failed p t rs view h
 
@@ -101,7 +107,8 @@ module _ (failed : Option OneRefusal) (p : Parts Counted) (t : ReaderState Count
   pub counting_accepted : ((ds : List DrawnCell) → HoldCells counted_store (cells p) ds → end_reason p.names.named p.strings.named p.limits ds ≡ None) → end_refusal t.limits rs ≡ None
   counting_accepted none = sym ended_as ∙ none (cells_drawn elements_at (reverse rs)) kept.holds
 
-  pub counting_refused : (why : Why) → ((ds : List DrawnCell) → HoldCells counted_store (cells p) ds → (why ≡ Memory) ⊎ (end_reason p.names.named p.strings.named p.limits ds ≡ Some why)) → (why ≡ Memory) ⊎ (end_refusal t.limits rs ≡ Some why)
+  pub counting_refused : (why : Why) → ((ds : List DrawnCell) → HoldCells counted_store (cells p) ds → (why ≡ Memory)
+      ⊎ (end_reason p.names.named p.strings.named p.limits ds ≡ Some why)) → (why ≡ Memory) ⊎ (end_refusal t.limits rs ≡ Some why)
   counting_refused why some = by (some (cells_drawn elements_at (reverse rs)) kept.holds) where
     by : (why ≡ Memory) ⊎ (end_reason p.names.named p.strings.named p.limits (cells_drawn elements_at (reverse rs)) ≡ Some why) → (why ≡ Memory) ⊎ (end_refusal t.limits rs ≡ Some why)
     by (inl m) = inl m

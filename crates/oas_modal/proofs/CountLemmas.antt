@@ -63,7 +63,8 @@ used_more (p ∷ ps) k n h a =
     ]
 
 -- what an insertion leaves
-pub put_inserted : (inside now qs : List (ℕ × ℕ)) (k n t : ℕ) → inside ≡ now → IsStrictlySortedBy nat_cmp (keys_of inside) → t ≡ unwrap_or (lookup (is_at (nat_cmp k)) now) 0 → qs ≡ insert_entry nat_cmp inside k (t + n) → qs ≡ put_more nat_cmp now k n
+pub put_inserted : (inside now qs : List (ℕ × ℕ)) (k n t : ℕ) → inside ≡ now → IsStrictlySortedBy nat_cmp (keys_of inside) → t
+    ≡ unwrap_or (lookup (is_at (nat_cmp k)) now) 0 → qs ≡ insert_entry nat_cmp inside k (t + n) → qs ≡ put_more nat_cmp now k n
 put_inserted inside now qs k n t view s had is =
     is ∙ ((λ i. insert_entry nat_cmp (view i) k (had i + n)) ∙ insert_entry-count nat_cmp_total now k n (subst (λ (ps : List (ℕ × ℕ)). IsStrictlySortedBy nat_cmp (keys_of ps)) view s))
 
@@ -97,10 +98,13 @@ module _ (d : Drawn) (n : ℕ) where
   sum_more : (g : Drawn → ℕ) (before : List Drawn) → sum_by g (before ++ replicate n d) ≡ sum_by g before + n * g d
   sum_more g before = sum_by-append g before (replicate n d) ∙ ap (λ (k : ℕ). sum_by g before + k) (sum_by-replicate g n d)
 
-  weight_more : (c : Counted) (before : List Drawn) → c.weight ≡ capped (sum_by weight_so_far before) → capped (c.weight + capped (weight_so_far d * n)) ≡ capped (sum_by weight_so_far (before ++ replicate n d))
+  weight_more : (c : Counted) (before : List Drawn) → c.weight ≡ capped (sum_by weight_so_far before) → capped (c.weight + capped (weight_so_far d * n))
+      ≡ capped (sum_by weight_so_far (before ++ replicate n d))
   weight_more c before is =
       let turned : weight_so_far d * n ≡ n * weight_so_far d = omega arith in
-      ap (λ (w : ℕ). capped (w + capped (weight_so_far d * n))) is ∙ (capped_more (sum_by weight_so_far before) (weight_so_far d * n) ∙ ap capped (ap (λ (w : ℕ). sum_by weight_so_far before + w) turned ∙ sym (sum_more weight_so_far before)))
+      ap (λ (w : ℕ). capped (w + capped (weight_so_far d * n))) is
+      ∙ (capped_more (sum_by weight_so_far before) (weight_so_far d * n)
+      ∙ ap capped (ap (λ (w : ℕ). sum_by weight_so_far before + w) turned ∙ sym (sum_more weight_so_far before)))
 
   pub counted_draws : (old new : Counted) → 0 < n → new ≡ counted_more old d n → Draws counted_store old (replicate n d) new
   counted_draws old new h is =
@@ -117,11 +121,13 @@ module _ (d : Drawn) (n : ℕ) where
 
 -- a cell that has counted it, and weighs what it does besides
 pub counted_up : (old : Counted) (d : Drawn) (n : ℕ) (a : CellRef) (k v w : ℕ) (ps qs : List (ℕ × ℕ)) → 0 < n
-    → ◌≡◌ {A = Counted} (record { cell = a; count = k; weight = v; placed = ps; written = qs }) (record { cell = old.cell; count = old.count + n; weight = old.weight; placed = placed_more d n old.placed; written = written_more d n old.written })
+    → ◌≡◌ {A = Counted} (record { cell = a; count = k; weight = v; placed = ps; written = qs })
+    (record { cell = old.cell; count = old.count + n; weight = old.weight; placed = placed_more d n old.placed; written = written_more d n old.written })
     → w ≡ capped (v + capped (weight_so_far d * n)) → Draws counted_store old (replicate n d) (record { cell = a; count = k; weight = w; placed = ps; written = qs })
 counted_up old d n a k v w ps qs h is weighs =
     let weight : w ≡ capped (old.weight + capped (weight_so_far d * n)) = weighs ∙ ap (λ (c : Counted). capped (c.weight + capped (weight_so_far d * n))) is in
-    counted_draws d n old (record { cell = a; count = k; weight = w; placed = ps; written = qs }) h (λ i. record { cell = (is i).cell; count = (is i).count; weight = weight i; placed = (is i).placed; written = (is i).written })
+    counted_draws d n old (record { cell = a; count = k; weight = w; placed = ps; written = qs }) h
+    (λ i. record { cell = (is i).cell; count = (is i).count; weight = weight i; placed = (is i).placed; written = (is i).written })
 
 pub counted_same : (old new : Counted) → new ≡ old → Draws counted_store old [] new
 counted_same old new is = subst (Draws counted_store old []) (sym is) (draws_none counted_store old)

@@ -9,22 +9,8 @@ use Rattle.oas_record.specs.declared.records.Record.{Record}
 use Rattle.oas_drawing.specs.Reasons.{first_of}
 use Rattle.oas_modal.specs.declared.names.Numbering.{Numbering}
 use Rattle.oas_modal.specs.declared.names.Numbering.TheVariants.{Implicit, Explicit}
-use Rattle.oas_modal.specs.Names.{
-  same_string,
-  numbering_given,
-  numbering_after,
-  numbering_of,
-  next_number,
-  named_after,
-  named,
-  name_of,
-  is_mixed,
-  is_other,
-  naming_reason,
-  reason_given,
-  name_reason,
-  AllowedNames,
-}
+use Rattle.oas_modal.specs.Names.{same_string, numbering_given, numbering_after, numbering_of, next_number, named_after, named, name_of, is_mixed, is_other, naming_reason}
+use Rattle.oas_modal.specs.Names.{reason_given, name_reason, AllowedNames}
 use Rattle.oas_modal.specs.Laws.NameLaws.{GivesName, HasNumbering, other_numbering, NumberingIsOfEach, StringIsGiven, NoStringIsGiven, MixedWhere, TwiceWhere}
 use Rattle.oas_modal.proofs.NameTables.{first_false}
 

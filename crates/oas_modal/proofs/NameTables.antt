@@ -10,27 +10,8 @@ use Rattle.oas_record.specs.declared.records.Record.{Record}
 use Rattle.oas_drawing.specs.Reasons.{first_of}
 use Rattle.oas_modal.specs.declared.names.Numbering.{Numbering}
 use Rattle.oas_modal.specs.declared.names.Numbering.TheVariants.{Implicit, Explicit}
-use Rattle.oas_modal.specs.Names.{
-  numbering_given,
-  numbering_after,
-  numbering_of,
-  counted,
-  next_after,
-  next_number,
-  named_after,
-  named,
-  name_of,
-  is_mixed,
-  is_other,
-  naming_reason,
-  reason_given,
-  name_reason,
-  Table,
-  no_names,
-  table_reason,
-  with_name,
-  NamesStand,
-}
+use Rattle.oas_modal.specs.Names.{numbering_given, numbering_after, numbering_of, counted, next_after, next_number, named_after, named, name_of, is_mixed, is_other, naming_reason}
+use Rattle.oas_modal.specs.Names.{reason_given, name_reason, Table, no_names, table_reason, with_name, NamesStand}
 
 -- ---- one entry more
 

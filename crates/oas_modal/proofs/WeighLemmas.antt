@@ -56,7 +56,8 @@ one_known (Some name) n h = let none : nat_lt 0 (n * 0) ≡ false = grind (arith
 names_known : (names : List (ℕ × List ℕ)) (ps : List (ℕ × ℕ)) → AllUsed ps → names_weight names ps ≡ known (total (unnamed names) ps) (total (name_length names) ps)
 names_known names [] h = refl
 names_known names (p ∷ ps) h =
-    (λ i. joined (one_known (name_of names p.0) p.1 h.0 i) (names_known names ps h.1 i)) ∙ joined_known (p.1 * unnamed names p.0) (total (unnamed names) ps) (p.1 * name_length names p.0) (total (name_length names) ps)
+    (λ i. joined (one_known (name_of names p.0) p.1 h.0 i) (names_known names ps h.1 i))
+    ∙ joined_known (p.1 * unnamed names p.0) (total (unnamed names) ps) (p.1 * name_length names p.0) (total (name_length names) ps)
 
 sum_two : (f g : Drawn → ℕ) (ds : List Drawn) → sum_by (λ d. f d + g d) ds ≡ sum_by f ds + sum_by g ds
 sum_two f g [] = refl
@@ -69,19 +70,26 @@ module _ (names strings : List (ℕ × List ℕ)) where
   -- what lacks a name, by the numbers
   lacking_by : (d : Drawn) → cond (is_unnamed names strings d) 1 0 ≡ placed_by (unnamed names) d + written_by (unnamed strings) d
   lacking_by (Named e) = refl
-  lacking_by (PlacementBy number x y turns flip) = elim (name_of names number) as (λ o. cond (is_none (option_map (λ (c : List ℕ). Placement c x y turns flip) o)) 1 0 ≡ cond (is_none o) 1 0 + 0) [ None ↦ refl | Some c ↦ refl ]
-  lacking_by (TextBy number textlayer texttype x y) = elim (name_of strings number) as (λ o. cond (is_none (option_map (λ (c : List ℕ). Text c textlayer texttype x y) o)) 1 0 ≡ 0 + cond (is_none o) 1 0) [ None ↦ refl | Some c ↦ refl ]
+  lacking_by (PlacementBy number x y turns flip) =
+      elim (name_of names number) as (λ o. cond (is_none (option_map (λ (c : List ℕ). Placement c x y turns flip) o)) 1 0 ≡ cond (is_none o) 1 0 + 0)
+      [ None ↦ refl | Some c ↦ refl ]
+  lacking_by (TextBy number textlayer texttype x y) =
+      elim (name_of strings number) as (λ o. cond (is_none (option_map (λ (c : List ℕ). Text c textlayer texttype x y) o)) 1 0 ≡ 0 + cond (is_none o) 1 0)
+      [ None ↦ refl | Some c ↦ refl ]
 
   -- what is meant weighs, by the numbers
-  weighed_by : (d : Drawn) → weighed weight_of (element_by names strings d) + cond (is_unnamed names strings d) 1 0 ≡ weight_so_far d + (placed_by (name_length names) d + written_by (name_length strings) d)
+  weighed_by : (d : Drawn) → weighed weight_of (element_by names strings d) + cond (is_unnamed names strings d) 1 0 ≡ weight_so_far d
+      + (placed_by (name_length names) d + written_by (name_length strings) d)
   weighed_by (Named e) = omega arith
   weighed_by (PlacementBy number x y turns flip) =
-      elim (name_of names number) as (λ o. weighed weight_of (option_map (λ (c : List ℕ). Placement c x y turns flip) o) + cond (is_none (option_map (λ (c : List ℕ). Placement c x y turns flip) o)) 1 0 ≡ 1 + (length (unwrap_or o []) + 0)) [
+      elim (name_of names number) as (λ o. weighed weight_of (option_map (λ (c : List ℕ). Placement c x y turns flip) o)
+      + cond (is_none (option_map (λ (c : List ℕ). Placement c x y turns flip) o)) 1 0 ≡ 1 + (length (unwrap_or o []) + 0)) [
         | None ↦ refl
         | Some c ↦ omega arith
       ]
   weighed_by (TextBy number textlayer texttype x y) =
-      elim (name_of strings number) as (λ o. weighed weight_of (option_map (λ (c : List ℕ). Text c textlayer texttype x y) o) + cond (is_none (option_map (λ (c : List ℕ). Text c textlayer texttype x y) o)) 1 0 ≡ 1 + (0 + length (unwrap_or o []))) [
+      elim (name_of strings number) as (λ o. weighed weight_of (option_map (λ (c : List ℕ). Text c textlayer texttype x y) o)
+      + cond (is_none (option_map (λ (c : List ℕ). Text c textlayer texttype x y) o)) 1 0 ≡ 1 + (0 + length (unwrap_or o []))) [
         | None ↦ refl
         | Some c ↦ omega arith
       ]
@@ -89,41 +97,55 @@ module _ (names strings : List (ℕ × List ℕ)) where
   lacking_sum : (ds : List Drawn) → lacking ds ≡ sum_by (placed_by (unnamed names)) ds + sum_by (written_by (unnamed strings)) ds
   lacking_sum ds = (λ i. sum_by (λ d. lacking_by d i) ds) ∙ sum_two (placed_by (unnamed names)) (written_by (unnamed strings)) ds
 
-  weighed_sum : (ds : List Drawn) → sum_by weight_of (elements_meant names strings ds) + lacking ds ≡ sum_by weight_so_far ds + (sum_by (placed_by (name_length names)) ds + sum_by (written_by (name_length strings)) ds)
+  weighed_sum : (ds : List Drawn) → sum_by weight_of (elements_meant names strings ds) + lacking ds ≡ sum_by weight_so_far ds
+      + (sum_by (placed_by (name_length names)) ds + sum_by (written_by (name_length strings)) ds)
   weighed_sum ds =
       let meant = sum-meant names strings weight_of ds in
       let left = sum_two (λ d. weighed weight_of (element_by names strings d)) (λ d. cond (is_unnamed names strings d) 1 0) ds in
-      let same : sum_by (λ d. weighed weight_of (element_by names strings d) + cond (is_unnamed names strings d) 1 0) ds ≡ sum_by (λ d. weight_so_far d + (placed_by (name_length names) d + written_by (name_length strings) d)) ds = λ i. sum_by (λ d. weighed_by d i) ds in
+      let same : sum_by (λ d. weighed weight_of (element_by names strings d) + cond (is_unnamed names strings d) 1 0) ds
+      ≡ sum_by (λ d. weight_so_far d + (placed_by (name_length names) d + written_by (name_length strings) d)) ds = λ i. sum_by (λ d. weighed_by d i) ds in
       let right = sum_two weight_so_far (λ d. placed_by (name_length names) d + written_by (name_length strings) d) ds in
       let both = sum_two (placed_by (name_length names)) (written_by (name_length strings)) ds in
       omega (arith, meant, left, same, right, both)
 
   -- what a cell's elements weigh
   body_known : (c : Counted) (ds : List Drawn) → AllUsed c.placed → AllUsed c.written → CountsThese c ds
-      → joined (Some c.weight) (joined (names_weight names c.placed) (names_weight strings c.written)) ≡ cond (list_any (is_unnamed names strings) ds) None (Some (capped (sum_by weight_of (elements_meant names strings ds))))
+      → joined (Some c.weight) (joined (names_weight names c.placed) (names_weight strings c.written))
+      ≡ cond (list_any (is_unnamed names strings) ds) None (Some (capped (sum_by weight_of (elements_meant names strings ds))))
   body_known c ds p w h =
       let first : Some c.weight ≡ known 0 (sum_by weight_so_far ds) = ap Some h.weight in
-      let placed : names_weight names c.placed ≡ known (sum_by (placed_by (unnamed names)) ds) (sum_by (placed_by (name_length names)) ds) = names_known names c.placed p ∙ (λ i. known (h.placed (unnamed names) i) (h.placed (name_length names) i)) in
-      let written : names_weight strings c.written ≡ known (sum_by (written_by (unnamed strings)) ds) (sum_by (written_by (name_length strings)) ds) = names_known strings c.written w ∙ (λ i. known (h.written (unnamed strings) i) (h.written (name_length strings) i)) in
+      let placed : names_weight names c.placed ≡ known (sum_by (placed_by (unnamed names)) ds) (sum_by (placed_by (name_length names)) ds) =
+      names_known names c.placed p ∙ (λ i. known (h.placed (unnamed names) i) (h.placed (name_length names) i)) in
+      let written : names_weight strings c.written ≡ known (sum_by (written_by (unnamed strings)) ds) (sum_by (written_by (name_length strings)) ds) =
+      names_known strings c.written w ∙ (λ i. known (h.written (unnamed strings) i) (h.written (name_length strings) i)) in
       let lack : 0 + (sum_by (placed_by (unnamed names)) ds + sum_by (written_by (unnamed strings)) ds) ≡ lacking ds = omega (arith, lacking_sum ds) in
       (λ i. joined (first i) (joined (placed i) (written i)))
-      ∙ ((λ i. joined (known 0 (sum_by weight_so_far ds)) (joined_known (sum_by (placed_by (unnamed names)) ds) (sum_by (written_by (unnamed strings)) ds) (sum_by (placed_by (name_length names)) ds) (sum_by (written_by (name_length strings)) ds) i))
-      ∙ (joined_known 0 (sum_by (placed_by (unnamed names)) ds + sum_by (written_by (unnamed strings)) ds) (sum_by weight_so_far ds) (sum_by (placed_by (name_length names)) ds + sum_by (written_by (name_length strings)) ds)
+      ∙ ((λ i. joined (known 0 (sum_by weight_so_far ds))
+      (joined_known (sum_by (placed_by (unnamed names)) ds) (sum_by (written_by (unnamed strings)) ds) (sum_by (placed_by (name_length names)) ds)
+      (sum_by (written_by (name_length strings)) ds) i))
+      ∙ (joined_known 0 (sum_by (placed_by (unnamed names)) ds + sum_by (written_by (unnamed strings)) ds) (sum_by weight_so_far ds)
+      (sum_by (placed_by (name_length names)) ds + sum_by (written_by (name_length strings)) ds)
       ∙ ((λ i. known (lack i) (sym (weighed_sum ds) i))
-      ∙ (by (lacking ds) (sum_by weight_of (elements_meant names strings ds)) ∙ ap (λ b. cond b None (Some (capped (sum_by weight_of (elements_meant names strings ds))))) (sym (any-sum (is_unnamed names strings) ds)))))) where
+      ∙ (by (lacking ds) (sum_by weight_of (elements_meant names strings ds))
+      ∙ ap (λ b. cond b None (Some (capped (sum_by weight_of (elements_meant names strings ds))))) (sym (any-sum (is_unnamed names strings) ds)))))) where
         by : (l w : ℕ) → known l (w + l) ≡ cond (nat_lt 0 l) None (Some (capped w))
         by zero w = ap (λ (k : ℕ). Some (capped k)) (omega arith)
         by (suc l) w = (λ i. cond (some_lack l i) None (Some (capped (w + suc l)))) ∙ (λ i. cond (sym (some_lack l) i) None (Some (capped w)))
 
   -- a cell and those after it
-  cell_and : (o : Option (List ℕ)) (u l : Bool) (es : List Element) (cs : List (List ℕ × List Element)) → joined (joined (head_weight o) (cond u None (Some (capped (sum_by weight_of es))))) (cond l None (Some (capped (cells_weight cs)))) ≡ cond ((is_none o || u) || l) None (Some (capped (cells_weight (with_named o es cs))))
+  cell_and : (o : Option (List ℕ)) (u l : Bool) (es : List Element) (cs : List (List ℕ × List Element)) →
+      joined (joined (head_weight o) (cond u None (Some (capped (sum_by weight_of es))))) (cond l None (Some (capped (cells_weight cs))))
+      ≡ cond ((is_none o || u) || l) None (Some (capped (cells_weight (with_named o es cs))))
   cell_and None u l es cs = refl
   cell_and (Some name) true l es cs = refl
   cell_and (Some name) false true es cs = refl
-  cell_and (Some name) false false es cs = ap Some (ap (λ (k : ℕ). capped (k + capped (cells_weight cs))) (capped_more (1 + length name) (sum_by weight_of es)) ∙ capped_more ((1 + length name) + sum_by weight_of es) (cells_weight cs))
+  cell_and (Some name) false false es cs =
+      ap Some (ap (λ (k : ℕ). capped (k + capped (cells_weight cs))) (capped_more (1 + length name) (sum_by weight_of es))
+      ∙ capped_more ((1 + length name) + sum_by weight_of es) (cells_weight cs))
 
   -- what all cells weigh with all names
-  pub all_known : (ss : List Counted) (ds : List DrawnCell) → AllByRecursion (λ c. AllUsed c.placed × AllUsed c.written) ss → HoldCells counted_store ss ds → all_weight names strings ss ≡ cond (lacks_name names strings ds) None (Some (capped (cells_weight (cells_meant names strings ds))))
+  pub all_known : (ss : List Counted) (ds : List DrawnCell) → AllByRecursion (λ c. AllUsed c.placed × AllUsed c.written) ss → HoldCells counted_store ss ds →
+      all_weight names strings ss ≡ cond (lacks_name names strings ds) None (Some (capped (cells_weight (cells_meant names strings ds))))
   all_known [] [] a h = refl
   all_known [] (d ∷ ds) a h = absurd h
   all_known (c ∷ cs) [] a h = absurd h

@@ -22,7 +22,8 @@ use std::alloc::Global;
 pub(crate) fn accept_end(parts: Parts<CountedCell>) -> Result<(), Why>
     requires { Sound counted_store parts }
     ensures ok { (ds : List DrawnCell) → HoldCells counted_store (cells parts) ds → OnOk result (end_reason parts.names.named parts.strings.named parts.limits ds ≡ None) }
-    ensures err { (ds : List DrawnCell) → HoldCells counted_store (cells parts) ds → IfErr result (λ why. (why ≡ Memory) ⊎ (end_reason parts.names.named parts.strings.named parts.limits ds ≡ Some why)) }
+    ensures err { (ds : List DrawnCell) → HoldCells counted_store (cells parts) ds →
+        IfErr result (λ why. (why ≡ Memory) ⊎ (end_reason parts.names.named parts.strings.named parts.limits ds ≡ Some why)) }
 {
     let Parts {
         alloc,

@@ -94,7 +94,8 @@ impl CountedCell {
     /// Counts something that is drawn so many times, and the uses of the number by which it is, if it is.
     fn count_up(&mut self, drawn: &Drawn, times: u64) -> Result<(), AllocError>
         requires { self.old.count + times < 2 ^ 64 }
-        ensures ok { OnOk result (self.new ≡ record self.old { count = self.old.count + times; placed = placed_more drawn.now times self.old.placed; written = written_more drawn.now times self.old.written }) }
+        ensures ok { OnOk result (self.new ≡ record self.old
+            { count = self.old.count + times; placed = placed_more drawn.now times self.old.placed; written = written_more drawn.now times self.old.written }) }
         ensures err { OnErr result (self.new ≡ self.old) }
     {
         match drawn {

@@ -59,7 +59,8 @@ pub fn same_references()
 /// to a string; and it is lacking in the tables that stand for the records.
 pub fn lacking_names()
     ensures used { (rs : List OneRecord) → IsTrue (lacks_name rs) ↔ (UsesUnknown cell_used cell_names rs ⊎ UsesUnknown string_used text_strings rs) }
-    ensures tables { (cells strings : Table (List ℕ)) (rs : List OneRecord) → NamesStand cell_names cells rs → NamesStand text_strings strings rs → uses_unknown cell_used cells.named rs || uses_unknown string_used strings.named rs ≡ lacks_name rs }
+    ensures tables { (cells strings : Table (List ℕ)) (rs : List OneRecord) → NamesStand cell_names cells rs → NamesStand text_strings strings rs →
+        uses_unknown cell_used cells.named rs || uses_unknown string_used strings.named rs ≡ lacks_name rs }
 {}
 
 /// Cell names and text strings are compared by `same_string`, which says that they are equal.

@@ -12,9 +12,6 @@ use std::alloc::Global;
 use std::collections::BTreeMap;
 use std::marker::Model;
 
-#[cfg(test)]
-pub(crate) mod tests;
-
 /// Whether name records leave their numbers to be counted, or give them (SEMI P39, CELLNAME record, TEXTSTRING record).
 #[derive(Clone, Copy, Debug, PartialEq, Eq)]
 pub enum Numbering {

@@ -123,7 +123,8 @@ fn put_one(
     requires light { draft.old.spelled ≤ draft.old.limits.weight }
     ensures ok { OnOk result (draft.new ≡ given draft.old cell (with_counted (element_by names.now.named strings.now.named drawn) times [])) }
     ensures light { OnOk result (draft.new.spelled ≤ draft.old.limits.weight) }
-    ensures why { IfErr result (λ why. (why ≡ Memory) ⊎ ((why ≡ TooHeavy) × (draft.old.limits.weight < draft.old.spelled + total weight_of (with_counted (element_by names.now.named strings.now.named drawn) times [])))) }
+    ensures why { IfErr result (λ why. (why ≡ Memory)
+        ⊎ ((why ≡ TooHeavy) × (draft.old.limits.weight < draft.old.spelled + total weight_of (with_counted (element_by names.now.named strings.now.named drawn) times [])))) }
 {
     let Some(element) = element_meant(alloc, drawn, names, strings)? else {
         return Ok(());
@@ -150,7 +151,8 @@ fn put_drawn(
     requires light { draft.old.spelled ≤ draft.old.limits.weight }
     ensures ok { OnOk result (draft.new ≡ given draft.old cell (counted_meant names.now.named strings.now.named drawn.entries)) }
     ensures light { OnOk result (draft.new.spelled ≤ draft.old.limits.weight) }
-    ensures why { IfErr result (λ why. (why ≡ Memory) ⊎ ((why ≡ TooHeavy) × (draft.old.limits.weight < draft.old.spelled + total weight_of (counted_meant names.now.named strings.now.named drawn.entries)))) }
+    ensures why { IfErr result (λ why. (why ≡ Memory)
+        ⊎ ((why ≡ TooHeavy) × (draft.old.limits.weight < draft.old.spelled + total weight_of (counted_meant names.now.named strings.now.named drawn.entries)))) }
 {
     for (one, times) in drawn {
         put_one(alloc, draft, cell, one, times, names, strings)?;
@@ -172,7 +174,9 @@ fn put_cell(
     requires light { draft.old.spelled ≤ draft.old.limits.weight }
     ensures ok { OnOk result (draft.new ≡ with_all draft.old (with_counted_cell (cell_by names.now.named held.0) (counted_meant names.now.named strings.now.named held.1) [])) }
     ensures light { OnOk result (draft.new.spelled ≤ draft.old.limits.weight) }
-    ensures why { IfErr result (λ why. (why ≡ Memory) ⊎ ((why ≡ TooHeavy) × (draft.old.limits.weight < draft.old.spelled + cells_weight (expanded (with_counted_cell (cell_by names.now.named held.0) (counted_meant names.now.named strings.now.named held.1) []))))) }
+    ensures why { IfErr result (λ why. (why ≡ Memory)
+        ⊎ ((why ≡ TooHeavy) × (draft.old.limits.weight < draft.old.spelled
+        + cells_weight (expanded (with_counted_cell (cell_by names.now.named held.0) (counted_meant names.now.named strings.now.named held.1) []))))) }
 {
     let HeldCell {
         cell,
@@ -204,7 +208,8 @@ pub(crate) fn put_all(
     requires light { draft.old.spelled ≤ draft.old.limits.weight }
     ensures ok { OnOk result (draft.new ≡ with_all draft.old (held_meant names.now.named strings.now.named cells.items)) }
     ensures light { OnOk result (draft.new.spelled ≤ draft.old.limits.weight) }
-    ensures why { IfErr result (λ why. (why ≡ Memory) ⊎ ((why ≡ TooHeavy) × (draft.old.limits.weight < draft.old.spelled + cells_weight (expanded (held_meant names.now.named strings.now.named cells.items))))) }
+    ensures why { IfErr result (λ why. (why ≡ Memory)
+        ⊎ ((why ≡ TooHeavy) × (draft.old.limits.weight < draft.old.spelled + cells_weight (expanded (held_meant names.now.named strings.now.named cells.items))))) }
 {
     for held in cells {
         put_cell(alloc, draft, held, names, strings)?;

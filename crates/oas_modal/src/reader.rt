@@ -40,7 +40,16 @@ impl<S: CellStore> Model for Reader<S> {
 
     ghost Value = { ReaderState S };
 
-    ghost view = { λ a. record { failed = a.failed; unit = a.parts.unit; limits = a.parts.limits; profile = a.parts.profile; standing = standing a.parts; names = a.parts.names; strings = a.parts.strings; cells = cells a.parts } };
+    ghost view = { λ a. record {
+      failed = a.failed;
+      unit = a.parts.unit;
+      limits = a.parts.limits;
+      profile = a.parts.profile;
+      standing = standing a.parts;
+      names = a.parts.names;
+      strings = a.parts.strings;
+      cells = cells a.parts;
+    } };
 
     ghost invariant = { λ a. a.failed ≡ None → Sound S.store a.parts };
 }
@@ -78,7 +87,8 @@ impl<S: CellStore> Reader<S> {
         ensures again { (e : OneRefusal) → self.old.failed ≡ Some e → (result ≡ Err e) × (self.new ≡ self.old) }
         ensures failed { IfErr result (λ e. self.new.failed ≡ Some e) }
         ensures taken { (rs : List OneRecord) → StandsFor S.store self.old rs → OnOk result ((refusal self.old.limits rs next ≡ None) × StandsFor S.store self.new (rs ++ next ∷ [])) }
-        ensures refused { (rs : List OneRecord) → StandsFor S.store self.old rs → IfErr result (λ e. (e.at ≡ at) × (((e.why ≡ Memory) × MayWant (refusal self.old.limits rs next)) ⊎ (refusal self.old.limits rs next ≡ Some e.why))) }
+        ensures refused { (rs : List OneRecord) → StandsFor S.store self.old rs →
+            IfErr result (λ e. (e.at ≡ at) × (((e.why ≡ Memory) × MayWant (refusal self.old.limits rs next)) ⊎ (refusal self.old.limits rs next ≡ Some e.why))) }
         ensures unit { OnOk result (self.new.unit ≡ self.old.unit) }
         ensures limits { OnOk result (self.new.limits ≡ self.old.limits) }
         ensures profile { OnOk result (self.new.profile ≡ self.old.profile) }
@@ -137,6 +147,3 @@ impl Reader<CountedCell> {
         }
     }
 }
-
-#[cfg(test)]
-mod tests;

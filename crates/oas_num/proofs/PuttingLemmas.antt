@@ -1,32 +1,6 @@
 -- Putting one part of some bytes after another.
-use Rattle.std.proofs.Common.{
-  ◌≡◌,
-  ℕ,
-  zero,
-  suc,
-  ◌+◌,
-  ◌<◌,
-  ◌≤◌,
-  List,
-  [],
-  ◌∷◌,
-  ◌++◌,
-  length,
-  drop,
-  get_or,
-  drop-cons,
-  flat_map,
-  Result,
-  refl,
-  sym,
-  ap,
-  subst,
-  ◌∙◌,
-  append_assoc,
-  append-nil,
-  add-one,
-  arith,
-}
+use Rattle.std.proofs.Common.{◌≡◌, ℕ, zero, suc, ◌+◌, ◌<◌, ◌≤◌, List, [], ◌∷◌, ◌++◌, length, drop, get_or, drop-cons, flat_map, Result, refl, sym, ap, subst, ◌∙◌, append_assoc}
+use Rattle.std.proofs.Common.{append-nil, add-one, arith}
 use Rattle.oas_num.specs.SinkFault.{SinkFault}
 use Rattle.oas_num.specs.Writing.{Puts, PutsFront, Writes}
 use Rattle.oas_num.proofs.WritingLemmas.{Puts-none, Puts-then, PutsFront-then, Writes-then}

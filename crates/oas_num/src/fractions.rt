@@ -3,9 +3,6 @@ ghost use Rattle.std.specs.Int.{IsGcd};
 
 use std::marker::Model;
 
-#[cfg(test)]
-mod tests;
-
 /// A positive fraction in lowest terms: no number above 1 divides both of its parts.
 ///
 /// Contracts see it as a `Ratio`, the record of its parts.

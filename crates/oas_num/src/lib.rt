@@ -43,6 +43,3 @@ pub use refusals::{Refusal, Why};
 pub use spelling::{Spelled, next_byte, read_if, read_list};
 pub use texts::{Label, Name, TextClass, next_within, read_text};
 pub use writing::{put_gdelta, put_signed, put_unsigned, unsigned_len};
-
-#[cfg(test)]
-mod tests;

@@ -4,9 +4,6 @@ ghost use Rattle.oas_num.specs.Style.{code};
 
 use oas_bytes::{Sink, SinkFault};
 
-#[cfg(test)]
-mod tests;
-
 /// Puts the shortest spelling of a number (SEMI P39, Integers).
 pub fn put_unsigned<K: Sink>(sink: &mut K, value: u64) -> Result<(), SinkFault>
     ensures { Writes K.given K.failures sink.old (shortest value) result sink.new }

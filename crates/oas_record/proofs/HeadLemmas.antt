@@ -22,26 +22,8 @@ use Rattle.oas_num.proofs.PieceLemmas.{fails_behind, first_fails, second_fails, 
 use Rattle.oas_num.proofs.GrammarLemmas.{such_read, Listed, listed_none, listed_more, listed_all}
 use Rattle.oas_record.specs.declared.heads.Head.{Head}
 use Rattle.oas_record.specs.Ends.{IsNumber}
-use Rattle.oas_record.specs.Heads.{
-  magic,
-  IsMagic,
-  MagicMay,
-  IsPassedLabel,
-  PassedTook,
-  version,
-  version_in,
-  VersionTook,
-  IsPositiveReal,
-  IsUnit,
-  SpellsUnit,
-  UnitTook,
-  IsFlag,
-  flag_in,
-  start_in,
-  StartTook,
-  head_in,
-  ReadsHead,
-}
+use Rattle.oas_record.specs.Heads.{magic, IsMagic, MagicMay, IsPassedLabel, PassedTook, version, version_in, VersionTook, IsPositiveReal, IsUnit, SpellsUnit, UnitTook, IsFlag}
+use Rattle.oas_record.specs.Heads.{flag_in, start_in, StartTook, head_in, ReadsHead}
 use Rattle.oas_record.specs.Laws.HeadLaws.{OneFront-start_id, OneFront-flag}
 
 -- ---- the version

@@ -22,43 +22,10 @@ use Rattle.oas_shape.specs.Steps.{IsBounded, IsPartialSum}
 use Rattle.oas_shape.specs.Offsets.{offsets_by}
 use Rattle.oas_shape.specs.ListUses.{IsFitting}
 use Rattle.oas_shape.specs.PointLists.{IsListKind, alternating, step2, step3, stepg, deltas_in, polyline_of, point_list_in}
-use Rattle.oas_shape.specs.Repetitions.{
-  IsRepetitionKind,
-  AreTwo,
-  matrix_of,
-  columns_of,
-  rows_of,
-  lattice_of,
-  line_of,
-  x_space,
-  y_space,
-  grid_of,
-  listed_of,
-  repetition_by,
-  again,
-  field_by,
-  field_of,
-  rep_field_in,
-}
-use Rattle.oas_record.specs.Found.{
-  NoneStands,
-  Settled,
-  settled_number,
-  settled_both,
-  settled_either,
-  Stands,
-  IsFound,
-  only,
-  found_as,
-  found_such,
-  found_image,
-  found_pair,
-  found_keyed,
-  found_exactly,
-  found_either,
-  found_there,
-  found_count,
-}
+use Rattle.oas_shape.specs.Repetitions.{IsRepetitionKind, AreTwo, matrix_of, columns_of, rows_of, lattice_of, line_of, x_space, y_space, grid_of, listed_of, repetition_by, again}
+use Rattle.oas_shape.specs.Repetitions.{field_by, field_of, rep_field_in}
+use Rattle.oas_record.specs.Found.{NoneStands, Settled, settled_number, settled_both, settled_either, Stands, IsFound, only, found_as, found_such, found_image, found_pair}
+use Rattle.oas_record.specs.Found.{found_keyed, found_exactly, found_either, found_there, found_count}
 
 -- ---- orders
 

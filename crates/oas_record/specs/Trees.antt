@@ -4,7 +4,8 @@ use Rattle.oas_num.specs.declared.refusals.Why.{Why}
 use Rattle.oas_num.specs.declared.refusals.Why.TheVariants.{Write, InfoByte}
 use Rattle.oas_num.specs.Grammar.{IsPair, IsSuch, IsImage, IsThere, IsCount, IsByte}
 use Rattle.oas_num.specs.Combinators.{IsExactly, IsEither, IsNever, OneSpelling, IsWithin}
-use Rattle.oas_num.specs.Laws.CombinatorLaws.{OneSpelling-exactly, OneSpelling-never, OneSpelling-either, OneSpelling-pair, OneSpelling-such, OneSpelling-there, OneSpelling-count, IsWithin-itself, IsWithin-either, IsWithin-pair, IsWithin-such, IsWithin-image, IsWithin-there, IsWithin-count}
+use Rattle.oas_num.specs.Laws.CombinatorLaws.{OneSpelling-exactly, OneSpelling-never, OneSpelling-either, OneSpelling-pair, OneSpelling-such, OneSpelling-there, OneSpelling-count}
+use Rattle.oas_num.specs.Laws.CombinatorLaws.{IsWithin-itself, IsWithin-either, IsWithin-pair, IsWithin-such, IsWithin-image, IsWithin-there, IsWithin-count}
 use Rattle.oas_num.specs.Begun.{HasSome}
 use Rattle.oas_num.specs.Laws.BegunLaws.{HasSome-pair, HasSome-image, HasSome-there, HasSome-such, HasSome-either, HasSome-exactly, HasSome-count}
 use Rattle.oas_num.specs.Integers.{IsUnsigned}

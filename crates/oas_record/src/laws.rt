@@ -41,7 +41,8 @@ pub fn lists()
 
 /// One byte list has at most one list of records.
 pub fn one_list()
-    ensures { (style : Style) (in_end : Bool) (rs ss : List Record) (r s : Record) (bytes : List ℕ) → records_in style in_end (rs, r) bytes → records_in style in_end (ss, s) bytes → (rs ≡ ss) × (r ≡ s) }
+    ensures { (style : Style) (in_end : Bool) (rs ss : List Record) (r s : Record) (bytes : List ℕ) → records_in style in_end (rs, r) bytes →
+        records_in style in_end (ss, s) bytes → (rs ≡ ss) × (r ≡ s) }
 {}
 
 /// Bytes leave one reason: a first id that isn't START's, an id that no record has, and an info byte that its kind

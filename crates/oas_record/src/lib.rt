@@ -44,6 +44,3 @@ pub use rectangles::Rectangle;
 pub use references::{CellRef, TextRef};
 pub use spots::{Spot, read_layers, read_spot};
 pub use texts::Text;
-
-#[cfg(test)]
-mod tests;

@@ -26,16 +26,12 @@
 
 pub mod laws;
 mod least;
-#[cfg(test)]
-mod plain;
 mod point;
 mod points;
 mod race;
 mod readings;
 mod rectangles;
 mod sameness;
-#[cfg(test)]
-mod tests;
 mod view;
 
 pub use least::{least_reading, least_reading_over};

@@ -15,24 +15,8 @@ use Rattle.oas_shape.specs.declared.offsets.Along.{Along}
 use Rattle.oas_shape.specs.declared.repetitions.Repetition.{Repetition}
 use Rattle.oas_shape.specs.declared.repetitions.RepField.{RepField}
 use Rattle.oas_shape.specs.declared.repetitions.RepField.TheVariants.{Again, New}
-use Rattle.oas_shape.specs.Repetitions.{
-  IsRepetitionKind,
-  IsOffsets,
-  grid_of,
-  listed_of,
-  after_dim,
-  IsListed,
-  repetition_by,
-  field_by,
-  field_of,
-  rep_field_in,
-  OffsetsTook,
-  AfterDimTook,
-  ListedTook,
-  RepetitionTook,
-  FieldTook,
-  RepFieldTook,
-}
+use Rattle.oas_shape.specs.Repetitions.{IsRepetitionKind, IsOffsets, grid_of, listed_of, after_dim, IsListed, repetition_by, field_by, field_of, rep_field_in, OffsetsTook}
+use Rattle.oas_shape.specs.Repetitions.{AfterDimTook, ListedTook, RepetitionTook, FieldTook, RepFieldTook}
 use Rattle.oas_shape.specs.Laws.RepetitionLaws.{OneFront-kind, OneFront-grid}
 use Rattle.oas_shape.proofs.ReadingLemmas.{image_read}
 

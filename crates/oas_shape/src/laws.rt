@@ -30,6 +30,7 @@ pub fn rep_fields()
 /// The types of repetition that list their displacements (4 to 7, 10 and 11): a dimension of d stands for d + 2 offsets, of
 /// which the first is (0, 0).
 pub fn listed_offsets()
-    ensures count { (along : Along) (has_grid : Bool) (dim : ℕ) (grid : Option ℕ) (offsets : List GDelta) (bytes : List ℕ) → after_dim along has_grid dim (grid, offsets) bytes → length offsets ≡ dim + 2 }
+    ensures count { (along : Along) (has_grid : Bool) (dim : ℕ) (grid : Option ℕ) (offsets : List GDelta) (bytes : List ℕ) →
+        after_dim along has_grid dim (grid, offsets) bytes → length offsets ≡ dim + 2 }
     ensures first { (along : Along) (has_grid : Bool) (dim : ℕ) (grid : Option ℕ) (offsets : List GDelta) (bytes : List ℕ) → after_dim along has_grid dim (grid, offsets) bytes → AreOffsets offsets }
 {}

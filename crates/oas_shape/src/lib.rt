@@ -31,6 +31,3 @@ pub use list_use::ListUse;
 pub use offset_list::OffsetList;
 pub use point_list::{Closing, PointList};
 pub use repetitions::{RepField, Repetition};
-
-#[cfg(test)]
-mod tests;

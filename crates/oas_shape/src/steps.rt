@@ -106,7 +106,8 @@ fn read_alternating<S: Source>(
     count: u64,
     source: &mut S,
 ) -> Result<Vec<GDelta>, Why>
-    ensures { ReadsPieceAs (λ turns. turns.items) (IsImage (alternating x_first) (IsCount SpellsDelta1 count)) (ListTook SpellsDelta1 count IntegerMay) (S.script source.old) result (S.script source.new) }
+    ensures { ReadsPieceAs (λ turns. turns.items) (IsImage (alternating x_first) (IsCount SpellsDelta1 count)) (ListTook SpellsDelta1 count IntegerMay)
+        (S.script source.old) result (S.script source.new) }
 {
     let mut turns = Vec::new(alloc);
     let mut along_x = x_first;

@@ -10,7 +10,9 @@ pub record Reads (bytes key : List ℕ) (times end : ℕ) : Type 0 where
   pub some : entries bytes ≡ (key, times) ∷ entries (drop end bytes)
   pub rest : IsBlock (drop end bytes)
 
-pub reads : (bytes others key : List ℕ) (size len count_size times : ℕ) → Stands bytes → size ≡ number_size bytes → len ≡ number_at bytes → others ≡ drop size bytes → count_size ≡ number_size others → times ≡ number_at others → key ≡ take len (drop (size + count_size) bytes) → Reads bytes key times (size + count_size + len)
+pub reads : (bytes others key : List ℕ) (size len count_size times : ℕ) → Stands bytes → size ≡ number_size bytes → len ≡ number_at bytes → others
+    ≡ drop size bytes → count_size ≡ number_size others → times ≡ number_at others → key ≡ take len (drop (size + count_size) bytes) →
+    Reads bytes key times (size + count_size + len)
 reads bytes others key size len count_size times s a b c d e f =
     let after : others ≡ drop (number_size bytes) bytes = c ∙ ap (λ (n : ℕ). drop n bytes) a in
     let start : size + count_size ≡ key_start bytes = omega (arith, a, d, ap number_size after) in
@@ -37,7 +39,8 @@ pub later : (m n : ℕ) (bytes others : List ℕ) → others ≡ drop m bytes �
 later m n bytes others e = ap (λ (bs : List ℕ). drop n bs) e ∙ drop-drop m n bytes
 
 -- an entry more, at the end of a block of which some were taken
-pub appended : (start : ℕ) (olds news : List ℕ) (p : Entry) → start ≤ length olds → IsBlock (drop start olds) → Fits p → news ≡ olds ++ entry_bytes p → IsMore (drop start news) (entries (drop start olds) ++ p ∷ [])
+pub appended : (start : ℕ) (olds news : List ℕ) (p : Entry) → start ≤ length olds → IsBlock (drop start olds) → Fits p → news ≡ olds ++ entry_bytes p →
+    IsMore (drop start news) (entries (drop start olds) ++ p ∷ [])
 appended start olds news p h b fits e =
     let is : drop start news ≡ drop start olds ++ entry_bytes p = ap (λ (bs : List ℕ). drop start bs) e ∙ drop-append-le start olds (entry_bytes p) h in
     subst (λ (bs : List ℕ). IsMore bs (entries (drop start olds) ++ p ∷ [])) (sym is) (block-append (drop start olds) p b fits)

@@ -17,12 +17,14 @@ module _ {K : Type 0} where
   abbrev Ascends : (K → K → Ordering) → List (K × ℕ) → Type 0
   Ascends R es = IsStrictlySortedBy R (keys_of es)
 
-  above-between : {R : K → K → Ordering} → IsTotalOrder R → (x : K) (os : List (K × ℕ)) (p q : K × ℕ) (us vs : List (K × ℕ)) → AllAbove R x (os ++ p ∷ us) → AllAbove R x (os ++ q ∷ vs) → AllAbove R x (os ++ p ∷ q ∷ vs)
+  above-between : {R : K → K → Ordering} → IsTotalOrder R → (x : K) (os : List (K × ℕ)) (p q : K × ℕ) (us vs : List (K × ℕ)) → AllAbove R x (os ++ p ∷ us) →
+      AllAbove R x (os ++ q ∷ vs) → AllAbove R x (os ++ p ∷ q ∷ vs)
   above-between o x [] p q us vs h k = (h.0, k)
   above-between o x (y ∷ ys) p q us vs h k = (h.0, above-between o x ys p q us vs h.1 k.1)
 
   -- the lesser of two heads goes before the other
-  sorted-between : {R : K → K → Ordering} → IsTotalOrder R → (os : List (K × ℕ)) (p q : K × ℕ) (us vs : List (K × ℕ)) → R p.0 q.0 ≡ Less → Ascends R (os ++ p ∷ us) → Ascends R (os ++ q ∷ vs) → Ascends R (os ++ p ∷ q ∷ vs)
+  sorted-between : {R : K → K → Ordering} → IsTotalOrder R → (os : List (K × ℕ)) (p q : K × ℕ) (us vs : List (K × ℕ)) → R p.0 q.0 ≡ Less →
+      Ascends R (os ++ p ∷ us) → Ascends R (os ++ q ∷ vs) → Ascends R (os ++ p ∷ q ∷ vs)
   unfolding IsStrictlySortedBy
   sorted-between o [] p q us vs l s t = ((l, above_lower o p.0 q.0 vs l t.0), t)
   sorted-between o (x ∷ xs) p q us vs l s t = (above-between o x.0 xs p q us vs s.0 t.0, sorted-between o xs p q us vs l s.1 t.1)
@@ -31,7 +33,8 @@ module _ {K : Type 0} where
   positive-between [] p q us vs s t = (s.0, t)
   positive-between (x ∷ xs) p q us vs s t = (s.0, positive-between xs p q us vs s.1 t.1)
 
-  pub IsRun-between : {R : K → K → Ordering} → IsTotalOrder R → (os : List (K × ℕ)) (p q : K × ℕ) (us vs : List (K × ℕ)) → R p.0 q.0 ≡ Less → IsRun R (os ++ p ∷ us) → IsRun R (os ++ q ∷ vs) → IsRun R (os ++ p ∷ q ∷ vs)
+  pub IsRun-between : {R : K → K → Ordering} → IsTotalOrder R → (os : List (K × ℕ)) (p q : K × ℕ) (us vs : List (K × ℕ)) → R p.0 q.0 ≡ Less →
+      IsRun R (os ++ p ∷ us) → IsRun R (os ++ q ∷ vs) → IsRun R (os ++ p ∷ q ∷ vs)
   IsRun-between o os p q us vs l s t = record { ascending = sorted-between o os p q us vs l s.ascending t.ascending; positive = positive-between os p q us vs s.positive t.positive }
 
   -- a head's count may grow
@@ -57,7 +60,8 @@ module _ {K : Type 0} where
   positive_at (x ∷ xs) p us h = positive_at xs p us h.1
 
   -- one head moves
-  pub merge-first : {R : K → K → Ordering} → IsTotalOrder R → (os : List (K × ℕ)) (p q : K × ℕ) (us vs whole : List (K × ℕ)) → R p.0 q.0 ≡ Less → IsMerging R os (p ∷ us) (q ∷ vs) whole → IsMerging R (os ++ p ∷ []) us (q ∷ vs) whole
+  pub merge-first : {R : K → K → Ordering} → IsTotalOrder R → (os : List (K × ℕ)) (p q : K × ℕ) (us vs whole : List (K × ℕ)) → R p.0 q.0 ≡ Less →
+      IsMerging R os (p ∷ us) (q ∷ vs) whole → IsMerging R (os ++ p ∷ []) us (q ∷ vs) whole
   merge-first {R} o os p q us vs whole l m = record {
     left = subst (IsRun R) (sym (append_assoc os (p ∷ []) us)) m.left;
     right = subst (IsRun R) (sym (append_assoc os (p ∷ []) (q ∷ vs))) (IsRun-between o os p q us vs l m.left m.right);
@@ -73,17 +77,28 @@ module _ {K : Type 0} where
   }
 
   -- equal heads move us one
-  pub merge-both : {R : K → K → Ordering} → IsTotalOrder R → CmpEqualImpliesEq R → (os : List (K × ℕ)) (p q : K × ℕ) (us vs whole : List (K × ℕ)) → R p.0 q.0 ≡ Equal → IsMerging R os (p ∷ us) (q ∷ vs) whole → IsMerging R (os ++ (p.0, p.1 + q.1) ∷ []) us vs whole
+  pub merge-both : {R : K → K → Ordering} → IsTotalOrder R → CmpEqualImpliesEq R → (os : List (K × ℕ)) (p q : K × ℕ) (us vs whole : List (K × ℕ)) → R p.0 q.0
+      ≡ Equal → IsMerging R os (p ∷ us) (q ∷ vs) whole → IsMerging R (os ++ (p.0, p.1 + q.1) ∷ []) us vs whole
   merge-both {R} o exact os p q us vs whole e m =
       let key : p.0 ≡ q.0 = exact p.0 q.0 e in
       let more : 0 < p.1 + q.1 = omega (arith, positive_at os p us m.left.positive) in
       record {
         left = subst (IsRun R) (sym (append_assoc os ((p.0, p.1 + q.1) ∷ []) us)) (IsRun-recount R os p.0 p.1 (p.1 + q.1) us more m.left);
-        right = subst (IsRun R) (sym (append_assoc os ((p.0, p.1 + q.1) ∷ []) vs)) (subst (λ k. IsRun R (os ++ (k, p.1 + q.1) ∷ vs)) (sym key) (IsRun-recount R os q.0 q.1 (p.1 + q.1) vs more m.right));
+        right = subst (IsRun R) (sym (append_assoc os ((p.0, p.1 + q.1) ∷ []) vs))
+            (subst (λ k. IsRun R (os ++ (k, p.1 + q.1) ∷ vs)) (sym key) (IsRun-recount R os q.0 q.1 (p.1 + q.1) vs more m.right));
         same = λ g.
             let w : g p.0 ≡ g q.0 = ap g key in
             let v : p.1 * g p.0 + q.1 * g q.0 ≡ (p.1 + q.1) * g p.0 = rw w (omega arith) in
-            omega (arith, m.same g, v, total-append g (os ++ (p.0, p.1 + q.1) ∷ []) (us ++ vs), total-append g os ((p.0, p.1 + q.1) ∷ []), total-append g us vs, total-append g os (p ∷ us ++ q ∷ vs), total-append g (p ∷ us) (q ∷ vs));
+            omega (
+              arith,
+              m.same g,
+              v,
+              total-append g (os ++ (p.0, p.1 + q.1) ∷ []) (us ++ vs),
+              total-append g os ((p.0, p.1 + q.1) ∷ []),
+              total-append g us vs,
+              total-append g os (p ∷ us ++ q ∷ vs),
+              total-append g (p ∷ us) (q ∷ vs),
+            );
       }
 
   -- ---- parts of a run
@@ -139,12 +154,15 @@ module _ {K : Type 0} where
   step-left {R} o os us [] os' us' whole h m merging =
       subst (λ (xs : List (K × ℕ)). IsMerging R xs us' [] whole) (sym m.2) (merge-last R os m.0 us' whole (subst (λ (xs : List (K × ℕ)). IsMerging R os xs [] whole) m.1 merging))
   step-left {R} o os us (q ∷ qs) os' us' whole h m merging =
-      subst (λ (xs : List (K × ℕ)). IsMerging R xs us' (q ∷ qs) whole) (sym m.2) (merge-first o os m.0 q us' qs whole (h.below m.0 q us' qs m.1 refl) (subst (λ (xs : List (K × ℕ)). IsMerging R os xs (q ∷ qs) whole) m.1 merging))
+      subst (λ (xs : List (K × ℕ)). IsMerging R xs us' (q ∷ qs) whole) (sym m.2)
+      (merge-first o os m.0 q us' qs whole (h.below m.0 q us' qs m.1 refl) (subst (λ (xs : List (K × ℕ)). IsMerging R os xs (q ∷ qs) whole) m.1 merging))
 
-  pub step-right : {R : K → K → Ordering} → IsTotalOrder R → (os us vs os' vs' whole : List (K × ℕ)) → Precedes R vs us → Moved vs vs' os os' → IsMerging R os us vs whole → IsMerging R os' us vs' whole
+  pub step-right : {R : K → K → Ordering} → IsTotalOrder R → (os us vs os' vs' whole : List (K × ℕ)) → Precedes R vs us → Moved vs vs' os os' →
+      IsMerging R os us vs whole → IsMerging R os' us vs' whole
   step-right {R} o os us vs os' vs' whole h m merging = merge-swap R os' vs' us whole (step-left o os vs us os' vs' whole h m (merge-swap R os us vs whole merging))
 
-  pub step-both : {R : K → K → Ordering} → IsTotalOrder R → CmpEqualImpliesEq R → (os us vs os' us' vs' whole : List (K × ℕ)) → Ties R us vs → Joined us us' vs vs' os os' → IsMerging R os us vs whole → IsMerging R os' us' vs' whole
+  pub step-both : {R : K → K → Ordering} → IsTotalOrder R → CmpEqualImpliesEq R → (os us vs os' us' vs' whole : List (K × ℕ)) → Ties R us vs →
+      Joined us us' vs vs' os os' → IsMerging R os us vs whole → IsMerging R os' us' vs' whole
   step-both {R} o exact os us vs os' us' vs' whole t (p, q, e, f, z) merging =
       let one = subst (λ (xs : List (K × ℕ)). IsMerging R os xs vs whole) e merging in
       let two = subst (λ (xs : List (K × ℕ)). IsMerging R os (p ∷ us') xs whole) f one in
@@ -153,13 +171,16 @@ module _ {K : Type 0} where
   -- what a refusal leaves
   pub step-none : (R : K → K → Ordering) (os us vs os' us' vs' whole : List (K × ℕ)) → os' ≡ os → us' ≡ us → vs' ≡ vs → IsMerging R os us vs whole → IsMerging R os' us' vs' whole
   step-none R os us vs os' us' vs' whole a b c m =
-      subst (λ (xs : List (K × ℕ)). IsMerging R xs us' vs' whole) (sym a) (subst (λ (xs : List (K × ℕ)). IsMerging R os xs vs' whole) (sym b) (subst (λ (xs : List (K × ℕ)). IsMerging R os us xs whole) (sym c) m))
+      subst (λ (xs : List (K × ℕ)). IsMerging R xs us' vs' whole) (sym a)
+      (subst (λ (xs : List (K × ℕ)). IsMerging R os xs vs' whole) (sym b) (subst (λ (xs : List (K × ℕ)). IsMerging R os us xs whole) (sym c) m))
 
   pub step-start : (R : K → K → Ordering) (os us vs : List (K × ℕ)) → os ≡ [] → IsRun R us → IsRun R vs → IsMerging R os us vs (us ++ vs)
   step-start R os us vs e h k = subst (λ (xs : List (K × ℕ)). IsMerging R xs us vs (us ++ vs)) (sym e) (record { left = h; right = k; same = λ g. refl })
 
   -- both counts are among those that there were
-  pub heads_fit : {R : K → K → Ordering} → IsTotalOrder R → (os us vs ls rs : List (K × ℕ)) (most : ℕ) → Ties R us vs → ((k : K) → copies R k ls + copies R k rs < most) → IsMerging R os us vs (ls ++ rs) → (p : K × ℕ) (q : K × ℕ) (ps : List (K × ℕ)) (qs : List (K × ℕ)) → us ≡ p ∷ ps → vs ≡ q ∷ qs → p.1 + q.1 < most
+  pub heads_fit : {R : K → K → Ordering} → IsTotalOrder R → (os us vs ls rs : List (K × ℕ)) (most : ℕ) → Ties R us vs →
+      ((k : K) → copies R k ls + copies R k rs < most) → IsMerging R os us vs (ls ++ rs) → (p : K × ℕ) (q : K × ℕ) (ps : List (K × ℕ)) (qs : List (K × ℕ)) → us
+      ≡ p ∷ ps → vs ≡ q ∷ qs → p.1 + q.1 < most
   heads_fit {R} o os us vs ls rs most t room merging p q ps qs e f =
       let g : K → ℕ = λ x. cond (is_eq (R p.0 x)) 1 0 in
       let one : g p.0 ≡ 1 = ap (λ r. cond (is_eq r) 1 0) (tied_itself o p.0) in
@@ -189,7 +210,8 @@ module _ {K : Type 0} where
   head_of d [] = d
   head_of d (x ∷ xs) = x
 
-  pub greater-precedes : {R : K → K → Ordering} → IsTotalOrder R → (us vs us' vs' : List (K × ℕ)) (one other : K × ℕ) (r : Ordering) → us ≡ one ∷ us' → vs ≡ other ∷ vs' → r ≡ R one.0 other.0 → r ≡ Greater → Precedes R vs us
+  pub greater-precedes : {R : K → K → Ordering} → IsTotalOrder R → (us vs us' vs' : List (K × ℕ)) (one other : K × ℕ) (r : Ordering) → us ≡ one ∷ us' → vs
+      ≡ other ∷ vs' → r ≡ R one.0 other.0 → r ≡ Greater → Precedes R vs us
   greater-precedes {R} o us vs us' vs' one other r a b c e = record {
     some = λ n. let l = ap length (sym b ∙ n) in omega (arith, l);
     below = λ p q ps qs f g.

@@ -67,7 +67,8 @@ pub some_version : HasSome (version_in Any)
 some_version = record {
   value = tt;
   bytes = shortest 3 ++ version;
-  spelled = IsWithin-label.within version (shortest 3 ++ version) (label_spelled version (record { fits = omega arith; class = ((omega arith, omega arith), ((omega arith, omega arith), ((omega arith, omega arith), tt))) }));
+  spelled = IsWithin-label.within version (shortest 3 ++ version)
+      (label_spelled version (record { fits = omega arith; class = ((omega arith, omega arith), ((omega arith, omega arith), ((omega arith, omega arith), tt))) }));
 }
 
 pub no_fault : Write ≡ Version → ⊥

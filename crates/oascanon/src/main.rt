@@ -15,11 +15,11 @@ mod words;
 
 use many::{ask, printed};
 use oas_command::{
-    Form, Options, name_of, run_canon, run_diff, run_info, run_keys, run_marking, run_rekey,
-    run_same, run_show,
+    Form, Options, limits_of, name_of, run_canon, run_diff, run_info, run_keys, run_marking,
+    run_rekey, run_same, run_show,
 };
 use oas_explain::{REASONS, run_explain};
-use oas_request::{Request, Task, limits_of, parse};
+use oas_request::{Request, Task, parse};
 use session::Session;
 use std::process::ExitCode;
 

@@ -1,5 +1,6 @@
 -- Filling room, a byte at a time.
-use Rattle.std.proofs.Common.{◌≡◌, ℕ, suc, ◌+◌, ◌-◌, ◌^◌, ◌<◌, ◌≤◌, min, List, [], ◌∷◌, ◌++◌, length, take, drop, set, get_or, Result, Ok, Err, Bool, true, false, MutBor, refl, sym, ◌∙◌, ap, subst, append_assoc, length-append, arith}
+use Rattle.std.proofs.Common.{◌≡◌, ℕ, suc, ◌+◌, ◌-◌, ◌^◌, ◌<◌, ◌≤◌, min, List, [], ◌∷◌, ◌++◌, length, take, drop, set, get_or, Result, Ok, Err, Bool, true, false, MutBor, refl}
+use Rattle.std.proofs.Common.{sym, ◌∙◌, ap, subst, append_assoc, length-append, arith}
 use Rattle.std.specs.Prelude.{nat_lt, if◌then◌else◌}
 use Rattle.std.proofs.lemmas.List.{length-take, length-drop, take_all, take-append-le, drop_all}
 use Rattle.std.proofs.Math.Seq.{drop-cons, set-append_seam}
@@ -69,7 +70,8 @@ module _ (s : Filler) (byte : ℕ) where
       omega (arith, h.filled, all, le, length-append m (byte ∷ []))
 
   -- and it was counted
-  pub put_more : (room : MutBor (List ℕ)) (filled given : ℕ) → Holds room filled given → (t : Filler) → t.room ≡ room → t.filled ≡ filled → t.given ≡ min (given + 1) (2 ^ 64 - 1) → Puts Fills (λ _. 0) s (byte ∷ []) t
+  pub put_more : (room : MutBor (List ℕ)) (filled given : ℕ) → Holds room filled given → (t : Filler) → t.room ≡ room → t.filled ≡ filled → t.given
+      ≡ min (given + 1) (2 ^ 64 - 1) → Puts Fills (λ _. 0) s (byte ∷ []) t
   put_more room filled given h t same fills counts = record {
     after = λ start before f. record {
       same = ap (λ (r : MutBor (List ℕ)). r.ghost_name) same ∙ h.same ∙ f.same;
@@ -99,11 +101,13 @@ module _ (end : Filler) (old whole : List ℕ) (h : HasPut end old whole) (short
   told : PutsInto whole old (answer_of end.given end.room.now) end.room.now
   told = by_cases (nat_lt (length end.room.now) end.given) refl
 
-module _ (start end : Filler) (old whole last : List ℕ) (answer : Answer) (h : HasPut start old []) (is : answer ≡ answer_of end.given end.room.now) (follows : start.room.ghost_name ≡ end.room.ghost_name → last ≡ end.room.now) (short : length whole < 2 ^ 64) where
+module _ (start end : Filler) (old whole last : List ℕ) (answer : Answer) (h : HasPut start old []) (is : answer ≡ answer_of end.given end.room.now)
+    (follows : start.room.ghost_name ≡ end.room.ghost_name → last ≡ end.room.now) (short : length whole < 2 ^ 64) where
   filled : Fills start whole end → PutsInto whole old answer last
   filled f =
       let stands : last ≡ end.room.now = follows (sym f.same) in
-      subst (λ (a : Answer). PutsInto whole old a last) (sym is) (subst (λ (x : List ℕ). PutsInto whole old (answer_of end.given end.room.now) x) (sym stands) (told end old whole (f.puts old [] h) short))
+      subst (λ (a : Answer). PutsInto whole old a last) (sym is)
+      (subst (λ (x : List ℕ). PutsInto whole old (answer_of end.given end.room.now) x) (sym stands) (told end old whole (f.puts old [] h) short))
 
   pub counted : (r : Result ℕ SinkFault) → Counts Fills (λ _. 0) start whole r end → PutsInto whole old answer last
   counted (Ok n) p = filled (p.puts.after start [] (Fills-none start))

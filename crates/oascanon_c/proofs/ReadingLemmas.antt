@@ -58,7 +58,8 @@ module _ {limits : Limits} {bytes : List ℕ} {new : Script} where
         by = r.by;
       }
 
-  pub refused_for : (refusal : Refusal) → IsRefused limits (over limits bytes) refusal.why new → IsPlaced limits (over limits bytes) refusal new → IsReasoned limits (over limits bytes) refusal new → IsRefusedFor limits bytes refusal
+  pub refused_for : (refusal : Refusal) → IsRefused limits (over limits bytes) refusal.why new → IsPlaced limits (over limits bytes) refusal new →
+      IsReasoned limits (over limits bytes) refusal new → IsRefusedFor limits bytes refusal
   refused_for refusal f p r = record { left = new; refused = f; placed = p; reasoned = r; rightly = rightly } where
     rightly : length bytes ≤ limits.input → Accepted limits bytes → refusal.why ≡ Memory
     rightly h a = by_cause (cause_of refusal.why) where
@@ -73,7 +74,8 @@ module _ {limits : Limits} {bytes : List ℕ} {new : Script} where
       by_cause (Writer e) = absurd (f.reading e)
       by_cause (Room e) = e
 
-  pub keyed_from : {digest : List ℕ} → IsKeyed limits Two (over limits bytes) new digest → Accepted limits bytes × ((canonical : List ℕ) × IsCanonicalOf limits Two bytes canonical × (digest ≡ sha256 canonical))
+  pub keyed_from : {digest : List ℕ} → IsKeyed limits Two (over limits bytes) new digest → Accepted limits bytes
+      × ((canonical : List ℕ) × IsCanonicalOf limits Two bytes canonical × (digest ≡ sha256 canonical))
   keyed_from k =
       let same : k.bytes ≡ bytes = all_taken limits bytes k.bytes new k.taken.takes k.taken.ended in
       (subst (Accepted limits) same k.taken.accepted, (k.canonical, subst (λ (b : List ℕ). IsCanonicalOf limits Two b k.canonical) same k.is, k.hashed))
@@ -100,7 +102,8 @@ module _ {limits : Limits} {bytes : List ℕ} {l : Contents} (read : IsReadFrom 
   pub spelled : (says : Bool) → (IsTrue says ↔ (canonical_bytes (meaning_of l) ≡ bytes)) → IsTrue says ↔ CanonicalForm limits Two bytes
   spelled says h = (
     λ t. subst (CanonicalForm limits Two) (h.0 t) form,
-    λ f. h.1 (sym (form_is_bytes limits bytes read.meaning l (subst (λ (p : Profile). CanonicalForm limits p bytes) (sym read.by) f) read.means held (subst (λ (p : Profile). SameLayout p read.meaning (meaning_of l)) (sym read.by) read.same))),
+    λ f. h.1 (sym (form_is_bytes limits bytes read.meaning l (subst (λ (p : Profile). CanonicalForm limits p bytes) (sym read.by) f) read.means held
+        (subst (λ (p : Profile). SameLayout p read.meaning (meaning_of l)) (sym read.by) read.same))),
   )
 
 -- ---- what is told
@@ -144,7 +147,9 @@ module _ {limits : Limits} {one other : List ℕ} {l k : Contents} (first : IsRe
         let s : SameLayout Two (meaning_of l) (meaning_of k) = subst (λ (p : Profile). SameLayout p (meaning_of l) (meaning_of k)) first.by (h.0 t) in
         transitive Two first.meaning (meaning_of l) second.meaning first.same (transitive Two (meaning_of l) (meaning_of k) second.meaning s (symmetric Two second.meaning (meaning_of k) second.same)),
     λ s.
-        let t : SameLayout Two (meaning_of l) (meaning_of k) = transitive Two (meaning_of l) first.meaning (meaning_of k) (symmetric Two first.meaning (meaning_of l) first.same) (transitive Two first.meaning second.meaning (meaning_of k) s second.same) in
+        let t : SameLayout Two (meaning_of l) (meaning_of k) =
+        transitive Two (meaning_of l) first.meaning (meaning_of k) (symmetric Two first.meaning (meaning_of l) first.same)
+        (transitive Two first.meaning second.meaning (meaning_of k) s second.same) in
         h.1 (subst (λ (p : Profile). SameLayout p (meaning_of l) (meaning_of k)) (sym first.by) t),
   )
 

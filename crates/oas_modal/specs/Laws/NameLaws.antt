@@ -77,7 +77,8 @@ AllowedFront given = (later before : List Record) → AllowedNames same_string g
 -- and what a number names then it names from there on
 abbrev pub NamesStay : (Record → Option (List ℕ × Option ℕ)) → Type 0
 NamesStay given =
-    (later before : List Record) (number : ℕ) (string : List ℕ) → AllowedNames same_string given (later ++ before) → name_of (named given before) number ≡ Some string → name_of (named given (later ++ before)) number ≡ Some string
+    (later before : List Record) (number : ℕ) (string : List ℕ) → AllowedNames same_string given (later ++ before) → name_of (named given before) number
+    ≡ Some string → name_of (named given (later ++ before)) number ≡ Some string
 
 -- one of the records uses a number that none of them gives to a string
 abbrev pub UsesUnknown : (Record → Option ℕ) → (Record → Option (List ℕ × Option ℕ)) → List Record → Type 0

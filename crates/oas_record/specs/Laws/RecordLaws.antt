@@ -3,19 +3,8 @@ use Rattle.std.proofs.Common.{◌≡◌, ℕ, Bool, List, [], refl, ap, ◌∙�
 use Rattle.oas_num.specs.Grammar.{OneFront, IsSuch, IsEach}
 use Rattle.oas_num.specs.Laws.GrammarLaws.{OneFront-such}
 use Rattle.oas_num.specs.Combinators.{IsApart, OneSpelling, IsWithin}
-use Rattle.oas_num.specs.Laws.CombinatorLaws.{
-  OneFront-keyed,
-  OneFront-until,
-  OneFront-within,
-  OneSpelling-keyed,
-  OneSpelling-pair,
-  OneSpelling-each,
-  OneSpelling-such,
-  IsWithin-keyed,
-  IsWithin-pair,
-  IsWithin-each,
-  IsWithin-such,
-}
+use Rattle.oas_num.specs.Laws.CombinatorLaws.{OneFront-keyed, OneFront-until, OneFront-within, OneSpelling-keyed, OneSpelling-pair, OneSpelling-each, OneSpelling-such}
+use Rattle.oas_num.specs.Laws.CombinatorLaws.{IsWithin-keyed, IsWithin-pair, IsWithin-each, IsWithin-such}
 use Rattle.oas_num.specs.Style.{Style, Any, Shortest, unsigned_in}
 use Rattle.oas_num.specs.Laws.StyleLaws.{OneFront-unsigned, OneSpelling-unsigned, IsWithin-unsigned}
 use Rattle.oas_record.specs.declared.records.Record.{Record}

@@ -13,18 +13,8 @@ use Rattle.oas_num.specs.Laws.IntegerLaws.{OneFront-IsUnsigned, zero_spelled}
 use Rattle.oas_num.specs.Style.{Style, Any, Shortest, unsigned_in}
 use Rattle.oas_num.specs.Laws.StyleLaws.{OneSpelling-unsigned}
 use Rattle.oas_num.specs.Deltas.{SpellsDelta1, SpellsDelta2, SpellsDelta3, SpellsGDelta, gdelta_in}
-use Rattle.oas_num.specs.Laws.DeltaLaws.{
-  Delta1-one_front,
-  Delta2-one_front,
-  Delta3-one_front,
-  GDelta-one_front,
-  OneSpelling-gdelta,
-  IsWithin-gdelta,
-  Delta1-some,
-  Delta2-some,
-  Delta3-some,
-  GDelta-some,
-}
+use Rattle.oas_num.specs.Laws.DeltaLaws.{Delta1-one_front, Delta2-one_front, Delta3-one_front, GDelta-one_front, OneSpelling-gdelta, IsWithin-gdelta, Delta1-some, Delta2-some}
+use Rattle.oas_num.specs.Laws.DeltaLaws.{Delta3-some, GDelta-some}
 use Rattle.oas_shape.specs.declared.list_use.ListUse.{ListUse}
 use Rattle.oas_shape.specs.declared.list_use.ListUse.TheVariants.{Polygon, Path}
 use Rattle.oas_shape.specs.ListUses.{IsFitting}

@@ -24,33 +24,8 @@ use Rattle.oas_num.specs.Deltas.{step}
 use Rattle.oas_shape.specs.Steps.{IsPartialSum, added, still, times, sums_after}
 use Rattle.oas_shape.specs.OffsetLists.{AreOffsets}
 use Rattle.oas_shape.specs.Offsets.{offsets_by}
-use Rattle.oas_shape.specs.Repetitions.{
-  IsRepetitionKind,
-  AreTwo,
-  matrix_of,
-  IsMatrix,
-  columns_of,
-  IsColumns,
-  rows_of,
-  IsRows,
-  lattice_of,
-  IsLattice,
-  line_of,
-  IsLine,
-  x_space,
-  y_space,
-  displacement_in,
-  IsOffsets,
-  grid_of,
-  listed_of,
-  after_dim,
-  IsListed,
-  repetition_by,
-  again,
-  field_by,
-  field_of,
-  rep_field_in,
-}
+use Rattle.oas_shape.specs.Repetitions.{IsRepetitionKind, AreTwo, matrix_of, IsMatrix, columns_of, IsColumns, rows_of, IsRows, lattice_of, IsLattice, line_of, IsLine, x_space}
+use Rattle.oas_shape.specs.Repetitions.{y_space, displacement_in, IsOffsets, grid_of, listed_of, after_dim, IsListed, repetition_by, again, field_by, field_of, rep_field_in}
 
 -- the type, below 12
 pub OneFront-kind : OneFront (IsSuch IsRepetitionKind IsUnsigned)

@@ -18,7 +18,8 @@ module _ {K : Type 0} where
   under true n m ps t = omega arith
   under false n m ps t = omega arith
 
-  over : (b : Bool) (n m : ℕ) (ps qs : List (K × ℕ)) (t : K → Bool) → unwrap_or (lookup t qs) 0 ≤ unwrap_or (lookup t ps) 0 + n → unwrap_or (cond b (Some m) (lookup t qs)) 0 ≤ unwrap_or (cond b (Some m) (lookup t ps)) 0 + n
+  over : (b : Bool) (n m : ℕ) (ps qs : List (K × ℕ)) (t : K → Bool) → unwrap_or (lookup t qs) 0 ≤ unwrap_or (lookup t ps) 0 + n →
+      unwrap_or (cond b (Some m) (lookup t qs)) 0 ≤ unwrap_or (cond b (Some m) (lookup t ps)) 0 + n
   over true n m ps qs t h = omega arith
   over false n m ps qs t h = h
 

@@ -65,7 +65,8 @@ pub record IsRead (bytes key others : List ℕ) (times : ℕ) : Type 0 where
   pub is : entry_at bytes ≡ (key, times)
   pub rest : drop (entry_end bytes) bytes ≡ others
 
-parts-read : (bytes size count key rest : List ℕ) (times : ℕ) → bytes ≡ size ++ (count ++ (key ++ rest)) → number_size bytes ≡ length size → number_at bytes ≡ length key → number_size (count ++ (key ++ rest)) ≡ length count → number_at (count ++ (key ++ rest)) ≡ times → IsRead bytes key rest times
+parts-read : (bytes size count key rest : List ℕ) (times : ℕ) → bytes ≡ size ++ (count ++ (key ++ rest)) → number_size bytes ≡ length size → number_at bytes
+    ≡ length key → number_size (count ++ (key ++ rest)) ≡ length count → number_at (count ++ (key ++ rest)) ≡ times → IsRead bytes key rest times
 parts-read bytes size count key rest times e s l t n =
     let after : drop (number_size bytes) bytes ≡ count ++ (key ++ rest) = (λ i. drop (s i) (e i)) ∙ drop-append_seam size (count ++ (key ++ rest)) in
     let start : key_start bytes ≡ length size + length count = omega (arith, s, ap number_size after, t) in
@@ -168,9 +169,11 @@ stands bytes h b =
     let after : drop (number_size bytes) bytes ≡ number_bytes p.1 ++ (p.0 ++ block_bytes (entries rest)) = (λ i. drop (size i) (apart i)) ∙ drop-append_seam (number_bytes (length p.0)) _ in
     let count_size : number_size (drop (number_size bytes) bytes) ≡ length (number_bytes p.1) = ap number_size after ∙ number_size-read p.1 _ in
     let number : number_at bytes ≡ length p.0 = ap number_at apart ∙ number-read (length p.0) _ fits.0.0 in
-    let again : IsRead bytes p.0 (block_bytes (entries rest)) p.1 = subst (λ (bs : List ℕ). IsRead bs p.0 (block_bytes (entries rest)) p.1) (sym written) (entry-read p (block_bytes (entries rest)) fits.0) in
+    let again : IsRead bytes p.0 (block_bytes (entries rest)) p.1 =
+    subst (λ (bs : List ℕ). IsRead bs p.0 (block_bytes (entries rest)) p.1) (sym written) (entry-read p (block_bytes (entries rest)) fits.0) in
     let long_all : length bytes ≡ length (number_bytes (length p.0)) + (length (number_bytes p.1) + (length p.0 + length (block_bytes (entries rest)))) =
-    ap length apart ∙ length-append (number_bytes (length p.0)) _ ∙ ap (λ (n : ℕ). length (number_bytes (length p.0)) + n) (length-append (number_bytes p.1) _ ∙ ap (λ (n : ℕ). length (number_bytes p.1) + n) (length-append p.0 _)) in
+    ap length apart ∙ length-append (number_bytes (length p.0)) _
+    ∙ ap (λ (n : ℕ). length (number_bytes (length p.0)) + n) (length-append (number_bytes p.1) _ ∙ ap (λ (n : ℕ). length (number_bytes p.1) + n) (length-append p.0 _)) in
     let long_after : length (drop (number_size bytes) bytes) ≡ length (number_bytes p.1) + (length p.0 + length (block_bytes (entries rest))) =
     ap length after ∙ length-append (number_bytes p.1) _ ∙ ap (λ (n : ℕ). length (number_bytes p.1) + n) (length-append p.0 _) in
     record {

@@ -33,10 +33,14 @@ module _ {K : Type 0} where
       ] refl
 
   -- in order, an insertion of the count and n is n more
-  pub insert_entry-count : {R : K → K → Ordering} → IsTotalOrder R → (es : List (K × ℕ)) (k : K) (n : ℕ) → IsStrictlySortedBy R (keys_of es) → insert_entry R es k (count_at R es k + n) ≡ put_more R es k n
+  pub insert_entry-count : {R : K → K → Ordering} → IsTotalOrder R → (es : List (K × ℕ)) (k : K) (n : ℕ) → IsStrictlySortedBy R (keys_of es) →
+      insert_entry R es k (count_at R es k + n) ≡ put_more R es k n
   insert_entry-count o [] k n s = ap (λ (m : ℕ). (k, m) ∷ []) (omega arith)
   insert_entry-count {R} o (p ∷ ps) k n s =
-      elim (R k p.0) as (λ r. R k p.0 ≡ r → match_ordering r ((k, unwrap_or (cond (is_eq r) (Some p.1) (lookup (is_at (R k)) ps)) 0 + n) ∷ p ∷ ps) ((p.0, unwrap_or (cond (is_eq r) (Some p.1) (lookup (is_at (R k)) ps)) 0 + n) ∷ ps) (p ∷ insert_entry R ps k (unwrap_or (cond (is_eq r) (Some p.1) (lookup (is_at (R k)) ps)) 0 + n)) ≡ match_ordering r ((k, n) ∷ p ∷ ps) ((p.0, p.1 + n) ∷ ps) (p ∷ put_more R ps k n)) [
+      elim (R k p.0) as (λ r. R k p.0 ≡ r → match_ordering r ((k, unwrap_or (cond (is_eq r) (Some p.1) (lookup (is_at (R k)) ps)) 0 + n) ∷ p ∷ ps)
+      ((p.0, unwrap_or (cond (is_eq r) (Some p.1) (lookup (is_at (R k)) ps)) 0 + n) ∷ ps)
+      (p ∷ insert_entry R ps k (unwrap_or (cond (is_eq r) (Some p.1) (lookup (is_at (R k)) ps)) 0 + n))
+      ≡ match_ordering r ((k, n) ∷ p ∷ ps) ((p.0, p.1 + n) ∷ ps) (p ∷ put_more R ps k n)) [
         | Less ↦ λ e. ap (λ o. (k, unwrap_or o 0 + n) ∷ p ∷ ps) (lookup-none (is_at (R k)) ps (none_below_head o k p ps s e).1) ∙ ap (λ (m : ℕ). (k, m) ∷ p ∷ ps) (omega arith)
         | Equal ↦ λ e. refl
         | Greater ↦ λ e. ap (λ (es : List (K × ℕ)). p ∷ es) (insert_entry-count o ps k n (sorted_tail R p.0 (keys_of ps) s))
@@ -111,7 +115,8 @@ module _ {K : Type 0} where
   copies-less : {R : K → K → Ordering} → IsTotalOrder R → (q : K) (p : K × ℕ) (ps : List (K × ℕ)) → IsStrictlySortedBy R (keys_of (p ∷ ps)) → R q p.0 ≡ Less → copies R q (p ∷ ps) ≡ 0
   copies-less {R} o q p ps s e = copies-above R q (p ∷ ps) (e, above_lower o q p.0 ps e (sorted_head R p.0 (keys_of ps) s))
 
-  pub same_runs : {R : K → K → Ordering} → IsTotalOrder R → CmpEqualImpliesEq R → (es fs : List (K × ℕ)) → Positive es → Positive fs → IsStrictlySortedBy R (keys_of es) → IsStrictlySortedBy R (keys_of fs) → ((q : K) → copies R q es ≡ copies R q fs) → es ≡ fs
+  pub same_runs : {R : K → K → Ordering} → IsTotalOrder R → CmpEqualImpliesEq R → (es fs : List (K × ℕ)) → Positive es → Positive fs →
+      IsStrictlySortedBy R (keys_of es) → IsStrictlySortedBy R (keys_of fs) → ((q : K) → copies R q es ≡ copies R q fs) → es ≡ fs
   same_runs o exact [] [] p q s t h = refl
   same_runs {R} o exact [] (f ∷ fs) p q s t h = absurd (omega (arith, h f.0, copies-same R f.0 f fs (tied_itself o f.0), q.0))
   same_runs {R} o exact (e ∷ es) [] p q s t h = absurd (omega (arith, h e.0, copies-same R e.0 e es (tied_itself o e.0), p.0))

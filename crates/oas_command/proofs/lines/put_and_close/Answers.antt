@@ -23,4 +23,5 @@ returns-in_err-put-clause-writes g c =
     rw p.1 (fails_at _ (first _ c.in_ok-put_all.ensures ▸ c.in_ok-put_all-2.ensures ▸ c.in_ok-put_all-3.ensures ▸ c.in_ok-put_all-4.ensures) c.in_err-put.ensures.writes)
 
 pub returns-clause-writes : goal.returns-clause-writes
-returns-clause-writes g c = ends _ _ (first _ c.in_ok-put_all.ensures ▸ c.in_ok-put_all-2.ensures ▸ c.in_ok-put_all-3.ensures ▸ c.in_ok-put_all-4.ensures ▸ c.in_ok-put.ensures.writes) c.close.ensures.writes
+returns-clause-writes g c = ends _ _ (first _ c.in_ok-put_all.ensures ▸ c.in_ok-put_all-2.ensures ▸ c.in_ok-put_all-3.ensures ▸ c.in_ok-put_all-4.ensures ▸
+    c.in_ok-put.ensures.writes) c.close.ensures.writes

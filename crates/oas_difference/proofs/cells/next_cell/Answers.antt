@@ -24,7 +24,12 @@ returns-clause-fewer c =
     let ds = c.args.after.now in
     let name = c.in_ok-name.name.now in
     let is : least (slice_cmp nat_cmp) (head_key cs) (head_key ds) ≡ Some name = (λ i. least (slice_cmp nat_cmp) (sym c.name.ensures i) (sym c.name-2.ensures i)) ∙ sym c.in_ok-name.ensures in
-    omega (arith, ap length c.take.ensures.rest, ap length c.take-2.ensures.rest, (take_least (slice_cmp nat_cmp) nat_list_cmp_total exact_bytes cs ds name c.requires.before c.requires.after is).fewer)
+    omega (
+      arith,
+      ap length c.take.ensures.rest,
+      ap length c.take-2.ensures.rest,
+      (take_least (slice_cmp nat_cmp) nat_list_cmp_total exact_bytes cs ds name c.requires.before c.requires.after is).fewer,
+    )
 
 pub returns-clause-before : goal.returns-clause-before
 returns-clause-before c =

@@ -23,14 +23,18 @@ returns-in_err-put_alone-in-true-false g c =
     let p = err_from_is_err_and c.from_residual.result c.from_residual.ensures.1 in
     let here : is_some c.args.before ≡ true = search rules in
     let there : is_some c.args.after ≡ false = search rules in
-    let whole : held_cell (c.args.name.now, (c.args.before, c.args.after)) ≡ signed 45 1 (cell_line c.args.name.now) ++ held_changes c.new-before.result c.new-after.result = only_before c.args.name.now c.args.before c.args.after here there ∙ (λ i. signed 45 1 (cell_line c.args.name.now) ++ held_changes (sym c.new-before.ensures i) (sym c.new-after.ensures i)) in
+    let whole : held_cell (c.args.name.now, (c.args.before, c.args.after)) ≡ signed 45 1 (cell_line c.args.name.now)
+    ++ held_changes c.new-before.result c.new-after.result = only_before c.args.name.now c.args.before c.args.after here there
+    ∙ (λ i. signed 45 1 (cell_line c.args.name.now) ++ held_changes (sym c.new-before.ensures i) (sym c.new-after.ensures i)) in
     rw p.1 (fails_at _ (left_is (begins _ _) whole) c.in_err-put_alone-in-true-false.ensures)
 
 pub returns-in_ok-put_alone-in-true-false : goal.returns-in_ok-put_alone-in-true-false
 returns-in_ok-put_alone-in-true-false g c =
     let here : is_some c.args.before ≡ true = search rules in
     let there : is_some c.args.after ≡ false = search rules in
-    let whole : held_cell (c.args.name.now, (c.args.before, c.args.after)) ≡ signed 45 1 (cell_line c.args.name.now) ++ held_changes c.new-before.result c.new-after.result = only_before c.args.name.now c.args.before c.args.after here there ∙ (λ i. signed 45 1 (cell_line c.args.name.now) ++ held_changes (sym c.new-before.ensures i) (sym c.new-after.ensures i)) in
+    let whole : held_cell (c.args.name.now, (c.args.before, c.args.after)) ≡ signed 45 1 (cell_line c.args.name.now)
+    ++ held_changes c.new-before.result c.new-after.result = only_before c.args.name.now c.args.before c.args.after here there
+    ∙ (λ i. signed 45 1 (cell_line c.args.name.now) ++ held_changes (sym c.new-before.ensures i) (sym c.new-after.ensures i)) in
     ends _ _ (left_is (begins _ _) whole ▸ c.in_ok-put_alone-in-true-false.ensures) c.put_changes.ensures
 
 pub returns-in_err-put_alone-in-false-true : goal.returns-in_err-put_alone-in-false-true
@@ -38,12 +42,16 @@ returns-in_err-put_alone-in-false-true g c =
     let p = err_from_is_err_and c.from_residual-in_err-put_alone-in-false-true.result c.from_residual-in_err-put_alone-in-false-true.ensures.1 in
     let here : is_some c.args.before ≡ false = search rules in
     let there : is_some c.args.after ≡ true = search rules in
-    let whole : held_cell (c.args.name.now, (c.args.before, c.args.after)) ≡ signed 43 1 (cell_line c.args.name.now) ++ held_changes c.new-before.result c.new-after.result = only_after c.args.name.now c.args.before c.args.after here there ∙ (λ i. signed 43 1 (cell_line c.args.name.now) ++ held_changes (sym c.new-before.ensures i) (sym c.new-after.ensures i)) in
+    let whole : held_cell (c.args.name.now, (c.args.before, c.args.after)) ≡ signed 43 1 (cell_line c.args.name.now)
+    ++ held_changes c.new-before.result c.new-after.result = only_after c.args.name.now c.args.before c.args.after here there
+    ∙ (λ i. signed 43 1 (cell_line c.args.name.now) ++ held_changes (sym c.new-before.ensures i) (sym c.new-after.ensures i)) in
     rw p.1 (fails_at _ (left_is (begins _ _) whole) c.in_err-put_alone-in-false-true.ensures)
 
 pub returns-in_ok-put_alone-in-false-true : goal.returns-in_ok-put_alone-in-false-true
 returns-in_ok-put_alone-in-false-true g c =
     let here : is_some c.args.before ≡ false = search rules in
     let there : is_some c.args.after ≡ true = search rules in
-    let whole : held_cell (c.args.name.now, (c.args.before, c.args.after)) ≡ signed 43 1 (cell_line c.args.name.now) ++ held_changes c.new-before.result c.new-after.result = only_after c.args.name.now c.args.before c.args.after here there ∙ (λ i. signed 43 1 (cell_line c.args.name.now) ++ held_changes (sym c.new-before.ensures i) (sym c.new-after.ensures i)) in
+    let whole : held_cell (c.args.name.now, (c.args.before, c.args.after)) ≡ signed 43 1 (cell_line c.args.name.now)
+    ++ held_changes c.new-before.result c.new-after.result = only_after c.args.name.now c.args.before c.args.after here there
+    ∙ (λ i. signed 43 1 (cell_line c.args.name.now) ++ held_changes (sym c.new-before.ensures i) (sym c.new-after.ensures i)) in
     ends _ _ (left_is (begins _ _) whole ▸ c.in_ok-put_alone-in-false-true.ensures) c.put_changes-in-false-true.ensures

@@ -13,7 +13,9 @@ returns-then-change-clause-change c =
     let inv = c.loop-element.invariant in
     let k = c.in-Some.element.now in
     let is : least element_cmp (head_key es) (head_key fs) ≡ Some k = (λ i. least element_cmp (sym c.element.ensures i) (sym c.element-in-loop-element.ensures i)) ∙ sym c.in-Some.ensures in
-    let step : Stepped es fs k c.take.result c.take-in-Some.result c.take.new.self c.take-in-Some.new.self = stepped es fs k c.take.result c.take-in-Some.result c.take.new.self c.take-in-Some.new.self inv.before inv.after is c.take.ensures.count c.take-in-Some.ensures.count c.take.ensures.rest c.take-in-Some.ensures.rest in
+    let step : Stepped es fs k c.take.result c.take-in-Some.result c.take.new.self c.take-in-Some.new.self =
+    stepped es fs k c.take.result c.take-in-Some.result c.take.new.self c.take-in-Some.new.self inv.before inv.after is c.take.ensures.count
+    c.take-in-Some.ensures.count c.take.ensures.rest c.take-in-Some.ensures.rest in
     inv.same ∙ step.text
 
 pub returns-then-change-clause-changed : goal.returns-then-change-clause-changed
@@ -23,7 +25,9 @@ returns-then-change-clause-changed c =
     let inv = c.loop-element.invariant in
     let k = c.in-Some.element.now in
     let is : least element_cmp (head_key es) (head_key fs) ≡ Some k = (λ i. least element_cmp (sym c.element.ensures i) (sym c.element-in-loop-element.ensures i)) ∙ sym c.in-Some.ensures in
-    let step : Stepped es fs k c.take.result c.take-in-Some.result c.take.new.self c.take-in-Some.new.self = stepped es fs k c.take.result c.take-in-Some.result c.take.new.self c.take-in-Some.new.self inv.before inv.after is c.take.ensures.count c.take-in-Some.ensures.count c.take.ensures.rest c.take-in-Some.ensures.rest in
+    let step : Stepped es fs k c.take.result c.take-in-Some.result c.take.new.self c.take-in-Some.new.self =
+    stepped es fs k c.take.result c.take-in-Some.result c.take.new.self c.take-in-Some.new.self inv.before inv.after is c.take.ensures.count
+    c.take-in-Some.ensures.count c.take.ensures.rest c.take-in-Some.ensures.rest in
     inv.listed ∙ step.changed
 
 pub returns-then-change-clause-fewer : goal.returns-then-change-clause-fewer
@@ -33,7 +37,9 @@ returns-then-change-clause-fewer c =
     let inv = c.loop-element.invariant in
     let k = c.in-Some.element.now in
     let is : least element_cmp (head_key es) (head_key fs) ≡ Some k = (λ i. least element_cmp (sym c.element.ensures i) (sym c.element-in-loop-element.ensures i)) ∙ sym c.in-Some.ensures in
-    let step : Stepped es fs k c.take.result c.take-in-Some.result c.take.new.self c.take-in-Some.new.self = stepped es fs k c.take.result c.take-in-Some.result c.take.new.self c.take-in-Some.new.self inv.before inv.after is c.take.ensures.count c.take-in-Some.ensures.count c.take.ensures.rest c.take-in-Some.ensures.rest in
+    let step : Stepped es fs k c.take.result c.take-in-Some.result c.take.new.self c.take-in-Some.new.self =
+    stepped es fs k c.take.result c.take-in-Some.result c.take.new.self c.take-in-Some.new.self inv.before inv.after is c.take.ensures.count
+    c.take-in-Some.ensures.count c.take.ensures.rest c.take-in-Some.ensures.rest in
     omega (arith, step.fewer, inv.fewer)
 
 pub returns-then-change-clause-before : goal.returns-then-change-clause-before
@@ -43,7 +49,9 @@ returns-then-change-clause-before c =
     let inv = c.loop-element.invariant in
     let k = c.in-Some.element.now in
     let is : least element_cmp (head_key es) (head_key fs) ≡ Some k = (λ i. least element_cmp (sym c.element.ensures i) (sym c.element-in-loop-element.ensures i)) ∙ sym c.in-Some.ensures in
-    let step : Stepped es fs k c.take.result c.take-in-Some.result c.take.new.self c.take-in-Some.new.self = stepped es fs k c.take.result c.take-in-Some.result c.take.new.self c.take-in-Some.new.self inv.before inv.after is c.take.ensures.count c.take-in-Some.ensures.count c.take.ensures.rest c.take-in-Some.ensures.rest in
+    let step : Stepped es fs k c.take.result c.take-in-Some.result c.take.new.self c.take-in-Some.new.self =
+    stepped es fs k c.take.result c.take-in-Some.result c.take.new.self c.take-in-Some.new.self inv.before inv.after is c.take.ensures.count
+    c.take-in-Some.ensures.count c.take.ensures.rest c.take-in-Some.ensures.rest in
     step.before
 
 pub returns-then-change-clause-after : goal.returns-then-change-clause-after
@@ -53,7 +61,9 @@ returns-then-change-clause-after c =
     let inv = c.loop-element.invariant in
     let k = c.in-Some.element.now in
     let is : least element_cmp (head_key es) (head_key fs) ≡ Some k = (λ i. least element_cmp (sym c.element.ensures i) (sym c.element-in-loop-element.ensures i)) ∙ sym c.in-Some.ensures in
-    let step : Stepped es fs k c.take.result c.take-in-Some.result c.take.new.self c.take-in-Some.new.self = stepped es fs k c.take.result c.take-in-Some.result c.take.new.self c.take-in-Some.new.self inv.before inv.after is c.take.ensures.count c.take-in-Some.ensures.count c.take.ensures.rest c.take-in-Some.ensures.rest in
+    let step : Stepped es fs k c.take.result c.take-in-Some.result c.take.new.self c.take-in-Some.new.self =
+    stepped es fs k c.take.result c.take-in-Some.result c.take.new.self c.take-in-Some.new.self inv.before inv.after is c.take.ensures.count
+    c.take-in-Some.ensures.count c.take.ensures.rest c.take-in-Some.ensures.rest in
     step.after
 
 pub loop-element-smaller : goal.loop-element-smaller
@@ -63,7 +73,9 @@ loop-element-smaller c =
     let inv = c.loop-element.invariant in
     let k = c.in-Some.element.now in
     let is : least element_cmp (head_key es) (head_key fs) ≡ Some k = (λ i. least element_cmp (sym c.element.ensures i) (sym c.element-in-loop-element.ensures i)) ∙ sym c.in-Some.ensures in
-    let step : Stepped es fs k c.take.result c.take-in-Some.result c.take.new.self c.take-in-Some.new.self = stepped es fs k c.take.result c.take-in-Some.result c.take.new.self c.take-in-Some.new.self inv.before inv.after is c.take.ensures.count c.take-in-Some.ensures.count c.take.ensures.rest c.take-in-Some.ensures.rest in
+    let step : Stepped es fs k c.take.result c.take-in-Some.result c.take.new.self c.take-in-Some.new.self =
+    stepped es fs k c.take.result c.take-in-Some.result c.take.new.self c.take-in-Some.new.self inv.before inv.after is c.take.ensures.count
+    c.take-in-Some.ensures.count c.take.ensures.rest c.take-in-Some.ensures.rest in
     step.fewer
 
 pub loop-element-preserved : goal.loop-element-preserved
@@ -73,7 +85,9 @@ loop-element-preserved c =
     let inv = c.loop-element.invariant in
     let k = c.in-Some.element.now in
     let is : least element_cmp (head_key es) (head_key fs) ≡ Some k = (λ i. least element_cmp (sym c.element.ensures i) (sym c.element-in-loop-element.ensures i)) ∙ sym c.in-Some.ensures in
-    let step : Stepped es fs k c.take.result c.take-in-Some.result c.take.new.self c.take-in-Some.new.self = stepped es fs k c.take.result c.take-in-Some.result c.take.new.self c.take-in-Some.new.self inv.before inv.after is c.take.ensures.count c.take-in-Some.ensures.count c.take.ensures.rest c.take-in-Some.ensures.rest in
+    let step : Stepped es fs k c.take.result c.take-in-Some.result c.take.new.self c.take-in-Some.new.self =
+    stepped es fs k c.take.result c.take-in-Some.result c.take.new.self c.take-in-Some.new.self inv.before inv.after is c.take.ensures.count
+    c.take-in-Some.ensures.count c.take.ensures.rest c.take-in-Some.ensures.rest in
     record {
       same = inv.same ∙ step.text ∙ alike_line c.take.result c.take-in-Some.result (element_line k) (held_changes c.take.new.self c.take-in-Some.new.self) c.if-change.false;
       listed = inv.listed ∙ step.changed ∙ alike_changed k c.take.result c.take-in-Some.result (held_changed c.take.new.self c.take-in-Some.new.self) c.if-change.false;

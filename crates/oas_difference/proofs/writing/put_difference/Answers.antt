@@ -18,21 +18,26 @@ pub returns-in_err-put_units-clause-short : goal.returns-in_err-put_units-clause
 returns-in_err-put_units-clause-short g c =
     let a = c.args.before.now in
     let b = c.args.after.now in
-    subst (λ (text : List ℕ). length text < 2 ^ 63) (sym (detailed_held c.args.detail a b c.new-left.ensures.layout c.new-right.ensures.layout c.requires)) (short_enough c.args.detail a b c.new-left.ensures.layout c.new-right.ensures.layout)
+    subst (λ (text : List ℕ). length text < 2 ^ 63) (sym (detailed_held c.args.detail a b c.new-left.ensures.layout c.new-right.ensures.layout c.requires))
+    (short_enough c.args.detail a b c.new-left.ensures.layout c.new-right.ensures.layout)
 
 pub returns-clause-short : goal.returns-clause-short
 returns-clause-short g c =
     let a = c.args.before.now in
     let b = c.args.after.now in
-    subst (λ (text : List ℕ). length text < 2 ^ 63) (sym (detailed_held c.args.detail a b c.new-left.ensures.layout c.new-right.ensures.layout c.requires)) (short_enough c.args.detail a b c.new-left.ensures.layout c.new-right.ensures.layout)
+    subst (λ (text : List ℕ). length text < 2 ^ 63) (sym (detailed_held c.args.detail a b c.new-left.ensures.layout c.new-right.ensures.layout c.requires))
+    (short_enough c.args.detail a b c.new-left.ensures.layout c.new-right.ensures.layout)
 
 pub returns-clause-writes : goal.returns-clause-writes
 returns-clause-writes g c =
     let a = c.args.before.now in
     let b = c.args.after.now in
     let units : unit_changes c.unit.result c.unit-2.result ≡ unit_changes a.unit b.unit = λ i. unit_changes (c.unit.ensures i) (c.unit-2.ensures i) in
-    let cells : held_lines c.args.detail c.new-left.result c.new-right.result ≡ held_lines c.args.detail a.cells b.cells = λ i. held_lines c.args.detail (c.new-left.ensures.cells i) (c.new-right.ensures.cells i) in
-    let whole : detailed c.args.detail a.profile (meaning_of a) (meaning_of b) ≡ unit_changes c.unit.result c.unit-2.result ++ held_lines c.args.detail c.new-left.result c.new-right.result = detailed_held c.args.detail a b c.new-left.ensures.layout c.new-right.ensures.layout c.requires ∙ (λ i. sym units i ++ sym cells i) in
+    let cells : held_lines c.args.detail c.new-left.result c.new-right.result ≡ held_lines c.args.detail a.cells b.cells =
+    λ i. held_lines c.args.detail (c.new-left.ensures.cells i) (c.new-right.ensures.cells i) in
+    let whole : detailed c.args.detail a.profile (meaning_of a) (meaning_of b) ≡ unit_changes c.unit.result c.unit-2.result
+    ++ held_lines c.args.detail c.new-left.result c.new-right.result =
+    detailed_held c.args.detail a b c.new-left.ensures.layout c.new-right.ensures.layout c.requires ∙ (λ i. sym units i ++ sym cells i) in
     ends _ _ (left_is (begins _ _) whole ▸ c.in_ok-put_units.ensures) c.put_cells.ensures
 
 pub returns-in_err-put_units-clause-writes : goal.returns-in_err-put_units-clause-writes
@@ -40,8 +45,11 @@ returns-in_err-put_units-clause-writes g c =
     let a = c.args.before.now in
     let b = c.args.after.now in
     let units : unit_changes c.unit.result c.unit-2.result ≡ unit_changes a.unit b.unit = λ i. unit_changes (c.unit.ensures i) (c.unit-2.ensures i) in
-    let cells : held_lines c.args.detail c.new-left.result c.new-right.result ≡ held_lines c.args.detail a.cells b.cells = λ i. held_lines c.args.detail (c.new-left.ensures.cells i) (c.new-right.ensures.cells i) in
-    let whole : detailed c.args.detail a.profile (meaning_of a) (meaning_of b) ≡ unit_changes c.unit.result c.unit-2.result ++ held_lines c.args.detail c.new-left.result c.new-right.result = detailed_held c.args.detail a b c.new-left.ensures.layout c.new-right.ensures.layout c.requires ∙ (λ i. sym units i ++ sym cells i) in
+    let cells : held_lines c.args.detail c.new-left.result c.new-right.result ≡ held_lines c.args.detail a.cells b.cells =
+    λ i. held_lines c.args.detail (c.new-left.ensures.cells i) (c.new-right.ensures.cells i) in
+    let whole : detailed c.args.detail a.profile (meaning_of a) (meaning_of b) ≡ unit_changes c.unit.result c.unit-2.result
+    ++ held_lines c.args.detail c.new-left.result c.new-right.result =
+    detailed_held c.args.detail a b c.new-left.ensures.layout c.new-right.ensures.layout c.requires ∙ (λ i. sym units i ++ sym cells i) in
     let p = err_from_is_err_and c.from_residual.result c.from_residual.ensures.1 in
     rw p.1 (fails_at _ (left_is (begins _ _) whole) c.in_err-put_units.ensures)
 

@@ -7,19 +7,23 @@ count_up-requires c = kind_room c.args.element.now c.kind_of.result c.args.times
 
 pub count_up-requires-in-Some : goal.count_up-requires-in-Some
 count_up-requires-in-Some c =
-    layer_room c.args.element.now c.kind_of.result c.args.times c.kind_of.ensures c.requires.some c.args.numbers.now c.count_up.new.numbers c.in_ok-count_up.ensures.updates c.in-Some.layer c.in-Some.ensures c.requires.room
+    layer_room c.args.element.now c.kind_of.result c.args.times c.kind_of.ensures c.requires.some c.args.numbers.now c.count_up.new.numbers
+    c.in_ok-count_up.ensures.updates c.in-Some.layer c.in-Some.ensures c.requires.room
 
 pub returns-in-Some-clause-tally : goal.returns-in-Some-clause-tally
 returns-in-Some-clause-tally c =
     let t = tally c.args.numbers.now c.count_up.new.numbers c.kind_of.result c.args.times c.requires.some c.in_ok-count_up.ensures.updates c.requires.tally c.in_ok-count_up.ensures.ordered in
-    layer_tally c.count_up.new.numbers c.count_up-in-Some.new.numbers c.in-Some.layer c.args.times c.count_up-in-Some.result c.requires.some c.count_up-in-Some.ensures.updates c.count_up-in-Some.ensures.ordered t
+    layer_tally c.count_up.new.numbers c.count_up-in-Some.new.numbers c.in-Some.layer c.args.times c.count_up-in-Some.result c.requires.some
+    c.count_up-in-Some.ensures.updates c.count_up-in-Some.ensures.ordered t
 
 pub returns-in-Some-clause-grows : goal.returns-in-Some-clause-grows
 returns-in-Some-clause-grows c =
-    layer_counted c.args.element.now c.kind_of.result c.args.times c.kind_of.ensures c.requires.some c.args.numbers.now c.count_up.new.numbers c.in_ok-count_up.ensures.updates c.in-Some.layer c.in-Some.ensures c.count_up-in-Some.new.numbers c.count_up-in-Some.result c.count_up-in-Some.ensures.updates
+    layer_counted c.args.element.now c.kind_of.result c.args.times c.kind_of.ensures c.requires.some c.args.numbers.now c.count_up.new.numbers
+    c.in_ok-count_up.ensures.updates c.in-Some.layer c.in-Some.ensures c.count_up-in-Some.new.numbers c.count_up-in-Some.result c.count_up-in-Some.ensures.updates
 
 pub returns-in-None-clause-tally : goal.returns-in-None-clause-tally
-returns-in-None-clause-tally c = tally c.args.numbers.now c.count_up.new.numbers c.kind_of.result c.args.times c.requires.some c.in_ok-count_up.ensures.updates c.requires.tally c.in_ok-count_up.ensures.ordered
+returns-in-None-clause-tally c = tally c.args.numbers.now c.count_up.new.numbers c.kind_of.result c.args.times c.requires.some c.in_ok-count_up.ensures.updates
+    c.requires.tally c.in_ok-count_up.ensures.ordered
 
 pub returns-in-None-clause-grows : goal.returns-in-None-clause-grows
 returns-in-None-clause-grows c =

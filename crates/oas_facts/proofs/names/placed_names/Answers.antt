@@ -4,7 +4,8 @@ use Rattle.oas_facts.proofs.names.placed_names.Goals as goal
 
 pub loop-cell-preserved : goal.loop-cell-preserved
 loop-cell-preserved c =
-    bag_added c.args.layout.now.cells c.loop-cell.cell c.elements.result c.loop-cell.names.keys c.add_all_placed.new.names.keys c.elements.ensures.pairs c.loop-cell.invariant c.in_ok-add_all_placed.ensures
+    bag_added c.args.layout.now.cells c.loop-cell.cell c.elements.result c.loop-cell.names.keys c.add_all_placed.new.names.keys c.elements.ensures.pairs
+    c.loop-cell.invariant c.in_ok-add_all_placed.ensures
 
 pub returns : goal.returns
 returns c =

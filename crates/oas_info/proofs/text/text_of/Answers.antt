@@ -12,7 +12,8 @@ returns c =
     let t3 = c.put_name_line.new.text.items in
     eight (unit_line facts.unit) (number_line (codes "cells") (facts.cells ∷ [])) (name_line (codes "undefined") facts.undefined.items) (name_line (codes "unplaced") facts.unplaced.items)
     (number_line (codes "elements") (facts.elements ∷ [])) (group_lines facts.groups.entries) (number_line (codes "weight") (facts.weight ∷ [])) (number_line (codes "size") (info.size ∷ []))
-    c.new-text.result.items c.put_unit.new.text.items t2 t3 c.put_name_line-2.new.text.items c.put_line-2.new.text.items c.put_groups.new.text.items c.put_line-3.new.text.items c.put_line-4.new.text.items
+    c.new-text.result.items c.put_unit.new.text.items t2 t3 c.put_name_line-2.new.text.items c.put_line-2.new.text.items c.put_groups.new.text.items
+    c.put_line-3.new.text.items c.put_line-4.new.text.items
     c.new-text.ensures.items c.in_ok-put_unit.ensures c.in_ok-put_line.ensures
     (c.in_ok-put_name_line.ensures ∙ ap (λ (ns : List (List ℕ)). t2 ++ name_line (codes "undefined") ns) c.deref.ensures.value)
     (c.in_ok-put_name_line-2.ensures ∙ ap (λ (ns : List (List ℕ)). t3 ++ name_line (codes "unplaced") ns) c.deref-2.ensures.value)

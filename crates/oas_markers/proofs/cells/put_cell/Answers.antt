@@ -24,12 +24,16 @@ returns-in_err-put_alone g c =
     let p = err_from_is_err_and c.from_residual.result c.from_residual.ensures.1 in
     let pair = c.args.pair in
     let name = pair.name.now in
-    let whole : held_item c.args.gone c.args.come (name, (pair.before, pair.after)) ≡ alone c.is_some.result c.is_some-2.result name ++ change_items c.args.gone c.args.come name (unwrap_or pair.before []) (unwrap_or pair.after []) = λ i. alone (sym c.is_some.ensures i) (sym c.is_some-2.ensures i) name ++ change_items c.args.gone c.args.come name (unwrap_or pair.before []) (unwrap_or pair.after []) in
+    let whole : held_item c.args.gone c.args.come (name, (pair.before, pair.after)) ≡ alone c.is_some.result c.is_some-2.result name
+    ++ change_items c.args.gone c.args.come name (unwrap_or pair.before []) (unwrap_or pair.after []) =
+    λ i. alone (sym c.is_some.ensures i) (sym c.is_some-2.ensures i) name ++ change_items c.args.gone c.args.come name (unwrap_or pair.before []) (unwrap_or pair.after []) in
     rw p.1 (fails_at _ (left_is (begins _ _) whole) c.in_err-put_alone.ensures)
 
 pub returns : goal.returns
 returns g c =
     let pair = c.args.pair in
     let name = pair.name.now in
-    let whole : held_item c.args.gone c.args.come (name, (pair.before, pair.after)) ≡ alone c.is_some.result c.is_some-2.result name ++ change_items c.args.gone c.args.come name c.new.result c.new-2.result = λ i. alone (sym c.is_some.ensures i) (sym c.is_some-2.ensures i) name ++ change_items c.args.gone c.args.come name (sym c.new.ensures i) (sym c.new-2.ensures i) in
+    let whole : held_item c.args.gone c.args.come (name, (pair.before, pair.after)) ≡ alone c.is_some.result c.is_some-2.result name
+    ++ change_items c.args.gone c.args.come name c.new.result c.new-2.result = λ i. alone (sym c.is_some.ensures i) (sym c.is_some-2.ensures i) name
+    ++ change_items c.args.gone c.args.come name (sym c.new.ensures i) (sym c.new-2.ensures i) in
     ends _ _ (left_is (begins _ _) whole ▸ c.in_ok-put_alone.ensures) c.put_changes.ensures

@@ -7,7 +7,8 @@ use Rattle.oas_markers.proofs.cells.put_changes.Goals as goal
 pub loop-change-preserved : goal.loop-change-preserved
 loop-change-preserved g c =
     let change = c.in-Some.change in
-    let step = first_item c.args.gone c.args.come c.args.name.now c.loop-change.before c.loop-change.after c.next_change.new.before c.next_change.new.after change.element.now change.before change.after c.in-Some.ensures.unlike c.in-Some.ensures.changed in
+    let step = first_item c.args.gone c.args.come c.args.name.now c.loop-change.before c.loop-change.after c.next_change.new.before c.next_change.new.after
+    change.element.now change.before change.after c.in-Some.ensures.unlike c.in-Some.ensures.changed in
     record {
       put = left_is c.loop-change.invariant.put step ▸ c.in_ok-put_change.ensures;
       before = c.next_change.ensures.before;
@@ -18,5 +19,6 @@ pub returns-in_err-put_change : goal.returns-in_err-put_change
 returns-in_err-put_change g c =
     let p = err_from_is_err_and c.from_residual.result c.from_residual.ensures.1 in
     let change = c.in-Some.change in
-    let step = first_item c.args.gone c.args.come c.args.name.now c.loop-change.before c.loop-change.after c.next_change.new.before c.next_change.new.after change.element.now change.before change.after c.in-Some.ensures.unlike c.in-Some.ensures.changed in
+    let step = first_item c.args.gone c.args.come c.args.name.now c.loop-change.before c.loop-change.after c.next_change.new.before c.next_change.new.after
+    change.element.now change.before change.after c.in-Some.ensures.unlike c.in-Some.ensures.changed in
     rw p.1 (fails_at _ (left_is c.loop-change.invariant.put step) c.in_err-put_change.ensures)

@@ -41,7 +41,9 @@ returns-in_err-put_all-6 g c =
     let way : c.way_name.result.now ≡ way_name c.args.way = c.way_name.ensures in
     let file : c.way_file.result.now ≡ way_file c.args.way = c.way_file.ensures in
     let num : c.as_bytes.result.now ≡ decimal c.args.unit.num = c.as_bytes.ensures.value ∙ c.format.ensures.text ∙ ap decimal c.num.ensures.value in
-    rw (p.1, ← way, ← file, ← num) (fails_at _ (first _ c.in_ok-put_all.ensures ▸ c.in_ok-put_all-2.ensures ▸ c.in_ok-put_all-3.ensures ▸ c.in_ok-put_all-4.ensures ▸ c.in_ok-put_all-5.ensures) c.in_err-put_all-6.ensures)
+    rw (p.1, ← way, ← file, ← num) (fails_at _
+    (first _ c.in_ok-put_all.ensures ▸ c.in_ok-put_all-2.ensures ▸ c.in_ok-put_all-3.ensures ▸ c.in_ok-put_all-4.ensures ▸ c.in_ok-put_all-5.ensures)
+    c.in_err-put_all-6.ensures)
 
 pub returns-in_err-put : goal.returns-in_err-put
 returns-in_err-put g c =
@@ -49,7 +51,9 @@ returns-in_err-put g c =
     let way : c.way_name.result.now ≡ way_name c.args.way = c.way_name.ensures in
     let file : c.way_file.result.now ≡ way_file c.args.way = c.way_file.ensures in
     let num : c.as_bytes.result.now ≡ decimal c.args.unit.num = c.as_bytes.ensures.value ∙ c.format.ensures.text ∙ ap decimal c.num.ensures.value in
-    rw (p.1, ← way, ← file, ← num) (fails_at _ (first _ c.in_ok-put_all.ensures ▸ c.in_ok-put_all-2.ensures ▸ c.in_ok-put_all-3.ensures ▸ c.in_ok-put_all-4.ensures ▸ c.in_ok-put_all-5.ensures ▸ c.in_ok-put_all-6.ensures) c.in_err-put.ensures)
+    rw (p.1, ← way, ← file, ← num) (fails_at _
+    (first _ c.in_ok-put_all.ensures ▸ c.in_ok-put_all-2.ensures ▸ c.in_ok-put_all-3.ensures ▸ c.in_ok-put_all-4.ensures ▸ c.in_ok-put_all-5.ensures ▸
+    c.in_ok-put_all-6.ensures) c.in_err-put.ensures)
 
 pub returns-in_err-put_all-7 : goal.returns-in_err-put_all-7
 returns-in_err-put_all-7 g c =
@@ -58,7 +62,9 @@ returns-in_err-put_all-7 g c =
     let file : c.way_file.result.now ≡ way_file c.args.way = c.way_file.ensures in
     let num : c.as_bytes.result.now ≡ decimal c.args.unit.num = c.as_bytes.ensures.value ∙ c.format.ensures.text ∙ ap decimal c.num.ensures.value in
     let den : c.as_bytes-2.result.now ≡ decimal c.args.unit.den = c.as_bytes-2.ensures.value ∙ c.format-2.ensures.text ∙ ap decimal c.den.ensures.value in
-    rw (p.1, ← way, ← file, ← num, ← den) (fails_at _ (first _ c.in_ok-put_all.ensures ▸ c.in_ok-put_all-2.ensures ▸ c.in_ok-put_all-3.ensures ▸ c.in_ok-put_all-4.ensures ▸ c.in_ok-put_all-5.ensures ▸ c.in_ok-put_all-6.ensures ▸ c.in_ok-put.ensures) c.in_err-put_all-7.ensures)
+    rw (p.1, ← way, ← file, ← num, ← den) (fails_at _
+    (first _ c.in_ok-put_all.ensures ▸ c.in_ok-put_all-2.ensures ▸ c.in_ok-put_all-3.ensures ▸ c.in_ok-put_all-4.ensures ▸ c.in_ok-put_all-5.ensures ▸
+    c.in_ok-put_all-6.ensures ▸ c.in_ok-put.ensures) c.in_err-put_all-7.ensures)
 
 pub returns : goal.returns
 returns g c =
@@ -66,4 +72,6 @@ returns g c =
     let file : c.way_file.result.now ≡ way_file c.args.way = c.way_file.ensures in
     let num : c.as_bytes.result.now ≡ decimal c.args.unit.num = c.as_bytes.ensures.value ∙ c.format.ensures.text ∙ ap decimal c.num.ensures.value in
     let den : c.as_bytes-2.result.now ≡ decimal c.args.unit.den = c.as_bytes-2.ensures.value ∙ c.format-2.ensures.text ∙ ap decimal c.den.ensures.value in
-    rw (← way, ← file, ← num, ← den) (ends _ _ (first _ c.in_ok-put_all.ensures ▸ c.in_ok-put_all-2.ensures ▸ c.in_ok-put_all-3.ensures ▸ c.in_ok-put_all-4.ensures ▸ c.in_ok-put_all-5.ensures ▸ c.in_ok-put_all-6.ensures ▸ c.in_ok-put.ensures ▸ c.in_ok-put_all-7.ensures) c.put_all-8.ensures)
+    rw (← way, ← file, ← num, ← den) (ends _ _
+    (first _ c.in_ok-put_all.ensures ▸ c.in_ok-put_all-2.ensures ▸ c.in_ok-put_all-3.ensures ▸ c.in_ok-put_all-4.ensures ▸ c.in_ok-put_all-5.ensures ▸
+    c.in_ok-put_all-6.ensures ▸ c.in_ok-put.ensures ▸ c.in_ok-put_all-7.ensures) c.put_all-8.ensures)

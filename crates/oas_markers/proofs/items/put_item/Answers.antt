@@ -42,7 +42,8 @@ returns-in_err-put_escaped g c =
     let way : c.way_name.result.now ≡ way_name c.args.way = c.way_name.ensures in
     let kind : c.kind_name.result.now ≡ kind_name c.args.element.now = c.kind_name.ensures in
     let name : c.as_bytes.result.now ≡ c.args.name.now = c.as_bytes.ensures.bytes in
-    rw (p.1, ← way, ← kind, ← name) (fails_at _ (first _ c.in_ok-put_all.ensures ▸ c.in_ok-put_all-2.ensures ▸ c.in_ok-put.ensures ▸ c.in_ok-put_all-3.ensures ▸ c.in_ok-put_all-4.ensures) c.in_err-put_escaped.ensures)
+    rw (p.1, ← way, ← kind, ← name) (fails_at _
+    (first _ c.in_ok-put_all.ensures ▸ c.in_ok-put_all-2.ensures ▸ c.in_ok-put.ensures ▸ c.in_ok-put_all-3.ensures ▸ c.in_ok-put_all-4.ensures) c.in_err-put_escaped.ensures)
 
 pub returns-in_err-put_all-5 : goal.returns-in_err-put_all-5
 returns-in_err-put_all-5 g c =
@@ -50,7 +51,9 @@ returns-in_err-put_all-5 g c =
     let way : c.way_name.result.now ≡ way_name c.args.way = c.way_name.ensures in
     let kind : c.kind_name.result.now ≡ kind_name c.args.element.now = c.kind_name.ensures in
     let name : c.as_bytes.result.now ≡ c.args.name.now = c.as_bytes.ensures.bytes in
-    rw (p.1, ← way, ← kind, ← name) (fails_at _ (first _ c.in_ok-put_all.ensures ▸ c.in_ok-put_all-2.ensures ▸ c.in_ok-put.ensures ▸ c.in_ok-put_all-3.ensures ▸ c.in_ok-put_all-4.ensures ▸ c.in_ok-put_escaped.ensures) c.in_err-put_all-5.ensures)
+    rw (p.1, ← way, ← kind, ← name) (fails_at _
+    (first _ c.in_ok-put_all.ensures ▸ c.in_ok-put_all-2.ensures ▸ c.in_ok-put.ensures ▸ c.in_ok-put_all-3.ensures ▸ c.in_ok-put_all-4.ensures ▸
+    c.in_ok-put_escaped.ensures) c.in_err-put_all-5.ensures)
 
 pub returns-in_err-put_all-6 : goal.returns-in_err-put_all-6
 returns-in_err-put_all-6 g c =
@@ -59,7 +62,9 @@ returns-in_err-put_all-6 g c =
     let kind : c.kind_name.result.now ≡ kind_name c.args.element.now = c.kind_name.ensures in
     let name : c.as_bytes.result.now ≡ c.args.name.now = c.as_bytes.ensures.bytes in
     let number : c.as_bytes-2.result.now ≡ decimal c.args.count = c.as_bytes-2.ensures.value ∙ c.format.ensures.text in
-    rw (p.1, ← way, ← kind, ← name, ← number) (fails_at _ (first _ c.in_ok-put_all.ensures ▸ c.in_ok-put_all-2.ensures ▸ c.in_ok-put.ensures ▸ c.in_ok-put_all-3.ensures ▸ c.in_ok-put_all-4.ensures ▸ c.in_ok-put_escaped.ensures ▸ c.in_ok-put_all-5.ensures) c.in_err-put_all-6.ensures)
+    rw (p.1, ← way, ← kind, ← name, ← number)
+    (fails_at _ (first _ c.in_ok-put_all.ensures ▸ c.in_ok-put_all-2.ensures ▸ c.in_ok-put.ensures ▸ c.in_ok-put_all-3.ensures ▸ c.in_ok-put_all-4.ensures ▸
+    c.in_ok-put_escaped.ensures ▸ c.in_ok-put_all-5.ensures) c.in_err-put_all-6.ensures)
 
 pub returns-in_err-put_all-7 : goal.returns-in_err-put_all-7
 returns-in_err-put_all-7 g c =
@@ -68,7 +73,9 @@ returns-in_err-put_all-7 g c =
     let kind : c.kind_name.result.now ≡ kind_name c.args.element.now = c.kind_name.ensures in
     let name : c.as_bytes.result.now ≡ c.args.name.now = c.as_bytes.ensures.bytes in
     let number : c.as_bytes-2.result.now ≡ decimal c.args.count = c.as_bytes-2.ensures.value ∙ c.format.ensures.text in
-    rw (p.1, ← way, ← kind, ← name, ← number) (fails_at _ (first _ c.in_ok-put_all.ensures ▸ c.in_ok-put_all-2.ensures ▸ c.in_ok-put.ensures ▸ c.in_ok-put_all-3.ensures ▸ c.in_ok-put_all-4.ensures ▸ c.in_ok-put_escaped.ensures ▸ c.in_ok-put_all-5.ensures ▸ c.in_ok-put_all-6.ensures) c.in_err-put_all-7.ensures)
+    rw (p.1, ← way, ← kind, ← name, ← number)
+    (fails_at _ (first _ c.in_ok-put_all.ensures ▸ c.in_ok-put_all-2.ensures ▸ c.in_ok-put.ensures ▸ c.in_ok-put_all-3.ensures ▸ c.in_ok-put_all-4.ensures ▸
+    c.in_ok-put_escaped.ensures ▸ c.in_ok-put_all-5.ensures ▸ c.in_ok-put_all-6.ensures) c.in_err-put_all-7.ensures)
 
 pub returns-in_err-put_shape : goal.returns-in_err-put_shape
 returns-in_err-put_shape g c =
@@ -77,7 +84,9 @@ returns-in_err-put_shape g c =
     let kind : c.kind_name.result.now ≡ kind_name c.args.element.now = c.kind_name.ensures in
     let name : c.as_bytes.result.now ≡ c.args.name.now = c.as_bytes.ensures.bytes in
     let number : c.as_bytes-2.result.now ≡ decimal c.args.count = c.as_bytes-2.ensures.value ∙ c.format.ensures.text in
-    rw (p.1, ← way, ← kind, ← name, ← number) (fails_at _ (first _ c.in_ok-put_all.ensures ▸ c.in_ok-put_all-2.ensures ▸ c.in_ok-put.ensures ▸ c.in_ok-put_all-3.ensures ▸ c.in_ok-put_all-4.ensures ▸ c.in_ok-put_escaped.ensures ▸ c.in_ok-put_all-5.ensures ▸ c.in_ok-put_all-6.ensures ▸ c.in_ok-put_all-7.ensures) c.in_err-put_shape.ensures)
+    rw (p.1, ← way, ← kind, ← name, ← number)
+    (fails_at _ (first _ c.in_ok-put_all.ensures ▸ c.in_ok-put_all-2.ensures ▸ c.in_ok-put.ensures ▸ c.in_ok-put_all-3.ensures ▸ c.in_ok-put_all-4.ensures ▸
+    c.in_ok-put_escaped.ensures ▸ c.in_ok-put_all-5.ensures ▸ c.in_ok-put_all-6.ensures ▸ c.in_ok-put_all-7.ensures) c.in_err-put_shape.ensures)
 
 pub returns-in_err-put_all-8 : goal.returns-in_err-put_all-8
 returns-in_err-put_all-8 g c =
@@ -86,7 +95,9 @@ returns-in_err-put_all-8 g c =
     let kind : c.kind_name.result.now ≡ kind_name c.args.element.now = c.kind_name.ensures in
     let name : c.as_bytes.result.now ≡ c.args.name.now = c.as_bytes.ensures.bytes in
     let number : c.as_bytes-2.result.now ≡ decimal c.args.count = c.as_bytes-2.ensures.value ∙ c.format.ensures.text in
-    rw (p.1, ← way, ← kind, ← name, ← number) (fails_at _ (first _ c.in_ok-put_all.ensures ▸ c.in_ok-put_all-2.ensures ▸ c.in_ok-put.ensures ▸ c.in_ok-put_all-3.ensures ▸ c.in_ok-put_all-4.ensures ▸ c.in_ok-put_escaped.ensures ▸ c.in_ok-put_all-5.ensures ▸ c.in_ok-put_all-6.ensures ▸ c.in_ok-put_all-7.ensures ▸ c.in_ok-put_shape.ensures) c.in_err-put_all-8.ensures)
+    rw (p.1, ← way, ← kind, ← name, ← number)
+    (fails_at _ (first _ c.in_ok-put_all.ensures ▸ c.in_ok-put_all-2.ensures ▸ c.in_ok-put.ensures ▸ c.in_ok-put_all-3.ensures ▸ c.in_ok-put_all-4.ensures ▸
+    c.in_ok-put_escaped.ensures ▸ c.in_ok-put_all-5.ensures ▸ c.in_ok-put_all-6.ensures ▸ c.in_ok-put_all-7.ensures ▸ c.in_ok-put_shape.ensures) c.in_err-put_all-8.ensures)
 
 pub returns-in_err-put_layer : goal.returns-in_err-put_layer
 returns-in_err-put_layer g c =
@@ -95,7 +106,10 @@ returns-in_err-put_layer g c =
     let kind : c.kind_name.result.now ≡ kind_name c.args.element.now = c.kind_name.ensures in
     let name : c.as_bytes.result.now ≡ c.args.name.now = c.as_bytes.ensures.bytes in
     let number : c.as_bytes-2.result.now ≡ decimal c.args.count = c.as_bytes-2.ensures.value ∙ c.format.ensures.text in
-    rw (p.1, ← way, ← kind, ← name, ← number) (fails_at _ (first _ c.in_ok-put_all.ensures ▸ c.in_ok-put_all-2.ensures ▸ c.in_ok-put.ensures ▸ c.in_ok-put_all-3.ensures ▸ c.in_ok-put_all-4.ensures ▸ c.in_ok-put_escaped.ensures ▸ c.in_ok-put_all-5.ensures ▸ c.in_ok-put_all-6.ensures ▸ c.in_ok-put_all-7.ensures ▸ c.in_ok-put_shape.ensures ▸ c.in_ok-put_all-8.ensures) c.in_err-put_layer.ensures)
+    rw (p.1, ← way, ← kind, ← name, ← number)
+    (fails_at _ (first _ c.in_ok-put_all.ensures ▸ c.in_ok-put_all-2.ensures ▸ c.in_ok-put.ensures ▸ c.in_ok-put_all-3.ensures ▸ c.in_ok-put_all-4.ensures ▸
+    c.in_ok-put_escaped.ensures ▸ c.in_ok-put_all-5.ensures ▸ c.in_ok-put_all-6.ensures ▸ c.in_ok-put_all-7.ensures ▸ c.in_ok-put_shape.ensures ▸
+    c.in_ok-put_all-8.ensures) c.in_err-put_layer.ensures)
 
 pub returns : goal.returns
 returns g c =
@@ -103,4 +117,7 @@ returns g c =
     let kind : c.kind_name.result.now ≡ kind_name c.args.element.now = c.kind_name.ensures in
     let name : c.as_bytes.result.now ≡ c.args.name.now = c.as_bytes.ensures.bytes in
     let number : c.as_bytes-2.result.now ≡ decimal c.args.count = c.as_bytes-2.ensures.value ∙ c.format.ensures.text in
-    rw (← way, ← kind, ← name, ← number) (ends _ _ (first _ c.in_ok-put_all.ensures ▸ c.in_ok-put_all-2.ensures ▸ c.in_ok-put.ensures ▸ c.in_ok-put_all-3.ensures ▸ c.in_ok-put_all-4.ensures ▸ c.in_ok-put_escaped.ensures ▸ c.in_ok-put_all-5.ensures ▸ c.in_ok-put_all-6.ensures ▸ c.in_ok-put_all-7.ensures ▸ c.in_ok-put_shape.ensures ▸ c.in_ok-put_all-8.ensures ▸ c.in_ok-put_layer.ensures) c.put_all-9.ensures)
+    rw (← way, ← kind, ← name, ← number) (ends _ _
+    (first _ c.in_ok-put_all.ensures ▸ c.in_ok-put_all-2.ensures ▸ c.in_ok-put.ensures ▸ c.in_ok-put_all-3.ensures ▸ c.in_ok-put_all-4.ensures ▸
+    c.in_ok-put_escaped.ensures ▸ c.in_ok-put_all-5.ensures ▸ c.in_ok-put_all-6.ensures ▸ c.in_ok-put_all-7.ensures ▸ c.in_ok-put_shape.ensures ▸
+    c.in_ok-put_all-8.ensures ▸ c.in_ok-put_layer.ensures) c.put_all-9.ensures)

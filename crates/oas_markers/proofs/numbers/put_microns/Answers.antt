@@ -16,8 +16,11 @@ returns-in_err-put g c =
 
 pub returns-in_ok-put : goal.returns-in_ok-put
 returns-in_ok-put g c =
-    ends _ _ (left_is (begins _ _) (negative_of c.args.unit c.args.steps c.unsigned_abs.result c.ranges.steps c.unsigned_abs.ensures.value c.if-steps-lt0.true) ▸ c.in_ok-put.ensures) c.put_length.ensures
+    ends _ _ (left_is (begins _ _) (negative_of c.args.unit c.args.steps c.unsigned_abs.result c.ranges.steps c.unsigned_abs.ensures.value c.if-steps-lt0.true)
+    ▸ c.in_ok-put.ensures) c.put_length.ensures
 
 pub returns-else-steps-lt0 : goal.returns-else-steps-lt0
 returns-else-steps-lt0 g c =
-    subst (λ (bs : List ℕ). Writes g.K.Sink.given g.K.Sink.failures c.args.sink.now bs c.put_length-else-steps-lt0.result c.put_length-else-steps-lt0.new.sink) (sym (other_of c.args.unit c.args.steps c.unsigned_abs-else-steps-lt0.result c.ranges.steps c.unsigned_abs-else-steps-lt0.ensures.value c.if-steps-lt0.false)) c.put_length-else-steps-lt0.ensures
+    subst (λ (bs : List ℕ). Writes g.K.Sink.given g.K.Sink.failures c.args.sink.now bs c.put_length-else-steps-lt0.result c.put_length-else-steps-lt0.new.sink)
+    (sym (other_of c.args.unit c.args.steps c.unsigned_abs-else-steps-lt0.result c.ranges.steps c.unsigned_abs-else-steps-lt0.ensures.value
+    c.if-steps-lt0.false)) c.put_length-else-steps-lt0.ensures

@@ -42,10 +42,12 @@ returns-in_err-put_far-2 g c =
     let p = err_from_is_err_and c.from_residual-in_err-put_far-2.result c.from_residual-in_err-put_far-2.ensures.1 in
     let fx : SFits w64 c.args.x = c.ranges.x in
     let fy : SFits w64 c.args.y = c.ranges.y in
-    rw p.1 (fails_at _ (first _ c.in_ok-put_all.ensures ▸ (simp to_z-of_z at c.in_ok-put_place.ensures) ▸ c.in_ok-put.ensures ▸ (simp to_z-of_z at c.in_ok-put_far.ensures) ▸ c.in_ok-put-2.ensures) (simp to_z-of_z at c.in_err-put_far-2.ensures))
+    rw p.1 (fails_at _ (first _ c.in_ok-put_all.ensures ▸ (simp to_z-of_z at c.in_ok-put_place.ensures) ▸ c.in_ok-put.ensures ▸
+    (simp to_z-of_z at c.in_ok-put_far.ensures) ▸ c.in_ok-put-2.ensures) (simp to_z-of_z at c.in_err-put_far-2.ensures))
 
 pub returns : goal.returns
 returns g c =
     let fx : SFits w64 c.args.x = c.ranges.x in
     let fy : SFits w64 c.args.y = c.ranges.y in
-    ends _ _ (first _ c.in_ok-put_all.ensures ▸ (simp to_z-of_z at c.in_ok-put_place.ensures) ▸ c.in_ok-put.ensures ▸ (simp to_z-of_z at c.in_ok-put_far.ensures) ▸ c.in_ok-put-2.ensures ▸ (simp to_z-of_z at c.in_ok-put_far-2.ensures)) c.put-3.ensures
+    ends _ _ (first _ c.in_ok-put_all.ensures ▸ (simp to_z-of_z at c.in_ok-put_place.ensures) ▸ c.in_ok-put.ensures ▸
+    (simp to_z-of_z at c.in_ok-put_far.ensures) ▸ c.in_ok-put-2.ensures ▸ (simp to_z-of_z at c.in_ok-put_far-2.ensures)) c.put-3.ensures

@@ -42,24 +42,28 @@ returns-in_err-put_steps g c =
     let p = err_from_is_err_and c.from_residual-in_err-put_steps.result c.from_residual-in_err-put_steps.ensures.1 in
     let fx : SFits w64 c.args.x = c.ranges.x in
     let fy : SFits w64 c.args.y = c.ranges.y in
-    rw p.1 (fails_at _ (first _ c.in_ok-put_all.ensures ▸ (simp to_z-of_z at c.in_ok-put_place.ensures) ▸ c.in_ok-put_all-2.ensures ▸ c.in_ok-put_double.ensures ▸ c.in_ok-put_all-3.ensures) c.in_err-put_steps.ensures)
+    rw p.1 (fails_at _ (first _ c.in_ok-put_all.ensures ▸ (simp to_z-of_z at c.in_ok-put_place.ensures) ▸ c.in_ok-put_all-2.ensures ▸ c.in_ok-put_double.ensures
+    ▸ c.in_ok-put_all-3.ensures) c.in_err-put_steps.ensures)
 
 pub returns-in_err-put_all-4 : goal.returns-in_err-put_all-4
 returns-in_err-put_all-4 g c =
     let p = err_from_is_err_and c.from_residual-in_err-put_all-4.result c.from_residual-in_err-put_all-4.ensures.1 in
     let fx : SFits w64 c.args.x = c.ranges.x in
     let fy : SFits w64 c.args.y = c.ranges.y in
-    rw p.1 (fails_at _ (first _ c.in_ok-put_all.ensures ▸ (simp to_z-of_z at c.in_ok-put_place.ensures) ▸ c.in_ok-put_all-2.ensures ▸ c.in_ok-put_double.ensures ▸ c.in_ok-put_all-3.ensures ▸ c.in_ok-put_steps.ensures) c.in_err-put_all-4.ensures)
+    rw p.1 (fails_at _ (first _ c.in_ok-put_all.ensures ▸ (simp to_z-of_z at c.in_ok-put_place.ensures) ▸ c.in_ok-put_all-2.ensures ▸ c.in_ok-put_double.ensures
+    ▸ c.in_ok-put_all-3.ensures ▸ c.in_ok-put_steps.ensures) c.in_err-put_all-4.ensures)
 
 pub returns-in_err-put_steps-2 : goal.returns-in_err-put_steps-2
 returns-in_err-put_steps-2 g c =
     let p = err_from_is_err_and c.from_residual-in_err-put_steps-2.result c.from_residual-in_err-put_steps-2.ensures.1 in
     let fx : SFits w64 c.args.x = c.ranges.x in
     let fy : SFits w64 c.args.y = c.ranges.y in
-    rw p.1 (fails_at _ (first _ c.in_ok-put_all.ensures ▸ (simp to_z-of_z at c.in_ok-put_place.ensures) ▸ c.in_ok-put_all-2.ensures ▸ c.in_ok-put_double.ensures ▸ c.in_ok-put_all-3.ensures ▸ c.in_ok-put_steps.ensures ▸ c.in_ok-put_all-4.ensures) c.in_err-put_steps-2.ensures)
+    rw p.1 (fails_at _ (first _ c.in_ok-put_all.ensures ▸ (simp to_z-of_z at c.in_ok-put_place.ensures) ▸ c.in_ok-put_all-2.ensures ▸ c.in_ok-put_double.ensures
+    ▸ c.in_ok-put_all-3.ensures ▸ c.in_ok-put_steps.ensures ▸ c.in_ok-put_all-4.ensures) c.in_err-put_steps-2.ensures)
 
 pub returns : goal.returns
 returns g c =
     let fx : SFits w64 c.args.x = c.ranges.x in
     let fy : SFits w64 c.args.y = c.ranges.y in
-    ends _ _ (first _ c.in_ok-put_all.ensures ▸ (simp to_z-of_z at c.in_ok-put_place.ensures) ▸ c.in_ok-put_all-2.ensures ▸ c.in_ok-put_double.ensures ▸ c.in_ok-put_all-3.ensures ▸ c.in_ok-put_steps.ensures ▸ c.in_ok-put_all-4.ensures ▸ c.in_ok-put_steps-2.ensures) c.put_all-5.ensures
+    ends _ _ (first _ c.in_ok-put_all.ensures ▸ (simp to_z-of_z at c.in_ok-put_place.ensures) ▸ c.in_ok-put_all-2.ensures ▸ c.in_ok-put_double.ensures ▸
+    c.in_ok-put_all-3.ensures ▸ c.in_ok-put_steps.ensures ▸ c.in_ok-put_all-4.ensures ▸ c.in_ok-put_steps-2.ensures) c.put_all-5.ensures

@@ -34,10 +34,12 @@ returns-in_err-put_place g c =
     let p = err_from_is_err_and c.from_residual-in_err-put_place.result c.from_residual-in_err-put_place.ensures.1 in
     let fx : SFits w64 c.args.x = c.ranges.x in
     let fy : SFits w64 c.args.y = c.ranges.y in
-    rw p.1 (fails_at _ (first _ c.in_ok-put_all.ensures ▸ c.in_ok-put_quoted.ensures ▸ c.in_ok-put_all-2.ensures ▸ c.in_ok-put_all-3.ensures ▸ c.in_ok-put.ensures) (simp to_z-of_z at c.in_err-put_place.ensures))
+    rw p.1 (fails_at _ (first _ c.in_ok-put_all.ensures ▸ c.in_ok-put_quoted.ensures ▸ c.in_ok-put_all-2.ensures ▸ c.in_ok-put_all-3.ensures ▸
+    c.in_ok-put.ensures) (simp to_z-of_z at c.in_err-put_place.ensures))
 
 pub returns : goal.returns
 returns g c =
     let fx : SFits w64 c.args.x = c.ranges.x in
     let fy : SFits w64 c.args.y = c.ranges.y in
-    ends _ _ (first _ c.in_ok-put_all.ensures ▸ c.in_ok-put_quoted.ensures ▸ c.in_ok-put_all-2.ensures ▸ c.in_ok-put_all-3.ensures ▸ c.in_ok-put.ensures ▸ (simp to_z-of_z at c.in_ok-put_place.ensures)) c.put-2.ensures
+    ends _ _ (first _ c.in_ok-put_all.ensures ▸ c.in_ok-put_quoted.ensures ▸ c.in_ok-put_all-2.ensures ▸ c.in_ok-put_all-3.ensures ▸ c.in_ok-put.ensures ▸
+    (simp to_z-of_z at c.in_ok-put_place.ensures)) c.put-2.ensures

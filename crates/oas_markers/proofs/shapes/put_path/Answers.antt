@@ -34,24 +34,28 @@ returns-in_err-put_coordinate g c =
     let p = err_from_is_err_and c.from_residual-in_err-put_coordinate.result c.from_residual-in_err-put_coordinate.ensures.1 in
     let ft : SFits w64 c.args.start = c.ranges.start in
     let fd : SFits w64 c.args.end = c.ranges.end in
-    rw p.1 (fails_at _ (first _ c.in_ok-put_all.ensures ▸ c.in_ok-put_places.ensures ▸ c.in_ok-put_all-2.ensures ▸ c.in_ok-put_double.ensures ▸ c.in_ok-put_all-3.ensures) (simp to_z-of_z at c.in_err-put_coordinate.ensures))
+    rw p.1 (fails_at _ (first _ c.in_ok-put_all.ensures ▸ c.in_ok-put_places.ensures ▸ c.in_ok-put_all-2.ensures ▸ c.in_ok-put_double.ensures ▸
+    c.in_ok-put_all-3.ensures) (simp to_z-of_z at c.in_err-put_coordinate.ensures))
 
 pub returns-in_err-put_all-4 : goal.returns-in_err-put_all-4
 returns-in_err-put_all-4 g c =
     let p = err_from_is_err_and c.from_residual-in_err-put_all-4.result c.from_residual-in_err-put_all-4.ensures.1 in
     let ft : SFits w64 c.args.start = c.ranges.start in
     let fd : SFits w64 c.args.end = c.ranges.end in
-    rw p.1 (fails_at _ (first _ c.in_ok-put_all.ensures ▸ c.in_ok-put_places.ensures ▸ c.in_ok-put_all-2.ensures ▸ c.in_ok-put_double.ensures ▸ c.in_ok-put_all-3.ensures ▸ (simp to_z-of_z at c.in_ok-put_coordinate.ensures)) c.in_err-put_all-4.ensures)
+    rw p.1 (fails_at _ (first _ c.in_ok-put_all.ensures ▸ c.in_ok-put_places.ensures ▸ c.in_ok-put_all-2.ensures ▸ c.in_ok-put_double.ensures ▸
+    c.in_ok-put_all-3.ensures ▸ (simp to_z-of_z at c.in_ok-put_coordinate.ensures)) c.in_err-put_all-4.ensures)
 
 pub returns-in_err-put_coordinate-2 : goal.returns-in_err-put_coordinate-2
 returns-in_err-put_coordinate-2 g c =
     let p = err_from_is_err_and c.from_residual-in_err-put_coordinate-2.result c.from_residual-in_err-put_coordinate-2.ensures.1 in
     let ft : SFits w64 c.args.start = c.ranges.start in
     let fd : SFits w64 c.args.end = c.ranges.end in
-    rw p.1 (fails_at _ (first _ c.in_ok-put_all.ensures ▸ c.in_ok-put_places.ensures ▸ c.in_ok-put_all-2.ensures ▸ c.in_ok-put_double.ensures ▸ c.in_ok-put_all-3.ensures ▸ (simp to_z-of_z at c.in_ok-put_coordinate.ensures) ▸ c.in_ok-put_all-4.ensures) (simp to_z-of_z at c.in_err-put_coordinate-2.ensures))
+    rw p.1 (fails_at _ (first _ c.in_ok-put_all.ensures ▸ c.in_ok-put_places.ensures ▸ c.in_ok-put_all-2.ensures ▸ c.in_ok-put_double.ensures ▸
+    c.in_ok-put_all-3.ensures ▸ (simp to_z-of_z at c.in_ok-put_coordinate.ensures) ▸ c.in_ok-put_all-4.ensures) (simp to_z-of_z at c.in_err-put_coordinate-2.ensures))
 
 pub returns : goal.returns
 returns g c =
     let ft : SFits w64 c.args.start = c.ranges.start in
     let fd : SFits w64 c.args.end = c.ranges.end in
-    ends _ _ (first _ c.in_ok-put_all.ensures ▸ c.in_ok-put_places.ensures ▸ c.in_ok-put_all-2.ensures ▸ c.in_ok-put_double.ensures ▸ c.in_ok-put_all-3.ensures ▸ (simp to_z-of_z at c.in_ok-put_coordinate.ensures) ▸ c.in_ok-put_all-4.ensures ▸ (simp to_z-of_z at c.in_ok-put_coordinate-2.ensures)) c.put_all-5.ensures
+    ends _ _ (first _ c.in_ok-put_all.ensures ▸ c.in_ok-put_places.ensures ▸ c.in_ok-put_all-2.ensures ▸ c.in_ok-put_double.ensures ▸ c.in_ok-put_all-3.ensures
+    ▸ (simp to_z-of_z at c.in_ok-put_coordinate.ensures) ▸ c.in_ok-put_all-4.ensures ▸ (simp to_z-of_z at c.in_ok-put_coordinate-2.ensures)) c.put_all-5.ensures

@@ -33,7 +33,14 @@ returns-in_err-put_head g c =
     let p = err_from_is_err_and c.from_residual.result c.from_residual.ensures.1 in
     let a = c.args.before.now in
     let b = c.args.after.now in
-    let whole : markers a.profile (meaning_of a) (meaning_of b) ≡ head c.unit-gone.result c.unit-come.result ++ (held_entries c.new-entries_before.result c.new-entries_after.result ++ (between ++ (held_items c.unit-gone.result c.unit-come.result c.new-items_before.result c.new-items_after.result ++ foot))) = markers_held a b c.new-entries_before.ensures.layout c.new-entries_after.ensures.layout c.requires ∙ (λ i. head (sym c.unit-gone.ensures i) (sym c.unit-come.ensures i) ++ (held_entries (sym c.new-entries_before.ensures.cells i) (sym c.new-entries_after.ensures.cells i) ++ (between ++ (held_items (sym c.unit-gone.ensures i) (sym c.unit-come.ensures i) (sym c.new-items_before.ensures.cells i) (sym c.new-items_after.ensures.cells i) ++ foot)))) in
+    let whole : markers a.profile (meaning_of a) (meaning_of b) ≡ head c.unit-gone.result c.unit-come.result
+    ++ (held_entries c.new-entries_before.result c.new-entries_after.result
+    ++ (between ++ (held_items c.unit-gone.result c.unit-come.result c.new-items_before.result c.new-items_after.result ++ foot))) =
+    markers_held a b c.new-entries_before.ensures.layout c.new-entries_after.ensures.layout c.requires
+    ∙ (λ i. head (sym c.unit-gone.ensures i) (sym c.unit-come.ensures i)
+    ++ (held_entries (sym c.new-entries_before.ensures.cells i) (sym c.new-entries_after.ensures.cells i)
+    ++ (between ++ (held_items (sym c.unit-gone.ensures i) (sym c.unit-come.ensures i) (sym c.new-items_before.ensures.cells i)
+    (sym c.new-items_after.ensures.cells i) ++ foot)))) in
     rw p.1 (fails_at _ (left_is (begins _ _) whole) c.in_err-put_head.ensures)
 
 pub returns-in_err-put_entries : goal.returns-in_err-put_entries
@@ -41,7 +48,14 @@ returns-in_err-put_entries g c =
     let p = err_from_is_err_and c.from_residual-in_err-put_entries.result c.from_residual-in_err-put_entries.ensures.1 in
     let a = c.args.before.now in
     let b = c.args.after.now in
-    let whole : markers a.profile (meaning_of a) (meaning_of b) ≡ head c.unit-gone.result c.unit-come.result ++ (held_entries c.new-entries_before.result c.new-entries_after.result ++ (between ++ (held_items c.unit-gone.result c.unit-come.result c.new-items_before.result c.new-items_after.result ++ foot))) = markers_held a b c.new-entries_before.ensures.layout c.new-entries_after.ensures.layout c.requires ∙ (λ i. head (sym c.unit-gone.ensures i) (sym c.unit-come.ensures i) ++ (held_entries (sym c.new-entries_before.ensures.cells i) (sym c.new-entries_after.ensures.cells i) ++ (between ++ (held_items (sym c.unit-gone.ensures i) (sym c.unit-come.ensures i) (sym c.new-items_before.ensures.cells i) (sym c.new-items_after.ensures.cells i) ++ foot)))) in
+    let whole : markers a.profile (meaning_of a) (meaning_of b) ≡ head c.unit-gone.result c.unit-come.result
+    ++ (held_entries c.new-entries_before.result c.new-entries_after.result
+    ++ (between ++ (held_items c.unit-gone.result c.unit-come.result c.new-items_before.result c.new-items_after.result ++ foot))) =
+    markers_held a b c.new-entries_before.ensures.layout c.new-entries_after.ensures.layout c.requires
+    ∙ (λ i. head (sym c.unit-gone.ensures i) (sym c.unit-come.ensures i)
+    ++ (held_entries (sym c.new-entries_before.ensures.cells i) (sym c.new-entries_after.ensures.cells i)
+    ++ (between ++ (held_items (sym c.unit-gone.ensures i) (sym c.unit-come.ensures i) (sym c.new-items_before.ensures.cells i)
+    (sym c.new-items_after.ensures.cells i) ++ foot)))) in
     rw p.1 (fails_at _ (left_is (begins _ _) whole ▸ c.in_ok-put_head.ensures) c.in_err-put_entries.ensures)
 
 pub returns-in_err-put_all : goal.returns-in_err-put_all
@@ -49,7 +63,14 @@ returns-in_err-put_all g c =
     let p = err_from_is_err_and c.from_residual-in_err-put_all.result c.from_residual-in_err-put_all.ensures.1 in
     let a = c.args.before.now in
     let b = c.args.after.now in
-    let whole : markers a.profile (meaning_of a) (meaning_of b) ≡ head c.unit-gone.result c.unit-come.result ++ (held_entries c.new-entries_before.result c.new-entries_after.result ++ (between ++ (held_items c.unit-gone.result c.unit-come.result c.new-items_before.result c.new-items_after.result ++ foot))) = markers_held a b c.new-entries_before.ensures.layout c.new-entries_after.ensures.layout c.requires ∙ (λ i. head (sym c.unit-gone.ensures i) (sym c.unit-come.ensures i) ++ (held_entries (sym c.new-entries_before.ensures.cells i) (sym c.new-entries_after.ensures.cells i) ++ (between ++ (held_items (sym c.unit-gone.ensures i) (sym c.unit-come.ensures i) (sym c.new-items_before.ensures.cells i) (sym c.new-items_after.ensures.cells i) ++ foot)))) in
+    let whole : markers a.profile (meaning_of a) (meaning_of b) ≡ head c.unit-gone.result c.unit-come.result
+    ++ (held_entries c.new-entries_before.result c.new-entries_after.result
+    ++ (between ++ (held_items c.unit-gone.result c.unit-come.result c.new-items_before.result c.new-items_after.result ++ foot))) =
+    markers_held a b c.new-entries_before.ensures.layout c.new-entries_after.ensures.layout c.requires
+    ∙ (λ i. head (sym c.unit-gone.ensures i) (sym c.unit-come.ensures i)
+    ++ (held_entries (sym c.new-entries_before.ensures.cells i) (sym c.new-entries_after.ensures.cells i)
+    ++ (between ++ (held_items (sym c.unit-gone.ensures i) (sym c.unit-come.ensures i) (sym c.new-items_before.ensures.cells i)
+    (sym c.new-items_after.ensures.cells i) ++ foot)))) in
     rw p.1 (fails_at _ (left_is (begins _ _) whole ▸ c.in_ok-put_head.ensures ▸ c.in_ok-put_entries.ensures) c.in_err-put_all.ensures)
 
 pub returns-in_err-put_items : goal.returns-in_err-put_items
@@ -57,12 +78,26 @@ returns-in_err-put_items g c =
     let p = err_from_is_err_and c.from_residual-in_err-put_items.result c.from_residual-in_err-put_items.ensures.1 in
     let a = c.args.before.now in
     let b = c.args.after.now in
-    let whole : markers a.profile (meaning_of a) (meaning_of b) ≡ head c.unit-gone.result c.unit-come.result ++ (held_entries c.new-entries_before.result c.new-entries_after.result ++ (between ++ (held_items c.unit-gone.result c.unit-come.result c.new-items_before.result c.new-items_after.result ++ foot))) = markers_held a b c.new-entries_before.ensures.layout c.new-entries_after.ensures.layout c.requires ∙ (λ i. head (sym c.unit-gone.ensures i) (sym c.unit-come.ensures i) ++ (held_entries (sym c.new-entries_before.ensures.cells i) (sym c.new-entries_after.ensures.cells i) ++ (between ++ (held_items (sym c.unit-gone.ensures i) (sym c.unit-come.ensures i) (sym c.new-items_before.ensures.cells i) (sym c.new-items_after.ensures.cells i) ++ foot)))) in
+    let whole : markers a.profile (meaning_of a) (meaning_of b) ≡ head c.unit-gone.result c.unit-come.result
+    ++ (held_entries c.new-entries_before.result c.new-entries_after.result
+    ++ (between ++ (held_items c.unit-gone.result c.unit-come.result c.new-items_before.result c.new-items_after.result ++ foot))) =
+    markers_held a b c.new-entries_before.ensures.layout c.new-entries_after.ensures.layout c.requires
+    ∙ (λ i. head (sym c.unit-gone.ensures i) (sym c.unit-come.ensures i)
+    ++ (held_entries (sym c.new-entries_before.ensures.cells i) (sym c.new-entries_after.ensures.cells i)
+    ++ (between ++ (held_items (sym c.unit-gone.ensures i) (sym c.unit-come.ensures i) (sym c.new-items_before.ensures.cells i)
+    (sym c.new-items_after.ensures.cells i) ++ foot)))) in
     rw p.1 (fails_at _ (left_is (begins _ _) whole ▸ c.in_ok-put_head.ensures ▸ c.in_ok-put_entries.ensures ▸ c.in_ok-put_all.ensures) c.in_err-put_items.ensures)
 
 pub returns : goal.returns
 returns g c =
     let a = c.args.before.now in
     let b = c.args.after.now in
-    let whole : markers a.profile (meaning_of a) (meaning_of b) ≡ head c.unit-gone.result c.unit-come.result ++ (held_entries c.new-entries_before.result c.new-entries_after.result ++ (between ++ (held_items c.unit-gone.result c.unit-come.result c.new-items_before.result c.new-items_after.result ++ foot))) = markers_held a b c.new-entries_before.ensures.layout c.new-entries_after.ensures.layout c.requires ∙ (λ i. head (sym c.unit-gone.ensures i) (sym c.unit-come.ensures i) ++ (held_entries (sym c.new-entries_before.ensures.cells i) (sym c.new-entries_after.ensures.cells i) ++ (between ++ (held_items (sym c.unit-gone.ensures i) (sym c.unit-come.ensures i) (sym c.new-items_before.ensures.cells i) (sym c.new-items_after.ensures.cells i) ++ foot)))) in
+    let whole : markers a.profile (meaning_of a) (meaning_of b) ≡ head c.unit-gone.result c.unit-come.result
+    ++ (held_entries c.new-entries_before.result c.new-entries_after.result
+    ++ (between ++ (held_items c.unit-gone.result c.unit-come.result c.new-items_before.result c.new-items_after.result ++ foot))) =
+    markers_held a b c.new-entries_before.ensures.layout c.new-entries_after.ensures.layout c.requires
+    ∙ (λ i. head (sym c.unit-gone.ensures i) (sym c.unit-come.ensures i)
+    ++ (held_entries (sym c.new-entries_before.ensures.cells i) (sym c.new-entries_after.ensures.cells i)
+    ++ (between ++ (held_items (sym c.unit-gone.ensures i) (sym c.unit-come.ensures i) (sym c.new-items_before.ensures.cells i)
+    (sym c.new-items_after.ensures.cells i) ++ foot)))) in
     ends _ _ (left_is (begins _ _) whole ▸ c.in_ok-put_head.ensures ▸ c.in_ok-put_entries.ensures ▸ c.in_ok-put_all.ensures ▸ c.in_ok-put_items.ensures) c.put_all-2.ensures

@@ -14,12 +14,18 @@ returns-in_default-clause-err c =
 
 pub returns-then-twice-clause-err : goal.returns-then-twice-clause-err
 returns-then-twice-clause-err c =
-    λ ds h. inr (counted_twice c.args.names.now.named c.args.strings.now.named c.args.limits c.args.cells.items ds c.requires h c.in-Some.weight c.in-Some.ensures (told (λ cs. has_twice (names_held c.args.names.now.named (bare counted_store cs))) c.deref.result.now c.args.cells.items c.in_ok-twice.twice true c.in_ok-twice.ensures.twice c.deref.ensures.value c.if-twice.true))
+    λ ds h. inr (counted_twice c.args.names.now.named c.args.strings.now.named c.args.limits c.args.cells.items ds c.requires h c.in-Some.weight
+    c.in-Some.ensures (told (λ cs. has_twice (names_held c.args.names.now.named (bare counted_store cs))) c.deref.result.now c.args.cells.items
+    c.in_ok-twice.twice true c.in_ok-twice.ensures.twice c.deref.ensures.value c.if-twice.true))
 
 pub returns-then-weight-clause-err : goal.returns-then-weight-clause-err
 returns-then-weight-clause-err c =
-    λ ds h. inr (counted_heavy c.args.names.now.named c.args.strings.now.named c.args.limits c.args.cells.items ds c.requires h c.in-Some.weight c.in-Some.ensures (told (λ cs. has_twice (names_held c.args.names.now.named (bare counted_store cs))) c.deref.result.now c.args.cells.items c.in_ok-twice.twice false c.in_ok-twice.ensures.twice c.deref.ensures.value c.if-twice.false) (omega (arith, c.if-weight.true, c.weight.ensures)))
+    λ ds h. inr (counted_heavy c.args.names.now.named c.args.strings.now.named c.args.limits c.args.cells.items ds c.requires h c.in-Some.weight
+    c.in-Some.ensures (told (λ cs. has_twice (names_held c.args.names.now.named (bare counted_store cs))) c.deref.result.now c.args.cells.items
+    c.in_ok-twice.twice false c.in_ok-twice.ensures.twice c.deref.ensures.value c.if-twice.false) (omega (arith, c.if-weight.true, c.weight.ensures)))
 
 pub returns-clause-ok : goal.returns-clause-ok
 returns-clause-ok c =
-    λ ds h. counted_none c.args.names.now.named c.args.strings.now.named c.args.limits c.args.cells.items ds c.requires h c.in-Some.weight c.in-Some.ensures (told (λ cs. has_twice (names_held c.args.names.now.named (bare counted_store cs))) c.deref.result.now c.args.cells.items c.in_ok-twice.twice false c.in_ok-twice.ensures.twice c.deref.ensures.value c.if-twice.false) c.args.limits.light (omega (arith, c.if-weight.false, c.weight.ensures))
+    λ ds h. counted_none c.args.names.now.named c.args.strings.now.named c.args.limits c.args.cells.items ds c.requires h c.in-Some.weight c.in-Some.ensures
+    (told (λ cs. has_twice (names_held c.args.names.now.named (bare counted_store cs))) c.deref.result.now c.args.cells.items c.in_ok-twice.twice false
+    c.in_ok-twice.ensures.twice c.deref.ensures.value c.if-twice.false) c.args.limits.light (omega (arith, c.if-weight.false, c.weight.ensures))

@@ -15,17 +15,22 @@ count_up-requires c =
     (loose_fits nat_list_cmp_total c.make_room.new.rising c.make_room.new.loose.entries c.make_room.new.runs.items c.args.key.now c.args.times c.make_room.ensures.parts.waits
     (kept_room (slice_cmp nat_cmp) _ _ c.args.key.now c.args.times c.make_room.ensures.same c.requires.room))
 
-put : (c : In_ok-count_up) → c.count_up.new.loose.entries ≡ insert_entry (slice_cmp nat_cmp) c.make_room.new.loose.entries c.args.key.now (count_at (slice_cmp nat_cmp) c.make_room.new.loose.entries c.args.key.now + c.args.times)
-put c = c.in_ok-count_up.ensures.entries ∙ ap (λ (k : List ℕ). insert_entry (slice_cmp nat_cmp) c.make_room.new.loose.entries k (count_at (slice_cmp nat_cmp) c.make_room.new.loose.entries k + c.args.times)) c.in_ok-key.ensures
+put : (c : In_ok-count_up) → c.count_up.new.loose.entries
+    ≡ insert_entry (slice_cmp nat_cmp) c.make_room.new.loose.entries c.args.key.now (count_at (slice_cmp nat_cmp) c.make_room.new.loose.entries c.args.key.now + c.args.times)
+put c = c.in_ok-count_up.ensures.entries
+    ∙ ap (λ (k : List ℕ). insert_entry (slice_cmp nat_cmp) c.make_room.new.loose.entries k
+    (count_at (slice_cmp nat_cmp) c.make_room.new.loose.entries k + c.args.times)) c.in_ok-key.ensures
 
 pub returns-clause-parts : goal.returns-clause-parts
 returns-clause-parts c =
-    parts_loose nat_list_cmp_total exact_bytes c.make_room.new.rising c.make_room.new.loose.entries c.count_up.new.loose.entries c.make_room.new.runs.items c.args.key.now c.args.times c.make_room.ensures.parts
+    parts_loose nat_list_cmp_total exact_bytes c.make_room.new.rising c.make_room.new.loose.entries c.count_up.new.loose.entries c.make_room.new.runs.items
+    c.args.key.now c.args.times c.make_room.ensures.parts
     (run_loose nat_list_cmp_total c.make_room.new.loose.entries c.count_up.new.loose.entries c.args.key.now c.args.times c.requires.some (put c) c.make_room.ensures.parts.waits)
     (more_entry nat_list_cmp_total exact_bytes c.make_room.new.loose.entries c.count_up.new.loose.entries c.args.key.now c.args.times (put c) c.make_room.ensures.parts.waits)
     (kept_room (slice_cmp nat_cmp) _ _ c.args.key.now c.args.times c.make_room.ensures.same c.requires.room)
 
 pub returns-clause-ok : goal.returns-clause-ok
 returns-clause-ok c = λ h.
-    more_loose c.make_room.new.rising c.make_room.new.loose.entries c.count_up.new.loose.entries c.make_room.new.runs.items c.args.key.now c.args.times (more_entry nat_list_cmp_total exact_bytes c.make_room.new.loose.entries c.count_up.new.loose.entries c.args.key.now c.args.times (put c) c.make_room.ensures.parts.waits) h
+    more_loose c.make_room.new.rising c.make_room.new.loose.entries c.count_up.new.loose.entries c.make_room.new.runs.items c.args.key.now c.args.times
+    (more_entry nat_list_cmp_total exact_bytes c.make_room.new.loose.entries c.count_up.new.loose.entries c.args.key.now c.args.times (put c) c.make_room.ensures.parts.waits) h
     ∙ ap (λ (n : ℕ). c.args.times * h c.args.key.now + n) (c.make_room.ensures.same h)

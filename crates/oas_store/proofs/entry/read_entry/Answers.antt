@@ -26,12 +26,16 @@ read_number-times-requires-clause-long c =
 pub part-requires : goal.part-requires
 part-requires c =
     let some : 0 < length c.args.bytes.now = search rules in
-    (reads c.args.bytes.now c.after.result.now _ c.read_number-size.result.size c.read_number-size.result.value c.read_number-times.result.size c.read_number-times.result.value (stands c.args.bytes.now some c.requires) c.read_number-size.ensures.size c.read_number-size.ensures.value c.after.ensures c.read_number-times.ensures.size c.read_number-times.ensures.value refl).within
+    (reads c.args.bytes.now c.after.result.now _ c.read_number-size.result.size c.read_number-size.result.value c.read_number-times.result.size
+    c.read_number-times.result.value (stands c.args.bytes.now some c.requires) c.read_number-size.ensures.size c.read_number-size.ensures.value
+    c.after.ensures c.read_number-times.ensures.size c.read_number-times.ensures.value refl).within
 
 read : (c : After-part) → Reads c.args.bytes.now c.part.result.now c.read_number-times.result.value (c.read_number-size.result.size + c.read_number-times.result.size + c.read_number-size.result.value)
 read c =
     let some : 0 < length c.args.bytes.now = search rules in
-    reads c.args.bytes.now c.after.result.now c.part.result.now c.read_number-size.result.size c.read_number-size.result.value c.read_number-times.result.size c.read_number-times.result.value (stands c.args.bytes.now some c.requires) c.read_number-size.ensures.size c.read_number-size.ensures.value c.after.ensures c.read_number-times.ensures.size c.read_number-times.ensures.value c.part.ensures
+    reads c.args.bytes.now c.after.result.now c.part.result.now c.read_number-size.result.size c.read_number-size.result.value c.read_number-times.result.size
+    c.read_number-times.result.value (stands c.args.bytes.now some c.requires) c.read_number-size.ensures.size c.read_number-size.ensures.value
+    c.after.ensures c.read_number-times.ensures.size c.read_number-times.ensures.value c.part.ensures
 
 pub overflow_add-result : goal.overflow_add-result
 overflow_add-result c =

@@ -5,19 +5,28 @@ use Rattle.oas_store.proofs.PartLemmas.{two_fit, whole_same, part_same, part_run
 use Rattle.oas_store.proofs.joining.join_last.Goals as goal
 
 pub merge_all-whole-requires-clause-room : goal.merge_all-whole-requires-clause-room
-merge_all-whole-requires-clause-room c = two_fit (slice_cmp nat_cmp) c.args.runs.now.items c.pop.new.self.items c.pop-2.new.self.items c.in-Some-Some.before c.in-Some-Some.last (sym c.reserve.ensures.items ∙ c.in-Some-Some.ensures.items) c.in-Some-Some.ensures'.items c.requires.fits
+merge_all-whole-requires-clause-room c = two_fit (slice_cmp nat_cmp) c.args.runs.now.items c.pop.new.self.items c.pop-2.new.self.items c.in-Some-Some.before
+    c.in-Some-Some.last (sym c.reserve.ensures.items ∙ c.in-Some-Some.ensures.items) c.in-Some-Some.ensures'.items c.requires.fits
 
 pub returns-then-whole-clause-same : goal.returns-then-whole-clause-same
 returns-then-whole-clause-same c =
-    whole_same (slice_cmp nat_cmp) c.args.runs.now.items c.pop.new.self.items c.pop-2.new.self.items c.push_reserved.new.self.items c.in-Some-Some.before c.in-Some-Some.last c.into_run.result c.merge_all-whole.new.to c.merge_all-whole.new.left c.merge_all-whole.new.right
-    (sym c.reserve.ensures.items ∙ c.in-Some-Some.ensures.items) c.in-Some-Some.ensures'.items c.push_reserved.ensures.items c.into_run.ensures (c.merge_all-whole.ensures.left c.if-whole.true) (c.merge_all-whole.ensures.right c.if-whole.true) c.merge_all-whole.ensures.merging
+    whole_same (slice_cmp nat_cmp) c.args.runs.now.items c.pop.new.self.items c.pop-2.new.self.items c.push_reserved.new.self.items c.in-Some-Some.before
+    c.in-Some-Some.last c.into_run.result c.merge_all-whole.new.to c.merge_all-whole.new.left c.merge_all-whole.new.right
+    (sym c.reserve.ensures.items ∙ c.in-Some-Some.ensures.items) c.in-Some-Some.ensures'.items c.push_reserved.ensures.items c.into_run.ensures
+    (c.merge_all-whole.ensures.left c.if-whole.true) (c.merge_all-whole.ensures.right c.if-whole.true) c.merge_all-whole.ensures.merging
 
 pub returns-else-whole-clause-runs : goal.returns-else-whole-clause-runs
 returns-else-whole-clause-runs c =
-    part_runs (slice_cmp nat_cmp) c.args.runs.now.items c.pop.new.self.items c.pop-2.new.self.items c.push_reserved.new.self.items c.push_reserved-in-Some-Some.new.self.items c.push_reserved-in-Some-Some-2.new.self.items c.in-Some-Some.before c.in-Some-Some.last c.into_run.result c.merge_all-whole.new.to c.merge_all-whole.new.left c.merge_all-whole.new.right
-    (sym c.reserve.ensures.items ∙ c.in-Some-Some.ensures.items) c.in-Some-Some.ensures'.items c.push_reserved.ensures.items c.push_reserved-in-Some-Some.ensures.items c.push_reserved-in-Some-Some-2.ensures.items c.into_run.ensures c.merge_all-whole.ensures.merging c.requires.runs
+    part_runs (slice_cmp nat_cmp) c.args.runs.now.items c.pop.new.self.items c.pop-2.new.self.items c.push_reserved.new.self.items
+    c.push_reserved-in-Some-Some.new.self.items c.push_reserved-in-Some-Some-2.new.self.items c.in-Some-Some.before c.in-Some-Some.last c.into_run.result
+    c.merge_all-whole.new.to c.merge_all-whole.new.left c.merge_all-whole.new.right
+    (sym c.reserve.ensures.items ∙ c.in-Some-Some.ensures.items) c.in-Some-Some.ensures'.items c.push_reserved.ensures.items
+    c.push_reserved-in-Some-Some.ensures.items c.push_reserved-in-Some-Some-2.ensures.items c.into_run.ensures c.merge_all-whole.ensures.merging c.requires.runs
 
 pub returns-else-whole-clause-same : goal.returns-else-whole-clause-same
 returns-else-whole-clause-same c =
-    part_same (slice_cmp nat_cmp) c.args.runs.now.items c.pop.new.self.items c.pop-2.new.self.items c.push_reserved.new.self.items c.push_reserved-in-Some-Some.new.self.items c.push_reserved-in-Some-Some-2.new.self.items c.in-Some-Some.before c.in-Some-Some.last c.into_run.result c.merge_all-whole.new.to c.merge_all-whole.new.left c.merge_all-whole.new.right
-    (sym c.reserve.ensures.items ∙ c.in-Some-Some.ensures.items) c.in-Some-Some.ensures'.items c.push_reserved.ensures.items c.push_reserved-in-Some-Some.ensures.items c.push_reserved-in-Some-Some-2.ensures.items c.into_run.ensures c.merge_all-whole.ensures.merging
+    part_same (slice_cmp nat_cmp) c.args.runs.now.items c.pop.new.self.items c.pop-2.new.self.items c.push_reserved.new.self.items
+    c.push_reserved-in-Some-Some.new.self.items c.push_reserved-in-Some-Some-2.new.self.items c.in-Some-Some.before c.in-Some-Some.last c.into_run.result
+    c.merge_all-whole.new.to c.merge_all-whole.new.left c.merge_all-whole.new.right
+    (sym c.reserve.ensures.items ∙ c.in-Some-Some.ensures.items) c.in-Some-Some.ensures'.items c.push_reserved.ensures.items
+    c.push_reserved-in-Some-Some.ensures.items c.push_reserved-in-Some-Some-2.ensures.items c.into_run.ensures c.merge_all-whole.ensures.merging

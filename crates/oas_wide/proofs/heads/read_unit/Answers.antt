@@ -13,7 +13,8 @@ returns-in_err-unit g c =
     rw (p.1, p.2) (such_took c.in_err-unit.ensures)
 
 pub returns-then-not-is_positive : goal.returns-then-not-is_positive
-returns-then-not-is_positive g c = such_refused wide_real.found.one refl (refused_by c.is_positive.ensures c.if-not-is_positive.true) (refl, refused_by c.is_positive.ensures c.if-not-is_positive.true) c.in_ok-unit.ensures
+returns-then-not-is_positive g c = such_refused wide_real.found.one refl (refused_by c.is_positive.ensures c.if-not-is_positive.true)
+    (refl, refused_by c.is_positive.ensures c.if-not-is_positive.true) c.in_ok-unit.ensures
 
 pub returns : goal.returns
 returns g c = such_read IsPositive wide_real.any _ _ _ (allowed_by c.is_positive.ensures c.if-not-is_positive.false) c.in_ok-unit.ensures

@@ -22,7 +22,10 @@ returns-in_err-third g c =
 pub returns-in_err-fourth : goal.returns-in_err-fourth
 returns-in_err-fourth g c =
     let p = err_from_is_err_and c.from_residual-in_err-fourth.result c.from_residual-in_err-fourth.ensures.1 in
-    rw (p.1, p.2) (fails_last (at_image {took = FourTook} _ ▸ (OneFront-byte, c.in_ok-first.ensures) ▸ (OneFront-byte, c.in_ok-second.ensures) ▸ (OneFront-byte, c.in_ok-third.ensures)) c.in_err-fourth.ensures)
+    rw (p.1, p.2) (fails_last (at_image {took = FourTook} _ ▸ (OneFront-byte, c.in_ok-first.ensures) ▸ (OneFront-byte, c.in_ok-second.ensures) ▸
+    (OneFront-byte, c.in_ok-third.ensures)) c.in_err-fourth.ensures)
 
 pub returns : goal.returns
-returns g c = rw (c.from.ensures, c.from-2.ensures, c.from-3.ensures, c.from-4.ensures) (is_read (at_image {took = FourTook} _ ▸ (OneFront-byte, c.in_ok-first.ensures) ▸ (OneFront-byte, c.in_ok-second.ensures) ▸ (OneFront-byte, c.in_ok-third.ensures)) c.in_ok-fourth.ensures)
+returns g c = rw (c.from.ensures, c.from-2.ensures, c.from-3.ensures, c.from-4.ensures)
+    (is_read (at_image {took = FourTook} _ ▸ (OneFront-byte, c.in_ok-first.ensures) ▸ (OneFront-byte, c.in_ok-second.ensures) ▸
+    (OneFront-byte, c.in_ok-third.ensures)) c.in_ok-fourth.ensures)

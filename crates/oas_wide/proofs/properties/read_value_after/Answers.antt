@@ -34,15 +34,19 @@ returns-then-kind-eq9 g c = rw (c.if-kind-eq9.true) (is_read (at_image {f = sign
 pub returns-in_err-string : goal.returns-in_err-string
 returns-in_err-string g c =
     let p = err_from_is_err_and c.from_residual-in_err-string.result c.from_residual-in_err-string.ensures.1 in
-    rw (p.1, p.2) (rw (le-ltb _ _ c.if-kind-lt8.false, unequal c.if-kind-eq8.false, unequal c.if-kind-eq9.false, lt-ltb _ _ c.if-kind-lt13.true) (image_took {f = string_value} c.in_err-string.ensures))
+    rw (p.1, p.2) (rw (le-ltb _ _ c.if-kind-lt8.false, unequal c.if-kind-eq8.false, unequal c.if-kind-eq9.false, lt-ltb _ _ c.if-kind-lt13.true)
+    (image_took {f = string_value} c.in_err-string.ensures))
 
 pub returns-then-kind-lt13 : goal.returns-then-kind-lt13
-returns-then-kind-lt13 g c = rw (le-ltb _ _ c.if-kind-lt8.false, unequal c.if-kind-eq8.false, unequal c.if-kind-eq9.false, lt-ltb _ _ c.if-kind-lt13.true) (is_read (at_image {f = string_value} {took = PaddingTook} _) c.in_ok-string.ensures)
+returns-then-kind-lt13 g c = rw (le-ltb _ _ c.if-kind-lt8.false, unequal c.if-kind-eq8.false, unequal c.if-kind-eq9.false, lt-ltb _ _ c.if-kind-lt13.true)
+    (is_read (at_image {f = string_value} {took = PaddingTook} _) c.in_ok-string.ensures)
 
 pub returns-in_err-reference : goal.returns-in_err-reference
 returns-in_err-reference g c =
     let p = err_from_is_err_and c.from_residual-in_err-reference.result c.from_residual-in_err-reference.ensures.1 in
-    rw (p.1, p.2) (rw (le-ltb _ _ c.if-kind-lt8.false, unequal c.if-kind-eq8.false, unequal c.if-kind-eq9.false, le-ltb _ _ c.if-kind-lt13.false) (image_took {f = reference_value} c.in_err-reference.ensures))
+    rw (p.1, p.2) (rw (le-ltb _ _ c.if-kind-lt8.false, unequal c.if-kind-eq8.false, unequal c.if-kind-eq9.false, le-ltb _ _ c.if-kind-lt13.false)
+    (image_took {f = reference_value} c.in_err-reference.ensures))
 
 pub returns : goal.returns
-returns g c = rw (le-ltb _ _ c.if-kind-lt8.false, unequal c.if-kind-eq8.false, unequal c.if-kind-eq9.false, le-ltb _ _ c.if-kind-lt13.false) (is_read (at_image {f = reference_value} {took = IntegerMay} _) c.in_ok-reference.ensures)
+returns g c = rw (le-ltb _ _ c.if-kind-lt8.false, unequal c.if-kind-eq8.false, unequal c.if-kind-eq9.false, le-ltb _ _ c.if-kind-lt13.false)
+    (is_read (at_image {f = reference_value} {took = IntegerMay} _) c.in_ok-reference.ensures)

@@ -12,7 +12,8 @@ returns-in_err-bits g c =
     rw (p.1, p.2) (image_took (such_took c.in_err-bits.ensures))
 
 pub returns-then-exponent-eq2047 : goal.returns-then-exponent-eq2047
-returns-then-exponent-eq2047 g c = image_took (such_refused eight.found.one refl (λ lt. omega (arith, lt, c.if-exponent-eq2047.true)) (refl, λ lt. omega (arith, lt, c.if-exponent-eq2047.true)) c.in_ok-bits.ensures)
+returns-then-exponent-eq2047 g c = image_took
+    (such_refused eight.found.one refl (λ lt. omega (arith, lt, c.if-exponent-eq2047.true)) (refl, λ lt. omega (arith, lt, c.if-exponent-eq2047.true)) c.in_ok-bits.ensures)
 
 pub returns : goal.returns
 returns g c = rw c.float_of.ensures (is_read (at_image {took = double.took} _) (such_read IsFiniteDouble eight.any _ _ _ (omega (arith, c.if-exponent-eq2047.false)) c.in_ok-bits.ensures))

@@ -12,7 +12,9 @@ returns-in_err-bits g c =
     rw (p.1, p.2) (image_took (such_took c.in_err-bits.ensures))
 
 pub returns-then-exponent-eq255 : goal.returns-then-exponent-eq255
-returns-then-exponent-eq255 g c = image_took (such_refused four.found.one refl (λ lt. omega (arith, lt, c.if-exponent-eq255.true)) (refl, λ lt. omega (arith, lt, c.if-exponent-eq255.true)) c.in_ok-bits.ensures)
+returns-then-exponent-eq255 g c = image_took
+    (such_refused four.found.one refl (λ lt. omega (arith, lt, c.if-exponent-eq255.true)) (refl, λ lt. omega (arith, lt, c.if-exponent-eq255.true)) c.in_ok-bits.ensures)
 
 pub returns : goal.returns
-returns g c = rw (c.float_of.ensures, c.from.ensures) (is_read (at_image {took = single.took} _) (such_read IsFiniteSingle four.any _ _ _ (omega (arith, c.if-exponent-eq255.false)) c.in_ok-bits.ensures))
+returns g c = rw (c.float_of.ensures, c.from.ensures)
+    (is_read (at_image {took = single.took} _) (such_read IsFiniteSingle four.any _ _ _ (omega (arith, c.if-exponent-eq255.false)) c.in_ok-bits.ensures))

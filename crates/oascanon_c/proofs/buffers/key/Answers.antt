@@ -12,7 +12,8 @@ returns-in-Err c = (
   (
     c.in-Some.limits,
     c.in-Some.ensures.limits,
-    refused_for {limits = c.in-Some.limits} {bytes = c.args.bytes.now} c.in-Err.refusal (rw (c.new-source.ensures, c.input.ensures) at c.in-Err.ensures.refused) (rw (c.new-source.ensures, c.input.ensures) at c.in-Err.ensures.placed) (rw (c.new-source.ensures, c.input.ensures) at c.in-Err.ensures.decided),
+    refused_for {limits = c.in-Some.limits} {bytes = c.args.bytes.now} c.in-Err.refusal (rw (c.new-source.ensures, c.input.ensures) at c.in-Err.ensures.refused)
+        (rw (c.new-source.ensures, c.input.ensures) at c.in-Err.ensures.placed) (rw (c.new-source.ensures, c.input.ensures) at c.in-Err.ensures.decided),
   ),
   refl,
 )

@@ -13,6 +13,7 @@ returns-in-Ok g c =
       answer_after {T = Contents} c.in-Ok.layout written,
       done {T = Contents} c.in-Ok.layout written _ c.conclude.ensures.answers,
       found,
-      delivers {T = Contents} c.in-Ok.layout g.W.Write.contents (λ (l : Contents). cell_key_lines (meaning_of l)) written c.args.out.now c.write_cell_keys-written.new.writer wrote.written wrote.refused,
+      delivers {T = Contents} c.in-Ok.layout g.W.Write.contents (λ (l : Contents). cell_key_lines (meaning_of l)) written c.args.out.now
+          c.write_cell_keys-written.new.writer wrote.written wrote.refused,
       tells {T = Contents} c.in-Ok.layout g.K.Sink.given g.K.Sink.failures c.args.name.now c.args.told.now written c.conclude.new.told c.conclude.ensures.ends,
     )

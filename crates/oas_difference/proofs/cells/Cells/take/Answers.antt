@@ -12,7 +12,8 @@ returns-in-Equal-clause-elements c =
     let i = c.self.inside.next in
     let first = c.cell_name-first.result.now in
     let order : c.cmp.result ≡ slice_cmp nat_cmp c.args.name.now first = c.cmp.ensures ∙ (λ j. slice_cmp nat_cmp (c.as_bytes.ensures.bytes j) (c.as_bytes-2.ensures.bytes j)) in
-    let is = cell_tied c.args.name.now first c.elements-elements.result c.args.self.now (drop (suc i) cs) (sym c.self.view_is ∙ cells_at cs i first c.elements-elements.result c.cell_name-first.ensures c.elements-elements.ensures.pairs) (sym order ∙ c.in-Equal.is) in
+    let is = cell_tied c.args.name.now first c.elements-elements.result c.args.self.now (drop (suc i) cs)
+    (sym c.self.view_is ∙ cells_at cs i first c.elements-elements.result c.cell_name-first.ensures c.elements-elements.ensures.pairs) (sym order ∙ c.in-Equal.is) in
     sym (ap (λ (t : Option (List (Element × ℕ)) × List Cell). t.0) is)
 
 pub returns-in-Equal-clause-rest : goal.returns-in-Equal-clause-rest
@@ -21,7 +22,8 @@ returns-in-Equal-clause-rest c =
     let i = c.self.inside.next in
     let first = c.cell_name-first.result.now in
     let order : c.cmp.result ≡ slice_cmp nat_cmp c.args.name.now first = c.cmp.ensures ∙ (λ j. slice_cmp nat_cmp (c.as_bytes.ensures.bytes j) (c.as_bytes-2.ensures.bytes j)) in
-    let is = cell_tied c.args.name.now first c.elements-elements.result c.args.self.now (drop (suc i) cs) (sym c.self.view_is ∙ cells_at cs i first c.elements-elements.result c.cell_name-first.ensures c.elements-elements.ensures.pairs) (sym order ∙ c.in-Equal.is) in
+    let is = cell_tied c.args.name.now first c.elements-elements.result c.args.self.now (drop (suc i) cs)
+    (sym c.self.view_is ∙ cells_at cs i first c.elements-elements.result c.cell_name-first.ensures c.elements-elements.ensures.pairs) (sym order ∙ c.in-Equal.is) in
     let moved : drop (i + 1) cs ≡ drop (suc i) cs = ap (λ (n : ℕ). drop n cs) (add-one i) in
     moved ∙ sym (ap (λ (t : Option (List (Element × ℕ)) × List Cell). t.1) is)
 

@@ -12,5 +12,6 @@ add-requires-clause-room c =
 
 pub invariant_of-self-2 : goal.invariant_of-self-2
 invariant_of-self-2 c =
-    ArePlain-more c.self.inside.bag _ c.self.inside.count c.self.inside.weight c.args.element c.args.times _ c.self.invariant c.in_default.ensures.ok c.in_default.ensures.tally c.requires.plain (record { points = c.requires.points; inside = c.requires.inside; fits = c.fits.ensures })
+    ArePlain-more c.self.inside.bag _ c.self.inside.count c.self.inside.weight c.args.element c.args.times _ c.self.invariant c.in_default.ensures.ok
+    c.in_default.ensures.tally c.requires.plain (record { points = c.requires.points; inside = c.requires.inside; fits = c.fits.ensures })
     (c.product-weight.ensures.product ∙ ap (λ (k : ℕ). k * c.args.times) c.weight.ensures) c.product-weight.ensures.light

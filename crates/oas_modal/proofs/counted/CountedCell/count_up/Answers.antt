@@ -8,7 +8,8 @@ pub invariant_of-self-2 : goal.invariant_of-self-2
 invariant_of-self-2 c =
     elim c.match-drawn.branch [
       | in-Named w ↦
-          subst (λ s. (total (λ _. 1) s.placed ≤ s.count + c.args.times) × (total (λ _. 1) s.written ≤ s.count + c.args.times)) (sym w.self-inside-is) (omega (arith, c.self.invariant.0), omega (arith, c.self.invariant.1))
+          subst (λ s. (total (λ _. 1) s.placed ≤ s.count + c.args.times) × (total (λ _. 1) s.written ≤ s.count + c.args.times)) (sym w.self-inside-is)
+          (omega (arith, c.self.invariant.0), omega (arith, c.self.invariant.1))
       | in-PlacementBy+in_ok-add-in-PlacementBy w ↦
           subst (λ s. (total (λ _. 1) s.placed ≤ s.count + c.args.times) × (total (λ _. 1) s.written ≤ s.count + c.args.times)) (sym w.self-inside-is) (
             subst (λ (ps : List (ℕ × ℕ)). total (λ _. 1) ps ≤ c.self.inside.count + c.args.times) (sym w.in_ok-add-in-PlacementBy.ensures.ok) (few_more _ _ _ _ c.self.invariant.0),

@@ -14,7 +14,8 @@ more c =
 
 pub invariant_of-self-2 : goal.invariant_of-self-2
 invariant_of-self-2 c =
-    let within : c.self.inside.start ≤ length c.push_entry.new.bytes.items = omega (arith, c.self.invariant.0, ap length c.in_ok-push_entry.ensures.ok, length-append c.self.inside.bytes.items (entry_bytes (c.args.key.now, c.args.times))) in
+    let within : c.self.inside.start ≤ length c.push_entry.new.bytes.items =
+    omega (arith, c.self.invariant.0, ap length c.in_ok-push_entry.ensures.ok, length-append c.self.inside.bytes.items (entry_bytes (c.args.key.now, c.args.times))) in
     (within, (more c).block)
 
 pub returns-clause-ok : goal.returns-clause-ok

@@ -7,4 +7,9 @@ use Rattle.oas_store.specs.Laws.CountLaws.{count_at-more}
 use Rattle.oas_store.proofs.tests.orders.filled.Goals as goal
 
 pub loop-k-preserved : goal.loop-k-preserved
-loop-k-preserved c = λ q. omega (arith, c.loop-k.invariant q, ap {B = ℕ} (λ (es : List Entry). count_at (slice_cmp nat_cmp) es q) c.in_ok-insist.ensures, count_at-more (slice_cmp nat_cmp) c.loop-k.store c.to_be_bytes-key.result 1 q)
+loop-k-preserved c = λ q. omega (
+  arith,
+  c.loop-k.invariant q,
+  ap {B = ℕ} (λ (es : List Entry). count_at (slice_cmp nat_cmp) es q) c.in_ok-insist.ensures,
+  count_at-more (slice_cmp nat_cmp) c.loop-k.store c.to_be_bytes-key.result 1 q,
+)

@@ -13,12 +13,16 @@ returns-in_err-scheme g c =
     rw (p.1, p.2) (fails_at (at_image {took = ValidationTook} _) (such_took c.in_err-scheme.ensures))
 
 pub returns-then-scheme-gt2 : goal.returns-then-scheme-gt2
-returns-then-scheme-gt2 g c = fails_at (at_image {took = ValidationTook} _) (such_refused OneFront-IsUnsigned refl (λ lt. omega (arith, lt, c.if-scheme-gt2.true)) (refl, λ lt. omega (arith, lt, c.if-scheme-gt2.true)) c.in_ok-scheme.ensures)
+returns-then-scheme-gt2 g c = fails_at (at_image {took = ValidationTook} _)
+    (such_refused OneFront-IsUnsigned refl (λ lt. omega (arith, lt, c.if-scheme-gt2.true)) (refl, λ lt. omega (arith, lt, c.if-scheme-gt2.true)) c.in_ok-scheme.ensures)
 
 pub returns-in_err-signature : goal.returns-in_err-signature
 returns-in_err-signature g c =
     let p = err_from_is_err_and c.from_residual-in_err-signature.result c.from_residual-in_err-signature.ensures.1 in
-    rw (p.1, p.2) (fails_last (at_image {took = ValidationTook} _ ▸ (scheme.found.one, such_read IsScheme IsUnsigned _ _ _ (omega (arith, c.if-scheme-gt2.false)) c.in_ok-scheme.ensures)) c.in_err-signature.ensures)
+    rw (p.1, p.2) (fails_last (at_image {took = ValidationTook} _ ▸
+    (scheme.found.one, such_read IsScheme IsUnsigned _ _ _ (omega (arith, c.if-scheme-gt2.false)) c.in_ok-scheme.ensures)) c.in_err-signature.ensures)
 
 pub returns : goal.returns
-returns g c = rw c.validation_of.ensures (is_read (at_image {took = ValidationTook} _ ▸ (scheme.found.one, such_read IsScheme IsUnsigned _ _ _ (omega (arith, c.if-scheme-gt2.false)) c.in_ok-scheme.ensures)) c.in_ok-signature.ensures)
+returns g c = rw c.validation_of.ensures
+    (is_read (at_image {took = ValidationTook} _ ▸
+    (scheme.found.one, such_read IsScheme IsUnsigned _ _ _ (omega (arith, c.if-scheme-gt2.false)) c.in_ok-scheme.ensures)) c.in_ok-signature.ensures)

@@ -18,7 +18,8 @@ returns-in_err-read g c =
 pub returns-in_err-validation : goal.returns-in_err-validation
 returns-in_err-validation g c =
     let p = err_from_is_err_and c.from_residual-in_err-validation.result c.from_residual-in_err-validation.ensures.1 in
-    rw (p.1, p.2) (fails_last (at_image {took = WideEndTook c.args.in_end} _ ▸ (OneFront-offsets_if _, c.in_ok-pass_offsets_if.ensures) ▸ (OneFront-padding, c.in_ok-read.ensures)) c.in_err-validation.ensures)
+    rw (p.1, p.2) (fails_last (at_image {took = WideEndTook c.args.in_end} _ ▸ (OneFront-offsets_if _, c.in_ok-pass_offsets_if.ensures) ▸
+    (OneFront-padding, c.in_ok-read.ensures)) c.in_err-validation.ensures)
 
 pub returns : goal.returns
 returns g c = is_read (at_image {took = WideEndTook c.args.in_end} _ ▸ (OneFront-offsets_if _, c.in_ok-pass_offsets_if.ensures) ▸ (OneFront-padding, c.in_ok-read.ensures)) c.in_ok-validation.ensures

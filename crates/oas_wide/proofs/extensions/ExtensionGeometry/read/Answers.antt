@@ -25,17 +25,21 @@ returns-in_err-attribute g c =
 pub returns-in_err-layers : goal.returns-in_err-layers
 returns-in_err-layers g c =
     let p = err_from_is_err_and c.from_residual-in_err-layers.result c.from_residual-in_err-layers.ensures.1 in
-    rw (p.1, p.2) (fails_at (info_read {took = λ info. (geometry_parts info).took} (omega (arith, c.if-info-ge32.false)) c.in_ok-info.ensures ▸ (OneFront-IsUnsigned, c.in_ok-attribute.ensures)) c.in_err-layers.ensures)
+    rw (p.1, p.2) (fails_at (info_read {took = λ info. (geometry_parts info).took} (omega (arith, c.if-info-ge32.false)) c.in_ok-info.ensures ▸
+    (OneFront-IsUnsigned, c.in_ok-attribute.ensures)) c.in_err-layers.ensures)
 
 pub returns-in_err-string : goal.returns-in_err-string
 returns-in_err-string g c =
     let p = err_from_is_err_and c.from_residual-in_err-string.result c.from_residual-in_err-string.ensures.1 in
-    rw (p.1, p.2) (fails_at (info_read {took = λ info. (geometry_parts info).took} (omega (arith, c.if-info-ge32.false)) c.in_ok-info.ensures ▸ (OneFront-IsUnsigned, c.in_ok-attribute.ensures) ▸ (OneFront-layers Any _, c.in_ok-layers.ensures)) c.in_err-string.ensures)
+    rw (p.1, p.2) (fails_at (info_read {took = λ info. (geometry_parts info).took} (omega (arith, c.if-info-ge32.false)) c.in_ok-info.ensures ▸
+    (OneFront-IsUnsigned, c.in_ok-attribute.ensures) ▸ (OneFront-layers Any _, c.in_ok-layers.ensures)) c.in_err-string.ensures)
 
 pub returns-in_err-spot : goal.returns-in_err-spot
 returns-in_err-spot g c =
     let p = err_from_is_err_and c.from_residual-in_err-spot.result c.from_residual-in_err-spot.ensures.1 in
-    rw (p.1, p.2) (fails_last (info_read {took = λ info. (geometry_parts info).took} (omega (arith, c.if-info-ge32.false)) c.in_ok-info.ensures ▸ (OneFront-IsUnsigned, c.in_ok-attribute.ensures) ▸ (OneFront-layers Any _, c.in_ok-layers.ensures) ▸ (OneFront-padding, c.in_ok-string.ensures)) c.in_err-spot.ensures)
+    rw (p.1, p.2) (fails_last (info_read {took = λ info. (geometry_parts info).took} (omega (arith, c.if-info-ge32.false)) c.in_ok-info.ensures ▸
+    (OneFront-IsUnsigned, c.in_ok-attribute.ensures) ▸ (OneFront-layers Any _, c.in_ok-layers.ensures) ▸ (OneFront-padding, c.in_ok-string.ensures)) c.in_err-spot.ensures)
 
 pub returns : goal.returns
-returns g c = is_read (info_read {took = λ info. (geometry_parts info).took} (omega (arith, c.if-info-ge32.false)) c.in_ok-info.ensures ▸ (OneFront-IsUnsigned, c.in_ok-attribute.ensures) ▸ (OneFront-layers Any _, c.in_ok-layers.ensures) ▸ (OneFront-padding, c.in_ok-string.ensures)) c.in_ok-spot.ensures
+returns g c = is_read (info_read {took = λ info. (geometry_parts info).took} (omega (arith, c.if-info-ge32.false)) c.in_ok-info.ensures ▸
+    (OneFront-IsUnsigned, c.in_ok-attribute.ensures) ▸ (OneFront-layers Any _, c.in_ok-layers.ensures) ▸ (OneFront-padding, c.in_ok-string.ensures)) c.in_ok-spot.ensures

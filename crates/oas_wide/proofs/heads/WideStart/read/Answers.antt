@@ -25,20 +25,32 @@ returns-in_err-read_version g c =
 pub returns-in_err-unit : goal.returns-in_err-unit
 returns-in_err-unit g c =
     let p = err_from_is_err_and c.from_residual-in_err-unit.result c.from_residual-in_err-unit.ensures.1 in
-    rw (p.1, p.2) (fails_at (at_image {took = WideStartTook} _ ▸ (start_id.found.one, such_read (IsNumber 1) IsUnsigned _ _ _ c.if-id-ne1.false c.in_ok-id.ensures) ▸ (version_kind.found.one, c.in_ok-read_version.ensures)) c.in_err-unit.ensures)
+    rw (p.1, p.2) (fails_at (at_image {took = WideStartTook} _ ▸
+    (start_id.found.one, such_read (IsNumber 1) IsUnsigned _ _ _ c.if-id-ne1.false c.in_ok-id.ensures) ▸
+    (version_kind.found.one, c.in_ok-read_version.ensures)) c.in_err-unit.ensures)
 
 pub returns-in_err-flag : goal.returns-in_err-flag
 returns-in_err-flag g c =
     let p = err_from_is_err_and c.from_residual-in_err-flag.result c.from_residual-in_err-flag.ensures.1 in
-    rw (p.1, p.2) (fails_at (at_image {took = WideStartTook} _ ▸ (start_id.found.one, such_read (IsNumber 1) IsUnsigned _ _ _ c.if-id-ne1.false c.in_ok-id.ensures) ▸ (version_kind.found.one, c.in_ok-read_version.ensures) ▸ (unit_kind.found.one, c.in_ok-unit.ensures)) (such_took c.in_err-flag.ensures))
+    rw (p.1, p.2) (fails_at (at_image {took = WideStartTook} _ ▸
+    (start_id.found.one, such_read (IsNumber 1) IsUnsigned _ _ _ c.if-id-ne1.false c.in_ok-id.ensures) ▸
+    (version_kind.found.one, c.in_ok-read_version.ensures) ▸ (unit_kind.found.one, c.in_ok-unit.ensures)) (such_took c.in_err-flag.ensures))
 
 pub returns-then-flag-gt1 : goal.returns-then-flag-gt1
-returns-then-flag-gt1 g c = fails_at (at_image {took = WideStartTook} _ ▸ (start_id.found.one, such_read (IsNumber 1) IsUnsigned _ _ _ c.if-id-ne1.false c.in_ok-id.ensures) ▸ (version_kind.found.one, c.in_ok-read_version.ensures) ▸ (unit_kind.found.one, c.in_ok-unit.ensures)) (such_refused OneFront-IsUnsigned refl (λ lt. omega (arith, lt, c.if-flag-gt1.true)) (refl, λ lt. omega (arith, lt, c.if-flag-gt1.true)) c.in_ok-flag.ensures)
+returns-then-flag-gt1 g c = fails_at (at_image {took = WideStartTook} _ ▸
+    (start_id.found.one, such_read (IsNumber 1) IsUnsigned _ _ _ c.if-id-ne1.false c.in_ok-id.ensures) ▸ (version_kind.found.one, c.in_ok-read_version.ensures)
+    ▸ (unit_kind.found.one, c.in_ok-unit.ensures))
+    (such_refused OneFront-IsUnsigned refl (λ lt. omega (arith, lt, c.if-flag-gt1.true)) (refl, λ lt. omega (arith, lt, c.if-flag-gt1.true)) c.in_ok-flag.ensures)
 
 pub returns-in_err-pass_offsets_if : goal.returns-in_err-pass_offsets_if
 returns-in_err-pass_offsets_if g c =
     let p = err_from_is_err_and c.from_residual-in_err-pass_offsets_if.result c.from_residual-in_err-pass_offsets_if.ensures.1 in
-    rw (p.1, p.2) (fails_last (at_image {took = WideStartTook} _ ▸ (start_id.found.one, such_read (IsNumber 1) IsUnsigned _ _ _ c.if-id-ne1.false c.in_ok-id.ensures) ▸ (version_kind.found.one, c.in_ok-read_version.ensures) ▸ (unit_kind.found.one, c.in_ok-unit.ensures) ▸ (flag_kind.found.one, such_read IsFlag IsUnsigned _ _ _ (omega (arith, c.if-flag-gt1.false)) c.in_ok-flag.ensures)) c.in_err-pass_offsets_if.ensures)
+    rw (p.1, p.2) (fails_last (at_image {took = WideStartTook} _ ▸
+    (start_id.found.one, such_read (IsNumber 1) IsUnsigned _ _ _ c.if-id-ne1.false c.in_ok-id.ensures) ▸
+    (version_kind.found.one, c.in_ok-read_version.ensures) ▸ (unit_kind.found.one, c.in_ok-unit.ensures) ▸
+    (flag_kind.found.one, such_read IsFlag IsUnsigned _ _ _ (omega (arith, c.if-flag-gt1.false)) c.in_ok-flag.ensures)) c.in_err-pass_offsets_if.ensures)
 
 pub returns : goal.returns
-returns g c = is_read (at_image {took = WideStartTook} _ ▸ (start_id.found.one, such_read (IsNumber 1) IsUnsigned _ _ _ c.if-id-ne1.false c.in_ok-id.ensures) ▸ (version_kind.found.one, c.in_ok-read_version.ensures) ▸ (unit_kind.found.one, c.in_ok-unit.ensures) ▸ (flag_kind.found.one, such_read IsFlag IsUnsigned _ _ _ (omega (arith, c.if-flag-gt1.false)) c.in_ok-flag.ensures)) c.in_ok-pass_offsets_if.ensures
+returns g c = is_read (at_image {took = WideStartTook} _ ▸ (start_id.found.one, such_read (IsNumber 1) IsUnsigned _ _ _ c.if-id-ne1.false c.in_ok-id.ensures) ▸
+    (version_kind.found.one, c.in_ok-read_version.ensures) ▸ (unit_kind.found.one, c.in_ok-unit.ensures) ▸
+    (flag_kind.found.one, such_read IsFlag IsUnsigned _ _ _ (omega (arith, c.if-flag-gt1.false)) c.in_ok-flag.ensures)) c.in_ok-pass_offsets_if.ensures

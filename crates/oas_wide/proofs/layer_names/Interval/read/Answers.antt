@@ -14,17 +14,25 @@ returns-in_err-kind g c =
     rw (p.1, p.2) (fails_at (at_image {took = IntervalTook} _) (such_took c.in_err-kind.ensures))
 
 pub returns-then-kind-ge5 : goal.returns-then-kind-ge5
-returns-then-kind-ge5 g c = fails_at (at_image {took = IntervalTook} _) (such_refused OneFront-IsUnsigned refl (λ lt. omega (arith, lt, c.if-kind-ge5.true)) (refl, λ lt. omega (arith, lt, c.if-kind-ge5.true)) c.in_ok-kind.ensures)
+returns-then-kind-ge5 g c = fails_at (at_image {took = IntervalTook} _)
+    (such_refused OneFront-IsUnsigned refl (λ lt. omega (arith, lt, c.if-kind-ge5.true)) (refl, λ lt. omega (arith, lt, c.if-kind-ge5.true)) c.in_ok-kind.ensures)
 
 pub returns-in_err-first : goal.returns-in_err-first
 returns-in_err-first g c =
     let p = err_from_is_err_and c.from_residual-in_err-first.result c.from_residual-in_err-first.ensures.1 in
-    rw (p.1, p.2) (fails_at (at_image {took = IntervalTook} _ ▸ (interval_type.found.one, such_read IsIntervalType IsUnsigned _ _ _ (omega (arith, c.if-kind-ge5.false)) c.in_ok-kind.ensures)) (number_took _ c.in_err-first.ensures))
+    rw (p.1, p.2) (fails_at (at_image {took = IntervalTook} _ ▸
+    (interval_type.found.one, such_read IsIntervalType IsUnsigned _ _ _ (omega (arith, c.if-kind-ge5.false)) c.in_ok-kind.ensures)) (number_took _ c.in_err-first.ensures))
 
 pub returns-in_err-second : goal.returns-in_err-second
 returns-in_err-second g c =
     let p = err_from_is_err_and c.from_residual-in_err-second.result c.from_residual-in_err-second.ensures.1 in
-    rw (p.1, p.2) (fails_last (at_image {took = IntervalTook} _ ▸ (interval_type.found.one, such_read IsIntervalType IsUnsigned _ _ _ (omega (arith, c.if-kind-ge5.false)) c.in_ok-kind.ensures) ▸ (OneFront-number_if _, c.in_ok-first.ensures)) (number_took _ c.in_err-second.ensures))
+    rw (p.1, p.2) (fails_last (at_image {took = IntervalTook} _ ▸
+    (interval_type.found.one, such_read IsIntervalType IsUnsigned _ _ _ (omega (arith, c.if-kind-ge5.false)) c.in_ok-kind.ensures) ▸
+    (OneFront-number_if _, c.in_ok-first.ensures)) (number_took _ c.in_err-second.ensures))
 
 pub returns : goal.returns
-returns g c = rw c.interval_by.ensures (is_read (at_image {took = IntervalTook} _ ▸ (interval_type.found.one, such_read IsIntervalType IsUnsigned _ _ _ (omega (arith, c.if-kind-ge5.false)) c.in_ok-kind.ensures) ▸ (OneFront-number_if _, c.in_ok-first.ensures)) c.in_ok-second.ensures)
+returns g c = rw c.interval_by.ensures (is_read
+    (at_image {took = IntervalTook} _ ▸ (
+      interval_type.found.one,
+      such_read IsIntervalType IsUnsigned _ _ _ (omega (arith, c.if-kind-ge5.false)) c.in_ok-kind.ensures,
+    ) ▸ (OneFront-number_if _, c.in_ok-first.ensures)) c.in_ok-second.ensures)

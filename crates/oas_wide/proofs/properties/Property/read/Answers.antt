@@ -22,7 +22,9 @@ returns-in_err-name g c =
 pub returns-in_err-values : goal.returns-in_err-values
 returns-in_err-values g c =
     let p = err_from_is_err_and c.from_residual-in_err-values.result c.from_residual-in_err-values.ensures.1 in
-    rw (p.1, p.2) (fails_last (info_read {took = λ info. (property_parts info).took} (allowed_by c.is_property_info.ensures c.if-not-is_property_info.false) c.in_ok-info.ensures ▸ ((there _ (property_name _)).found.one, c.in_ok-name.ensures)) c.in_err-values.ensures)
+    rw (p.1, p.2) (fails_last (info_read {took = λ info. (property_parts info).took} (allowed_by c.is_property_info.ensures c.if-not-is_property_info.false)
+    c.in_ok-info.ensures ▸ ((there _ (property_name _)).found.one, c.in_ok-name.ensures)) c.in_err-values.ensures)
 
 pub returns : goal.returns
-returns g c = is_read (info_read {took = λ info. (property_parts info).took} (allowed_by c.is_property_info.ensures c.if-not-is_property_info.false) c.in_ok-info.ensures ▸ ((there _ (property_name _)).found.one, c.in_ok-name.ensures)) c.in_ok-values.ensures
+returns g c = is_read (info_read {took = λ info. (property_parts info).took} (allowed_by c.is_property_info.ensures c.if-not-is_property_info.false)
+    c.in_ok-info.ensures ▸ ((there _ (property_name _)).found.one, c.in_ok-name.ensures)) c.in_ok-values.ensures

@@ -13,12 +13,14 @@ returns-in_err-kind g c =
     rw (p.1, p.2) (fails_at (at_image {took = ValueTook} _) (such_took c.in_err-kind.ensures))
 
 pub returns-then-kind-ge16 : goal.returns-then-kind-ge16
-returns-then-kind-ge16 g c = fails_at (at_image {took = ValueTook} _) (such_refused OneFront-IsUnsigned refl (λ lt. omega (arith, lt, c.if-kind-ge16.true)) (refl, λ lt. omega (arith, lt, c.if-kind-ge16.true)) c.in_ok-kind.ensures)
+returns-then-kind-ge16 g c = fails_at (at_image {took = ValueTook} _)
+    (such_refused OneFront-IsUnsigned refl (λ lt. omega (arith, lt, c.if-kind-ge16.true)) (refl, λ lt. omega (arith, lt, c.if-kind-ge16.true)) c.in_ok-kind.ensures)
 
 pub returns-in_err-value : goal.returns-in_err-value
 returns-in_err-value g c =
     let p = err_from_is_err_and c.from_residual-in_err-value.result c.from_residual-in_err-value.ensures.1 in
-    rw (p.1, p.2) (fails_last (at_image {took = ValueTook} _ ▸ (value_type.found.one, such_read IsValueType IsUnsigned _ _ _ (omega (arith, c.if-kind-ge16.false)) c.in_ok-kind.ensures)) c.in_err-value.ensures)
+    rw (p.1, p.2) (fails_last (at_image {took = ValueTook} _ ▸
+    (value_type.found.one, such_read IsValueType IsUnsigned _ _ _ (omega (arith, c.if-kind-ge16.false)) c.in_ok-kind.ensures)) c.in_err-value.ensures)
 
 pub returns : goal.returns
 returns g c = is_read (at_image {took = ValueTook} _ ▸ (value_type.found.one, such_read IsValueType IsUnsigned _ _ _ (omega (arith, c.if-kind-ge16.false)) c.in_ok-kind.ensures)) c.in_ok-value.ensures

@@ -1,0 +1,278 @@
+//! What records draw one after another, as the copies of the latest show it.
+
+ghost use Rattle.std.specs.Prelude.{◌≡◌, None, Some};
+
+use oas_drawing::{Drawn, Kind, ModalVariables};
+use oas_layout::{Element, Limits, Turns};
+use oas_num::{Real, SliceSource, Why};
+use oas_record::{CellRef, Circle, Extension, Extensions, Path, Placement, Rectangle, Spot, Turn};
+use oas_ring::{Point, Points};
+use oas_shape::{ListUse, PointList, RepField, Repetition};
+use std::alloc::{AllocError, Global};
+use std::process::Abort;
+use std::test::Fail;
+
+/// A place with no repetition.
+fn at(x: Option<i64>, y: Option<i64>) -> Spot
+    ensures { result ≡ record { x = x; y = y; repetition = None } }
+{
+    Spot {
+        x,
+        y,
+        repetition: None,
+    }
+}
+
+/// A rectangle of layer 1 with all its fields.
+fn full(width: u64, height: u64, spot: Spot) -> Rectangle
+    ensures { result.spot ≡ spot }
+{
+    Rectangle {
+        square: false,
+        layer: Some(1),
+        datatype: Some(0),
+        width: Some(width),
+        height: Some(height),
+        spot,
+    }
+}
+
+/// A rectangle, or a square, with no field but its place.
+fn bare(square: bool, spot: Spot) -> Rectangle
+    ensures { result.spot ≡ spot }
+{
+    Rectangle {
+        square,
+        layer: None,
+        datatype: None,
+        width: None,
+        height: None,
+        spot,
+    }
+}
+
+/// A path of layer 1 and no other field but these and its half-width.
+fn path(
+    points: Option<PointList>,
+    half_width: u64,
+    extensions: Option<Extensions>,
+    spot: Spot,
+) -> Path
+    ensures { result.spot ≡ spot }
+{
+    Path {
+        layer: Some(1),
+        datatype: Some(0),
+        half_width: Some(half_width),
+        extensions,
+        points,
+        spot,
+    }
+}
+
+/// The last copy of an element.
+fn last_copy(
+    alloc: Global,
+    modal: &ModalVariables,
+    kind: Kind,
+    repeated: bool,
+) -> Result<Drawn, Why> {
+    let number = modal.copies(kind, repeated, Limits::standard(), 0, 0)?;
+    if number == 0 || number > 1000 {
+        return Err(Why::TooManyElements);
+    }
+    modal.copy(alloc, kind, repeated, number - 1)
+}
+
+/// Whether the rectangle that was drawn last is of layer 1, of this size, and there.
+fn gives(alloc: Global, modal: &ModalVariables, width: u64, height: u64, x: i64, y: i64) -> bool {
+    let wanted = Element::rectangle(1, 0, width, height, x, y);
+    last_copy(alloc, modal, Kind::Rectangle, false) == Ok(Drawn::Named(wanted))
+}
+
+#[test]
+fn squares(rt: HostRuntime) {
+    let mut modal = ModalVariables::new();
+    modal.draw_rectangle(full(10, 20, at(Some(0), Some(0))));
+    assert!(rt; gives(rt.alloc(), &modal, 10, 20, 0, 0));
+    modal.draw_rectangle(bare(true, at(Some(20), None)));
+    assert!(rt; gives(rt.alloc(), &modal, 10, 10, 20, 0));
+    modal.draw_rectangle(bare(false, at(None, Some(30))));
+    assert!(rt; gives(rt.alloc(), &modal, 10, 10, 20, 30));
+}
+
+/// The list of a path that goes 10 to the east.
+fn eastward(alloc: Global) -> Result<PointList, Fail> {
+    let mut source = SliceSource::new(b"\x04\x01\x29\x00", 10);
+    Ok(PointList::read(alloc, &mut source, ListUse::Path)?)
+}
+
+/// The path that goes 10 to the east from there.
+fn line(
+    alloc: Global,
+    half_width: u64,
+    start: i64,
+    end: i64,
+    from: Point,
+) -> Result<Element, AllocError> {
+    let mut points = Vec::new(alloc);
+    points.push(from)?;
+    points.push(Point {
+        x: from.x.saturating_add(10),
+        y: from.y,
+    })?;
+    let points = Points::new(points);
+    Ok(Element::path(1, 0, half_width, start, end, points))
+}
+
+#[test]
+fn extensions(rt: HostRuntime) -> Result<(), Fail> {
+    let alloc = rt.alloc();
+    let mut modal = ModalVariables::new();
+    let both = Extensions {
+        start: Extension::Half,
+        end: Extension::Explicit(-3),
+    };
+    let points = eastward(alloc)?;
+    modal.draw_path(path(Some(points), 5, Some(both), at(Some(0), Some(0))));
+    modal.draw_path(path(None, 9, None, at(None, Some(20))));
+    let wanted = line(alloc, 9, 5, -3, Point { x: 0, y: 20 })?;
+    assert!(rt; last_copy(alloc, &modal, Kind::Path, false) == Ok(Drawn::Named(wanted)));
+    modal.begin_cell();
+    let points = eastward(alloc)?;
+    modal.draw_path(path(Some(points), 9, None, at(None, None)));
+    assert!(rt; last_copy(alloc, &modal, Kind::Path, false) == Err(Why::ModalUndefined));
+    let flush = Extensions {
+        start: Extension::Flush,
+        end: Extension::Flush,
+    };
+    modal.draw_path(path(None, 9, Some(flush), at(None, None)));
+    let wanted = line(alloc, 9, 0, 0, Point { x: 0, y: 0 })?;
+    assert!(rt; last_copy(alloc, &modal, Kind::Path, false) == Ok(Drawn::Named(wanted)));
+    Ok(())
+}
+
+/// Placement 7, with no coordinate.
+fn seventh() -> Placement
+    ensures { result.spot ≡ record { x = None; y = None; repetition = None } }
+{
+    Placement {
+        cell: Some(CellRef::Number(7)),
+        turn: Turn::Quarters(0),
+        flip: false,
+        spot: at(None, None),
+    }
+}
+
+/// A placement turned by an angle, with a magnification.
+fn turned(negative: bool, degrees: u64, magnification: u64) -> Kind {
+    Kind::Placement {
+        turn: Turn::Degrees {
+            magnification: Some(Real {
+                negative: false,
+                num: magnification,
+                den: 1,
+            }),
+            angle: Some(Real {
+                negative,
+                num: degrees,
+                den: 1,
+            }),
+        },
+        flip: true,
+    }
+}
+
+/// Placement 7 at the origin.
+fn placed(turns: Turns) -> Drawn {
+    Drawn::PlacementBy {
+        number: 7,
+        x: 0,
+        y: 0,
+        turns,
+        flip: true,
+    }
+}
+
+#[test]
+fn relative_steps(rt: HostRuntime) {
+    let mut modal = ModalVariables::new();
+    modal.draw_rectangle(full(10, 20, at(Some(7), Some(1))));
+    modal.set_relative(true);
+    modal.draw_rectangle(bare(false, at(Some(-10), None)));
+    assert!(rt; gives(rt.alloc(), &modal, 10, 20, -3, 1));
+    modal.place(seventh());
+    let copy = last_copy(rt.alloc(), &modal, turned(false, 0, 1), false);
+    assert!(rt; copy == Ok(placed(Turns::T0)));
+}
+
+#[test]
+fn turns(rt: HostRuntime) {
+    let alloc = rt.alloc();
+    let mut modal = ModalVariables::new();
+    assert!(rt; last_copy(alloc, &modal, turned(false, 45, 2), false) == Err(Why::ModalUndefined));
+    modal.place(seventh());
+    assert!(rt; last_copy(alloc, &modal, turned(false, 45, 2), true) == Err(Why::ModalUndefined));
+    assert!(rt; last_copy(alloc, &modal, turned(false, 45, 2), false) == Err(Why::Magnification));
+    assert!(rt; last_copy(alloc, &modal, turned(false, 45, 1), false) == Err(Why::Angle));
+    assert!(rt; last_copy(alloc, &modal, turned(true, 90, 1), false) == Ok(placed(Turns::T3)));
+    assert!(rt; last_copy(alloc, &modal, turned(false, 450, 1), false) == Ok(placed(Turns::T1)));
+    assert!(rt; last_copy(alloc, &modal, turned(true, 0, 1), false) == Ok(placed(Turns::T0)));
+}
+
+#[test]
+fn copies(rt: HostRuntime) {
+    let alloc = rt.alloc();
+    let mut modal = ModalVariables::new();
+    modal.draw_circle(Circle {
+        layer: Some(1),
+        datatype: Some(2),
+        radius: Some(1 << 60),
+        spot: Spot {
+            x: Some((1 << 60) - 20),
+            y: Some(-5),
+            repetition: Some(RepField::New(Repetition::Columns { dim: 1, space: 10 })),
+        },
+    });
+    let last = Element::Circle {
+        layer: 1,
+        datatype: 2,
+        radius: 1 << 60,
+        x: 1 << 60,
+        y: -5,
+    };
+    assert!(rt; last_copy(alloc, &modal, Kind::Circle, true) == Ok(Drawn::Named(last)));
+    assert!(rt; last_copy(alloc, &modal, Kind::Rectangle, true) == Err(Why::ModalUndefined));
+    let limits = Limits::standard();
+    assert_eq!(rt;
+        modal.copies(Kind::Circle, true, limits, (1 << 24) - 3, 0),
+        Ok(3)
+    );
+    assert_eq!(rt;
+        modal.copies(Kind::Circle, true, limits, (1 << 24) - 2, 0),
+        Err(Why::TooManyElements)
+    );
+    assert_eq!(rt;
+        modal.copies(Kind::Circle, true, limits, 0, (1 << 28) - 2),
+        Err(Why::TooHeavy)
+    );
+    assert_eq!(rt;
+        modal.copies(Kind::Circle, false, limits, 0, (1 << 28) - 2),
+        Ok(1)
+    );
+}
+
+#[test]
+fn far_corners(rt: HostRuntime) {
+    let alloc = rt.alloc();
+    let mut modal = ModalVariables::new();
+    modal.draw_rectangle(Rectangle {
+        square: true,
+        layer: Some(1),
+        datatype: Some(0),
+        width: Some(10),
+        height: None,
+        spot: at(Some((1 << 60) - 9), None),
+    });
+    assert!(rt; last_copy(alloc, &modal, Kind::Rectangle, false) == Err(Why::CoordinateRange));
+}

@@ -1,0 +1,67 @@
+//! The texts of a layout, beside those that were written by hand. Its canonical form has 35 bytes of head, 52 of the cell A, 19 of
+//! TOP, and 256 of END.
+
+use oas_info::{info_of, json_of, text_of};
+use oas_layout::{Draft, Element, Layout, Limits, Profile, Turns};
+use oas_num::{Fraction, Label, Name, SliceSource, Spelled};
+use std::alloc::Global;
+use std::test::Fail;
+
+fn name(alloc: Global, spelled: &[u8]) -> Result<Name, Fail> {
+    Ok(Name::read(alloc, &mut SliceSource::new(spelled, 1000))?)
+}
+
+/// Adds the element to the cell so many times.
+fn put(draft: &mut Draft, cell: usize, element: Element, times: u64) -> Result<(), Fail> {
+    if cell < draft.cells() && times > 0 {
+        draft.add_many(cell, element, times)?;
+    }
+    Ok(())
+}
+
+/// Two cells, of which one places a third, that isn't there.
+fn two_cells(alloc: Global) -> Result<Layout, Fail> {
+    let unit = Fraction::reduced(2000, 3).ok_or("no unit")?;
+    let mut draft = Draft::new(alloc, unit, Limits::standard(), Profile::Two)?;
+    let top = draft.add_cell(name(alloc, b"\x03TOP")?)?;
+    let a = draft.add_cell(name(alloc, b"\x01A")?)?;
+    let string = Label::read(alloc, &mut SliceSource::new(b"\x02hi", 1000))?;
+    let placement = Element::placement(name(alloc, b"\x02NO")?, 0, 0, Turns::T0, false);
+    put(&mut draft, top, placement, 2)?;
+    put(&mut draft, a, Element::text(string, 1, 7, 0, 0), 1)?;
+    put(&mut draft, a, Element::rectangle(30, 4, 10, 20, 0, 0), 5)?;
+    Ok(draft.seal()?)
+}
+
+#[test]
+fn text_of_two_cells(rt: HostRuntime) -> Result<(), Fail> {
+    let alloc = rt.alloc();
+    let info = info_of(alloc, &two_cells(alloc)?)?;
+    let expected = b"unit 2000/3
+cells 2
+undefined 1 NO
+unplaced 2 A TOP
+elements 8
+placements 2
+texts 1
+rectangles 5
+layer 30 4 5
+textlayer 1 7 1
+weight 20
+size 362";
+    assert_eq!(rt; text_of(alloc, &info)?.as_slice(), expected.as_slice());
+    Ok(())
+}
+
+#[test]
+fn json_of_two_cells(rt: HostRuntime) -> Result<(), Fail> {
+    let alloc = rt.alloc();
+    let info = info_of(alloc, &two_cells(alloc)?)?;
+    let expected = "{\"cells\":2,\"elements\":8,\
+        \"kinds\":{\"circles\":0,\"paths\":0,\"placements\":2,\"polygons\":0,\"rectangles\":5,\"texts\":1},\
+        \"layers\":[{\"datatype\":4,\"elements\":5,\"layer\":30}],\"size\":362,\
+        \"textlayers\":[{\"elements\":1,\"textlayer\":1,\"texttype\":7}],\
+        \"undefined\":[\"NO\"],\"unit\":{\"den\":3,\"num\":2000},\"unplaced\":[\"A\",\"TOP\"],\"weight\":20}";
+    assert_eq!(rt; json_of(alloc, &info)?.as_slice(), expected.as_bytes());
+    Ok(())
+}

@@ -1,0 +1,124 @@
+//! The forms in which elements are kept, and layouts that are the same or not.
+
+use super::{draft_of_a, halves, holds, layout_of_a, profile};
+use oas_layout::{Draft, Element, Layout, Limits, Profile};
+use oas_ring::{Point, Points};
+use std::alloc::Global;
+use std::process::Abort;
+use std::test::Fail;
+
+/// A profile, the elements that are added, the pairs that are held, and the weight. A polygon is held in its least
+/// reading, and under profile two as its rectangle: not with crossing sides, a side of length 0, or a point twice.
+const KEPT: &str =
+    "one|1 rectangle 1 0 10 20 0 0;1 rectangle 1 0 10 20 0 0|2 rectangle 1 0 10 20 0 0|4
+two|1 rectangle 1 0 10 20 0 0;1 rectangle 1 0 10 20 0 0|2 rectangle 1 0 10 20 0 0|4
+one|1 polygon 1 0 0,0 10,0 10,20 0,20;1 polygon 1 0 10,20 10,0 0,0 0,20|2 polygon 1 0 0,0 0,20 10,20 10,0|12
+two|1 polygon 1 0 0,0 10,0 10,20 0,20;1 polygon 1 0 10,20 10,0 0,0 0,20|2 rectangle 1 0 10 20 0 0|4
+two|1 polygon 1 0 0,0 10,0 10,20 0,20|1 rectangle 1 0 10 20 0 0|3
+one|1 polygon 1 0 0,0 10,0 10,20 0,20;1 rectangle 1 0 10 20 0 0|1 rectangle 1 0 10 20 0 0;1 polygon 1 0 0,0 0,20 10,20 10,0|8
+two|1 polygon 1 0 0,0 10,0 10,20 0,20;1 rectangle 2 0 10 20 0 0;1 rectangle 1 0 10 20 0 0|2 rectangle 1 0 10 20 0 0;1 rectangle 2 0 10 20 0 0|5
+two|1 polygon 1 0 0,0 10,20 10,0 0,20|1 polygon 1 0 0,0 0,20 10,0 10,20|7
+two|1 polygon 1 0 0,0 0,0 10,0 10,0|1 polygon 1 0 0,0 0,0 10,0 10,0|7
+two|1 polygon 1 0 0,5 0,0 5,0 0,5|1 polygon 1 0 0,0 0,5 0,5 5,0|7
+two|1 polygon 1 0 2,0 1,0 0,0 1,0|1 polygon 1 0 0,0 1,0 2,0 1,0|7
+two|1 polygon 1 0 -1152921504606846976,-1152921504606846976 1152921504606846976,-1152921504606846976 1152921504606846976,1152921504606846976 -1152921504606846976,1152921504606846976|1 rectangle 1 0 2305843009213693952 2305843009213693952 -1152921504606846976 -1152921504606846976|3";
+
+fn is_kept(rt: &impl Abort, alloc: Global, row: &str) -> Result<(), Fail> {
+    let (under, rest) = halves(row);
+    let (given, rest) = halves(rest);
+    let (held, weight) = halves(rest);
+    let layout = layout_of_a(alloc, profile(under), given)?;
+    assert!(rt; layout.profile() == profile(under), "at {row}");
+    assert!(rt; layout.weight() == weight.parse().unwrap_or(0), "at {row}");
+    holds(rt, alloc, &layout, 0, held)
+}
+
+#[test]
+fn elements_in_their_kept_forms(rt: HostRuntime) -> Result<(), Fail> {
+    for row in KEPT.lines() {
+        is_kept(&rt, rt.alloc(), row)?;
+    }
+    Ok(())
+}
+
+/// The elements of one layout and of another, and the profiles under which they are the same.
+const SAME: &str = "1 text 3 0 0 0 Hi|1 text 3 0 0 0 Ho|none
+1 circle 1 0 5 0 0|1 circle 1 0 5 0 0;1 circle 1 0 5 0 0|none
+1 circle 1 0 5 0 0|1 circle 1 0 5 0 1|none
+1 rectangle 1 0 10 20 0 0|1 rectangle 1 0 10 20 0 0|both
+1 circle 1 0 5 0 0;1 text 3 0 0 0|1 text 3 0 0 0;1 circle 1 0 5 0 0|both
+1 polygon 1 0 0,0 10,0 10,20 0,20|1 polygon 1 0 10,20 10,0 0,0 0,20|both
+1 polygon 1 0 0,0 10,0 10,20 0,20|1 rectangle 1 0 10 20 0 0|two
+1 polygon 1 0 0,0 10,20 10,0 0,20|1 rectangle 1 0 10 20 0 0|none";
+
+pub(super) fn same(a: &Layout, b: &Layout) -> bool {
+    a.profile() == b.profile() && a.same(b)
+}
+
+fn is_same(rt: &impl Abort, alloc: Global, row: &str, under: Profile) -> Result<(), Fail> {
+    let (first, rest) = halves(row);
+    let (second, profiles) = halves(rest);
+    let wanted = profiles == "both" || (profiles == "two" && under == Profile::Two);
+    let a = layout_of_a(alloc, under, first)?;
+    let b = layout_of_a(alloc, under, second)?;
+    assert!(rt;
+        same(&a, &b) == wanted && same(&b, &a) == wanted,
+        "at {row}"
+    );
+    assert!(rt; same(&a, &a) && same(&b, &b), "at {row}");
+    Ok(())
+}
+
+#[test]
+fn layouts_that_are_the_same_or_not(rt: HostRuntime) -> Result<(), Fail> {
+    for row in SAME.lines() {
+        is_same(&rt, rt.alloc(), row, Profile::One)?;
+        is_same(&rt, rt.alloc(), row, Profile::Two)?;
+    }
+    Ok(())
+}
+
+/// A ring of 65536 points, of which the last is the least, from one of them on.
+fn long_ring(alloc: Global, from: u32, step: u32) -> Result<Element, Fail> {
+    let mut list = Vec::with_capacity(alloc, 65536)?;
+    let mut place = from;
+    for _ in 0..65536u32 {
+        let x = 65536 - i64::from(place % 65536);
+        let y = if place % 2 == 0 { x } else { -x };
+        list.push(Point { x, y })?;
+        place = place.wrapping_add(step);
+    }
+    Ok(Element::Polygon {
+        layer: 1,
+        datatype: 0,
+        points: Points::new(list),
+    })
+}
+
+fn add_ring(draft: &mut Draft, alloc: Global, from: u32, step: u32) -> Result<(), Fail> {
+    let ring = long_ring(alloc, from, step)?;
+    if draft.cells() > 0 {
+        draft.add(0, ring)?;
+    }
+    Ok(())
+}
+
+fn three_rings(alloc: Global) -> Result<Layout, Fail> {
+    let mut draft = draft_of_a(alloc, Limits::standard(), Profile::Two)?;
+    add_ring(&mut draft, alloc, 5, 1)?;
+    add_ring(&mut draft, alloc, 40000, u32::MAX)?;
+    add_ring(&mut draft, alloc, 65535, u32::MAX)?;
+    Ok(draft.seal()?)
+}
+
+#[test]
+fn a_long_ring_in_three_readings(rt: HostRuntime) -> Result<(), Fail> {
+    // the least point has x = 1, and its neighbours x = 2 and x = 65536
+    let wanted = long_ring(rt.alloc(), 65535, u32::MAX)?;
+    let layout = three_rings(rt.alloc())?;
+    if layout.cells() > 0 {
+        let (held, times) = layout.elements(0).next().ok_or("none is held")?;
+        assert!(rt; *held == wanted && times == 3);
+    }
+    Ok(())
+}

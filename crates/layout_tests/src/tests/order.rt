@@ -1,0 +1,83 @@
+//! The order of elements.
+
+use super::{counted, holds, layout_of_a};
+use oas_layout::Profile;
+use std::alloc::Global;
+use std::cmp::Ordering;
+use std::process::Abort;
+use std::test::Fail;
+
+/// By kind, and then by each field in its turn: of two neighbours that agree up to a field, that field decides, against
+/// those that follow it. Numbers go by value, strings by bytes, a beginning of another first.
+const ASCENDING: &str = "2 placement A -7 9 3 1;
+2 placement A 1 -9 3 1;
+2 placement A 1 2 1 1;
+2 placement A 1 2 2 0;
+2 placement A 1 2 2 1;
+2 placement A 1 2 3 0;
+2 placement AA 0 0 0 0;
+2 placement B -1 0 0 0;
+2 text 9 9 9 9;
+2 text 1 0 -5 9 Hi;
+2 text 1 0 0 -9 Hi;
+2 text 1 0 0 3 Hi;
+2 text 1 2 -8 0 Hi;
+2 text 2 0 0 0 Hi;
+2 text 0 0 0 0 Hii;
+2 text 0 0 0 0 Ho;
+2 rectangle 1 0 7 9 -5 8;
+2 rectangle 1 0 7 9 5 -8;
+2 rectangle 1 0 7 9 5 8;
+2 rectangle 1 0 7 11 0 0;
+2 rectangle 1 0 10 2 0 0;
+2 rectangle 1 1 1 1 0 0;
+2 rectangle 2 0 1 1 0 0;
+2 rectangle 18446744073709551615 0 1 1 0 0;
+2 polygon 1 0 -3,5 0,0 9,9;
+2 polygon 1 0 0,-2 1,4 1,5;
+2 polygon 1 0 0,0 0,9 2,2;
+2 polygon 1 0 0,0 1,1 3,2;
+2 polygon 1 0 0,0 1,1 3,2 2,0;
+2 polygon 1 0 0,0 1,2 2,0;
+2 polygon 1 2 -9,-9 0,0 1,0;
+2 polygon 3 0 -9,-9 0,0 1,0;
+2 path 1 0 5 -2 9 3,3;
+2 path 1 0 5 2 -9 3,3;
+2 path 1 0 5 2 3 -3,3;
+2 path 1 0 5 2 3 -3,3 0,0;
+2 path 1 0 5 2 3 -3,4;
+2 path 1 0 6 0 0 0,0;
+2 path 1 1 0 0 0 0,0;
+2 path 2 0 0 0 0 0,0;
+2 circle 1 0 5 -1 9;
+2 circle 1 0 5 0 -9;
+2 circle 1 0 5 0 9;
+2 circle 1 0 6 -9 0;
+2 circle 1 1 0 0 0;
+2 circle 2 0 0 0 0";
+
+/// The element of the first line stands before that of the second.
+fn ascends(rt: &impl Abort, alloc: Global, first: &str, second: &str) -> Result<(), Fail> {
+    let (_, a) = counted(alloc, first)?;
+    let (_, b) = counted(alloc, second)?;
+    assert!(rt; a.cmp(&b) == Ordering::Less, "before {second}");
+    Ok(())
+}
+
+#[test]
+fn each_field_in_its_turn(rt: HostRuntime) -> Result<(), Fail> {
+    let next = ASCENDING.split(";").skip(1);
+    for (first, second) in ASCENDING.split(";").zip(next) {
+        ascends(&rt, rt.alloc(), first, second)?;
+    }
+    Ok(())
+}
+
+#[test]
+fn elements_are_given_in_their_order(rt: HostRuntime) -> Result<(), Fail> {
+    for profile in [Profile::One, Profile::Two] {
+        let layout = layout_of_a(rt.alloc(), profile, ASCENDING)?;
+        holds(&rt, rt.alloc(), &layout, 0, ASCENDING)?;
+    }
+    Ok(())
+}

@@ -1,0 +1,181 @@
+//! Growths refused: a refused call answers want of memory, at the place that it was given.
+//!
+//! The heap is filled up, and given back a small piece after each run, so that the name, the first rectangle and the finish
+//! are each refused before they succeed, and so is the first of 13 names. Where the heap cannot be filled, as
+//! under a checker of addresses, no call is refused, and the answers are the same.
+
+use super::unit;
+use oas_layout::{Layout, Limits, Profile};
+use oas_modal::Reader;
+use oas_num::{Fraction, Name, Refusal, SliceSource, Spelled, Why};
+use oas_record::{CellRef, Record, Rectangle, Spot};
+use scarce_memory::Hoard;
+use std::alloc::Global;
+use std::process::Abort;
+use std::test::Fail;
+
+/// Where END starts.
+const END: u64 = 24;
+
+fn name(alloc: Global, spelled: &[u8]) -> Result<Name, Fail> {
+    Ok(Name::read(alloc, &mut SliceSource::new(spelled, 100))?)
+}
+
+/// A rectangle with all its fields.
+fn rectangle() -> Record {
+    Record::Rectangle(Rectangle {
+        square: false,
+        layer: Some(1),
+        datatype: Some(0),
+        width: Some(10),
+        height: Some(20),
+        spot: Spot {
+            x: Some(0),
+            y: Some(0),
+            repetition: None,
+        },
+    })
+}
+
+/// Has the reader take two cells, each with a rectangle.
+fn take_cells(reader: &mut Reader, second: Name) -> Result<(), Refusal> {
+    reader.take(3, Record::Cell(CellRef::Number(0)))?;
+    reader.take(5, rectangle())?;
+    reader.take(13, Record::Cell(CellRef::Name(second)))?;
+    reader.take(16, rectangle())
+}
+
+/// Has the reader take a name of a cell, and two cells; if it was refused, it refuses a record more.
+fn run(rt: &impl Abort, mut reader: Reader, first: Name, second: Name) -> Result<Layout, Refusal> {
+    let first = Record::CellName {
+        name: first,
+        number: None,
+    };
+    reader.take(0, first)?;
+    if let Err(refusal) = take_cells(&mut reader, second) {
+        assert!(rt; reader.take(END, Record::Pad) == Err(refusal));
+        return Err(refusal);
+    }
+    reader.finish(END)
+}
+
+/// Runs until the layout is made, and gives back a piece of memory after each refusal. The places that were refused.
+fn insist(
+    rt: &impl Abort,
+    alloc: Global,
+    unit: Fraction,
+    names: Vec<(Name, Name)>,
+    hoard: &mut Hoard,
+    refused: &mut Vec<u64>,
+) -> bool {
+    for (first, second) in names {
+        let reader = Reader::new(alloc, unit, Limits::standard(), Profile::One);
+        match run(rt, reader, first, second) {
+            Ok(layout) => {
+                assert!(rt; layout.cells() == 2 && layout.count() == 2);
+                return true;
+            }
+            Err(refusal) => {
+                assert!(rt; refusal.why == Why::Memory && refusal.why.number() == 34);
+                let _ = refused.push(refusal.at);
+            }
+        }
+        hoard.give_back();
+    }
+    false
+}
+
+#[test]
+fn reader_without_memory(rt: HostRuntime) -> Result<(), Fail> {
+    let alloc = rt.alloc();
+    let mut names = Vec::new(alloc);
+    for _ in 0..2000u32 {
+        names.push((name(alloc, b"\x01A")?, name(alloc, b"\x01B")?))?;
+    }
+    let mut refused = Vec::with_capacity(alloc, 2000)?;
+    let mut hoard = Hoard::new(alloc)?;
+    let is_full = hoard.is_full();
+    let done = insist(&rt, alloc, unit()?, names, &mut hoard, &mut refused);
+    drop(hoard);
+    assert!(rt; done, "a layout is never made");
+    for at in [0, 5, END] {
+        assert!(rt; !is_full || refused.contains(&at), "never refused at {at}");
+    }
+    Ok(())
+}
+
+/// Has the reader take the names one after another, each at its number. How many it takes; if it was refused, it refuses a
+/// record more.
+fn taken(rt: &impl Abort, mut reader: Reader, names: Vec<Name>) -> u64 {
+    let mut at = 0u64;
+    for name in names {
+        if let Err(refusal) = reader.take(at, Record::CellName { name, number: None }) {
+            assert!(rt; refusal.why == Why::Memory && refusal.at == at);
+            assert!(rt; reader.take(END, Record::Pad) == Err(refusal));
+            return at;
+        }
+        at = at.saturating_add(1);
+    }
+    at
+}
+
+/// Gives back so many pieces, and nothing else that was freed.
+fn give_back(hoard: &mut Hoard, pieces: u32) {
+    hoard.fill_again();
+    for _ in 0..pieces {
+        hoard.give_back();
+    }
+}
+
+/// Runs until all names are taken, each time with a piece of memory more. How many were taken by each run before that.
+fn insist_on_names(
+    rt: &impl Abort,
+    alloc: Global,
+    unit: Fraction,
+    runs: Vec<Vec<Name>>,
+    hoard: &mut Hoard,
+    refused: &mut Vec<u64>,
+) -> bool {
+    let mut pieces = 0u32;
+    for names in runs {
+        let all = names.len() as u64;
+        let reader = Reader::new(alloc, unit, Limits::standard(), Profile::One);
+        let count = taken(rt, reader, names);
+        if count == all {
+            return true;
+        }
+        let _ = refused.push(count);
+        pieces = pieces.saturating_add(1);
+        give_back(hoard, pieces);
+    }
+    false
+}
+
+/// More names than a node of the table holds.
+fn many_names(alloc: Global) -> Result<Vec<Name>, Fail> {
+    let mut names = Vec::new(alloc);
+    for _ in 0..13u32 {
+        names.push(name(alloc, b"\x01A")?)?;
+    }
+    Ok(names)
+}
+
+#[test]
+fn names_without_memory(rt: HostRuntime) -> Result<(), Fail> {
+    let alloc = rt.alloc();
+    let mut runs = Vec::new(alloc);
+    for _ in 0..200u32 {
+        runs.push(many_names(alloc)?)?;
+    }
+    let mut refused = Vec::with_capacity(alloc, 200)?;
+    let mut hoard = Hoard::new(alloc)?;
+    let is_full = hoard.is_full();
+    let done = insist_on_names(&rt, alloc, unit()?, runs, &mut hoard, &mut refused);
+    drop(hoard);
+    assert!(rt; done, "the names are never taken");
+    assert!(rt;
+        !is_full || refused.contains(&0),
+        "the first name was never refused"
+    );
+    Ok(())
+}

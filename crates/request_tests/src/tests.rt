@@ -1,0 +1,3 @@
+//! What no clause says: what command lines ask for.
+
+mod words;
