@@ -138,15 +138,34 @@ fn extensions(rt: HostRuntime) -> Result<(), Fail> {
     modal.draw_path(path(None, 9, None, at(None, Some(20))));
     let wanted = line(alloc, 9, 5, -3, Point { x: 0, y: 20 })?;
     assert!(rt; last_copy(alloc, &modal, Kind::Path, false) == Ok(Drawn::Named(wanted)));
-    modal.begin_cell();
+    Ok(())
+}
+
+#[test]
+fn paths_end_with_their_cell(rt: HostRuntime) -> Result<(), Fail> {
+    let alloc = rt.alloc();
+    let mut modal = ModalVariables::new();
+    let both = Extensions {
+        start: Extension::Half,
+        end: Extension::Explicit(-3),
+    };
     let points = eastward(alloc)?;
-    modal.draw_path(path(Some(points), 9, None, at(None, None)));
+    modal.draw_path(path(Some(points), 5, Some(both), at(None, None)));
+    modal.begin_cell();
     assert!(rt; last_copy(alloc, &modal, Kind::Path, false) == Err(Why::ModalUndefined));
+    Ok(())
+}
+
+#[test]
+fn flush_extensions(rt: HostRuntime) -> Result<(), Fail> {
+    let alloc = rt.alloc();
+    let mut modal = ModalVariables::new();
     let flush = Extensions {
         start: Extension::Flush,
         end: Extension::Flush,
     };
-    modal.draw_path(path(None, 9, Some(flush), at(None, None)));
+    let points = eastward(alloc)?;
+    modal.draw_path(path(Some(points), 9, Some(flush), at(None, None)));
     let wanted = line(alloc, 9, 0, 0, Point { x: 0, y: 0 })?;
     assert!(rt; last_copy(alloc, &modal, Kind::Path, false) == Ok(Drawn::Named(wanted)));
     Ok(())
