@@ -113,6 +113,15 @@ impl Record {
             }
             return Ok(Record::End);
         }
+        Record::read_after(alloc, id, source)
+    }
+
+    /// What follows an id that the profile has, but END's. Where a record is its id alone, nothing is taken.
+    pub fn read_after<S: Source>(alloc: Global, id: u64, source: &mut S) -> Result<Record, Why>
+        requires known { IsKnown id }
+        requires inner { id ≢ 2 }
+        ensures { (in_end : Bool) → ReadsPiece (after_id Any in_end id) (AfterTook in_end id) (S.script source.old) result (S.script source.new) }
+    {
         if id <= 16 {
             Record::read_structure(alloc, id, source)
         } else {

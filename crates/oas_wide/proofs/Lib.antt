@@ -1,1 +1,4 @@
 pub mod ReadingLemmas
+pub mod WideLemmas
+pub mod ForeignLemmas
+pub mod WidenedLemmas

@@ -8,3 +8,5 @@ pub mod LayerNames
 pub mod Extensions
 pub mod Blocks
 pub mod Trapezoids
+pub mod Reasons
+pub mod WideRecords

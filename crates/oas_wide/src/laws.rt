@@ -1,7 +1,10 @@
 //! The laws of the grammar: the function's contract is them, and its body is empty.
-ghost use Rattle.std.specs.Prelude.{Bool};
+ghost use Rattle.std.specs.Prelude.{Bool, List, ℕ};
 ghost use Rattle.oas_num.specs.Begun.{HasSome};
 ghost use Rattle.oas_num.specs.Grammar.{OneFront};
+ghost use Rattle.oas_num.specs.Style.{Any};
+ghost use Rattle.oas_record.specs.Records.{record_in};
+ghost use Rattle.oas_record.specs.declared.records.Record.{Record};
 ghost use Rattle.oas_wide.specs.Blocks.{SpellsBlockHead};
 ghost use Rattle.oas_wide.specs.Ends.{SpellsWideEnd};
 ghost use Rattle.oas_wide.specs.Extensions.{SpellsGeometry};
@@ -10,6 +13,7 @@ ghost use Rattle.oas_wide.specs.LayerNames.{SpellsLayerName};
 ghost use Rattle.oas_wide.specs.Properties.{SpellsProperty, SpellsValue};
 ghost use Rattle.oas_wide.specs.Strings.{SpellsString, SpellsAttributed};
 ghost use Rattle.oas_wide.specs.Trapezoids.{SpellsTrapezoid, SpellsNamedTrapezoid};
+ghost use Rattle.oas_wide.specs.WideRecords.{profile, wide_record_in, widened};
 
 /// Of what follows an id, and of START, no spelling begins another, and none spells two values.
 pub fn fronts()
@@ -39,4 +43,12 @@ pub fn some()
     ensures block { HasSome SpellsBlockHead }
     ensures trapezoid { (a b : Bool) → HasSome (SpellsTrapezoid a b) }
     ensures named { HasSome SpellsNamedTrapezoid }
+{}
+
+/// Records: no spelling begins another, and none spells two. A record of the profile is spelled here as it is there, and
+/// nothing else spells it.
+pub fn records()
+    ensures front { (in_end : Bool) → OneFront (wide_record_in in_end) }
+    ensures within { (in_end : Bool) (r : Record) (bytes : List ℕ) → record_in Any in_end r bytes → wide_record_in in_end (widened r) bytes }
+    ensures back { (in_end : Bool) (r : Record) (bytes : List ℕ) → wide_record_in in_end (profile r) bytes → record_in Any in_end r bytes }
 {}

@@ -75,6 +75,14 @@ fn number<T: Drop>(answer: Result<T, Why>) -> u8 {
     }
 }
 
+/// 0, or the number of the refusal of a record.
+fn wide_number(answer: Result<WideRecord, WideRefusal>) -> u8 {
+    match answer {
+        Ok(_) => 0,
+        Err(refusal) => refusal.why.number(),
+    }
+}
+
 /// How a read of that kind ends, and after how many bytes.
 fn outcome(alloc: Global, kind: &str, bytes: &[u8]) -> (u8, u64) {
     let mut source = SliceSource::new(bytes, INPUT_MAX);
@@ -95,6 +103,7 @@ fn outcome(alloc: Global, kind: &str, bytes: &[u8]) -> (u8, u64) {
         "trapezoid-24" => number(Trapezoid::read(alloc, true, false, s)),
         "trapezoid-25" => number(Trapezoid::read(alloc, false, true, s)),
         "ctrapezoid" => number(NamedTrapezoid::read(alloc, s)),
+        "record" => wide_number(WideRecord::read(alloc, s, false)),
         _ => 255,
     };
     (found, source.at())
@@ -147,7 +156,25 @@ trapezoid-25 0 2 00 0a ff\n\
 trapezoid 2 2 00 0a\n\
 ctrapezoid 0 8 fb 01 02 19 64 32 02 04 ff\n\
 ctrapezoid 0 1 00 ff\n\
-ctrapezoid 14 2 80 1a";
+ctrapezoid 14 2 80 1a\n\
+record 0 1 00 ff\n\
+record 0 6 14 63 01 02 64 32 ff\n\
+record 0 256 02 fc01 00*252 00 ff\n\
+record 0 256 02 f801 00*248 02 78563412 ff\n\
+record 28 255 02 fb01 00*251 00\n\
+record 0 4 08 0141 05 ff\n\
+record 0 4 8700 0141 ff\n\
+record 112 4 0c 0141 05\n\
+record 0 10 17 7b 01 02 64 32 0a 05 02 04 ff\n\
+record 110 3 1a 80 1a\n\
+record 111 5 1c 14 0141 10\n\
+record 14 2 1c 18\n\
+record 0 1 1d ff\n\
+record 0 4 20 07 0141 ff\n\
+record 0 5 22 00 8002 03 ff\n\
+record 13 1 01\n\
+record 12 1 23\n\
+record 2 0";
 
 #[test]
 fn records(rt: HostRuntime) -> Result<(), Fail> {

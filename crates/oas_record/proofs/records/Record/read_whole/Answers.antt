@@ -23,8 +23,5 @@ returns-then-length-ne-END_LENGTH g c = end_refused _ (λ e. c.if-length-ne-END_
 pub returns-then-id-eq2 : goal.returns-then-id-eq2
 returns-then-id-eq2 g c = end_read _ (omega (arith, c.if-length-ne-END_LENGTH.false, c.at-start.ensures, c.at.ensures)) (end_parts_read _ c.if-id-eq2.true c.in_ok-id.ensures c.in_ok-read_end.ensures)
 
-pub returns-then-id-le16 : goal.returns-then-id-le16
-returns-then-id-le16 g c = inner_done _ _ _ _ _ _ c.if-id-eq2.false c.in_ok-id.ensures (c.read_structure.ensures _)
-
-pub returns-else-id-le16 : goal.returns-else-id-le16
-returns-else-id-le16 g c = inner_done _ _ _ _ _ _ c.if-id-eq2.false c.in_ok-id.ensures (c.read_element.ensures _)
+pub returns : goal.returns
+returns g c = inner_done _ _ _ _ _ _ c.if-id-eq2.false c.in_ok-id.ensures (c.read_after.ensures _)

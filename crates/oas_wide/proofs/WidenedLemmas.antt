@@ -1,0 +1,155 @@
+-- Records of the profile among those of the standard.
+use Rattle.std.proofs.Common.{◌≡◌, ◌≢◌, ℕ, Bool, true, false, inl, inr, List, [], ◌++◌, Some, None, refl, sym, ap, subst, ◌∙◌, ◌⊎◌, arith}
+use Rattle.std.specs.Prelude.{◌==◌}
+use Rattle.std.proofs.lemmas.List.{append-nil}
+use Rattle.oas_num.specs.Combinators.{IsEither}
+use Rattle.oas_num.specs.Grammar.{IsImage, IsPair}
+use Rattle.oas_num.specs.Integers.{IsUnsigned}
+use Rattle.oas_num.specs.Style.{Any}
+use Rattle.oas_record.specs.declared.placements.Turn.{Turn}
+use Rattle.oas_record.specs.declared.placements.Turn.TheVariants.{Quarters, Degrees}
+use Rattle.oas_record.specs.declared.records.Record.{Record}
+use Rattle.oas_record.specs.declared.records.Record.TheVariants as record_of
+use Rattle.oas_record.specs.declared.references.CellRef.TheVariants as cell
+use Rattle.oas_record.specs.Ends.{end_in}
+use Rattle.oas_record.specs.Records.{id_of, after, after_id, record_in}
+use Rattle.oas_record.proofs.IdLemmas.{either_id, id_after}
+use Rattle.oas_wide.specs.declared.ends.Validation.TheVariants.{Unvalidated}
+use Rattle.oas_wide.specs.declared.records.WideRecord.{WideRecord}
+use Rattle.oas_wide.specs.Ends.{SpellsWideEnd, SpellsValidation}
+use Rattle.oas_wide.specs.WideRecords.{profile, end, property_name, property_string, layers_named, textlayers_named, a_trapezoid, a_named_trapezoid, a_property, last_property, extension_name, extension_element, a_geometry, a_block}
+use Rattle.oas_wide.proofs.WideLemmas.{either_split}
+use Rattle.oas_wide.specs.WideRecords.{foreign, fields_in, is_profile_id, wide_record_in, widened}
+
+-- ---- a record of the profile is one of the standard
+
+-- scheme 0 has no signature
+unvalidated : (n : ℕ) (bytes : List ℕ) → n ≡ 0 → IsUnsigned n bytes → SpellsValidation Unvalidated bytes
+unvalidated n bytes is s = record {
+  from = (0, None);
+  is = refl;
+  spelled = record {
+    front = bytes;
+    back = [];
+    first = record { holds = omega arith; spelled = subst (λ (k : ℕ). IsUnsigned k bytes) is s };
+    second = refl;
+    joined = sym (append-nil bytes);
+  };
+}
+
+end_widened : (in_end : Bool) (v : Unit {0}) (bytes : List ℕ) → end_in Any in_end v bytes → SpellsWideEnd in_end (record { validation = Unvalidated }) bytes
+end_widened in_end v bytes p =
+    let s = p.spelled in
+    let t = s.second in
+    record {
+      from = (tt, (p.from.1.0, Unvalidated));
+      is = refl;
+      spelled = record {
+        front = s.front;
+        back = s.back;
+        first = s.first;
+        second = record { front = t.front; back = t.back; first = t.first; second = unvalidated p.from.1.1 t.back t.second.holds t.second.spelled; joined = t.joined };
+        joined = s.joined;
+      };
+    }
+
+inner : (in_end : Bool) (r : Record) (bytes : List ℕ) → is_profile_id (id_of r) ≡ true → record_in Any in_end r bytes → wide_record_in in_end (profile r) bytes
+inner in_end r bytes is p =
+    let b = p.parts in
+    record {
+      id = id_of r;
+      whole = λ e. let no : false ≡ true = ap is_profile_id (sym e) ∙ is in absurd cc;
+      parts = record {
+        front = b.front;
+        back = b.back;
+        first = b.first;
+        second = subst (λ (t : Bool). IsEither t (IsImage profile (after in_end (id_of r)).any) (foreign in_end (id_of r)).any (profile r) b.back) (sym is) (record { from = r; is = refl; spelled = b.second });
+        joined = b.joined;
+      };
+    }
+
+turned : (turn : Turn) → is_profile_id (elim turn [ Quarters turns ↦ 17 | Degrees magnification angle ↦ 18 ]) ≡ true
+turned (Quarters turns) = refl
+turned (Degrees magnification angle) = refl
+
+pub widen : (in_end : Bool) (r : Record) (bytes : List ℕ) → record_in Any in_end r bytes → wide_record_in in_end (widened r) bytes
+widen in_end record_of.End bytes p =
+    let b = p.parts in
+    record {
+      id = 2;
+      whole = λ e. p.whole refl;
+      parts = record {
+        front = b.front;
+        back = b.back;
+        first = b.first;
+        second = record { from = (record { validation = Unvalidated }); is = refl; spelled = end_widened in_end b.second.from b.back b.second.spelled };
+        joined = b.joined;
+      };
+    }
+widen in_end record_of.Pad bytes p = inner in_end record_of.Pad bytes refl p
+widen in_end (record_of.CellName name None) bytes p = inner in_end (record_of.CellName name None) bytes refl p
+widen in_end (record_of.CellName name (Some number)) bytes p = inner in_end (record_of.CellName name (Some number)) bytes refl p
+widen in_end (record_of.TextString label None) bytes p = inner in_end (record_of.TextString label None) bytes refl p
+widen in_end (record_of.TextString label (Some number)) bytes p = inner in_end (record_of.TextString label (Some number)) bytes refl p
+widen in_end (record_of.Cell (cell.Number number)) bytes p = inner in_end (record_of.Cell (cell.Number number)) bytes refl p
+widen in_end (record_of.Cell (cell.Name name)) bytes p = inner in_end (record_of.Cell (cell.Name name)) bytes refl p
+widen in_end record_of.XyAbsolute bytes p = inner in_end record_of.XyAbsolute bytes refl p
+widen in_end record_of.XyRelative bytes p = inner in_end record_of.XyRelative bytes refl p
+widen in_end (record_of.Placement v) bytes p = inner in_end (record_of.Placement v) bytes (turned v.turn) p
+widen in_end (record_of.Text v) bytes p = inner in_end (record_of.Text v) bytes refl p
+widen in_end (record_of.Rectangle v) bytes p = inner in_end (record_of.Rectangle v) bytes refl p
+widen in_end (record_of.Polygon v) bytes p = inner in_end (record_of.Polygon v) bytes refl p
+widen in_end (record_of.Path v) bytes p = inner in_end (record_of.Path v) bytes refl p
+widen in_end (record_of.Circle v) bytes p = inner in_end (record_of.Circle v) bytes refl p
+
+-- ---- and nothing else spells it
+
+by_kind : {C : Type 0} (id n : ℕ) (A B : WideRecord → List ℕ → Type 0) (v : WideRecord) (q : List ℕ) → (A v q → C) → (B v q → C) → IsEither (id == n) A B v q → C
+by_kind id n A B v q here other h = elim (either_id id n A B v q h) [ inl p ↦ here p.1 | inr r ↦ other r ]
+
+no_image : {U : Type 0} {A : U → List ℕ → Type 0} {v : WideRecord} {q : List ℕ} (f : U → WideRecord) → ((u : U) → f u ≡ v → ⊥) → IsImage f A v q → ⊥
+no_image f other p = other p.from p.is
+
+not_foreign : (in_end : Bool) (id : ℕ) (r : Record) (q : List ℕ) → (foreign in_end id).any (profile r) q → ⊥
+not_foreign in_end id r q =
+    by_kind id 2 _ _ (profile r) q (no_image end (λ u e. cc))
+    (by_kind id 7 _ _ (profile r) q (no_image property_name (λ u e. cc))
+    (by_kind id 8 _ _ (profile r) q (no_image property_name (λ u e. cc))
+    (by_kind id 9 _ _ (profile r) q (no_image property_string (λ u e. cc))
+    (by_kind id 10 _ _ (profile r) q (no_image property_string (λ u e. cc))
+    (by_kind id 11 _ _ (profile r) q (no_image layers_named (λ u e. cc))
+    (by_kind id 12 _ _ (profile r) q (no_image textlayers_named (λ u e. cc))
+    (by_kind id 23 _ _ (profile r) q (no_image a_trapezoid (λ u e. cc))
+    (by_kind id 24 _ _ (profile r) q (no_image a_trapezoid (λ u e. cc))
+    (by_kind id 25 _ _ (profile r) q (no_image a_trapezoid (λ u e. cc))
+    (by_kind id 26 _ _ (profile r) q (no_image a_named_trapezoid (λ u e. cc))
+    (by_kind id 28 _ _ (profile r) q (no_image a_property (λ u e. cc))
+    (by_kind id 29 _ _ (profile r) q (no_image last_property (λ u e. cc))
+    (by_kind id 30 _ _ (profile r) q (no_image extension_name (λ u e. cc))
+    (by_kind id 31 _ _ (profile r) q (no_image extension_name (λ u e. cc))
+    (by_kind id 32 _ _ (profile r) q (no_image extension_element (λ u e. cc))
+    (by_kind id 33 _ _ (profile r) q (no_image a_geometry (λ u e. cc))
+    (by_kind id 34 _ _ (profile r) q (no_image a_block (λ u e. cc)) (λ h. h))))))))))))))))))
+
+-- it is what follows its own id
+fields_narrowed : (in_end : Bool) (id : ℕ) (r : Record) (q : List ℕ) → fields_in in_end id (profile r) q → after_id Any in_end id r q
+fields_narrowed in_end id r q h = elim (either_split (is_profile_id id) _ _ (profile r) q h) [
+  | inl p ↦ (let is : profile p.from ≡ profile r = p.is in let same : p.from ≡ r = cc in subst (λ (v : Record). after_id Any in_end id v q) same p.spelled)
+  | inr p ↦ absurd (not_foreign in_end id r q p)
+]
+
+pub narrowed : (in_end : Bool) (r : Record) (bytes : List ℕ) → wide_record_in in_end (profile r) bytes → record_in Any in_end r bytes
+narrowed in_end r bytes p =
+    let b = p.parts in
+    let spelled = fields_narrowed in_end p.id r b.back b.second in
+    let is : id_of r ≡ p.id = id_after in_end p.id r b.back spelled in
+    record {
+      whole = λ e. p.whole (sym is ∙ ap id_of e);
+      parts = record {
+        front = b.front;
+        back = b.back;
+        first = subst (λ (k : ℕ). IsUnsigned k b.front) (sym is) b.first;
+        second = subst (λ (k : ℕ). after_id Any in_end k r b.back) (sym is) spelled;
+        joined = b.joined;
+      };
+    }

@@ -1,0 +1,225 @@
+ghost use Rattle.std.specs.Prelude.{◌≡◌, ◌≢◌, ◌<◌, ◌≤◌, Bool, true, false};
+ghost use Rattle.oas_num.specs.Reading.{ReadsPiece};
+ghost use Rattle.oas_wide.specs.WideRecords.{foreign, fields, is_profile_id, IsWideId, IsForeignId, RefusesWideId, ReadsWide, ReadsWideAt};
+
+use crate::blocks::BlockHead;
+use crate::ends::WideEnd;
+use crate::extensions::ExtensionGeometry;
+use crate::layer_names::LayerName;
+use crate::properties::Property;
+use crate::reasons::{WideRefusal, WideWhy, named};
+use crate::strings::{read_attributed, read_string};
+use crate::trapezoids::{NamedTrapezoid, Trapezoid};
+use oas_num::{Padding, Source, Why, read_unsigned};
+use oas_record::Record;
+use std::alloc::Global;
+
+/// How long END is, in bytes, its id and its signature included.
+const END_LENGTH: u64 = 256;
+
+/// A record of a file of the standard, START left out (SEMI P39, records).
+#[derive(Debug, Drop)]
+pub enum WideRecord {
+    /// A record that the profile has, END left out.
+    Profile(Record),
+    /// Id 2.
+    End(WideEnd),
+    /// Id 7 without a number, and 8 with one.
+    PropertyName {
+        name: Padding,
+        number: Option<u64>,
+    },
+    /// Id 9 without a number, and 10 with one.
+    PropertyString {
+        string: Padding,
+        number: Option<u64>,
+    },
+    /// Id 11: of layers and datatypes.
+    LayerName(LayerName),
+    /// Id 12: of textlayers and texttypes.
+    TextLayerName(LayerName),
+    /// Ids 23, 24 and 25.
+    Trapezoid(Trapezoid),
+    /// Id 26.
+    NamedTrapezoid(NamedTrapezoid),
+    /// Id 28.
+    Property(Property),
+    /// Id 29: the last property once more.
+    LastProperty,
+    /// Id 30 without a number, and 31 with one.
+    ExtensionName {
+        attribute: u64,
+        string: Padding,
+        number: Option<u64>,
+    },
+    /// Id 32.
+    ExtensionElement { attribute: u64, string: Padding },
+    /// Id 33.
+    ExtensionGeometry(ExtensionGeometry),
+    /// Id 34. The block's bytes stand behind it.
+    Block(BlockHead),
+}
+
+/// Why no record may have that id here, if it may not.
+fn refused_id(id: u64) -> Option<Why>
+    ensures { RefusesWideId id result }
+{
+    if id == 1 {
+        return Some(Why::OutOfPlace(id));
+    }
+    if id > 34 {
+        return Some(Why::UnknownRecord(id));
+    }
+    None
+}
+
+/// Whether the profile has records of that id, END left out.
+fn is_profile_id(id: u64) -> bool
+    ensures { result ≡ is_profile_id id }
+{
+    id != 2 && (id <= 6 || (id >= 13 && id <= 22) || id == 27)
+}
+
+/// What follows the id of a name that isn't the profile's: 7 to 12.
+fn read_name<S: Source>(alloc: Global, id: u64, source: &mut S) -> Result<WideRecord, Why>
+    requires above { 7 ≤ id }
+    requires below { id ≤ 12 }
+    ensures { (in_end : Bool) → ReadsPiece (foreign in_end id).any (foreign in_end id).took (S.script source.old) result (S.script source.new) }
+{
+    if id <= 8 {
+        let (name, number) = read_string(alloc, id == 8, source)?;
+        return Ok(WideRecord::PropertyName { name, number });
+    }
+    if id <= 10 {
+        let (string, number) = read_string(alloc, id == 10, source)?;
+        return Ok(WideRecord::PropertyString { string, number });
+    }
+    let name = LayerName::read(alloc, source)?;
+    if id == 11 {
+        Ok(WideRecord::LayerName(name))
+    } else {
+        Ok(WideRecord::TextLayerName(name))
+    }
+}
+
+/// What follows the id of a trapezoid: 23 to 26.
+fn read_trapezoid<S: Source>(alloc: Global, id: u64, source: &mut S) -> Result<WideRecord, Why>
+    requires above { 23 ≤ id }
+    requires below { id ≤ 26 }
+    ensures { (in_end : Bool) → ReadsPiece (foreign in_end id).any (foreign in_end id).took (S.script source.old) result (S.script source.new) }
+{
+    if id == 26 {
+        let named = NamedTrapezoid::read(alloc, source)?;
+        return Ok(WideRecord::NamedTrapezoid(named));
+    }
+    let trapezoid = Trapezoid::read(alloc, id != 25, id != 24, source)?;
+    Ok(WideRecord::Trapezoid(trapezoid))
+}
+
+/// What follows the id of an extension: 30 to 33.
+fn read_extension<S: Source>(alloc: Global, id: u64, source: &mut S) -> Result<WideRecord, Why>
+    requires above { 30 ≤ id }
+    requires below { id ≤ 33 }
+    ensures { (in_end : Bool) → ReadsPiece (foreign in_end id).any (foreign in_end id).took (S.script source.old) result (S.script source.new) }
+{
+    if id == 33 {
+        let geometry = ExtensionGeometry::read(alloc, source)?;
+        return Ok(WideRecord::ExtensionGeometry(geometry));
+    }
+    let (attribute, (string, number)) = read_attributed(alloc, id == 31, source)?;
+    if id == 32 {
+        Ok(WideRecord::ExtensionElement { attribute, string })
+    } else {
+        Ok(WideRecord::ExtensionName {
+            attribute,
+            string,
+            number,
+        })
+    }
+}
+
+/// What follows an id of the standard that the profile leaves out.
+fn read_foreign<S: Source>(alloc: Global, id: u64, source: &mut S) -> Result<WideRecord, Why>
+    requires { IsForeignId id }
+    ensures { (in_end : Bool) → ReadsPiece (foreign in_end id).any (foreign in_end id).took (S.script source.old) result (S.script source.new) }
+{
+    if id <= 12 {
+        return read_name(alloc, id, source);
+    }
+    if id <= 26 {
+        return read_trapezoid(alloc, id, source);
+    }
+    if id == 28 {
+        let property = Property::read(alloc, source)?;
+        return Ok(WideRecord::Property(property));
+    }
+    if id == 29 {
+        return Ok(WideRecord::LastProperty);
+    }
+    if id <= 33 {
+        return read_extension(alloc, id, source);
+    }
+    let head = BlockHead::read(source)?;
+    Ok(WideRecord::Block(head))
+}
+
+/// What follows an id of the standard, but START's and END's.
+fn read_fields<S: Source>(alloc: Global, id: u64, source: &mut S) -> Result<WideRecord, Why>
+    requires known { IsWideId id }
+    requires inner { id ≢ 2 }
+    ensures { (in_end : Bool) → ReadsPiece (fields in_end id).any (fields in_end id).took (S.script source.old) result (S.script source.new) }
+{
+    if is_profile_id(id) {
+        let record = Record::read_after(alloc, id, source)?;
+        return Ok(WideRecord::Profile(record));
+    }
+    read_foreign(alloc, id, source)
+}
+
+/// A record: an id, and what follows it. END has to be 256 bytes, its id and its signature included.
+fn read_whole<S: Source>(
+    alloc: Global,
+    in_end: bool,
+    source: &mut S,
+) -> Result<WideRecord, WideWhy>
+    ensures { ReadsWide in_end (S.script source.old) result (S.script source.new) }
+{
+    let start = source.at();
+    let id = read_unsigned(source)?;
+    if let Some(why) = refused_id(id) {
+        return Err(WideWhy::Profile(why));
+    }
+    if id == 2 {
+        let end = WideEnd::read(alloc, in_end, source)?;
+        let length = source.at() - start;
+        if length != END_LENGTH {
+            return Err(WideWhy::Profile(Why::EndLength));
+        }
+        return Ok(WideRecord::End(end));
+    }
+    match read_fields(alloc, id, source) {
+        Ok(record) => Ok(record),
+        Err(why) => Err(named(id, why)),
+    }
+}
+
+impl WideRecord {
+    /// Reads a record, by the place of the table-offsets that START gives. The place of a refusal is that of the record's
+    /// first byte.
+    ///
+    /// Ids that the standard doesn't have are refused by `UnknownRecord`, and START by `OutOfPlace`. END is refused by
+    /// `ValidationScheme` before `EndLength`.
+    pub fn read<S: Source>(
+        alloc: Global,
+        source: &mut S,
+        flag_in_end: bool,
+    ) -> Result<WideRecord, WideRefusal>
+        ensures { ReadsWideAt flag_in_end (S.script source.old) result (S.script source.new) }
+    {
+        let at = source.at();
+        match read_whole(alloc, flag_in_end, source) {
+            Ok(record) => Ok(record),
+            Err(why) => Err(WideRefusal { at, why }),
+        }
+    }
+}
