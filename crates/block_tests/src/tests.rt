@@ -1,0 +1,138 @@
+//! What no clause says: that a block is read where memory is there, and which fault is answered of the ways to go wrong. The
+//! streams were made by zlib 1.2.13, and what they stand for is what was given to it.
+
+use oas_block::{BlockFault, read_block};
+use oas_num::{ReaderSource, SliceSource, Source, Why};
+use oas_wide::BlockHead;
+use std::alloc::Global;
+use std::io;
+use std::io::{ErrorKind, Read};
+use std::test::Fail;
+
+/// Heads with their bytes, and what they stand for: nothing, a stored block, one of fixed codes, one of its own.
+const GIVEN: [(&str, &str); 4] = [
+    ("0000020300", ""),
+    (
+        "001116011100eeff68656c6c6f2068656c6c6f2068656c6c6f",
+        "68656c6c6f2068656c6c6f2068656c6c6f",
+    ),
+    (
+        "00110acb48cdc9c957c8409000",
+        "68656c6c6f2068656c6c6f2068656c6c6f",
+    ),
+    (
+        "0050223d8a890900300c0267f574ff190aa628882fc6123a3a950fe6b7e304b1a2d25f2e3e",
+        "6263626361616261616162616161636461626161616161616161616162626161616161616161626161616261616163626364646261626162616161626161616161616261626261616164626161616161",
+    ),
+];
+
+/// Heads with their bytes, and why they aren't read.
+const REFUSED: [(&str, BlockFault); 10] = [
+    // kind 1
+    ("01110acb48cdc9c957c8409000", BlockFault::Kind),
+    // no byte
+    ("000000", BlockFault::Deflate),
+    // one more byte stated
+    ("00120acb48cdc9c957c8409000", BlockFault::Length),
+    // one byte fewer stated
+    ("00100acb48cdc9c957c8409000", BlockFault::Length),
+    // 2^64-1 stated
+    (
+        "00ffffffffffffffffff010acb48cdc9c957c8409000",
+        BlockFault::Length,
+    ),
+    // a byte behind the stream
+    ("00110bcb48cdc9c957c840900000", BlockFault::Length),
+    // the stream is cut
+    ("001109cb48cdc9c957c8409000", BlockFault::Deflate),
+    // no stream begins so
+    ("0000020700", BlockFault::Deflate),
+    // the input ends in the stream
+    ("00110acb48cdc9c957c84090", BlockFault::Why(Why::Truncated)),
+    // the input ends behind the stream
+    (
+        "00110bcb48cdc9c957c8409000",
+        BlockFault::Why(Why::Truncated),
+    ),
+];
+
+/// Reads a head and its block.
+fn read_from<S: Source>(
+    alloc: Global,
+    source: &mut S,
+    limit: usize,
+) -> Result<Vec<u8>, BlockFault> {
+    match BlockHead::read(source) {
+        Ok(head) => read_block(alloc, source, head, limit),
+        Err(why) => Err(BlockFault::Why(why)),
+    }
+}
+
+/// Reads the block that stands in a text.
+fn read_text(
+    alloc: Global,
+    text: &str,
+    input: u64,
+    limit: usize,
+) -> Result<Result<Vec<u8>, BlockFault>, Fail> {
+    let bytes = hex::decode(alloc, text)?;
+    let mut source = SliceSource::new(bytes.as_slice(), input);
+    Ok(read_from(alloc, &mut source, limit))
+}
+
+/// Gives its bytes, and then fails.
+#[derive(Drop)]
+struct Failing<'a> {
+    rest: &'a [u8],
+}
+
+impl Read for Failing<'_> {
+    fn read(&mut self, buf: &mut [u8]) -> io::Result<usize> {
+        if self.rest.is_empty() {
+            return Err(io::Error::from(ErrorKind::Other));
+        }
+        let count = self.rest.len().min(buf.len());
+        let (now, later) = self.rest.split_at(count);
+        buf[..count].copy_from_slice(now);
+        self.rest = later;
+        Ok(count)
+    }
+}
+
+#[test]
+fn blocks_are_read(rt: HostRuntime) -> Result<(), Fail> {
+    for (block, wanted) in GIVEN {
+        let wanted = hex::decode(rt.alloc(), wanted)?;
+        let found = read_text(rt.alloc(), block, 100, wanted.len())?;
+        assert!(rt; found == Ok(wanted));
+    }
+    Ok(())
+}
+
+#[test]
+fn blocks_are_refused(rt: HostRuntime) -> Result<(), Fail> {
+    for (block, fault) in REFUSED {
+        let found = read_text(rt.alloc(), block, 100, 100)?;
+        assert!(rt; found == Err(fault));
+    }
+    Ok(())
+}
+
+#[test]
+fn limits_are_kept(rt: HostRuntime) -> Result<(), Fail> {
+    let full = read_text(rt.alloc(), "00110acb48cdc9c957c8409000", 100, 16)?;
+    assert!(rt; full == Err(BlockFault::Full));
+    let long = read_text(rt.alloc(), "00110acb48cdc9c957c8409000", 10, 17)?;
+    assert!(rt; long == Err(BlockFault::Why(Why::InputTooLong)));
+    Ok(())
+}
+
+#[test]
+fn a_reader_fails(rt: HostRuntime) -> Result<(), Fail> {
+    let bytes = hex::decode(rt.alloc(), "00110acb48cdc9c9")?;
+    let reader = Failing { rest: &bytes };
+    let mut source = ReaderSource::new(rt.alloc(), reader, 100)?;
+    let failed = read_from(rt.alloc(), &mut source, 100);
+    assert!(rt; failed == Err(BlockFault::Why(Why::Read)));
+    Ok(())
+}

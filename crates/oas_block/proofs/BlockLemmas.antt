@@ -1,0 +1,203 @@
+-- What was inflated of a source of a block's bytes is what the block stands for.
+use Rattle.std.proofs.Common.{◌≡◌, ◌≢◌, ℕ, ◌-◌, ◌<◌, ◌≤◌, Bool, true, false, List, [], ◌∷◌, ◌++◌, length, Result, Ok, Err, inl, inr, refl, sym, ap, subst, ◌∙◌, append_assoc, append-nil, arith}
+use Rattle.std.specs.Prelude.{◌⊎◌}
+use Rattle.std.proofs.lemmas.List.{length-append}
+use base.Fml.{GName}
+use Rattle.oas_num.specs.declared.refusals.Why.{Why}
+use Rattle.oas_num.specs.declared.refusals.Why.TheVariants as why
+use Rattle.oas_num.specs.SourceFault.TheVariants.{Device, TooLong}
+use Rattle.oas_num.specs.Script.{Script, Takes, IsAtEnd, HasFailed, IsTooLong}
+use Rattle.oas_inflate.specs.declared.faults.Fault.{Fault}
+use Rattle.oas_inflate.specs.declared.faults.Fault.TheVariants as faults
+use Rattle.oas_inflate.specs.Bits.{bits_of}
+use Rattle.oas_inflate.specs.Grammar.{Chain}
+use Rattle.oas_inflate.specs.Deflate.{IsBlock, IsDeflated}
+use Rattle.oas_inflate.specs.Reading.{Found, Nothing, Spot, Through, CutShort, FoundOn, FailsOn}
+use Rattle.oas_inflate.proofs.BitLemmas.{bits_of-whole}
+use Rattle.oas_inflate.proofs.ThroughLemmas.{Takes-none, Takes-then}
+use Rattle.oas_wide.specs.declared.blocks.BlockHead.{BlockHead}
+use Rattle.oas_block.specs.declared.faults.BlockFault.{BlockFault}
+use Rattle.oas_block.specs.declared.faults.BlockFault.TheVariants as blocks
+use Rattle.oas_block.specs.Fronts.{front_script, IsFront}
+use Rattle.oas_block.specs.Reading.{IsRead, Tells, Stops, IsOther, FailsBlock, ReadsBlock}
+use Rattle.oas_block.specs.Inflating.{Passed, PassesByte, Passes, Finishes, IsWhole, FaultOf}
+use Rattle.oas_block.proofs.FrontLemmas.{front_count, front_back, front_some, ended_back, failed_back, too_long_back}
+
+no_more : (a b : List ℕ) (n : ℕ) → length a ≡ n → length (a ++ b) ≤ n → b ≡ []
+no_more a [] n e le = refl
+no_more a (x ∷ b) n e le = let l = length-append a (x ∷ b) in absurd (omega arith)
+
+-- a source's bytes were inflated, and stand for these
+module _ (head : BlockHead) {start m now : Script} {name same same2 : GName} {unread left : ℕ} (old mid : Spot) (plain : List ℕ)
+    (kind : head.kind ≡ 0) (before : old.script ≡ front_script start head.deflated) (none : old.pending ≡ []) (after : front_script m unread ≡ mid.script)
+    (f : IsFront start name head.deflated same m unread) (g : IsFront start name head.deflated same2 now left) (t : FoundOn IsDeflated plain old mid) where
+  first : Takes (front_script start head.deflated) t.bytes (front_script m unread)
+  first = subst (λ (s : Script). Takes (front_script start head.deflated) t.bytes s) (sym after) (subst (λ (s : Script). Takes s t.bytes mid.script) before t.takes)
+
+  stands : (more : List ℕ) → Found IsDeflated plain (bits_of (t.bytes ++ more)) (mid.pending ++ bits_of more)
+  stands more = subst (λ (p : List ℕ). Found IsDeflated plain (p ++ bits_of (t.bytes ++ more)) (mid.pending ++ bits_of more)) none (t.all more)
+
+  module _ (p : Passed (front_script m unread) (front_script now left)) where
+    both : Takes (front_script start head.deflated) (t.bytes ++ p.bytes) (front_script now left)
+    both = Takes-then _ _ _ t.bytes p.bytes first p.takes
+
+    whole_read : (limit idle : ℕ) → length plain ≤ limit → idle ≡ length mid.pending → IsWhole plain head.inflated unread idle → IsRead head limit start plain now
+    whole_read limit idle le is w =
+        let n = front_count f first in
+        let l = front_count g both in
+        let z = w.read in
+        let full : length t.bytes ≡ head.deflated = omega arith in
+        let e : p.bytes ≡ [] = no_more t.bytes p.bytes head.deflated full (omega arith) in
+        let joined : t.bytes ++ p.bytes ≡ t.bytes = ap (λ (x : List ℕ). t.bytes ++ x) e ∙ append-nil t.bytes in
+        let k : Found IsDeflated plain (bits_of t.bytes) (mid.pending ++ []) = subst (λ (x : List ℕ). Found IsDeflated plain (bits_of x) (mid.pending ++ [])) (append-nil t.bytes) (stands []) in
+        let i = length-append mid.pending [] in
+        let few = w.few in
+        record {
+          bytes = t.bytes;
+          takes = subst (λ (x : List ℕ). Takes start x now) joined (front_back g both);
+          block = record {
+            kind = kind;
+            inflated = w.long;
+            deflated = full;
+            packed = record { idle = mid.pending ++ []; stands = k.is; few = omega arith };
+          };
+          within = le;
+        }
+
+    other_read : (idle : ℕ) → idle ≡ length mid.pending → left ≡ 0 → ((length plain ≢ head.inflated) ⊎ ((0 < unread) ⊎ (8 ≤ idle)))
+        → Tells head (λ bytes. IsOther head bytes) start now
+    other_read idle is z wrong =
+        let n = front_count f first in
+        let l = front_count g both in record {
+          bytes = t.bytes ++ p.bytes;
+          takes = front_back g both;
+          kind = kind;
+          within = omega arith;
+          all = λ more e.
+              let j : t.bytes ++ (p.bytes ++ more) ≡ (t.bytes ++ p.bytes) ++ more = sym (append_assoc t.bytes p.bytes more) in
+              let a = length-append t.bytes p.bytes in
+              let b = length-append mid.pending (bits_of (p.bytes ++ more)) in
+              let c = bits_of-whole (p.bytes ++ more) in
+              let d = length-append p.bytes more in record {
+                plain = plain;
+                left = mid.pending ++ bits_of (p.bytes ++ more);
+                found = subst (λ (x : List ℕ). Found IsDeflated plain (bits_of x) (mid.pending ++ bits_of (p.bytes ++ more))) j (stands (p.bytes ++ more));
+                other = elim wrong [
+                  | inl w ↦ inl w
+                  | inr v ↦ inr (elim v [
+                    | inl w ↦ omega arith
+                    | inr w ↦ omega arith
+                  ])
+                ];
+              };
+        }
+
+  pub finished : {X : Type 0} (view : X → List ℕ) (limit idle : ℕ) (result : Result X BlockFault) → length plain ≤ limit → idle ≡ length mid.pending
+      → Finishes view plain head.inflated idle m unread result now left → ReadsBlock view head limit start result now
+  finished view limit idle (Ok x) le is h = subst (λ (y : List ℕ). IsRead head limit start y now) (sym h.2) (whole_read h.0 limit idle le is h.3)
+  finished view limit idle (Err blocks.Length) le is h = inl (other_read h.0 idle is h.1 h.2)
+  finished view limit idle (Err blocks.Kind) le is h = absurd h
+  finished view limit idle (Err blocks.Deflate) le is h = absurd h
+  finished view limit idle (Err blocks.Full) le is h = absurd h
+  finished view limit idle (Err (blocks.Why why.Truncated)) le is h =
+      let s = front_some g in let lt = h.0 in
+      (record { bytes = s.0; takes = s.1; kind = kind; fewer = (let e = s.2 in omega arith) }, ended_back now left h.0 h.1)
+  finished view limit idle (Err (blocks.Why why.Read)) le is h =
+      let s = front_some g in let b = failed_back now left h in let lt = b.1 in
+      (record { bytes = s.0; takes = s.1; kind = kind; fewer = (let e = s.2 in omega arith) }, b.0)
+  finished view limit idle (Err (blocks.Why why.InputTooLong)) le is h =
+      let s = front_some g in let b = too_long_back now left h in let lt = b.1 in
+      (record { bytes = s.0; takes = s.1; kind = kind; fewer = (let e = s.2 in omega arith) }, b.0)
+  finished view limit idle (Err (blocks.Why _)) le is h = absurd h
+
+-- a source's bytes weren't inflated
+module _ (head : BlockHead) {start m : Script} {name same : GName} {unread : ℕ} (old mid : Spot)
+    (kind : head.kind ≡ 0) (before : old.script ≡ front_script start head.deflated) (none : old.pending ≡ []) (after : front_script m unread ≡ mid.script)
+    (f : IsFront start name head.deflated same m unread) where
+  fronts : {bytes : List ℕ} → Takes old.script bytes mid.script → Takes (front_script start head.deflated) bytes (front_script m unread)
+  fronts {bytes} k = subst (λ (s : Script). Takes (front_script start head.deflated) bytes s) (sym after) (subst (λ (s : Script). Takes s bytes mid.script) before k)
+
+  bad : Through old mid (λ a b. Nothing IsDeflated a) → Tells head (λ bytes. Nothing IsDeflated (bits_of bytes)) start m
+  bad t = let l = front_count f (fronts t.takes) in record {
+    bytes = t.bytes;
+    takes = front_back f (fronts t.takes);
+    kind = kind;
+    within = omega arith;
+    all = λ more e. subst (λ (p : List ℕ). Nothing IsDeflated (p ++ bits_of (t.bytes ++ more))) none (t.all more);
+  }
+
+  unfinished : CutShort old mid (λ a. Nothing IsDeflated a) → unread ≡ 0 → Tells head (λ bytes. Nothing IsDeflated (bits_of bytes)) start m
+  unfinished t z =
+      let l = front_count f (fronts t.takes) in
+      let full : length t.bytes ≡ head.deflated = omega arith in record {
+        bytes = t.bytes;
+        takes = front_back f (fronts t.takes);
+        kind = kind;
+        within = omega arith;
+        all = λ more e.
+            let n : more ≡ [] = no_more t.bytes more head.deflated full (omega arith) in
+            let j : t.bytes ≡ t.bytes ++ more = sym (ap (λ (x : List ℕ). t.bytes ++ x) n ∙ append-nil t.bytes) in
+            subst (λ (x : List ℕ). Nothing IsDeflated (bits_of x)) j (subst (λ (p : List ℕ). Nothing IsDeflated (p ++ bits_of t.bytes)) none t.all);
+      }
+
+  stops : 0 < unread → Stops head start m
+  stops lt = let s = front_some f in let e = s.2 in record { bytes = s.0; takes = s.1; kind = kind; fewer = omega arith }
+
+  somehow : Tells head (λ bytes. Unit {0}) start m
+  somehow = let s = front_some f in let e = s.2 in record { bytes = s.0; takes = s.1; kind = kind; within = omega arith; all = λ more e. tt }
+
+  pub refused : (limit : ℕ) (why : Fault) (fault : BlockFault) → FaultOf head limit unread why fault → FailsOn IsDeflated old mid why → FailsBlock head limit start fault m
+  refused limit (faults.Bad flaw) blocks.Deflate h t = bad t
+  refused limit faults.Cut blocks.Deflate h t = unfinished t h
+  refused limit faults.Cut (blocks.Why why.Truncated) h t = (stops h, ended_back m unread h (subst IsAtEnd (sym after) t.ended))
+  refused limit (faults.Source Device) (blocks.Why why.Read) h t = let b = failed_back m unread (subst HasFailed (sym after) t) in (stops b.1, b.0)
+  refused limit (faults.Source TooLong) (blocks.Why why.InputTooLong) h t = let b = too_long_back m unread (subst IsTooLong (sym after) t) in (stops b.1, b.0)
+  refused limit faults.Memory (blocks.Why why.Memory) h t = somehow
+  refused limit faults.Full blocks.Full h t = somehow
+  refused limit faults.Full blocks.Length h t = inr somehow
+  refused limit _ _ h t = absurd h
+
+-- ---- bytes that are passed over
+
+pub passed_none : (s : Script) → Passed s s
+passed_none s = record { bytes = []; takes = Takes-none s }
+
+passed_then : {old mid new : Script} {bytes : List ℕ} → Passed old mid → Takes mid bytes new → Passed old new
+passed_then {bytes = bytes} p k = record { bytes = p.bytes ++ bytes; takes = Takes-then _ _ _ p.bytes bytes p.takes k }
+
+pub passed_on : {old mid new : Script} (more : Bool) → more ≡ true → Passed old mid → PassesByte mid (Ok more) new → Passed old new
+passed_on true e p k = passed_then p k.1
+passed_on false e p k = absurd cc
+
+pub passed_less : (mid new : Script) (more : Bool) → more ≡ true → PassesByte mid (Ok more) new → new.limit - new.given < mid.limit - mid.given
+passed_less mid new true e k = let g = k.1.given in let l = k.1.limit in let w = k.2 in omega arith
+passed_less mid new false e k = absurd cc
+
+pub passed_all : {old mid new : Script} (more : Bool) → more ≡ false → Passed old mid → PassesByte mid (Ok more) new → Passes old (Ok tt) new
+passed_all true e p k = absurd cc
+passed_all false e p k = (passed_then p k.0, k.1)
+
+pub passed_stops : {old mid : Script} (new : Script) (stop : Why) → Passed old mid → PassesByte mid (Err stop) new → Passes old (Err stop) new
+passed_stops new why.Read p k = (passed_then p k.0, k.1)
+passed_stops new why.InputTooLong p k = (passed_then p k.0, k.1)
+passed_stops new _ p k = absurd k
+
+-- ---- no bytes
+
+no_block : (last : ℕ) (before after end : List ℕ) → IsBlock last before after [] end → ⊥
+no_block last before after end h = let e = h.has.3.first in absurd cc
+
+no_blocks : (via : List (List ℕ)) (before after end : List ℕ) → Chain (IsBlock 0) (IsBlock 1) via before after [] end → ⊥
+no_blocks [] before after end h = no_block 1 before after end h
+no_blocks (next ∷ via) before after end h = no_block 0 before next h.0 h.1
+
+pub no_bytes : (head : BlockHead) (s : Script) → head.kind ≡ 0 → head.deflated ≡ 0 → Tells head (λ bytes. Nothing IsDeflated (bits_of bytes)) s s
+no_bytes head s kind none = record {
+  bytes = [];
+  takes = Takes-none s;
+  kind = kind;
+  within = omega arith;
+  all = λ more e.
+      let n : [] ≡ more = sym (no_more [] more 0 refl (omega arith)) in
+      subst (λ (x : List ℕ). Nothing IsDeflated (bits_of x)) n (record { none = λ after end h. no_blocks h.via [] after end h.chain });
+}

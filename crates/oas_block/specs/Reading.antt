@@ -1,0 +1,61 @@
+-- What reading a block does.
+use Rattle.std.specs.Prelude.{◌≡◌, ◌≢◌, ◌⊎◌, ℕ, ◌<◌, ◌≤◌, List, [], ◌++◌, length, Result, Ok, Err}
+use Rattle.oas_num.specs.declared.refusals.Why.TheVariants.{Truncated, Read, InputTooLong, Memory}
+use Rattle.oas_num.specs.Script.{Script, Takes, IsAtEnd, HasFailed, IsTooLong}
+use Rattle.oas_inflate.specs.Bits.{bits_of}
+use Rattle.oas_inflate.specs.Deflate.{IsDeflated}
+use Rattle.oas_inflate.specs.Reading.{Found, Nothing}
+use Rattle.oas_wide.specs.declared.blocks.BlockHead.{BlockHead}
+use Rattle.oas_block.specs.declared.faults.BlockFault.{BlockFault}
+use Rattle.oas_block.specs.declared.faults.BlockFault.TheVariants.{Kind, Length, Deflate, Why, Full}
+use Rattle.oas_block.specs.Blocks.{StandsFor}
+
+-- The block's bytes were taken, and the plain ones are what they stand for.
+pub record IsRead (head : BlockHead) (limit : ℕ) (old : Script) (plain : List ℕ) (new : Script) : Type 0 where
+  pub bytes : List ℕ
+  pub takes : Takes old bytes new
+  pub block : StandsFor head bytes plain
+  pub within : length plain ≤ limit
+
+-- Bytes of the block were taken, and this holds of all its bytes, whatever those are that are left.
+pub record Tells (head : BlockHead) (P : List ℕ → Type 0) (old new : Script) : Type 0 where
+  pub bytes : List ℕ
+  pub takes : Takes old bytes new
+  pub kind : head.kind ≡ 0
+  pub within : length bytes ≤ head.deflated
+  pub all : (more : List ℕ) → length (bytes ++ more) ≡ head.deflated → P (bytes ++ more)
+
+-- Fewer bytes than the block has were taken.
+pub record Stops (head : BlockHead) (old new : Script) : Type 0 where
+  pub bytes : List ℕ
+  pub takes : Takes old bytes new
+  pub kind : head.kind ≡ 0
+  pub fewer : length bytes < head.deflated
+
+-- a stream stands there, but for another number of bytes, or some bytes are left behind it
+pub record IsOther (head : BlockHead) (bytes : List ℕ) : Type 0 where
+  pub plain : List ℕ
+  pub left : List ℕ
+  pub found : Found IsDeflated plain (bits_of bytes) left
+  pub other : (length plain ≢ head.inflated) ⊎ (8 ≤ length left)
+
+-- inflating was stopped, since there was more than may be
+abbrev pub IsStopped : BlockHead → ℕ → Script → Script → Type 0
+IsStopped head limit = Tells head (λ bytes. Unit {0})
+
+-- why a block isn't read
+abbrev pub FailsBlock : BlockHead → ℕ → Script → BlockFault → Script → Type 0
+FailsBlock head limit old Kind new = (head.kind ≢ 0) × Takes old [] new
+FailsBlock head limit old Length new = Tells head (λ bytes. IsOther head bytes) old new ⊎ IsStopped head limit old new
+FailsBlock head limit old Deflate new = Tells head (λ bytes. Nothing IsDeflated (bits_of bytes)) old new
+FailsBlock head limit old Full new = IsStopped head limit old new
+FailsBlock head limit old (Why Truncated) new = Stops head old new × IsAtEnd new
+FailsBlock head limit old (Why Read) new = Stops head old new × HasFailed new
+FailsBlock head limit old (Why InputTooLong) new = Stops head old new × IsTooLong new
+FailsBlock head limit old (Why Memory) new = Tells head (λ bytes. Unit {0}) old new
+FailsBlock head limit old (Why _) new = ⊥
+
+-- A block of this head is read, whose plain bytes are seen as a list.
+abbrev pub ReadsBlock : {X : Type 0} → (X → List ℕ) → BlockHead → ℕ → Script → Result X BlockFault → Script → Type 0
+ReadsBlock view head limit old (Ok x) new = IsRead head limit old (view x) new
+ReadsBlock view head limit old (Err fault) new = FailsBlock head limit old fault new

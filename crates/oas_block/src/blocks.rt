@@ -1,0 +1,145 @@
+//! Reading a block into memory.
+ghost use Rattle.std.specs.Prelude.{◌≡◌, ◌≢◌, ◌<◌, min, List, ℕ};
+ghost use Rattle.oas_block.specs.Reading.{ReadsBlock};
+ghost use Rattle.oas_block.specs.Inflating.{PassesByte, Passes, Finishes, Judges, FaultOf};
+
+use crate::faults::BlockFault;
+use crate::fronts::{FrontSource, Start};
+use oas_inflate::{Bits, Fault, inflate};
+use oas_num::{Source, SourceFault, Why};
+use oas_wide::BlockHead;
+use std::alloc::Global;
+use std::marker::{Brand, PhantomData};
+
+/// The data that a block's bytes stand for, at most as many bytes as a limit (SEMI P39, CBLOCK record). They begin where the
+/// source stands, behind the head.
+pub fn read_block<S: Source>(
+    alloc: Global,
+    source: &mut S,
+    head: BlockHead,
+    limit: usize,
+) -> Result<Vec<u8>, BlockFault>
+    ensures { ReadsBlock (λ plain. plain.items) head limit (S.script source.old) result (S.script source.new) }
+{
+    if head.kind != 0 {
+        return Err(BlockFault::Kind);
+    }
+    if head.deflated == 0 {
+        return Err(BlockFault::Deflate);
+    }
+    let (read, _source) = read_named::<S, Brand>(alloc, source, head, limit);
+    read
+}
+
+/// The same, of the source that is named. It hands the borrow back, so that its lender knows it for its own.
+fn read_named<'a, S: Source, K: Start>(
+    alloc: Global,
+    source: &'a mut S,
+    head: BlockHead,
+    limit: usize,
+) -> (Result<Vec<u8>, BlockFault>, &'a mut S)
+    requires named { source.ghost_name ≡ K.name }
+    requires starts { S.script source.old ≡ K.script }
+    requires count { head.deflated ≡ K.count }
+    requires kind { head.kind ≡ 0 }
+    requires some { 0 < head.deflated }
+    ensures same { result.1.ghost_name ≡ source.entry.ghost_name }
+    ensures reads { ReadsBlock (λ plain. plain.items) head limit (S.script source.old) result.0 (S.script result.1.now) }
+{
+    let front: FrontSource<'a, S, K> = FrontSource {
+        source,
+        left: head.deflated,
+        start: PhantomData,
+    };
+    let mut bits = Bits::new(front);
+    let outcome = inflate(alloc, &mut bits, stop_at(limit, head.inflated));
+    let idle = bits.left();
+    let mut front = bits.into_source();
+    let read = match outcome {
+        Ok(plain) => finish(&mut front, plain, head, idle),
+        Err(fault) => Err(fault_of(fault, head, limit, front.left)),
+    };
+    let FrontSource {
+        source,
+        left: _,
+        start: _,
+    } = front;
+    (read, source)
+}
+
+/// Takes what is left of a block behind its stream, and gives what that stands for, if it is what the head says.
+fn finish<'a, S: Source, K: Start>(
+    front: &mut FrontSource<'a, S, K>,
+    plain: Vec<u8>,
+    head: BlockHead,
+    idle: u8,
+) -> Result<Vec<u8>, BlockFault>
+    ensures { Finishes (λ plain. plain.items) plain.items head.inflated idle (S.script front.old.source.now) front.old.left result (S.script front.new.source.now) front.new.left }
+{
+    let unread = front.left;
+    if let Err(why) = pass(front) {
+        return Err(BlockFault::Why(why));
+    }
+    if front.left > 0 {
+        return Err(BlockFault::Why(Why::Truncated));
+    }
+    judged(plain, head, unread, idle)
+}
+
+/// Where inflating stops: at the limit, or where the data would be longer than the head says.
+fn stop_at(limit: usize, inflated: u64) -> usize
+    ensures { result ≡ min limit inflated }
+{
+    if inflated < limit as u64 {
+        inflated as usize
+    } else {
+        limit
+    }
+}
+
+/// Takes a byte, if one is left.
+fn pass_byte<S: Source>(source: &mut S) -> Result<bool, Why>
+    ensures { PassesByte (S.script source.old) result (S.script source.new) }
+{
+    match source.next() {
+        Ok(next) => Ok(next.is_some()),
+        Err(SourceFault::Device) => Err(Why::Read),
+        Err(SourceFault::TooLong) => Err(Why::InputTooLong),
+    }
+}
+
+/// Takes all bytes that the source still gives.
+fn pass<S: Source>(source: &mut S) -> Result<(), Why>
+    ensures { Passes (S.script source.old) result (S.script source.new) }
+{
+    while pass_byte(source)? {}
+    Ok(())
+}
+
+/// Why a block isn't read that wasn't inflated, where so many of its bytes weren't taken.
+fn fault_of(fault: Fault, head: BlockHead, limit: usize, left: u64) -> BlockFault
+    ensures { FaultOf head limit left fault result }
+{
+    match fault {
+        Fault::Bad(_) => BlockFault::Deflate,
+        Fault::Cut if left > 0 => BlockFault::Why(Why::Truncated),
+        Fault::Cut => BlockFault::Deflate,
+        Fault::Source(SourceFault::Device) => BlockFault::Why(Why::Read),
+        Fault::Source(SourceFault::TooLong) => BlockFault::Why(Why::InputTooLong),
+        Fault::Memory => BlockFault::Why(Why::Memory),
+        Fault::Full if (limit as u64) < head.inflated => BlockFault::Full,
+        Fault::Full => BlockFault::Length,
+    }
+}
+
+/// The bytes that a stream stands for, if they are what a head says: as many as that, with no byte unread behind the stream,
+/// and fewer bits than eight.
+fn judged(plain: Vec<u8>, head: BlockHead, unread: u64, idle: u8) -> Result<Vec<u8>, BlockFault>
+    ensures { Judges (λ plain. plain.items) plain.items head.inflated unread idle result }
+{
+    if plain.len() as u64 == head.inflated && unread == 0 && idle < 8 {
+        Ok(plain)
+    } else {
+        Err(BlockFault::Length)
+    }
+}

@@ -1,0 +1,61 @@
+//! A source of so many of another's next bytes.
+ghost use Rattle.std.specs.Prelude.{◌≡◌};
+ghost use Rattle.oas_block.specs.Fronts.{IsFront, IsFront-prop};
+
+use oas_num::{Source, SourceFault};
+use std::marker::{Brand, PhantomData};
+
+/// Which source it is whose bytes are given, where it stood before the first of them, and how many they are. Each use picks
+/// it.
+pub(crate) trait Start {
+    ghost use Rattle.std.specs.Prelude.{ℕ};
+    ghost use Rattle.oas_num.specs.Script.{Script};
+    ghost use base.Fml.{GName};
+
+    ghost script: { Script };
+
+    ghost name: { GName };
+
+    ghost count: { ℕ };
+}
+
+impl Start for Brand {
+    ghost use Rattle.std.specs.Prelude.{[]};
+    ghost use Rattle.oas_num.specs.Script.{slice_script};
+
+    ghost script = { slice_script [] 0 0 };
+
+    ghost name = { 0 };
+
+    ghost count = { 0 };
+}
+
+/// So many of the next bytes of a borrowed source. Behind them its bytes have ended.
+#[derive(Drop)]
+pub(crate) struct FrontSource<'a, S: Source, K: Start> {
+    pub(crate) source: &'a mut S,
+    pub(crate) left: u64,
+    pub(crate) start: PhantomData<K>,
+    ghost front: { IsFront K.script K.name K.count source.ghost_name (S.script source.now) left } by { IsFront-prop K.script K.name K.count source.ghost_name (S.script source.now) left },
+}
+
+impl<'a, S: Source, K: Start> Source for FrontSource<'a, S, K> {
+    ghost use Rattle.oas_block.specs.Fronts.{front_script};
+
+    ghost script = { λ f. front_script (S.script f.source.now) f.left };
+
+    fn next(&mut self) -> Result<Option<u8>, SourceFault> {
+        if self.left == 0 {
+            return Ok(None);
+        }
+        let next = self.source.next()?;
+        if let Some(_byte) = next {
+            self.left -= 1;
+        }
+        Ok(next)
+    }
+
+    fn at(&self) -> u64 {
+        self.source.at()
+    }
+}

@@ -1,0 +1,40 @@
+-- What the sums of a source are.
+use Rattle.std.specs.Prelude.{◌≡◌, ℕ, ◌-◌, ◌≤◌, List, length, take, drop, Option, None, Some}
+use Rattle.std.proofs.Props.{props}
+use base.Fml.{GName}
+use Rattle.oas_bytes.specs.Script.{Script, Rest}
+use Rattle.oas_checksum.specs.Crc.{IsRegister}
+use Rattle.oas_checksum.specs.Sums.{checksum32}
+
+-- the sums, a register and a sum, are those of the bytes
+pub record AreSums (sums : ℕ × ℕ) (bytes : List ℕ) : Type 0 where
+  pub register : IsRegister sums.0 bytes
+  pub sum : sums.1 ≡ checksum32 bytes
+
+-- So many bytes were given since then, and where they are known the sums are theirs.
+abbrev pub SumsOf : Option Rest → ℕ → Option Rest → ℕ × ℕ → Type 0
+SumsOf None count new sums = Unit {0}
+SumsOf (Some old) count None sums = ⊥
+SumsOf (Some old) count (Some new) sums = (count ≤ length old.bytes) × (new.bytes ≡ drop count old.bytes) × (new.goes_on ≡ old.goes_on) × AreSums sums (take count old.bytes)
+
+-- The source is the one that was handed in, and the sums are those of all bytes that it gave since then.
+pub record IsSummed (start : Script) (name same : GName) (now : Script) (sums : ℕ × ℕ) : Type 0 where
+  pub same_source : same ≡ name
+  pub fewer : start.given ≤ now.given
+  pub limit : now.limit ≡ start.limit
+  pub reliable : now.reliable ≡ start.reliable
+  pub failures : start.failures ≤ now.failures
+  pub are : SumsOf start.rest (now.given - start.given) now.rest sums
+
+-- ---- each of these has one proof at most
+
+AreSums-prop : (sums : ℕ × ℕ) (bytes : List ℕ) → IsProp (AreSums sums bytes)
+AreSums-prop sums bytes = Prim.hlevel props
+
+SumsOf-prop : (old : Option Rest) (count : ℕ) (new : Option Rest) (sums : ℕ × ℕ) → IsProp (SumsOf old count new sums)
+SumsOf-prop None count new sums = Prim.hlevel props
+SumsOf-prop (Some old) count None sums = Prim.hlevel props
+SumsOf-prop (Some old) count (Some new) sums = Prim.hlevel (AreSums-prop, props)
+
+pub IsSummed-prop : (start : Script) (name same : GName) (now : Script) (sums : ℕ × ℕ) → IsProp (IsSummed start name same now sums)
+IsSummed-prop start name same now sums = Prim.hlevel (SumsOf-prop, props)
