@@ -9,7 +9,7 @@ use oas_record::{Head, Record, read_head};
 use std::alloc::Global;
 
 /// Takes the next record, and answers None where it is END.
-fn take_record<S: Source>(
+pub fn take_record<S: Source>(
     alloc: Global,
     source: &mut S,
     flag_in_end: bool,
@@ -40,7 +40,7 @@ pub(crate) fn take_records<S: Source, C: CellStore>(
 }
 
 /// Finds the end of the input.
-pub(crate) fn find_end_of_input<S: Source>(source: &mut S) -> Result<(), Refusal>
+pub fn find_end_of_input<S: Source>(source: &mut S) -> Result<(), Refusal>
     ensures { FindsEnd (S.script source.old) result (S.script source.new) }
 {
     let at = source.at();

@@ -6,14 +6,15 @@ ghost use Rattle.oas_layout.specs.declared.profile.Profile.{Profile};
 ghost use Rattle.oas_layout.specs.Sound.{IsSound};
 ghost use Rattle.oas_layout.specs.Grid.{fits_grid};
 ghost use Rattle.oas_layout.specs.Weight.{weight_of, lacks_points};
-ghost use Rattle.oas_form.specs.Bytes.{opening_bytes, element_bytes};
+ghost use Rattle.oas_form.specs.Bytes.{opening_bytes, element_bytes, head_bytes, end_bytes};
 ghost use Rattle.oas_form.specs.Judging.{IsAbove, IsNotBelow, Stands, GoesOn, GoesOnDrawing, GoesOnRefusing};
 
 use crate::cells::put_opening;
 use crate::comparing::Comparer;
 use crate::elements::put_element;
+use crate::frames::{put_end, put_head};
 use oas_layout::Element;
-use oas_num::Name;
+use oas_num::{Fraction, Name};
 
 /// Whether a name is above that of the cell before it.
 fn is_above(before: &Option<Name>, name: &Name) -> bool
@@ -53,6 +54,24 @@ fn is_opening(name: &Name, bytes: &[u8]) -> bool
 {
     let mut comparer = Comparer::new(bytes);
     let _ = put_opening(&mut comparer, name.as_bytes());
+    comparer.is_done()
+}
+
+/// Whether these are the canonical bytes of the magic and START.
+pub fn is_head(unit: Fraction, bytes: &[u8]) -> bool
+    ensures { IsTrue result ↔ (head_bytes unit ≡ bytes.now) }
+{
+    let mut comparer = Comparer::new(bytes);
+    let _ = put_head(&mut comparer, unit.num(), unit.den());
+    comparer.is_done()
+}
+
+/// Whether these are the canonical bytes of END.
+pub fn is_end(bytes: &[u8]) -> bool
+    ensures { IsTrue result ↔ (end_bytes ≡ bytes.now) }
+{
+    let mut comparer = Comparer::new(bytes);
+    let _ = put_end(&mut comparer);
     comparer.is_done()
 }
 

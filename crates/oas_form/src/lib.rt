@@ -19,7 +19,8 @@
 //!   length is bounded by that weight and by the limit of an input. A file's canonical form by profile two is that of its
 //!   canonical form by profile one.
 //! - [`judge_laws`] says when an accepted file is a canonical form, record by record as it is read (specs/Judging.antt), and
-//!   [`FormJudge`] judges so: of what was read it keeps the name of the open cell and the latest element.
+//!   [`FormJudge`] judges so: of what was read it keeps the name of the open cell and the latest element. [`is_head`] and
+//!   [`is_end`] say whether bytes are those before the first record and END.
 //! - [`meaning_laws`] and [`spelling_laws`] say of the records of a canonical file (`records_of`, specs/Records.antt) what
 //!   they mean, that they are accepted, and how they are spelled.
 #![tactic(auto)]
@@ -40,6 +41,6 @@ pub mod spelling_laws;
 mod writing;
 
 pub use alone::put_cell_alone;
-pub use judging::FormJudge;
+pub use judging::{FormJudge, is_end, is_head};
 pub use matching::has_canonical_bytes;
 pub use writing::{put_canonical, write_canonical};
