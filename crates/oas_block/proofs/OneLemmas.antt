@@ -1,5 +1,5 @@
 -- A list of bits begins with one deflated stream at most.
-use Rattle.std.proofs.Common.{◌≡◌, ◌≢◌, ℕ, zero, suc, ◌+◌, ◌-◌, ◌*◌, ◌^◌, ◌<◌, ◌≤◌, List, [], ◌∷◌, ◌++◌, length, get_or, take, drop, inl, inr, refl, sym, ap, subst, ◌∙◌, arith}
+use Rattle.std.proofs.Common.{◌≡◌, ℕ, zero, suc, ◌+◌, ◌-◌, ◌*◌, ◌<◌, ◌≤◌, List, [], ◌∷◌, ◌++◌, get_or, take, drop, inl, inr, sym, ap, subst, ◌∙◌, arith}
 use Rattle.std.specs.Prelude.{◌⊎◌}
 use Rattle.oas_inflate.specs.Bits.{IsBit, IsNumber, IsWord, whole_bytes}
 use Rattle.oas_inflate.specs.Codes.{IsSymbol, IsAt, symbols_of, first_code, IsComplete}
@@ -51,7 +51,7 @@ one_chain Step End s e r (x ∷ via) [] before v w old a b h k = absurd ((r befo
 one_chain Step End s e r (x ∷ via) (y ∷ other) before v w old a b h k =
     let same = (s before).one y x old k.0 h.0 k.1 h.1 in
     one_chain Step End s e r via other x v w h.0 a b h.2
-      (subst (λ (m : List ℕ). Chain Step End other x w m b) same.1 (subst (λ (z : List ℕ). Chain Step End other z w k.0 b) same.0 k.2))
+    (subst (λ (m : List ℕ). Chain Step End other x w m b) same.1 (subst (λ (z : List ℕ). Chain Step End other z w k.0 b) same.0 k.2))
 
 steps_one : (Step End : List ℕ → List ℕ → List ℕ → List ℕ → Type 0) (before : List ℕ) → ((b : List ℕ) → One (Step b)) → ((b : List ℕ) → One (End b)) → ((b : List ℕ) → Apart (Step b) (End b))
     → One (Steps Step End before)
@@ -87,14 +87,14 @@ word_goes_on (suc short) zero more high v w old a b e h k = absurd (omega arith)
 word_goes_on (suc short) (suc long) more high v w old a b e h k =
     let same = bit_one k.0 h.0 old k.1 h.1 k.2 h.2 in
     word_goes_on short long more (2 * high + h.0) v w h.1 a b (omega arith) h.3
-      (subst (λ (m : List ℕ). IsWord long (2 * high + h.0) w m b) same.1 (subst (λ (x : ℕ). IsWord long (2 * high + x) w k.1 b) same.0 k.3))
+    (subst (λ (m : List ℕ). IsWord long (2 * high + h.0) w m b) same.1 (subst (λ (x : ℕ). IsWord long (2 * high + x) w k.1 b) same.0 k.3))
 
 symbols_one : (lengths : List ℕ) (s t : ℕ) (old a b : List ℕ) (h : IsSymbol lengths s old a) (k : IsSymbol lengths t old b) → h.n ≤ k.n → (t ≡ s) × (b ≡ a)
 symbols_one lengths s t old a b h k le =
     let c : h.k ≡ first_code lengths h.n + h.k - first_code lengths h.n = omega arith in
     only_here lengths h.n (first_code lengths h.n + h.k) s (k.n - h.n) k.n k.k a b t
-      (subst (λ (x : ℕ). IsAt (symbols_of (suc h.n) lengths) x s) c h.ranked) (omega arith) (omega arith) k.ranked
-      (word_goes_on (suc h.n) (suc k.n) (k.n - h.n) 0 (first_code lengths h.n + h.k) (first_code lengths k.n + k.k) old a b (omega arith) h.code k.code)
+    (subst (λ (x : ℕ). IsAt (symbols_of (suc h.n) lengths) x s) c h.ranked) (omega arith) (omega arith) k.ranked
+    (word_goes_on (suc h.n) (suc k.n) (k.n - h.n) 0 (first_code lengths h.n + h.k) (first_code lengths k.n + k.k) old a b (omega arith) h.code k.code)
 
 either_le : (n m : ℕ) → (n ≤ m) ⊎ (m ≤ n)
 either_le zero m = inl (omega arith)
@@ -169,10 +169,10 @@ apart_two p q = record { apart = λ v w old a b h k. elim k [ inl x ↦ p.apart 
 run_one : (symbol : ℕ) (before : List ℕ) → One (IsRun symbol before)
 run_one symbol before =
     either_one (when_one only_one)
-      (either_one (when_one (again_one (last_of before) 3 2 before))
-        (either_one (when_one (again_one 0 3 3 before)) (when_one (again_one 0 11 7 before)) (when_apart (λ p q. omega arith)))
-        (apart_two (when_apart (λ p q. let r = p.0 in omega arith)) (when_apart (λ p q. let r = p.0 in omega arith))))
-      (apart_three (when_apart (λ p q. let r = q.0 in omega arith)) (when_apart (λ p q. omega arith)) (when_apart (λ p q. omega arith)))
+    (either_one (when_one (again_one (last_of before) 3 2 before))
+    (either_one (when_one (again_one 0 3 3 before)) (when_one (again_one 0 11 7 before)) (when_apart (λ p q. omega arith)))
+    (apart_two (when_apart (λ p q. let r = p.0 in omega arith)) (when_apart (λ p q. let r = p.0 in omega arith))))
+    (apart_three (when_apart (λ p q. let r = q.0 in omega arith)) (when_apart (λ p q. omega arith)) (when_apart (λ p q. omega arith)))
 
 length_step_one : (code : List ℕ) (total : ℕ) (before : List ℕ) → One (IsLengthStep code total before)
 length_step_one code total before = when_one (then_one {B = λ symbol. IsRun symbol before} (symbol_one code) (λ symbol. run_one symbol before))
@@ -202,8 +202,8 @@ dynamic_one before = then_one {B = λ literals. Then (IsNumber 5) (λ distances.
 body_one : (kind : ℕ) (before : List ℕ) → One (IsBody kind before)
 body_one kind before =
     either_one (when_one (stored_one before))
-      (either_one (when_one (coded_one fixed_literals fixed_distances before)) (when_one (dynamic_one before)) (when_apart (λ p q. omega arith)))
-      (apart_two (when_apart (λ p q. omega arith)) (when_apart (λ p q. omega arith)))
+    (either_one (when_one (coded_one fixed_literals fixed_distances before)) (when_one (dynamic_one before)) (when_apart (λ p q. omega arith)))
+    (apart_two (when_apart (λ p q. omega arith)) (when_apart (λ p q. omega arith)))
 
 block_one : (last : ℕ) (before : List ℕ) → One (IsBlock last before)
 block_one last before = then_one {B = λ n. When (n ≡ last) (Then (IsNumber 2) (λ kind. IsBody kind before))} (number_one 1)

@@ -1,9 +1,9 @@
 -- Records of the profile among those of the standard.
-use Rattle.std.proofs.Common.{◌≡◌, ◌≢◌, ℕ, Bool, true, false, inl, inr, List, [], ◌++◌, Some, None, refl, sym, ap, subst, ◌∙◌, ◌⊎◌, arith}
+use Rattle.std.proofs.Common.{◌≡◌, ℕ, Bool, true, false, inl, inr, List, [], Some, None, refl, sym, ap, subst, ◌∙◌, arith}
 use Rattle.std.specs.Prelude.{◌==◌}
 use Rattle.std.proofs.lemmas.List.{append-nil}
 use Rattle.oas_num.specs.Combinators.{IsEither}
-use Rattle.oas_num.specs.Grammar.{IsImage, IsPair}
+use Rattle.oas_num.specs.Grammar.{IsImage}
 use Rattle.oas_num.specs.Integers.{IsUnsigned}
 use Rattle.oas_num.specs.Style.{Any}
 use Rattle.oas_record.specs.declared.placements.Turn.{Turn}
