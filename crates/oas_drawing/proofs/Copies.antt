@@ -11,6 +11,9 @@ use Rattle.oas_num.specs.declared.deltas.GDelta.{GDelta}
 use Rattle.oas_ring.specs.declared.point.Point.{Point}
 use Rattle.oas_shape.specs.Polylines.{Polyline}
 use Rattle.oas_shape.specs.Steps.{still}
+use Rattle.oas_shape.specs.declared.repetitions.Repetition.{Repetition}
+use Rattle.oas_shape.specs.Places.{ArePlaces}
+use Rattle.oas_shape.specs.Laws.PlaceLaws.{apart, places}
 use Rattle.oas_record.specs.declared.references.CellRef.{CellRef}
 use Rattle.oas_record.specs.declared.references.CellRef.TheVariants as cell
 use Rattle.oas_record.specs.declared.references.TextRef.{TextRef}
@@ -25,7 +28,7 @@ use Rattle.oas_drawing.specs.Modal.{ModalState}
 use Rattle.oas_drawing.specs.Turns.{turned}
 use Rattle.oas_drawing.specs.Drawn.{drawn_fits}
 use Rattle.oas_drawing.specs.Drawing.{kind_of, repeats, placement_at, text_at, rectangle_at, polygon_at, path_at, circle_at, kind_at, place_of, point_from, drawn_by, offset_if}
-use Rattle.oas_drawing.specs.Drawing.{number_if, drawn_at, copies_at, first_offsets}
+use Rattle.oas_drawing.specs.Drawing.{number_if, places_if, drawn_at, copies_at, first_offsets}
 use Rattle.oas_drawing.specs.Reasons.{first_of, fits_if, fault_of, kind_reason, all_fit, reason_if, draw_reason}
 use Rattle.std.specs.Prelude.{ℤ}
 
@@ -170,3 +173,9 @@ one_more m r n =
     ap (copies_at m r) (map-range_with_len_more (offset_if (repeats r) m.repetition) 0 n n (omega arith)) ∙
     (copies-append m r (first_offsets m r n) (offset_if (repeats r) m.repetition n ∷ []) ∙
     ap (λ (rest : List Drawn). copies_at m r (first_offsets m r n) ++ rest) (one_copy (drawn_at m r (offset_if (repeats r) m.repetition n))))
+
+-- the copies of a record stand on its places, as many on each
+pub on_places : (repeated : Bool) (modal : Option Repetition) → ArePlaces (number_if repeated modal) (offset_if repeated modal) (places_if repeated modal)
+on_places false modal = apart (offset_if false modal) 1
+on_places true None = apart (offset_if true None) 0
+on_places true (Some repetition) = places repetition

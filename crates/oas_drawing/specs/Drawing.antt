@@ -7,6 +7,8 @@ use Rattle.oas_ring.specs.declared.point.Point.{Point}
 use Rattle.oas_shape.specs.declared.repetitions.Repetition.{Repetition}
 use Rattle.oas_shape.specs.Polylines.{Polyline, vertices_of}
 use Rattle.oas_shape.specs.Offsets.{count_of, offset_of}
+use Rattle.oas_shape.specs.declared.places.Places.{Places}
+use Rattle.oas_shape.specs.Places.{places_one_way, places_of}
 use Rattle.oas_shape.specs.Steps.{still}
 use Rattle.oas_record.specs.declared.references.CellRef.{CellRef}
 use Rattle.oas_record.specs.declared.references.CellRef.TheVariants as cell
@@ -113,6 +115,12 @@ abbrev pub number_if : Bool → Option Repetition → ℕ
 number_if false modal = 1
 number_if true None = 0
 number_if true (Some repetition) = count_of repetition
+
+-- the places on which they stand: those of the modal repetition, or the one of a record that stands once
+abbrev pub places_if : Bool → Option Repetition → Places
+places_if false modal = places_one_way 1 false
+places_if true None = places_one_way 0 false
+places_if true (Some repetition) = places_of repetition
 
 -- whether a repetition is to be taken from its variable, which is undefined
 abbrev pub lacks_repetition : Bool → Option Repetition → Bool

@@ -1,7 +1,8 @@
 //! What the definitions say: each function's contract is a law, and its body is empty.
-ghost use Rattle.std.specs.Prelude.{◌≡◌, List, [], ◌∷◌, ◌++◌, reverse, ℕ, ℤ, Bool, ◌+◌, ◌<◌, None, Some};
+ghost use Rattle.std.specs.Prelude.{◌≡◌, List, [], ◌∷◌, ◌++◌, reverse, ℕ, ℤ, Bool, ◌+◌, ◌<◌, Option, None, Some};
 ghost use Rattle.oas_shape.specs.declared.repetitions.Repetition.{Repetition};
 ghost use Rattle.oas_shape.specs.Polylines.{Polyline};
+ghost use Rattle.oas_shape.specs.Places.{ArePlaces};
 ghost use Rattle.oas_record.specs.declared.references.CellRef.{CellRef};
 ghost use Rattle.oas_record.specs.declared.references.TextRef.{TextRef};
 ghost use Rattle.oas_record.specs.declared.records.Record.{Record as OneRecord};
@@ -9,7 +10,7 @@ ghost use Rattle.std.specs.Option.{option_to_list};
 ghost use Rattle.oas_num.specs.declared.refusals.Why.{Why};
 ghost use Rattle.oas_layout.specs.declared.limits.Limits.{Limits};
 ghost use Rattle.oas_drawing.specs.declared.kinds.Kind.{Kind};
-ghost use Rattle.oas_drawing.specs.Drawing.{kind_of, repeats, number_if, offset_if, first_offsets, drawn_by, drawn_at, copies_at, elements_at};
+ghost use Rattle.oas_drawing.specs.Drawing.{kind_of, repeats, number_if, offset_if, places_if, first_offsets, drawn_by, drawn_at, copies_at, elements_at};
 ghost use Rattle.oas_drawing.specs.Reasons.{fault_of, kind_reason, draw_reason};
 ghost use Rattle.oas_drawing.specs.Modal.{ModalState, modal_of, stepped};
 ghost use Rattle.oas_drawing.specs.Latest.{FindsLatest};
@@ -61,4 +62,9 @@ pub fn one_more_copy()
         ++ option_to_list (drawn_at m r (offset_if (repeats r) m.repetition n)) }
     ensures all { (r : OneRecord) (before : List OneRecord) → elements_at r before
         ≡ copies_at (modal_of (r ∷ before)) r (first_offsets (modal_of (r ∷ before)) r (number_if (repeats r) (modal_of (r ∷ before)).repetition)) }
+{}
+
+/// The copies of a record stand on its places, as many on each.
+pub fn copies_on_places()
+    ensures { (repeated : Bool) (modal : Option Repetition) → ArePlaces (number_if repeated modal) (offset_if repeated modal) (places_if repeated modal) }
 {}

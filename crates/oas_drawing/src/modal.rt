@@ -253,4 +253,5 @@ fn extension_numbers(
 }
 
 mod checking;
+mod copying;
 mod drawing;

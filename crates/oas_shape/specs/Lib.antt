@@ -4,5 +4,6 @@ pub mod Polylines
 pub mod PointLists
 pub mod OffsetLists
 pub mod Offsets
+pub mod Places
 pub mod Repetitions
 pub mod Laws

@@ -9,6 +9,8 @@ ghost use Rattle.oas_shape.specs.declared.list_use.ListUse.{ListUse};
 ghost use Rattle.oas_shape.specs.PointLists.{point_list_in};
 ghost use Rattle.oas_shape.specs.declared.offsets.Along.{Along};
 ghost use Rattle.oas_shape.specs.OffsetLists.{AreOffsets};
+ghost use Rattle.oas_shape.specs.declared.repetitions.Repetition.{Repetition};
+ghost use Rattle.oas_shape.specs.Places.{PlacesOf};
 ghost use Rattle.oas_shape.specs.Repetitions.{rep_field_in, after_dim};
 
 /// Point lists. In the shortest style one is of type 4, with g-deltas in their shortest spelling (own rule).
@@ -33,4 +35,9 @@ pub fn listed_offsets()
     ensures count { (along : Along) (has_grid : Bool) (dim : ℕ) (grid : Option ℕ) (offsets : List GDelta) (bytes : List ℕ) →
         after_dim along has_grid dim (grid, offsets) bytes → length offsets ≡ dim + 2 }
     ensures first { (along : Along) (has_grid : Bool) (dim : ℕ) (grid : Option ℕ) (offsets : List GDelta) (bytes : List ℕ) → after_dim along has_grid dim (grid, offsets) bytes → AreOffsets offsets }
+{}
+
+/// The copies of a repetition stand on its places, as many on each.
+pub fn copies_on_places()
+    ensures { (repetition : Repetition) → PlacesOf repetition }
 {}

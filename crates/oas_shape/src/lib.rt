@@ -12,6 +12,8 @@
 //!   one of them is past the limit of coordinates. [`PointList::len`] is their number.
 //! - [`Repetition::count`] and [`Repetition::offset`] are the table's, `count_of` and `offset_of` (specs/Offsets.antt).
 //!   Listed offsets are two at least, and the first is (0, 0).
+//! - [`Repetition::places`] gives the places on which the copies stand, `places_of` (specs/Places.antt), as many copies on
+//!   each ([`laws::copies_on_places`]). So copies along a step of zero are counted, and never looked at one by one.
 //!
 //! Memory is refused only at a delta or a displacement that was read, never behind a type, a dimension or a count. An offset
 //! takes no memory.
@@ -22,6 +24,7 @@ pub mod laws;
 mod list_use;
 mod offset_list;
 mod offsets;
+mod places;
 mod point_list;
 mod repetitions;
 mod steps;
@@ -29,5 +32,6 @@ mod vertices;
 
 pub use list_use::ListUse;
 pub use offset_list::OffsetList;
+pub use places::Places;
 pub use point_list::{Closing, PointList};
 pub use repetitions::{RepField, Repetition};

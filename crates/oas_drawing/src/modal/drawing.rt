@@ -1,12 +1,11 @@
 //! The elements of a record, by the modal variables after it.
-ghost use Rattle.std.specs.Prelude.{◌≡◌, ◌<◌, ◌^◌, ◌+ℤ◌, ◌⊎◌, true, false, is_none, None, Some, IfOk, IfErr, SomeIff};
+ghost use Rattle.std.specs.Prelude.{◌≡◌, ◌+ℤ◌, ◌⊎◌, true, false, is_none, None, Some, IfOk, IfErr, SomeIff};
 ghost use Rattle.oas_num.specs.declared.refusals.Why.TheVariants.{Memory, CoordinateRange};
 ghost use Rattle.oas_num.specs.Deltas.{step};
 ghost use Rattle.std.specs.List.{list_all};
 ghost use Rattle.oas_shape.specs.Polylines.{vertices_of};
 ghost use Rattle.oas_layout.specs.Grid.{is_coordinate, is_grid_point};
-ghost use Rattle.oas_drawing.specs.Drawn.{drawn_fits};
-ghost use Rattle.oas_drawing.specs.Drawing.{placement_at, text_at, rectangle_at, polygon_at, path_at, circle_at, point_from, number_if, offset_if, drawn_by};
+ghost use Rattle.oas_drawing.specs.Drawing.{placement_at, text_at, rectangle_at, polygon_at, path_at, circle_at, point_from, drawn_by};
 ghost use Rattle.oas_drawing.specs.Reasons.{fault_of, MayWant};
 
 use super::ModalVariables;
@@ -68,18 +67,6 @@ fn points_by(
     match points.vertices(alloc, at) {
         Ok(points) => Ok(Points::new(points)),
         Err(why) => Err(why),
-    }
-}
-
-/// Whether an element lies within the grid, whatever its number means.
-fn fits(drawn: &Drawn) -> bool
-    ensures { result ≡ drawn_fits drawn.now }
-{
-    match drawn {
-        Drawn::Named(element) => element.fits_grid(),
-        Drawn::PlacementBy { x, y, .. } | Drawn::TextBy { x, y, .. } => {
-            coordinate(i128::from(*x)).is_some() && coordinate(i128::from(*y)).is_some()
-        }
     }
 }
 
@@ -247,20 +234,8 @@ impl ModalVariables {
         }))
     }
 
-    /// Where copy `i` of a record stands, from copy 0 on.
-    fn offset(&self, repeated: bool, i: u64) -> (i128, i128)
-        requires below { i < number_if repeated self.now.repetition }
-        requires small { i < 2 ^ 32 }
-        ensures { step result.0 result.1 ≡ offset_if repeated self.now.repetition i }
-    {
-        match (repeated, &self.repetition) {
-            (true, Some(repetition)) => repetition.offset(i),
-            _ => (0, 0),
-        }
-    }
-
     /// The element of a kind, moved by an offset, in the grid or not.
-    fn drawn_by(&self, alloc: Global, kind: Kind, by: (i128, i128)) -> Result<Drawn, Why>
+    pub(super) fn drawn_by(&self, alloc: Global, kind: Kind, by: (i128, i128)) -> Result<Drawn, Why>
         ensures ok { IfOk result (λ d. drawn_by self.now kind (step by.0 by.1) ≡ Some d) }
         ensures err { IfErr result (λ why. ((why ≡ Memory) × MayWant kind (drawn_by self.now kind (step by.0 by.1))) ⊎ (fault_of (drawn_by self.now kind (step by.0 by.1)) ≡ Some why)) }
     {
@@ -271,26 +246,6 @@ impl ModalVariables {
             Kind::Polygon => self.polygon_by(alloc, by),
             Kind::Path => self.path_by(alloc, by),
             Kind::Circle => self.circle_by(by),
-        }
-    }
-
-    /// Copy `i` of an element record, from copy 0 on. It is refused by `ModalUndefined` and `CoordinateRange`, in this order, or
-    /// by `Memory`: a placement or a text only where it isn't refused otherwise, a polygon or a path as soon as its variables
-    /// are defined, since its vertices are looked at as they are made.
-    #[tactic(auto, using(crate::proofs::Grids::never_memory))]
-    pub fn copy(&self, alloc: Global, kind: Kind, repeated: bool, i: u64) -> Result<Drawn, Why>
-        requires below { i < number_if repeated self.now.repetition }
-        requires small { i < 2 ^ 32 }
-        ensures ok { IfOk result (λ d. drawn_by self.now kind (offset_if repeated self.now.repetition i) ≡ Some d) }
-        ensures fits { IfOk result (λ d. fault_of (drawn_by self.now kind (offset_if repeated self.now.repetition i)) ≡ None) }
-        ensures err { IfErr result (λ why. (why ≡ Memory) ⊎ (fault_of (drawn_by self.now kind (offset_if repeated self.now.repetition i)) ≡ Some why)) }
-        ensures memory { IfErr result (λ why. why ≡ Memory → MayWant kind (drawn_by self.now kind (offset_if repeated self.now.repetition i))) }
-    {
-        let drawn = self.drawn_by(alloc, kind, self.offset(repeated, i))?;
-        if fits(&drawn) {
-            Ok(drawn)
-        } else {
-            Err(Why::CoordinateRange)
         }
     }
 }

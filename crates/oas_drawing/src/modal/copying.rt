@@ -1,0 +1,81 @@
+//! The copies of a record, by the modal variables after it: on which places they stand, and each of them.
+ghost use Rattle.std.specs.Prelude.{◌≡◌, ◌<◌, ◌^◌, ◌⊎◌, None, Some, IfOk, IfErr};
+ghost use Rattle.oas_num.specs.declared.refusals.Why.TheVariants.{Memory};
+ghost use Rattle.oas_num.specs.Deltas.{step};
+ghost use Rattle.oas_drawing.specs.Drawn.{drawn_fits};
+ghost use Rattle.oas_drawing.specs.Drawing.{number_if, offset_if, places_if, drawn_by};
+ghost use Rattle.oas_drawing.specs.Reasons.{fault_of, MayWant};
+
+use super::ModalVariables;
+use super::drawing::coordinate;
+use crate::drawn::Drawn;
+use crate::kinds::Kind;
+use oas_num::Why;
+use oas_shape::Places;
+use std::alloc::Global;
+
+/// Whether an element lies within the grid, whatever its number means.
+fn fits(drawn: &Drawn) -> bool
+    ensures { result ≡ drawn_fits drawn.now }
+{
+    match drawn {
+        Drawn::Named(element) => element.fits_grid(),
+        Drawn::PlacementBy { x, y, .. } | Drawn::TextBy { x, y, .. } => {
+            coordinate(i128::from(*x)).is_some() && coordinate(i128::from(*y)).is_some()
+        }
+    }
+}
+
+impl ModalVariables {
+    /// The places on which the copies of a record stand, as many on each. There are fewer than 2^64 copies.
+    pub fn places(&self, repeated: bool) -> Places
+        requires { number_if repeated self.now.repetition < 2 ^ 64 }
+        ensures { result ≡ places_if repeated self.now.repetition }
+    {
+        match (repeated, &self.repetition) {
+            (true, Some(repetition)) => repetition.places(),
+            (true, None) => Places {
+                number: 0,
+                copies: 1,
+                stride: 1,
+            },
+            (false, _) => Places {
+                number: 1,
+                copies: 1,
+                stride: 1,
+            },
+        }
+    }
+
+    /// Where copy `i` of a record stands, from copy 0 on.
+    fn offset(&self, repeated: bool, i: u64) -> (i128, i128)
+        requires below { i < number_if repeated self.now.repetition }
+        requires small { i < 2 ^ 32 }
+        ensures { step result.0 result.1 ≡ offset_if repeated self.now.repetition i }
+    {
+        match (repeated, &self.repetition) {
+            (true, Some(repetition)) => repetition.offset(i),
+            _ => (0, 0),
+        }
+    }
+
+    /// Copy `i` of an element record, from copy 0 on. It is refused by `ModalUndefined` and `CoordinateRange`, in this order, or
+    /// by `Memory`: a placement or a text only where it isn't refused otherwise, a polygon or a path as soon as its variables
+    /// are defined, since its vertices are looked at as they are made.
+    #[tactic(auto, using(crate::proofs::Grids::never_memory))]
+    pub fn copy(&self, alloc: Global, kind: Kind, repeated: bool, i: u64) -> Result<Drawn, Why>
+        requires below { i < number_if repeated self.now.repetition }
+        requires small { i < 2 ^ 32 }
+        ensures ok { IfOk result (λ d. drawn_by self.now kind (offset_if repeated self.now.repetition i) ≡ Some d) }
+        ensures fits { IfOk result (λ d. fault_of (drawn_by self.now kind (offset_if repeated self.now.repetition i)) ≡ None) }
+        ensures err { IfErr result (λ why. (why ≡ Memory) ⊎ (fault_of (drawn_by self.now kind (offset_if repeated self.now.repetition i)) ≡ Some why)) }
+        ensures memory { IfErr result (λ why. why ≡ Memory → MayWant kind (drawn_by self.now kind (offset_if repeated self.now.repetition i))) }
+    {
+        let drawn = self.drawn_by(alloc, kind, self.offset(repeated, i))?;
+        if fits(&drawn) {
+            Ok(drawn)
+        } else {
+            Err(Why::CoordinateRange)
+        }
+    }
+}
