@@ -281,6 +281,14 @@ fn copies(rt: HostRuntime) {
     );
 }
 
+/// A record that stands once has one place, and one with no repetition to stand by none.
+#[test]
+fn places(rt: HostRuntime) {
+    let modal = ModalVariables::new();
+    assert_eq!(rt; modal.places(false).number, 1);
+    assert_eq!(rt; modal.places(true).number, 0);
+}
+
 #[test]
 fn far_corners(rt: HostRuntime) {
     let alloc = rt.alloc();

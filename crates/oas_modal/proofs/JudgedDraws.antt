@@ -110,9 +110,19 @@ module _ {S : Type 0} (t : Store S) (p : Parts S) (r : Record) (kind : Kind) (he
       subst (λ (es : List DrawnCell). HoldCells t (p.done.items ++ held' ∷ []) es) (sym ((is_element r kind c.kind_is).draws ds m))
       (hold_drawn t held held' (drawn_of m r) drawn p.done.items ds open_one)
 
-  pub took_draw : (held' : S) (n w : ℕ) → kind_reason p.limits p.count p.weight m kind repeated ≡ None → n ≡ number_if repeated m.repetition → w ≡ n * weight_if (drawn_by m kind still)
-      → Draws t held (first_copies m kind repeated n) held' → Took t p r (drew_with held' n w)
-  took_draw held' n w none number weighs drawn =
+  -- so many copies as are counted
+  weighs_as : (n w : ℕ) → n ≡ number_if repeated m.repetition → w ≡ number_if repeated m.repetition * weight_if (drawn_by m kind still) → w ≡ n * weight_if (drawn_by m kind still)
+  weighs_as n w number weighs = weighs ∙ ap (λ (k : ℕ). k * weight_if (drawn_by m kind still)) (sym number)
+
+  draws_as : (held' : S) (n : ℕ) → n ≡ number_if repeated m.repetition → Draws t held (first_copies m kind repeated (number_if repeated m.repetition)) held'
+      → Draws t held (first_copies m kind repeated n) held'
+  draws_as held' n number drawn = subst (λ (k : ℕ). Draws t held (first_copies m kind repeated k) held') (sym number) drawn
+
+  pub took_draw : (held' : S) (n w : ℕ) → kind_reason p.limits p.count p.weight m kind repeated ≡ None → n ≡ number_if repeated m.repetition
+      → w ≡ number_if repeated m.repetition * weight_if (drawn_by m kind still) → Draws t held (first_copies m kind repeated (number_if repeated m.repetition)) held' → Took t p r (drew_with held' n w)
+  took_draw held' n w none number weighs_all drawn_all =
+      let weighs = weighs_as n w number weighs_all in
+      let drawn = draws_as held' n number drawn_all in
       let all : IsElement r = is_element r kind c.kind_is in
       let there = (is_passed p.limits p.count p.weight m kind repeated none).there in
       let count : n ≡ length (drawn_of (stepped p.modal r) r) =
@@ -136,9 +146,12 @@ module _ {S : Type 0} (t : Store S) (p : Parts S) (r : Record) (kind : Kind) (he
       let passes : IsPassed p.limits p.count p.weight m kind repeated = is_passed p.limits p.count p.weight m kind repeated none in
       (omega (arith, passes.few, number), subst (λ (k : ℕ). p.weight + k * weight_if (drawn_by m kind still) ≤ p.limits.weight) (sym number) passes.light)
 
-  pub sound_draw : (held' : S) (n w : ℕ) → kind_reason p.limits p.count p.weight m kind repeated ≡ None → n ≡ number_if repeated m.repetition → w ≡ n * weight_if (drawn_by m kind still)
-      → IsNear (place_of m kind) → Draws t held (first_copies m kind repeated n) held' → Sound t (drew_with held' n w)
-  sound_draw held' n w none number weighs place drawn =
+  pub sound_draw : (held' : S) (n w : ℕ) → kind_reason p.limits p.count p.weight m kind repeated ≡ None → n ≡ number_if repeated m.repetition
+      → w ≡ number_if repeated m.repetition * weight_if (drawn_by m kind still) → IsNear (place_of m kind) → Draws t held (first_copies m kind repeated (number_if repeated m.repetition)) held'
+      → Sound t (drew_with held' n w)
+  sound_draw held' n w none number weighs_all place drawn_all =
+      let weighs = weighs_as n w number weighs_all in
+      let drawn = draws_as held' n number drawn_all in
       let s : Sound t p = c.sound in
       let passes : IsPassed p.limits p.count p.weight m kind repeated = is_passed p.limits p.count p.weight m kind repeated none in
       let fits = number_fits n none number in

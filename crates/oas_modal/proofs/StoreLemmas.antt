@@ -2,7 +2,7 @@
 use Rattle.std.proofs.Common.{◌≡◌, ℕ, ◌+◌, ◌*◌, List, [], ◌∷◌, ◌++◌, length, replicate, refl, sym, ap, ◌∙◌, subst, arith, append_assoc, length-append}
 use Rattle.std.proofs.lemmas.List.{length-replicate, append-nil}
 use Rattle.std.proofs.lemmas.List.Folds.{sum_by-replicate}
-use Rattle.std.proofs.lemmas.List.Sums.{sum_by-append}
+use Rattle.std.proofs.lemmas.List.Sums.{sum_by-cons, sum_by-append}
 use Rattle.std.specs.Prelude.{sum_by}
 use Rattle.std.specs.Ordering.{match_ordering}
 use Rattle.std.specs.declared.cmp.Ordering.TheVariants.{Less, Equal, Greater}
@@ -18,6 +18,11 @@ use Rattle.oas_modal.specs.Alike.{SameDrawn, AlikeCells}
 use Rattle.oas_modal.specs.Finish.{IsFit, AllFit, drawn_cells, drawn_total}
 use Rattle.oas_modal.specs.Stores.{Store, Draws, IsBegun, total_count, HoldCells, held_store}
 
+-- how many there are, where each counts for one
+length_sum : (ds : List Drawn) → length ds ≡ sum_by (λ _. 1) ds
+length_sum [] = refl
+length_sum (d ∷ ds) = omega (arith, length_sum ds, sum_by-cons (λ _. 1) d ds)
+
 -- ---- any stores
 
 module _ {S : Type 0} (t : Store S) where
@@ -32,6 +37,17 @@ module _ {S : Type 0} (t : Store S) where
     count = omega (arith, g.count, f.count, length-append ds es);
     sound = λ h. g.sound (f.sound h);
     holds = λ before h. subst (t.Holds c) (append_assoc before ds es) (g.holds (before ++ ds) (f.holds before h));
+  }
+
+  -- drawn in another order
+  pub draws_same : ((s : S) (ds es : List Drawn) → t.Holds s ds → SameDrawn ds es → t.Holds s es) → (a b : S) (ds es : List Drawn) → SameDrawn ds es → Draws t a ds b → Draws t a es b
+  draws_same alike a b ds es same f = record {
+    cell = f.cell;
+    count = omega (arith, f.count, length_sum ds, length_sum es, same.sums (λ _. 1));
+    sound = f.sound;
+    holds = λ before h.
+        alike b (before ++ ds) (before ++ es) (f.holds before h)
+        (record { sums = λ g. sum_by-append g before ds ∙ ap (λ (k : ℕ). sum_by g before + k) (same.sums g) ∙ sym (sum_by-append g before es) });
   }
 
   pub total_append : (ss gs : List S) → total_count t (ss ++ gs) ≡ total_count t ss + total_count t gs

@@ -1,2 +1,3 @@
 -- What follows of the definitions. Nothing here has to be believed.
 pub mod NameLaws
+pub mod StoreLaws

@@ -1,4 +1,4 @@
-//! The copies of an element record, held one by one.
+//! The copies of an element record, held place by place.
 
 ghost use Rattle.std.specs.Prelude.{◌≡◌, ◌⊎◌, ◌*◌, ◌<◌, ◌≤◌, ◌^◌, ℕ, false, None, OnOk, IfOk, IfErr};
 ghost use Rattle.oas_num.specs.declared.refusals.Why.TheVariants.{Memory};
@@ -24,30 +24,29 @@ pub(crate) fn weight_so_far(drawn: &Drawn) -> u64
     }
 }
 
-/// Draws each copy of an element record, one at a time, and gives what they weigh together.
+/// Draws the copies of an element record, those on one place at once, and gives what they weigh together.
 pub(crate) fn hold_copies<S: CellStore>(
     alloc: Global,
     modal: &ModalVariables,
     held: &mut S,
     kind: Kind,
     repeated: bool,
-    number: u64,
 ) -> Result<u64, Why>
-    requires all { number ≡ number_if repeated modal.now.repetition }
-    requires small { number ≤ 2 ^ 26 }
-    requires light { number * weight_if (drawn_by modal.now kind still) ≤ 2 ^ 30 }
+    requires small { number_if repeated modal.now.repetition ≤ 2 ^ 26 }
+    requires light { number_if repeated modal.now.repetition * weight_if (drawn_by modal.now kind still) ≤ 2 ^ 30 }
     requires room { S.store.count held.old ≤ 2 ^ 26 }
     requires points { lacks_if (drawn_by modal.now kind still) ≡ false }
-    ensures weight { IfOk result (λ weight. weight ≡ number * weight_if (drawn_by modal.now kind still)) }
-    ensures held { OnOk result (Draws S.store held.old (first_copies modal.now kind repeated number) held.new) }
-    ensures fit { OnOk result ((i : ℕ) → i < number → fault_of (drawn_by modal.now kind (offset_if repeated modal.now.repetition i)) ≡ None) }
-    ensures err { IfErr result (λ why. (why ≡ Memory) ⊎ ((i : ℕ) × (i < number) × (fault_of (drawn_by modal.now kind (offset_if repeated modal.now.repetition i)) ≡ Some why))) }
+    ensures weight { IfOk result (λ weight. weight ≡ number_if repeated modal.now.repetition * weight_if (drawn_by modal.now kind still)) }
+    ensures held { OnOk result (Draws S.store held.old (first_copies modal.now kind repeated (number_if repeated modal.now.repetition)) held.new) }
+    ensures fit { OnOk result ((i : ℕ) → i < number_if repeated modal.now.repetition → fault_of (drawn_by modal.now kind (offset_if repeated modal.now.repetition i)) ≡ None) }
+    ensures err { IfErr result (λ why. (why ≡ Memory) ⊎ ((i : ℕ) × (i < number_if repeated modal.now.repetition) × (fault_of (drawn_by modal.now kind (offset_if repeated modal.now.repetition i)) ≡ Some why))) }
 {
+    let places = modal.places(repeated);
     let mut weight = 0;
-    for i in 0..number {
-        let drawn = modal.copy(alloc, kind, repeated, i)?;
-        weight += weight_so_far(&drawn);
-        match held.draw(drawn, 1) {
+    for j in 0..places.number {
+        let drawn = modal.copy(alloc, kind, repeated, j * places.stride)?;
+        weight += weight_so_far(&drawn) * places.copies;
+        match held.draw(drawn, places.copies) {
             Ok(()) => {}
             Err(_) => return Err(Why::Memory),
         }

@@ -7,6 +7,7 @@ ghost use Rattle.std.specs.Ordering.{nat_cmp};
 ghost use Rattle.oas_layout.specs.Bag.{put_more};
 ghost use Rattle.oas_layout.specs.Laws.BagLaws.{total};
 ghost use Rattle.oas_modal.specs.Counted.{counted_store, placed_more, written_more};
+ghost use Rattle.oas_modal.specs.Laws.StoreLaws.{counted_in_any_order};
 
 use crate::copying::weight_so_far;
 use crate::stores::CellStore;
@@ -110,6 +111,8 @@ impl CountedCell {
 
 impl CellStore for CountedCell {
     ghost store = { counted_store };
+
+    ghost alike = { counted_in_any_order };
 
     fn begin(alloc: Global, cell: CellRef) -> CountedCell {
         CountedCell {

@@ -8,6 +8,7 @@ ghost use Rattle.oas_drawing.specs.Laws.DrawnLaws.{derived_cmp};
 ghost use Rattle.oas_modal.specs.Held.{with_drawn, is_early};
 ghost use Rattle.oas_modal.specs.Finish.{IsFit};
 ghost use Rattle.oas_modal.specs.Stores.{held_store};
+ghost use Rattle.oas_modal.specs.Laws.StoreLaws.{held_in_any_order};
 
 use crate::stores::CellStore;
 use oas_drawing::Drawn;
@@ -102,6 +103,8 @@ impl HeldCell {
 
 impl CellStore for HeldCell {
     ghost store = { held_store };
+
+    ghost alike = { held_in_any_order };
 
     fn begin(alloc: Global, cell: CellRef) -> HeldCell {
         HeldCell::new(alloc, cell)

@@ -1,6 +1,8 @@
 //! Where what the records of a CELL draw is collected.
 
-ghost use Rattle.std.specs.Prelude.{◌≡◌, ◌+◌, ◌<◌, ◌^◌, [], replicate, OnOk, OnErr};
+ghost use Rattle.std.specs.Prelude.{◌≡◌, ◌+◌, ◌<◌, ◌^◌, List, [], replicate, OnOk, OnErr};
+ghost use Rattle.oas_drawing.specs.declared.drawn.Drawn.{Drawn};
+ghost use Rattle.oas_modal.specs.Alike.{SameDrawn};
 ghost use Rattle.oas_modal.specs.Finish.{IsFit};
 ghost use Rattle.oas_modal.specs.Stores.{Store, Draws, IsBegun};
 
@@ -28,4 +30,7 @@ pub trait CellStore: Sized + Drop {
         requires room { store.count self.old + times < 2 ^ 64 }
         ensures ok { OnOk result (Draws store self.old (replicate times drawn) self.new) }
         ensures err { OnErr result (Draws store self.old [] self.new) };
+
+    /// The order in which things are drawn makes no difference to what it may stand for.
+    ghost alike: { (s : Self) (ds es : List Drawn) → store.Holds s ds → SameDrawn ds es → store.Holds s es };
 }

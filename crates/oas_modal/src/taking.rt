@@ -70,7 +70,7 @@ fn draw<S: CellStore>(parts: &mut Parts<S>, kind: Kind, next: Record) -> Result<
     let number = parts
         .modal
         .copies(kind, repeated, parts.limits, parts.count, parts.weight)?;
-    let weight = hold_copies(parts.alloc, &parts.modal, &mut held, kind, repeated, number)?;
+    let weight = hold_copies(parts.alloc, &parts.modal, &mut held, kind, repeated)?;
     parts.count += number;
     parts.weight += weight;
     parts.cell = Some(held);

@@ -7,6 +7,10 @@
 pub const ROWS: &str = "\
 relative-repetition-counts-from-the-first-copy | 0E0141 10 147F01000A140A0E02011E 1410C801 | unit 1000/1;cell A;1 rectangle 1 0 10 20 5 7;1 rectangle 1 0 10 20 35 7;1 rectangle 1 0 10 20 65 7;1 rectangle 1 0 10 20 105 7;
 four-equal-rectangles-stay-four | 0E0141 147F01000A1400000100000000 | unit 1000/1;cell A;4 rectangle 1 0 10 20 0 0;
+two-raised-to-24-copies-on-one-place | 0E0141 147F01000A14000001FE1FFE1F0000 | unit 1000/1;cell A;16777216 rectangle 1 0 10 20 0 0;
+three-columns-on-each-of-two-places | 0E0141 147F01000A1400000101000007 | unit 1000/1;cell A;3 rectangle 1 0 10 20 0 0;3 rectangle 1 0 10 20 0 7;
+two-rows-on-each-of-three-places | 0E0141 147F01000A140000010100 0A00 | unit 1000/1;cell A;2 rectangle 1 0 10 20 0 0;2 rectangle 1 0 10 20 10 0;2 rectangle 1 0 10 20 20 0;
+slanted-with-one-step-of-zero | 0E0141 147F01000A14000008 0100 00 0904 | unit 1000/1;cell A;3 rectangle 1 0 10 20 0 0;3 rectangle 1 0 10 20 2 2;
 last-repetition-again | 0E0141 147F01000A14000002001E 14140E00 | unit 1000/1;cell A;1 rectangle 1 0 10 20 0 0;1 rectangle 1 0 10 20 7 0;1 rectangle 1 0 10 20 30 0;1 rectangle 1 0 10 20 37 0;
 first-repetition-is-the-last-one | 0E0141 147F01000A14000000 | 18@3
 repetition-forgotten-at-a-cell | 0E0141 147F01000A14000002001E 0E0142 147F01000A14000000 | 18@17

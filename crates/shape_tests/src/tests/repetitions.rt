@@ -1,5 +1,5 @@
-use oas_num::{SliceSource, Why};
-use oas_shape::RepField;
+use oas_num::{GDelta, SliceSource, Why};
+use oas_shape::{Places, RepField, Repetition};
 use std::alloc::Global;
 use std::process::Abort;
 use std::test::Fail;
@@ -107,6 +107,46 @@ fn counts_of_many(rt: HostRuntime) -> Result<(), Fail> {
         )
     );
     Ok(())
+}
+
+/// So many places, with so many copies on each.
+fn places(number: u64, copies: u64, stride: u64) -> Places {
+    Places {
+        number,
+        copies,
+        stride,
+    }
+}
+
+#[test]
+fn places_two_ways(rt: HostRuntime) {
+    let columns_together = Repetition::Matrix {
+        x_dim: 1,
+        y_dim: 0,
+        x_space: 0,
+        y_space: 7,
+    };
+    assert_eq!(rt; columns_together.places(), places(2, 3, 3));
+    let rows_together = Repetition::Lattice {
+        n_dim: 1,
+        m_dim: 0,
+        n: GDelta { dx: 0, dy: -1 },
+        m: GDelta { dx: 0, dy: 0 },
+    };
+    assert_eq!(rt; rows_together.places(), places(3, 2, 1));
+}
+
+#[test]
+fn places_of_many(rt: HostRuntime) {
+    let all_together = Repetition::Matrix {
+        x_dim: 4094,
+        y_dim: 4094,
+        x_space: 0,
+        y_space: 0,
+    };
+    assert_eq!(rt; all_together.places(), places(1, 16777216, 1));
+    let none_together = Repetition::Rows { dim: 5, space: 1 };
+    assert_eq!(rt; none_together.places(), places(7, 1, 1));
 }
 
 #[test]
