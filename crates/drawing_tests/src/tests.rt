@@ -1,5 +1,7 @@
 //! What records draw one after another, as the copies of the latest show it.
 
+mod places;
+
 ghost use Rattle.std.specs.Prelude.{◌≡◌, None, Some};
 
 use oas_drawing::{Drawn, Kind, ModalVariables};
@@ -279,14 +281,6 @@ fn copies(rt: HostRuntime) {
         modal.copies(Kind::Circle, false, limits, 0, (1 << 28) - 2),
         Ok(1)
     );
-}
-
-/// A record that stands once has one place, and one with no repetition to stand by none.
-#[test]
-fn places(rt: HostRuntime) {
-    let modal = ModalVariables::new();
-    assert_eq!(rt; modal.places(false).number, 1);
-    assert_eq!(rt; modal.places(true).number, 0);
 }
 
 #[test]

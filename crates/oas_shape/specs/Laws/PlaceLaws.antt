@@ -68,8 +68,12 @@ module _ (f : ℕ → GDelta) (n : ℕ) where
     some = omega arith;
     all = omega arith;
     within = λ j lt. omega arith;
-    sums = λ g. sum_is g f n ∙ omega (arith, sum_is g (λ j. f (j * 1)) n, total_like (λ i. g (f i)) (λ j. g (f (j * 1))) n
-        (λ i lt. let one : i ≡ i * 1 = omega arith in ap (λ (k : ℕ). g (f k)) one));
+    sums = λ g. sum_is g f n ∙ omega (
+      arith,
+      sum_is g (λ j. f (j * 1)) n,
+      total_like (λ i. g (f i)) (λ j. g (f (j * 1))) n
+          (λ i lt. let one : i ≡ i * 1 = omega arith in ap (λ (k : ℕ). g (f k)) one),
+    );
   }
 
   -- all on one
