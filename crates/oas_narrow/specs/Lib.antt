@@ -1,0 +1,5 @@
+pub mod Rejections
+pub mod Dropping
+pub mod Narrowing
+pub mod WideFiles
+pub mod Preparable

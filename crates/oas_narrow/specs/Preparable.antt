@@ -1,0 +1,63 @@
+-- Which files are prepared, and what they mean. Records are listed oldest first.
+use Rattle.std.specs.Prelude.{◌≡◌, ℕ, ◌<◌, ◌*◌, ◌^◌, List, reverse, None}
+use Rattle.oas_num.specs.Ratio.{Ratio, Reduces}
+use Rattle.oas_wide.specs.declared.ends.Validation.{Validation}
+use Rattle.oas_wide.specs.declared.ends.Validation.TheVariants.{Unvalidated, Crc32, Checksum32}
+use Rattle.oas_wide.specs.declared.ends.WideEnd.{WideEnd}
+use Rattle.oas_wide.specs.declared.heads.WideStart.{WideStart}
+use Rattle.oas_wide.specs.declared.reals.WideReal.{WideReal}
+use Rattle.oas_layout.specs.declared.limits.Limits.{Limits}
+use Rattle.oas_layout.specs.Meaning.{Meaning}
+use Rattle.oas_modal.specs.Stands.{records_mean, end_refusal}
+use Rattle.oas_wide.specs.declared.records.WideRecord.{WideRecord}
+use Rattle.oas_narrow.specs.declared.dropping.Dropping.{Dropping}
+use Rattle.oas_narrow.specs.Narrowing.{narrowed, ArePrepared}
+use Rattle.oas_narrow.specs.WideFiles.{WideFileOf}
+
+-- ---- the unit
+
+-- the fraction that a real is, in lowest terms, both parts below 2^64
+pub record IsUnitOf (real : WideReal) (unit : Ratio) : Type 0 where
+  pub reduces : Reduces (real.num * 2 ^ real.doubled) (real.den * 2 ^ real.halved) unit
+  pub num_fits : unit.num < 2 ^ 64
+  pub den_fits : unit.den < 2 ^ 64
+
+-- ---- the signature
+
+-- the bytes are a file of which its END says right that it came whole: only files without a signature are prepared
+abbrev pub IsValid : Validation → List ℕ → Type 0
+IsValid Unvalidated bytes = Unit {0}
+IsValid (Crc32 signature) bytes = ⊥
+IsValid (Checksum32 signature) bytes = ⊥
+
+-- ---- files
+
+-- no record stops after those before it
+abbrev pub AllPrepared : Limits → Dropping → List WideRecord → Type 0
+AllPrepared limits dropping ws = ArePrepared limits dropping (reverse ws)
+
+-- a file of the standard whose records are prepared, within these limits and by what is named to be left out
+pub record Formed (limits : Limits) (dropping : Dropping) (b : List ℕ) : Type 0 where
+  pub start : WideStart
+  pub records : List WideRecord
+  pub end : WideEnd
+  pub unit : Ratio
+  pub file : WideFileOf start records end b
+  pub is_unit : IsUnitOf start.unit unit
+  pub prepared : AllPrepared limits dropping records
+  pub whole : end_refusal limits (narrowed records) ≡ None
+
+-- and that came whole
+pub record Preparable (limits : Limits) (dropping : Dropping) (b : List ℕ) : Type 0 where
+  pub formed : Formed limits dropping b
+  pub valid : IsValid formed.end.validation b
+
+-- what a file of the standard means: what the records of the profile do for which its records stand
+pub record WideMeans (b : List ℕ) (m : Meaning) : Type 0 where
+  pub start : WideStart
+  pub records : List WideRecord
+  pub end : WideEnd
+  pub unit : Ratio
+  pub file : WideFileOf start records end b
+  pub is_unit : IsUnitOf start.unit unit
+  pub is : records_mean unit (narrowed records) ≡ m

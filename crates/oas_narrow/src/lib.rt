@@ -1,0 +1,23 @@
+//! What a file of the standard is to the profile: which records of the profile its records stand for, what is left out of it,
+//! and why it isn't prepared.
+//!
+//! What this crate promises to the crates above it:
+//!
+//! - The definitions (specs/): which records of the profile a list of the standard's records stands for, why one more isn't
+//!   prepared after others, and what is counted (Narrowing.antt); what a file of the standard is (WideFiles.antt); which
+//!   files are prepared, and what they mean (Preparable.antt).
+//! - [`Role`] is what a record is to a file of the profile: it is kept, it is one that may be left out, or it isn't prepared.
+//!   Whether a cell is open behind it, and what stops it by what is named to be left out, are those of the definitions.
+//! - [`Report`] counts what was left out, as far as 64 bits count.
+//!
+//! A record is left out because it is named to be ([`Dropping`]): without its word it stops the file. A name record that is
+//! left out closes the open cell, as each name record does (SEMI P39, CELL record).
+#![tactic(auto)]
+
+mod dropping;
+mod places;
+mod roles;
+
+pub use dropping::{Dropping, Extra, Report};
+pub use places::{Place, Rejection};
+pub use roles::Role;

@@ -1,0 +1,137 @@
+-- One record more, END, or a rejection there.
+use Rattle.std.proofs.Common.{◌≡◌, ℕ, [], ◌∷◌, ◌++◌, None, Some, ◌⊎◌, inl, inr, refl, sym, ap, subst, ◌∙◌, append_assoc, arith}
+use Rattle.std.specs.Prelude.{Option}
+use Rattle.oas_num.specs.declared.refusals.Why.TheVariants.{Memory}
+use Rattle.oas_num.specs.Reading.{ReadsValue}
+use Rattle.oas_num.specs.Script.{Script, Takes}
+use Rattle.oas_num.specs.Ratio.{Ratio}
+use Rattle.oas_num.proofs.ReadLemmas.{Takes-then}
+use Rattle.oas_layout.specs.declared.limits.Limits.{Limits}
+use Rattle.oas_wide.specs.declared.ends.WideEnd.{WideEnd}
+use Rattle.oas_wide.specs.declared.heads.WideStart.{WideStart}
+use Rattle.oas_wide.specs.declared.reasons.WideRefusal.{WideRefusal}
+use Rattle.oas_wide.specs.declared.reasons.WideWhy.{WideWhy}
+use Rattle.oas_wide.specs.declared.reasons.WideWhy.TheVariants.{Profile}
+use Rattle.oas_wide.specs.declared.records.WideRecord.{WideRecord}
+use Rattle.oas_wide.specs.declared.records.WideRecord.TheVariants.{End}
+use Rattle.oas_wide.specs.Reasons.{plain_of}
+use Rattle.oas_wide.specs.WideRecords.{FailsWide}
+use Rattle.oas_narrow.specs.declared.dropping.Dropping.{Dropping}
+use Rattle.oas_narrow.specs.declared.places.Place.TheVariants.{File}
+use Rattle.oas_narrow.specs.declared.places.Rejection.{Rejection}
+use Rattle.oas_narrow.specs.Preparable.{AllPrepared}
+use Rattle.oas_narrow.specs.Rejections.{rejected}
+use Rattle.oas_narrow.specs.WideFiles.{WideFrontOf, inner_in, end_in}
+use Rattle.oas_prepare.specs.declared.taking.Preparation.{Preparation}
+use Rattle.oas_prepare.specs.Gathering.{HasGathered, HasAll}
+use Rattle.oas_prepare.specs.Heads.{HasStarted}
+use Rattle.oas_prepare.specs.Places.{ByRecord}
+use Rattle.oas_prepare.specs.Run.{Stops, IsPlaced}
+use Rattle.oas_prepare.specs.Taking.{Stands, SameRun, IsStop, obstacle_next}
+use Rattle.oas_prepare.proofs.Fronts.{allowed_last, allowed_more, front_allowed, front_more}
+use Rattle.oas_prepare.proofs.Refusing.{record_stops, Judges, ForMemory, Decided, judged_stopped, memory_placed}
+use Rattle.oas_prepare.proofs.Reasons.{obstacle_decides}
+use Rattle.oas_prepare.proofs.WideLaws.{OneFront-wide}
+
+-- after the head
+pub gathered_none : {origin now : Script} {head : WideStart} {unit : Ratio} {first : Preparation} → HasStarted origin head unit now → Stands first [] → HasGathered origin head first now first
+gathered_none s stands = record {
+  records = [];
+  bytes = s.bytes;
+  takes = s.takes;
+  front = s.front;
+  prepared = tt;
+  stands = stands;
+  same = record { unit = refl; limits = refl; profile = refl; dropping = refl };
+}
+
+module _ {origin mid : Script} {head : WideStart} {first p : Preparation} (m : HasGathered origin head first mid p) where
+  abbrev limits : Limits
+  limits = first.reader.limits
+
+  abbrev dropping : Dropping
+  dropping = first.dropping
+
+  module _ {new : Script} where
+    -- a record can't be read
+    pub gather_fails : (refusal : WideRefusal) → (refusal.at ≡ mid.given) × FailsWide head.flag_in_end mid refusal.why new → Stops limits dropping origin (rejected refusal) new
+    gather_fails refusal h = record_stops refusal.at refusal.why m.front m.prepared m.takes h.0 h.1
+
+    module _ {w : WideRecord} (read : ReadsValue (inner_in head.flag_in_end) mid w new) where
+      both : Takes origin (m.bytes ++ read.bytes) new
+      both = Takes-then origin mid new m.bytes read.bytes m.takes read.takes
+
+      front : WideFrontOf head (m.records ++ w ∷ []) (m.bytes ++ read.bytes)
+      front = front_more m.front read.spelled
+
+      -- under the limits of the first
+      same_next : obstacle_next p.reader.limits p.dropping m.records w ≡ obstacle_next limits dropping m.records w
+      same_next = ap (λ (b : Limits × Dropping). obstacle_next b.0 b.1 m.records w) (λ i. (m.same.limits i, m.same.dropping i))
+
+      -- a record is read and taken
+      pub gather_more : (after : Preparation) → (obstacle_next p.reader.limits p.dropping m.records w ≡ None) × Stands after (m.records ++ w ∷ []) → SameRun p after
+          → HasGathered origin head first new after
+      gather_more after h same = record {
+        records = m.records ++ w ∷ [];
+        bytes = m.bytes ++ read.bytes;
+        takes = both;
+        front = front;
+        prepared = allowed_more limits dropping m.records w m.prepared (sym same_next ∙ h.0);
+        stands = h.1;
+        same = record {
+          unit = same.unit ∙ m.same.unit;
+          limits = same.limits ∙ m.same.limits;
+          profile = same.profile ∙ m.same.profile;
+          dropping = same.dropping ∙ m.same.dropping;
+        };
+      }
+
+      -- it isn't prepared
+      not_prepared : (why : WideWhy) → obstacle_next limits dropping m.records w ≡ Some why → AllPrepared limits dropping (m.records ++ w ∷ []) → ⊥
+      not_prepared why some a = let none = allowed_last limits dropping m.records w a in let e = sym none ∙ some in cc
+
+      next_placed : (at : ℕ) (e : Rejection) → e.place ≡ File at → at ≡ mid.given → (e.why ≡ Profile Memory) ⊎ (obstacle_next limits dropping m.records w ≡ Some e.why) → IsPlaced limits dropping origin e new
+      next_placed at e place is (inl memory) = memory_placed at e (m.bytes ++ read.bytes) both place (ap plain_of memory)
+      next_placed at e place is (inr some) = record {
+        bytes = m.bytes ++ read.bytes;
+        at = at;
+        takes = both;
+        place = place;
+        placed = λ tied fresh of_file more ended. ByRecord (record {
+          left = read.bytes ++ more;
+          start = head;
+          records = m.records;
+          before = record { before = m.bytes; front = m.front; prepared = m.prepared; place = omega (arith, is, m.takes.given, fresh); joined = append_assoc m.bytes read.bytes more };
+          no_end = record { none = λ end front rest ends j. read.spelled.holds end ((OneFront-wide head.flag_in_end).one w (End end) read.bytes front more rest read.spelled.spelled ends j).1 };
+          no_record = record {
+            none = λ q front rest next j.
+                let same = ((OneFront-wide head.flag_in_end).one w q read.bytes front more rest read.spelled.spelled next.spelled.spelled j).1 in
+                not_prepared e.why some (subst (λ (k : WideRecord). AllPrepared limits dropping (m.records ++ k ∷ [])) (sym same) next.prepared);
+          };
+        });
+      }
+
+      next_stops : (at : ℕ) (e : Rejection) → e.place ≡ File at → at ≡ mid.given → (e.why ≡ Profile Memory) ⊎ (obstacle_next limits dropping m.records w ≡ Some e.why) → Stops limits dropping origin e new
+      next_stops at e place is reason = (judged_stopped both (judged reason), next_placed at e place is reason) where
+        judged : (e.why ≡ Profile Memory) ⊎ (obstacle_next limits dropping m.records w ≡ Some e.why) → Judges limits dropping origin (m.bytes ++ read.bytes) e.why
+        judged (inl memory) = ForMemory (ap plain_of memory)
+        judged (inr some) = Decided (obstacle_decides limits dropping m.records w e.why some) (λ tied more a. not_prepared e.why some (front_allowed more front a.formed))
+
+      -- or it isn't prepared
+      pub gather_stops : (at : ℕ) (e : Rejection) → at ≡ mid.given → IsStop at (obstacle_next p.reader.limits p.dropping m.records w) e → Stops limits dropping origin e new
+      gather_stops at e is stop = next_stops at e stop.place is (subst (λ (o : Option WideWhy). (e.why ≡ Profile Memory) ⊎ (o ≡ Some e.why)) same_next stop.why)
+
+    -- END is read
+    pub gather_ends : (at : ℕ) (end : WideEnd) → at ≡ mid.given → ReadsValue (end_in head.flag_in_end) mid end new → HasAll origin head first at end new p
+    gather_ends at end is read = record {
+      records = m.records;
+      bytes = m.bytes;
+      last = read.bytes;
+      takes = Takes-then origin mid new m.bytes read.bytes m.takes read.takes;
+      front = m.front;
+      ends = read.spelled;
+      place = is ∙ m.takes.given;
+      prepared = m.prepared;
+      stands = m.stands;
+      same = m.same;
+    }

@@ -1,0 +1,13 @@
+pub mod Narrowed
+pub mod Takes
+pub mod WideLaws
+pub mod Fronts
+pub mod Refusing
+pub mod Reasons
+pub mod Gathered
+pub mod Ending
+pub mod Whole
+pub mod Doubling
+pub mod WideMeanings
+pub mod ProfileHeads
+pub mod ProfileFiles

@@ -1,0 +1,207 @@
+-- Files of the profile are files of the standard, prepared with nothing left out.
+use Rattle.std.proofs.Common.{◌≡◌, ◌≢◌, ℕ, Bool, true, false, List, [], ◌∷◌, ◌++◌, reverse, Option, None, Some, refl, sym, ap, subst, ◌∙◌, arith}
+use Rattle.std.proofs.lemmas.List.{reverse-append}
+use Rattle.std.specs.Option.{option_or}
+use Rattle.std.specs.Prelude.{cond}
+use Rattle.oas_num.specs.declared.refusals.Why.{Why}
+use Rattle.oas_num.specs.Grammar.{IsEach, IsSuch}
+use Rattle.oas_num.specs.Style.{Any}
+use Rattle.oas_record.specs.declared.heads.Head.{Head}
+use Rattle.oas_record.specs.declared.records.Record.{Record}
+use Rattle.oas_record.specs.declared.records.Record.TheVariants as record_of
+use Rattle.oas_record.specs.Records.{record_in, IsInner as IsInnerRecord}
+use Rattle.oas_layout.specs.declared.limits.Limits.{Limits}
+use Rattle.oas_layout.specs.Meaning.{Meaning, SameLayout}
+use Rattle.oas_modal.specs.Standing.{open_after}
+use Rattle.oas_modal.specs.Stands as stands
+use Rattle.oas_modal.specs.Stands.{is_in_cell, refused_after, records_mean, end_refusal}
+use Rattle.oas_file.specs.Acceptance.{Accepted, Means}
+use Rattle.oas_file.specs.Files.{FileOf}
+use Rattle.oas_form.specs.Laws.FormLaws.{form_is_accepted}
+use Rattle.oas_form.proofs.Forms.{one_canonical_form}
+use Rattle.oas_layout.proofs.LawProofs.{symmetric}
+use Rattle.oas_wide.specs.declared.ends.WideEnd.{WideEnd}
+use Rattle.oas_wide.specs.declared.ends.Validation.TheVariants.{Unvalidated}
+use Rattle.oas_wide.specs.declared.heads.WideStart.{WideStart}
+use Rattle.oas_wide.specs.declared.reasons.WideWhy.{WideWhy}
+use Rattle.oas_wide.specs.declared.records.WideRecord.{WideRecord}
+use Rattle.oas_wide.specs.declared.records.WideRecord.TheVariants.{Profile, End}
+use Rattle.oas_wide.specs.WideRecords.{wide_record_in, widened}
+use Rattle.oas_wide.proofs.WidenedLemmas.{widen}
+use Rattle.oas_narrow.specs.declared.dropping.Dropping.{Dropping}
+use Rattle.oas_narrow.specs.declared.dropping.Extra.{Extra}
+use Rattle.oas_narrow.specs.declared.dropping.Extra.TheVariants as extra
+use Rattle.oas_narrow.specs.Dropping.{nothing_left_out, capped}
+use Rattle.oas_narrow.specs.Narrowing.{is_open, narrowed, element_id, element_obstacle, outside, refused_if, obstacle_after, ArePrepared, tally, report_of}
+use Rattle.oas_narrow.specs.Preparable.{IsUnitOf, Formed, WideMeans}
+use Rattle.oas_narrow.specs.WideFiles.{WideFileOf, WideParts, inner_in, end_in}
+use Rattle.oas_prepare.specs.Laws.{ProfileIsPrepared, ProfileAsCanonical, PreparedAgain}
+use Rattle.oas_prepare.proofs.Ending.{OneFront-file}
+use Rattle.oas_prepare.proofs.ProfileHeads.{head_widened}
+use Rattle.oas_prepare.proofs.WideMeanings.{one_wide_meaning}
+
+-- ---- records
+
+abbrev pub wide_all : List Record → List WideRecord
+wide_all [] = []
+wide_all (r ∷ rs) = Profile r ∷ wide_all rs
+
+wide-append : (rs ss : List Record) → wide_all (rs ++ ss) ≡ wide_all rs ++ wide_all ss
+wide-append [] ss = refl
+wide-append (r ∷ rs) ss = λ i. Profile r ∷ wide-append rs ss i
+
+wide-reverse : (rs : List Record) → wide_all (reverse rs) ≡ reverse (wide_all rs)
+wide-reverse [] = refl
+wide-reverse (r ∷ rs) =
+    ap wide_all (reverse-append (r ∷ []) rs) ∙ wide-append (reverse rs) (r ∷ []) ∙ ap (λ (ws : List WideRecord). ws ++ Profile r ∷ []) (wide-reverse rs)
+    ∙ sym (reverse-append (Profile r ∷ []) (wide_all rs))
+
+narrowed-wide : (rs : List Record) → narrowed (wide_all rs) ≡ rs
+narrowed-wide [] = refl
+narrowed-wide (r ∷ rs) = λ i. r ∷ narrowed-wide rs i
+
+open-wide : (rs : List Record) → is_open (wide_all rs) ≡ is_in_cell rs
+open-wide [] = refl
+open-wide (r ∷ rs) = ap (λ (was : Bool). open_after was r) (open-wide rs)
+
+tally-wide : (e : Extra) (rs : List Record) → tally e (wide_all rs) ≡ 0
+tally-wide e [] = refl
+tally-wide e (r ∷ rs) = omega (arith, tally-wide e rs)
+
+none_left_out : (rs : List Record) → report_of (wide_all rs) ≡ nothing_left_out
+none_left_out rs = λ i. record {
+  property_names = capped (tally-wide extra.PropertyName rs i);
+  properties = capped (tally-wide extra.Property rs i);
+  layer_names = capped (tally-wide extra.LayerName rs i);
+  extension_names = capped (tally-wide extra.ExtensionName rs i);
+  extensions = capped (tally-wide extra.ExtensionElement rs i);
+}
+
+-- ---- none is stopped
+
+-- an element that is allowed stands in a cell
+inside : (in_cell : Bool) (id : ℕ) (drawn : Option Why) (why : Why) → cond in_cell drawn (Some why) ≡ None → outside in_cell id ≡ None
+inside true id drawn why e = refl
+inside false id drawn why e = absurd cc
+
+in_a_cell : (limits : Limits) (before : List Record) (r : Record) → refused_after limits before r ≡ None → element_obstacle (is_in_cell before) (element_id r) ≡ None
+in_a_cell limits before (record_of.Placement p) e = inside (is_in_cell before) _ _ _ e
+in_a_cell limits before (record_of.Text p) e = inside (is_in_cell before) _ _ _ e
+in_a_cell limits before (record_of.Rectangle p) e = inside (is_in_cell before) _ _ _ e
+in_a_cell limits before (record_of.Polygon p) e = inside (is_in_cell before) _ _ _ e
+in_a_cell limits before (record_of.Path p) e = inside (is_in_cell before) _ _ _ e
+in_a_cell limits before (record_of.Circle p) e = inside (is_in_cell before) _ _ _ e
+in_a_cell limits before _ e = refl
+
+no_obstacle : (limits : Limits) (dropping : Dropping) (before : List Record) (r : Record) → refused_after limits before r ≡ None → obstacle_after limits dropping (wide_all before) (Profile r) ≡ None
+no_obstacle limits dropping before r e =
+    ap (λ (o : Option WideWhy). option_or o (refused_if (refused_after limits (narrowed (wide_all before)) r))) (ap (λ (was : Bool). element_obstacle was (element_id r)) (open-wide before) ∙ in_a_cell limits before r e)
+    ∙ ap (λ (rs : List Record). refused_if (refused_after limits rs r)) (narrowed-wide before) ∙ ap refused_if e
+
+prepared : (limits : Limits) (dropping : Dropping) (rs : List Record) → stands.Allowed limits rs → ArePrepared limits dropping (wide_all rs)
+prepared limits dropping [] a = tt
+prepared limits dropping (r ∷ before) a = (prepared limits dropping before a.0, no_obstacle limits dropping before r a.1)
+
+-- ---- the file
+
+not_end : (r : Record) (e : WideEnd) → Profile r ≡ End e → ⊥
+not_end r e is = cc
+
+widened_inner : (r : Record) → r ≢ record_of.End → widened r ≡ Profile r
+widened_inner record_of.End not = absurd (not refl)
+widened_inner _ not = refl
+
+each_wide : (in_end : Bool) (rs : List Record) (bytes : List ℕ) → IsEach (IsSuch IsInnerRecord (record_in Any in_end)) rs bytes → IsEach (inner_in in_end) (wide_all rs) bytes
+each_wide in_end [] bytes h = h
+each_wide in_end (r ∷ rs) bytes h = (
+  h.0,
+  h.1,
+  record { holds = not_end r; spelled = subst (λ (w : WideRecord). wide_record_in in_end w h.0) (widened_inner r h.2.holds) (widen in_end r h.0 h.2.spelled) },
+  each_wide in_end rs h.1 h.3,
+  h.4,
+)
+
+record FileWide (head : Head) (rs : List Record) (b : List ℕ) : Type 0 where
+  start : WideStart
+  file : WideFileOf start (wide_all rs) (record { validation = Unvalidated }) b
+  is_unit : IsUnitOf start.unit head.unit
+
+file_wide : (head : Head) (rs : List Record) (b : List ℕ) → FileOf head rs b → FileWide head rs b
+file_wide head rs b f =
+    let s = f.spelled in
+    let t = s.second in
+    let w = head_widened head s.front s.first in
+    record {
+      start = w.start;
+      file = record {
+        spelled = record {
+          front = s.front;
+          back = s.back;
+          first = w.begun;
+          second = record {
+            front = t.front;
+            back = t.back;
+            first = subst (λ (in_end : Bool). IsEach (inner_in in_end) (wide_all rs) t.front) (sym w.flag) (each_wide head.flag_in_end rs t.front t.first);
+            second = subst (λ (in_end : Bool). end_in in_end (record { validation = Unvalidated }) t.back) (sym w.flag) (widen head.flag_in_end record_of.End t.back t.second.spelled);
+            joined = t.joined;
+          };
+          joined = s.joined;
+        };
+      };
+      is_unit = w.is_unit;
+    }
+
+module _ {limits : Limits} {b : List ℕ} (a : Accepted limits b) where
+  abbrev wide : FileWide a.head a.records b
+  wide = file_wide a.head a.records b a.file
+
+  formed : (dropping : Dropping) → Formed limits dropping b
+  formed dropping = record {
+    start = wide.start;
+    records = wide_all a.records;
+    end = record { validation = Unvalidated };
+    unit = a.head.unit;
+    file = wide.file;
+    is_unit = wide.is_unit;
+    prepared = subst (ArePrepared limits dropping) (wide-reverse a.records) (prepared limits dropping (reverse a.records) a.allowed);
+    whole = ap (end_refusal limits) (narrowed-wide a.records) ∙ a.whole;
+  }
+
+  -- what it means as a file of the standard
+  means_wide : WideMeans b (records_mean a.head.unit a.records)
+  means_wide = record {
+    start = wide.start;
+    records = wide_all a.records;
+    end = record { validation = Unvalidated };
+    unit = a.head.unit;
+    file = wide.file;
+    is_unit = wide.is_unit;
+    is = ap (records_mean a.head.unit) (narrowed-wide a.records);
+  }
+
+  means : Means b (records_mean a.head.unit a.records)
+  means = record { head = a.head; records = a.records; file = a.file; is = refl }
+
+  same_records : (start : WideStart) (ws : List WideRecord) (end : WideEnd) → WideFileOf start ws end b → ws ≡ wide_all a.records
+  same_records start ws end f =
+      ap (λ (w : WideParts). w.1.0) (OneFront-file.one (start, (ws, end)) (wide.start, (wide_all a.records, record { validation = Unvalidated })) b b [] [] f.spelled wide.file.spelled refl).1
+
+pub profile_is_prepared : ProfileIsPrepared
+unfolding formed
+profile_is_prepared limits dropping b a = record { formed = formed a dropping; valid = tt }
+
+pub profile_as_canonical : ProfileAsCanonical
+profile_as_canonical limits profile dropping b c r a p =
+    let m : Meaning = records_mean a.head.unit a.records in
+    let source : p.source ≡ m = one_wide_meaning b p.source m p.means (means_wide a) in (
+      record { form = p.form; source = m; target = p.target; means = means a; becomes = p.becomes; same = subst (λ (x : Meaning). SameLayout profile x p.target) source p.same },
+      p.left_out ∙ ap report_of (same_records a p.formed.start p.formed.records p.formed.end p.formed.file) ∙ none_left_out a.records,
+    )
+
+pub prepared_again : PreparedAgain
+prepared_again limits profile dropping c d r form p =
+    let a = form_is_accepted limits profile c form in
+    let m : Meaning = records_mean a.head.unit a.records in
+    let source : p.source ≡ m = one_wide_meaning c p.source m p.means (means_wide a) in
+    one_canonical_form limits limits profile d c p.target m p.form form p.becomes (means a)
+    (symmetric profile m p.target (subst (λ (x : Meaning). SameLayout profile x p.target) source p.same))

@@ -1,0 +1,162 @@
+-- A whole file, from what was gathered of it to what was written.
+use Rattle.std.proofs.Common.{◌≡◌, ℕ, ◌⊎◌, inl, inr, List, ◌++◌, Option, Some, None, Result, Ok, Err, IsTrue, IsSome, refl, sym, ◌∙◌, ap, subst, arith}
+use Rattle.oas_num.specs.declared.refusals.Why.TheVariants.{Write, Memory, ValidationScheme}
+use Rattle.oas_num.specs.declared.refusals.Refusal.{Refusal}
+use Rattle.oas_num.specs.Script.{Script, Rest, Gave}
+use Rattle.oas_num.specs.Written.{IsWritten, IsCutOff}
+use Rattle.oas_layout.specs.declared.limits.Limits.{Limits}
+use Rattle.oas_layout.specs.declared.profile.Profile.{Profile}
+use Rattle.oas_layout.specs.Contents.{Contents, IsLayout, meaning_of}
+use Rattle.oas_layout.specs.Meaning.{SameLayout}
+use Rattle.oas_layout.proofs.LawProofs.{symmetric}
+use Rattle.oas_modal.specs.Stands.{records_mean}
+use Rattle.oas_form.specs.Bytes.{canonical_bytes}
+use Rattle.oas_form.specs.Canonical.{CanonicalForm}
+use Rattle.oas_form.proofs.Written.{canonical_form}
+use Rattle.oas_canon.proofs.Whole.{Cause, Bytes, End, Device, Limit, Writer, Room, cause_of, all_given, within_not}
+use Rattle.oas_wide.specs.declared.ends.Validation.{Validation}
+use Rattle.oas_wide.specs.declared.ends.Validation.TheVariants.{Unvalidated, Crc32, Checksum32}
+use Rattle.oas_wide.specs.declared.reasons.WideWhy.{WideWhy}
+use Rattle.oas_wide.specs.declared.reasons.WideWhy.TheVariants as wide
+use Rattle.oas_wide.specs.Reasons.{plain_of}
+use Rattle.oas_narrow.specs.declared.dropping.Dropping.{Dropping}
+use Rattle.oas_narrow.specs.declared.dropping.Report.{Report}
+use Rattle.oas_narrow.specs.declared.places.Place.TheVariants.{File}
+use Rattle.oas_narrow.specs.declared.places.Rejection.{Rejection}
+use Rattle.oas_narrow.specs.Narrowing.{narrowed}
+use Rattle.oas_narrow.specs.Preparable.{IsValid, Preparable}
+use Rattle.oas_narrow.specs.Rejections.{refused}
+use Rattle.oas_prepare.specs.declared.gathering.Gathered.{Gathered}
+use Rattle.oas_prepare.specs.Deciding.{decides}
+use Rattle.oas_prepare.specs.Finishing.{IsFinished, StopsAtEnd, Signed, Torn, Finishes, IsReadPrepared, ReadsPrepared}
+use Rattle.oas_prepare.specs.Gathering.{IsGathered}
+use Rattle.oas_prepare.specs.Run.{IsPreparedAs, IsTaken, IsDone, IsCut, IsStopped, Stops, IsDecided, IsWithinSource, Exactly}
+use Rattle.oas_prepare.proofs.Ending.{whole_stops, signed_stops, formed}
+
+-- ---- what was gathered
+
+unsigned_valid : (v : Validation) (bytes : List ℕ) → v ≡ Unvalidated → IsValid v bytes
+unsigned_valid Unvalidated bytes e = tt
+unsigned_valid (Crc32 s) bytes e = absurd cc
+unsigned_valid (Checksum32 s) bytes e = absurd cc
+
+valid_unsigned : (v : Validation) (bytes : List ℕ) → IsValid v bytes → v ≡ Unvalidated
+valid_unsigned Unvalidated bytes e = refl
+valid_unsigned (Crc32 s) bytes e = absurd e
+valid_unsigned (Checksum32 s) bytes e = absurd e
+
+module _ {limits : Limits} {profile : Profile} {dropping : Dropping} {old new : Script} {g : Gathered} (m : IsGathered limits profile dropping old g new) where
+  read_done : {l : Contents} {report : Report} → IsFinished g m.records l report → IsReadPrepared limits profile dropping old l report new
+  unfolding formed
+  read_done {l = l} f = record {
+    bytes = m.bytes ++ m.last;
+    takes = m.takes;
+    ended = m.ended;
+    formed = formed m f.whole;
+    valid = λ known. unsigned_valid g.end.validation (m.bytes ++ m.last) f.unsigned;
+    meaning = records_mean g.preparation.reader.unit (narrowed m.records);
+    means = record {
+      start = m.start;
+      records = m.records;
+      end = g.end;
+      unit = g.preparation.reader.unit;
+      file = (formed m f.whole).file;
+      is_unit = m.is_unit;
+      is = refl;
+    };
+    same = symmetric profile (meaning_of l) (records_mean g.preparation.reader.unit (narrowed m.records))
+        (subst (λ (p : Profile). SameLayout p (meaning_of l) (records_mean g.preparation.reader.unit (narrowed m.records))) m.by f.same);
+    within = f.within ∙ m.within;
+    by = f.by ∙ m.by;
+    left_out = f.left_out;
+  }
+
+  read_stops : (e : Rejection) → StopsAtEnd g m.records e → Stops limits dropping old e new
+  read_stops e (Signed not is) =
+      subst (λ (x : Rejection). Stops limits dropping old x new) (sym is)
+      (signed_stops m (wide.Profile ValidationScheme) refl (λ known valid. not (valid_unsigned g.end.validation (m.bytes ++ m.last) valid)))
+  read_stops e (Torn refusal is at reason) = subst (λ (x : Rejection). Stops limits dropping old x new) (sym is) (whole_stops m refusal (at, reason))
+
+  pub finished : (result : Result (Contents × Report) Rejection) → Finishes g result → ReadsPrepared limits profile dropping old result new
+  finished (Ok both) f = read_done (f m.records m.stands)
+  finished (Err e) f = read_stops e (f m.records m.stands)
+
+-- ---- what was written
+
+module _ {limits : Limits} {profile : Profile} {dropping : Dropping} {old new : Script} {l : Contents} {report : Report} (read : IsReadPrepared limits profile dropping old l report new) (held : IsLayout l) where
+  form : CanonicalForm limits profile (canonical_bytes (meaning_of l))
+  form = subst (λ (p : Limits × Profile). CanonicalForm p.0 p.1 (canonical_bytes (meaning_of l))) (λ i. (read.within i, read.by i)) (canonical_form l held).0
+
+  prepared_as : IsPreparedAs limits profile dropping read.bytes (canonical_bytes (meaning_of l)) report
+  prepared_as = record {
+    formed = read.formed;
+    form = form;
+    source = read.meaning;
+    target = meaning_of l;
+    means = read.means;
+    becomes = (canonical_form l held).1;
+    same = read.same;
+    left_out = read.left_out;
+  }
+
+  taken : IsTaken limits profile dropping old new (canonical_bytes (meaning_of l)) report
+  unfolding prepared_as
+  taken = record { bytes = read.bytes; takes = read.takes; ended = read.ended; is = prepared_as; valid = read.valid }
+
+  pub done : {W : Type 0} (contents : W → Option (List ℕ)) (before after : W) (n : ℕ) → IsWritten contents before (canonical_bytes (meaning_of l)) after n →
+      IsDone limits profile dropping old new (contents before) (contents after) report
+  done contents before after n written = record { canonical = canonical_bytes (meaning_of l); taken = taken; written = written.took }
+
+  pub cut : {W : Type 0} (contents : W → Option (List ℕ)) (before after : W) (refusal : Refusal) → IsCutOff contents before (canonical_bytes (meaning_of l)) after refusal →
+      IsCut limits profile dropping old new (contents before) (contents after) (refused refusal)
+  cut contents before after refusal h = record {
+    canonical = canonical_bytes (meaning_of l);
+    report = report;
+    taken = taken;
+    front = h.front;
+    back = h.back;
+    joined = h.joined;
+    took = h.took;
+    place = ap File h.place;
+  }
+
+  pub exactly_done : Exactly limits dropping old (Ok report) new
+  exactly_done = by_rest old.rest read.takes.rest read.valid where
+    by_rest : (rest : Option Rest) → Gave rest read.bytes new.rest → (IsSome rest → IsValid read.formed.end.validation read.bytes) → IsWithinSource rest → new.failures ≡ 0 → IsDecided limits dropping rest (Ok report)
+    by_rest None g v w z = tt
+    by_rest (Some rest) g v w z =
+        let p : Preparable limits dropping read.bytes = record { formed = read.formed; valid = v refl } in
+        subst (Preparable limits dropping) (all_given read.bytes rest new.rest g read.ended.none) p
+
+-- ---- of known bytes
+
+front_not : {limits : Limits} {dropping : Dropping} (bytes : List ℕ) (rest : Rest) (new : Option Rest) → Gave (Some rest) bytes new →
+    ((more : List ℕ) → Preparable limits dropping (bytes ++ more) → ⊥) → Preparable limits dropping rest.bytes → ⊥
+front_not bytes rest None g n a = absurd g
+front_not {limits = limits} {dropping = dropping} bytes rest (Some r) g n a = n r.bytes (subst (Preparable limits dropping) g.0 a)
+
+-- only want of memory itself is like it
+memory_is : (why : WideWhy) → plain_of why ≡ Memory → why ≡ wide.Profile Memory
+memory_is (wide.Profile reason) e = ap wide.Profile e
+memory_is wide.ValueType e = absurd cc
+memory_is _ e = absurd cc
+
+pub exactly_stopped : {limits : Limits} {dropping : Dropping} {old new : Script} (e : Rejection) → IsStopped limits dropping old e.why new → Exactly limits dropping old (Err e) new
+exactly_stopped {limits = limits} {dropping = dropping} {old = old} {new = new} e f = by_rest old.rest f.takes.rest (λ known tied. f.decided (λ _. known)) where
+  by_rest : (rest : Option Rest) → Gave rest f.bytes new.rest → (IsSome rest → Unit {0} → IsTrue (decides e.why) → (more : List ℕ) → Preparable limits dropping (f.bytes ++ more) → ⊥)
+      → IsWithinSource rest → new.failures ≡ 0 → IsDecided limits dropping rest (Err e)
+  by_rest None g d w z = tt
+  by_rest (Some rest) g d w z = by_cause (cause_of (plain_of e.why)) where
+    by_cause : Cause (plain_of e.why) → (e.why ≡ wide.Profile Write) ⊎ ((e.why ≡ wide.Profile Memory) ⊎ (Preparable limits dropping rest.bytes → ⊥))
+    by_cause (Bytes is) = inr (inr (front_not f.bytes rest new.rest g (d refl tt is)))
+    by_cause (End is) = let t = f.truncated is in inr (inr (λ a. t.0 (subst (Preparable limits dropping) (sym (all_given f.bytes rest new.rest g t.1.none)) a)))
+    by_cause (Device is) = absurd (omega (arith, (f.device is).failed, z))
+    by_cause (Limit is) = absurd (within_not f.bytes rest new.rest g (f.too_long is).none w)
+    by_cause (Writer is) = absurd (f.reading is)
+    by_cause (Room is) = inr (inl (memory_is e.why is))
+
+pub exactly_unwritten : (limits : Limits) (dropping : Dropping) (old new : Script) (e : Rejection) → e.why ≡ wide.Profile Write → Exactly limits dropping old (Err e) new
+exactly_unwritten limits dropping old new e is = by_rest old.rest where
+  by_rest : (rest : Option Rest) → IsWithinSource rest → new.failures ≡ 0 → IsDecided limits dropping rest (Err e)
+  by_rest None w z = tt
+  by_rest (Some rest) w z = inl is

@@ -1,0 +1,61 @@
+-- Laws of the records of the standard: none begins another, and no read of one fails for a fault of writing.
+use Rattle.std.proofs.Common.{◌≡◌, ◌≢◌, ℕ, Bool, true, false, List, inl, inr, refl, sym, ap, subst, ◌∙◌}
+use Rattle.std.specs.Prelude.{◌==◌, if◌then◌else◌}
+use Rattle.oas_num.specs.declared.refusals.Why.{Why}
+use Rattle.oas_num.specs.declared.refusals.Why.TheVariants as why_of
+use Rattle.oas_num.specs.Grammar.{OneFront, IsPair}
+use Rattle.oas_num.specs.Integers.{IsUnsigned}
+use Rattle.oas_num.specs.Laws.GrammarLaws.{OneFront-pair, OneFront-such, OneFront-image}
+use Rattle.oas_num.specs.Laws.CombinatorLaws.{OneFront-exactly}
+use Rattle.oas_record.specs.FoundParts.{found_unsigned}
+use Rattle.oas_record.specs.Heads.{magic, IsMagic}
+use Rattle.oas_wide.specs.declared.ends.WideEnd.{WideEnd}
+use Rattle.oas_wide.specs.declared.reasons.WideWhy.{WideWhy}
+use Rattle.oas_wide.specs.declared.records.WideRecord.{WideRecord}
+use Rattle.oas_wide.specs.declared.records.WideRecord.TheVariants.{End}
+use Rattle.oas_wide.specs.Heads.{SpellsWideStart, wide_start}
+use Rattle.oas_wide.specs.Reasons.{named, plain_of}
+use Rattle.oas_wide.specs.WideRecords.{fields, fields_in, wide_record_in, WideIdTook, WideRecordTook}
+use Rattle.oas_narrow.specs.WideFiles.{wide_head, after_magic, IsInner, inner_in, end_in}
+
+pub OneFront-wide : (in_end : Bool) → OneFront (wide_record_in in_end)
+OneFront-wide in_end = record {
+  one = λ v w a b x y p q e.
+      let both = (OneFront-pair IsUnsigned (fields_in in_end) found_unsigned.one (λ id. (fields in_end id).found.one)).one (p.id, v) (q.id, w) a b x y p.parts q.parts e in
+      (both.0, ap (λ (s : ℕ × WideRecord). s.1) both.1);
+}
+
+pub OneFront-inner : (in_end : Bool) → OneFront (inner_in in_end)
+OneFront-inner in_end = OneFront-such IsInner (wide_record_in in_end) (OneFront-wide in_end)
+
+same_end : (e f : WideEnd) → End e ≡ End f → e ≡ f
+same_end e f p = cc
+
+pub OneFront-end : (in_end : Bool) → OneFront (end_in in_end)
+OneFront-end in_end = record { one = λ e f a b x y p q j. let both = (OneFront-wide in_end).one (End e) (End f) a b x y p q j in (both.0, same_end e f both.1) }
+
+pub OneFront-head : OneFront wide_head
+OneFront-head = OneFront-image after_magic (IsPair IsMagic (λ _. SpellsWideStart)) (OneFront-pair IsMagic (λ _. SpellsWideStart) (OneFront-exactly magic) (λ _. wide_start.found.one))
+
+-- ---- no fault of writing
+
+by_test : (b : Bool) (x y : WideWhy) (w : Why) → plain_of x ≡ w → plain_of y ≡ w → plain_of (if b then x else y) ≡ w
+by_test true x y w p q = p
+by_test false x y w p q = q
+
+plain_named : (id : ℕ) (w : Why) → plain_of (named id w) ≡ w
+plain_named id why_of.InfoByte =
+    by_test (id == 26) _ _ why_of.InfoByte refl (by_test (id == 11) _ _ why_of.InfoByte refl (by_test (id == 12) _ _ why_of.InfoByte refl refl))
+plain_named id why_of.RealType = by_test (id == 28) _ _ why_of.RealType refl refl
+plain_named id _ = refl
+
+id_never : (bytes : List ℕ) → WideIdTook why_of.Write bytes → ⊥
+id_never bytes (inl h) = h
+id_never bytes (inr h) = h.2
+
+pub wide_never : (in_end : Bool) (w : WideWhy) (bytes : List ℕ) → WideRecordTook in_end w bytes → plain_of w ≢ why_of.Write
+wide_never in_end w bytes (inl h) is = id_never bytes (subst (λ (v : Why). WideIdTook v bytes) (sym (ap plain_of h.1) ∙ is) h.2)
+wide_never in_end w bytes (inr (inl b)) is =
+    let e : b.holds.0 ≡ why_of.Write = sym (plain_named b.value b.holds.0) ∙ sym (ap plain_of b.holds.2) ∙ is in
+    (fields in_end b.value).never.none b.last (subst (λ (v : Why). (fields in_end b.value).took v b.last) e b.holds.1)
+wide_never in_end w bytes (inr (inr h)) is = let e : why_of.EndLength ≡ why_of.Write = sym (ap plain_of h.0) ∙ is in cc

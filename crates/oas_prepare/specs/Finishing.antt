@@ -1,0 +1,59 @@
+-- What is made of all that was gathered.
+use Rattle.std.specs.Prelude.{◌≡◌, ℕ, List, None, Some, Result, Ok, Err, IsSome, ◌⊎◌}
+use Rattle.oas_num.specs.declared.refusals.Refusal.{Refusal}
+use Rattle.oas_num.specs.declared.refusals.Why.TheVariants.{Memory, ValidationScheme}
+use Rattle.oas_num.specs.Script.{Script, Takes, IsAtEnd}
+use Rattle.oas_layout.specs.declared.limits.Limits.{Limits}
+use Rattle.oas_layout.specs.declared.profile.Profile.{Profile}
+use Rattle.oas_layout.specs.Contents.{Contents, meaning_of}
+use Rattle.oas_layout.specs.Meaning.{Meaning, SameLayout}
+use Rattle.oas_modal.specs.Stands.{records_mean, end_refusal}
+use Rattle.oas_wide.specs.declared.ends.Validation.TheVariants.{Unvalidated}
+use Rattle.oas_wide.specs.declared.reasons.WideWhy.TheVariants as wide
+use Rattle.oas_wide.specs.declared.records.WideRecord.{WideRecord}
+use Rattle.oas_narrow.specs.declared.dropping.Dropping.{Dropping}
+use Rattle.oas_narrow.specs.declared.dropping.Report.{Report}
+use Rattle.oas_narrow.specs.declared.places.Rejection.{Rejection}
+use Rattle.oas_narrow.specs.Narrowing.{narrowed, report_of}
+use Rattle.oas_narrow.specs.Preparable.{Formed, WideMeans, IsValid}
+use Rattle.oas_narrow.specs.Rejections.{refused}
+use Rattle.oas_prepare.specs.declared.gathering.Gathered.{Gathered}
+use Rattle.oas_prepare.specs.Places.{at_file}
+use Rattle.oas_prepare.specs.Run.{Stops}
+use Rattle.oas_prepare.specs.Taking.{Stands}
+
+-- the layout is what these records mean, which END doesn't refuse
+pub record IsFinished (g : Gathered) (ws : List WideRecord) (l : Contents) (report : Report) : Type 0 where
+  pub unsigned : g.end.validation ≡ Unvalidated
+  pub whole : end_refusal g.preparation.reader.limits (narrowed ws) ≡ None
+  pub same : SameLayout g.preparation.reader.profile (meaning_of l) (records_mean g.preparation.reader.unit (narrowed ws))
+  pub within : l.limits ≡ g.preparation.reader.limits
+  pub by : l.profile ≡ g.preparation.reader.profile
+  pub left_out : report ≡ report_of ws
+
+-- it stops at END, where that is signed, for want of memory, or where it refuses the records
+pub data StopsAtEnd (g : Gathered) (ws : List WideRecord) (e : Rejection) : Type 0 where
+  Signed : (g.end.validation ≡ Unvalidated → ⊥) → e ≡ at_file g.at (wide.Profile ValidationScheme) → StopsAtEnd g ws e
+  Torn : (refusal : Refusal) → e ≡ refused refusal → refusal.at ≡ g.at → (refusal.why ≡ Memory) ⊎ (end_refusal g.preparation.reader.limits (narrowed ws) ≡ Some refusal.why) → StopsAtEnd g ws e
+
+abbrev pub Finishes : Gathered → Result (Contents × Report) Rejection → Type 0
+Finishes g (Ok both) = (ws : List WideRecord) → Stands g.preparation ws → IsFinished g ws both.0 both.1
+Finishes g (Err e) = (ws : List WideRecord) → Stands g.preparation ws → StopsAtEnd g ws e
+
+-- all that the source gave is a file that is prepared, of which this is the layout, and that is left out
+pub record IsReadPrepared (limits : Limits) (profile : Profile) (dropping : Dropping) (old : Script) (l : Contents) (report : Report) (new : Script) : Type 0 where
+  pub bytes : List ℕ
+  pub takes : Takes old bytes new
+  pub ended : IsAtEnd new
+  pub formed : Formed limits dropping bytes
+  pub valid : IsSome old.rest → IsValid formed.end.validation bytes
+  pub meaning : Meaning
+  pub means : WideMeans bytes meaning
+  pub same : SameLayout profile meaning (meaning_of l)
+  pub within : l.limits ≡ limits
+  pub by : l.profile ≡ profile
+  pub left_out : report ≡ report_of formed.records
+
+abbrev pub ReadsPrepared : Limits → Profile → Dropping → Script → Result (Contents × Report) Rejection → Script → Type 0
+ReadsPrepared limits profile dropping old (Ok both) new = IsReadPrepared limits profile dropping old both.0 both.1 new
+ReadsPrepared limits profile dropping old (Err e) new = Stops limits dropping old e new

@@ -1,0 +1,9 @@
+pub mod Deciding
+pub mod Places
+pub mod Run
+pub mod Heads
+pub mod Taking
+pub mod Gathering
+pub mod Finishing
+pub mod Units
+pub mod Laws

@@ -1,0 +1,36 @@
+-- Where the records of a file stand, one after another.
+use Rattle.std.specs.Prelude.{◌≡◌, ℕ, Option, Some, List, reverse, ◌⊎◌}
+use Rattle.oas_num.specs.declared.refusals.Why.TheVariants.{Memory}
+use Rattle.oas_layout.specs.declared.limits.Limits.{Limits}
+use Rattle.oas_modal.specs.Stands.{StandsFor}
+use Rattle.oas_modal.specs.Stores.{held_store}
+use Rattle.oas_narrow.specs.declared.dropping.Dropping.{Dropping}
+use Rattle.oas_wide.specs.declared.reasons.WideWhy.{WideWhy}
+use Rattle.oas_wide.specs.declared.reasons.WideWhy.TheVariants.{Profile}
+use Rattle.oas_narrow.specs.declared.places.Place.TheVariants.{File}
+use Rattle.oas_narrow.specs.declared.places.Rejection.{Rejection}
+use Rattle.oas_wide.specs.declared.records.WideRecord.{WideRecord}
+use Rattle.oas_narrow.specs.Narrowing.{narrowed, is_open, report_of, obstacle_after}
+use Rattle.oas_prepare.specs.declared.taking.Preparation.{Preparation}
+
+-- it is made of these records, oldest first
+pub record Stands (p : Preparation) (ws : List WideRecord) : Type 0 where
+  pub reader : StandsFor held_store p.reader (narrowed ws)
+  pub in_cell : p.in_cell ≡ is_open (reverse ws)
+  pub report : p.report ≡ report_of ws
+
+-- what is for the whole file stays
+pub record SameRun (old new : Preparation) : Type 0 where
+  pub unit : new.reader.unit ≡ old.reader.unit
+  pub limits : new.reader.limits ≡ old.reader.limits
+  pub profile : new.reader.profile ≡ old.reader.profile
+  pub dropping : new.dropping ≡ old.dropping
+
+-- why a record after these isn't prepared, oldest first
+abbrev pub obstacle_next : Limits → Dropping → List WideRecord → WideRecord → Option WideWhy
+obstacle_next limits dropping ws w = obstacle_after limits dropping (reverse ws) w
+
+-- it stops at that offset, for that reason or for want of memory
+pub record IsStop (at : ℕ) (reason : Option WideWhy) (rejection : Rejection) : Type 0 where
+  pub place : rejection.place ≡ File at
+  pub why : (rejection.why ≡ Profile Memory) ⊎ (reason ≡ Some rejection.why)

@@ -1,0 +1,94 @@
+//! All records of a file of the standard.
+ghost use Rattle.oas_file.specs.Gathering.{FindsEnd};
+ghost use Rattle.oas_prepare.specs.Gathering.{TakesNext, Gathers, GathersFile};
+
+use crate::heads::read_wide_head;
+use crate::taking::Preparation;
+use oas_layout::{Limits, Profile};
+use oas_narrow::{Dropping, Rejection};
+use oas_num::{Refusal, Source, SourceFault, Why};
+use oas_wide::{WideEnd, WideRecord, WideRefusal, WideStart};
+use std::alloc::Global;
+
+/// What stands next in a file.
+enum Next {
+    /// A record before END.
+    Record(WideRecord),
+    End(WideEnd),
+}
+
+/// What is made of all records, with END and its offset.
+#[derive(Drop)]
+pub(crate) struct Gathered {
+    pub(crate) preparation: Preparation,
+    pub(crate) at: u64,
+    pub(crate) end: WideEnd,
+}
+
+/// Takes the next record.
+fn take_next<S: Source>(
+    alloc: Global,
+    source: &mut S,
+    flag_in_end: bool,
+) -> Result<Next, WideRefusal>
+    ensures { TakesNext flag_in_end (S.script source.old) result (S.script source.new) }
+{
+    match WideRecord::read(alloc, source, flag_in_end)? {
+        WideRecord::End(end) => Ok(Next::End(end)),
+        record => Ok(Next::Record(record)),
+    }
+}
+
+/// Takes the records up to END, and answers END and its offset.
+fn take_records<S: Source>(
+    alloc: Global,
+    source: &mut S,
+    head: WideStart,
+    preparation: &mut Preparation,
+) -> Result<(u64, WideEnd), Rejection>
+    ensures { Gathers head (S.script source.old) preparation.old result (S.script source.new) preparation.new }
+{
+    let mut at = source.at();
+    'records: loop {
+        match take_next(alloc, source, head.flag_in_end)? {
+            Next::End(end) => return Ok((at, end)),
+            Next::Record(next) => preparation.take(at, next)?,
+        }
+        at = source.at();
+    }
+}
+
+/// Finds the end of the input.
+fn find_end_of_input<S: Source>(source: &mut S) -> Result<(), Refusal>
+    ensures { FindsEnd (S.script source.old) result (S.script source.new) }
+{
+    let at = source.at();
+    let why = match source.next() {
+        Ok(None) => return Ok(()),
+        Ok(Some(_)) => Why::TrailingBytes,
+        Err(SourceFault::Device) => Why::Read,
+        Err(SourceFault::TooLong) => Why::InputTooLong,
+    };
+    Err(Refusal { at, why })
+}
+
+/// Takes a whole file: its head, its records and END, behind which the input ends.
+pub(crate) fn gather<S: Source>(
+    alloc: Global,
+    source: &mut S,
+    limits: Limits,
+    profile: Profile,
+    dropping: Dropping,
+) -> Result<Gathered, Rejection>
+    ensures { GathersFile limits profile dropping (S.script source.old) result (S.script source.new) }
+{
+    let (head, unit) = read_wide_head(alloc, source)?;
+    let mut preparation = Preparation::new(alloc, unit, limits, profile, dropping);
+    let (at, end) = take_records(alloc, source, head, &mut preparation)?;
+    find_end_of_input(source)?;
+    Ok(Gathered {
+        preparation,
+        at,
+        end,
+    })
+}

@@ -1,0 +1,25 @@
+//! The laws of preparing, each the contract of a function that does nothing.
+ghost use Rattle.oas_prepare.specs.Laws.{OneWideMeaning, SamePrepared, ProfileIsPrepared, ProfileAsCanonical, PreparedAgain};
+
+/// A file of the standard means one layout.
+pub fn one_wide_meaning()
+    ensures { OneWideMeaning }
+{}
+
+/// Two files whose records stand for the same layout are prepared to the same bytes, whatever the limits, and whatever was
+/// left out of each.
+pub fn same_prepared()
+    ensures { SamePrepared }
+{}
+
+/// A file that the profile accepts is prepared, whatever is named to be left out: to its canonical file, with nothing left
+/// out.
+pub fn profile_files()
+    ensures prepared { ProfileIsPrepared }
+    ensures canonical { ProfileAsCanonical }
+{}
+
+/// What is prepared is prepared to itself.
+pub fn prepared_again()
+    ensures { PreparedAgain }
+{}

@@ -1,0 +1,75 @@
+//! From a source to a writer: the canonical file of what a file of the standard means.
+ghost use Rattle.std.specs.Prelude.{◌≡◌, ◌⊎◌, IfOk, IfErr};
+ghost use Rattle.oas_num.specs.declared.refusals.Why.TheVariants.{Write as NotWritten};
+ghost use Rattle.oas_wide.specs.declared.reasons.WideWhy.TheVariants.{Profile as ByProfile};
+ghost use Rattle.oas_prepare.specs.Run.{IsDone, IsCut, IsStopped, IsPlaced, Exactly};
+ghost use Rattle.oas_prepare.specs.Finishing.{Finishes, ReadsPrepared};
+
+use crate::gathering::{Gathered, gather};
+use crate::taking::Preparation;
+use oas_form::write_canonical;
+use oas_layout::{Layout, Limits, Profile};
+use oas_narrow::{Dropping, Place, Rejection, Report};
+use oas_num::{Source, Why};
+use oas_wide::{Validation, WideWhy};
+use std::alloc::Global;
+use std::io::Write;
+
+/// The layout of all that was gathered, and what was left out. It stops at END: by `ValidationScheme` where the file is
+/// signed, and where END refuses its records.
+fn finish(gathered: Gathered) -> Result<(Layout, Report), Rejection>
+    ensures { Finishes gathered result }
+{
+    let Gathered {
+        preparation,
+        at,
+        end,
+    } = gathered;
+    if end.validation != Validation::Unvalidated {
+        return Err(Rejection {
+            place: Place::File(at),
+            why: WideWhy::Profile(Why::ValidationScheme),
+        });
+    }
+    let Preparation { reader, report, .. } = preparation;
+    let layout = reader.finish(at)?;
+    Ok((layout, report))
+}
+
+/// All that a source gives, as a layout, and what was left out.
+fn read_prepared<S: Source>(
+    alloc: Global,
+    from: &mut S,
+    limits: Limits,
+    profile: Profile,
+    dropping: Dropping,
+) -> Result<(Layout, Report), Rejection>
+    ensures { ReadsPrepared limits profile dropping (S.script from.old) result (S.script from.new) }
+{
+    let gathered = gather(alloc, from, limits, profile, dropping)?;
+    finish(gathered)
+}
+
+/// Writes the canonical file of what a file of the standard means, and answers what was left out of it.
+///
+/// Nothing is left out but what is named. Nothing is written before the whole file was read. After `Why::Write` the writer
+/// took the first bytes of the canonical file, as many as the rejection's place says.
+pub fn prepare<S: Source, W: Write>(
+    alloc: Global,
+    from: &mut S,
+    to: &mut W,
+    limits: Limits,
+    profile: Profile,
+    dropping: Dropping,
+) -> Result<Report, Rejection>
+    ensures done { IfOk result (λ report. IsDone limits profile dropping (S.script from.old) (S.script from.new) (W.contents to.old) (W.contents to.new) report) }
+    ensures stopped { IfErr result (λ e. (e.why ≡ ByProfile NotWritten) ⊎ IsStopped limits dropping (S.script from.old) e.why (S.script from.new)) }
+    ensures placed { IfErr result (λ e. (e.why ≡ ByProfile NotWritten) ⊎ IsPlaced limits dropping (S.script from.old) e (S.script from.new)) }
+    ensures nothing { IfErr result (λ e. (e.why ≡ ByProfile NotWritten) ⊎ (to.new ≡ to.old)) }
+    ensures cut { IfErr result (λ e. e.why ≡ ByProfile NotWritten → IsCut limits profile dropping (S.script from.old) (S.script from.new) (W.contents to.old) (W.contents to.new) e) }
+    ensures exactly { Exactly limits dropping (S.script from.old) result (S.script from.new) }
+{
+    let (layout, report) = read_prepared(alloc, from, limits, profile, dropping)?;
+    write_canonical(&layout, to)?;
+    Ok(report)
+}
