@@ -1,2 +1,5 @@
 pub mod DigitLemmas
+pub mod KindLemmas
+pub mod PartLemmas
 pub mod PutLemmas
+pub mod ReadingLemmas

@@ -1,6 +1,6 @@
 -- The key of an element: bytes whose order is the elements' order (own rule). It is a byte for the kind, and then the
 -- fields in the order in which elements are compared, each as bytes that no other's begin.
-use Rattle.std.specs.Prelude.{ℕ, ◌+◌, ◌*◌, ◌≡◌, ◌<◌, ◌^◌, ℤ, ◌-ℤ◌, Bool, true, false, List, [], ◌∷◌, ◌++◌, length}
+use Rattle.std.specs.Prelude.{ℕ, ◌+◌, ◌*◌, ◌-ℤ◌, Bool, true, false, List, [], ◌∷◌, ◌++◌, length}
 use Rattle.oas_ring.specs.declared.point.Point.{Point}
 use Rattle.oas_ring.specs.Points.{origin}
 use Rattle.oas_layout.specs.declared.element.Turns.{Turns}

@@ -1,7 +1,7 @@
 -- Numbers as bytes whose order is the numbers' order (own rule). The numbers are divided into classes, ascending. A number is
 -- a first byte, which tells its class and the highest part of its place in the class, and as many bytes more as its class
 -- has, which are the rest of its place, highest first.
-use Rattle.std.specs.Prelude.{ℕ, zero, suc, ◌+◌, ◌-◌, ◌*◌, ◌/◌, ◌%◌, ◌^◌, ◌<◌, ◌≤◌, nat_lt, cond, ℤ, pos, negsuc, ◌≤ℤ◌, ◌+ℤ◌, unsigned_abs, List, [], ◌∷◌}
+use Rattle.std.specs.Prelude.{ℕ, zero, suc, ◌+◌, ◌-◌, ◌*◌, ◌/◌, ◌%◌, ◌^◌, ◌≤◌, nat_lt, cond, ℤ, pos, negsuc, ◌≤ℤ◌, ◌+ℤ◌, unsigned_abs, List, [], ◌∷◌}
 use Rattle.oas_keys.specs.declared.classes.Class.{Class}
 
 -- so many numbers have a byte of their own

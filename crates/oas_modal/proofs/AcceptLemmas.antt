@@ -27,21 +27,21 @@ use Rattle.oas_modal.proofs.ReaderLemmas.{seen_as, KeptFor, kept_of}
 
 -- ---- three tests in order
 
-abbrev first_why : Bool → Bool → Bool → Option Why
+abbrev pub first_why : Bool → Bool → Bool → Option Why
 first_why l t h = cond l (Some UnknownReference) (cond t (Some DuplicateCell) (cond h (Some TooHeavy) None))
 
-why_lacks : (l t h : Bool) (w : ℕ) → ◌≡◌ {A = Option ℕ} None (cond l None (Some w)) → first_why l t h ≡ Some UnknownReference
+pub why_lacks : (l t h : Bool) (w : ℕ) → ◌≡◌ {A = Option ℕ} None (cond l None (Some w)) → first_why l t h ≡ Some UnknownReference
 why_lacks true t h w e = refl
 why_lacks false t h w e = cc
 
-why_known : (l : Bool) (v w : ℕ) → Some v ≡ cond l None (Some w) → (l ≡ false) × (v ≡ w)
+pub why_known : (l : Bool) (v w : ℕ) → Some v ≡ cond l None (Some w) → (l ≡ false) × (v ≡ w)
 why_known true v w e = cc
 why_known false v w e = (refl, cc)
 
-heavier : (m v w : ℕ) → m < v → v ≡ capped w → nat_lt m w ≡ true
+pub heavier : (m v w : ℕ) → m < v → v ≡ capped w → nat_lt m w ≡ true
 heavier m v w h e = let more : m < w = omega (arith, h, e) in grind (arith, nat_tests)
 
-lighter : (m v w : ℕ) → m ≤ 2 ^ 30 → v ≤ m → v ≡ capped w → nat_lt m w ≡ false
+pub lighter : (m v w : ℕ) → m ≤ 2 ^ 30 → v ≤ m → v ≡ capped w → nat_lt m w ≡ false
 lighter m v w s h e = let few : w ≤ m = grind arith in grind (arith, nat_tests)
 
 -- ---- cells that are counted

@@ -22,10 +22,10 @@ use Rattle.oas_modal.proofs.Alike.{any-sum, weighed, sum-meant}
 use Rattle.oas_modal.proofs.CountLemmas.{capped_more}
 
 -- a weight, where nothing lacks a name
-abbrev known : ℕ → ℕ → Option ℕ
+abbrev pub known : ℕ → ℕ → Option ℕ
 known lacking w = cond (nat_lt 0 lacking) None (Some (capped w))
 
-some_lack : (a : ℕ) → nat_lt 0 (suc a) ≡ true
+pub some_lack : (a : ℕ) → nat_lt 0 (suc a) ≡ true
 some_lack a = grind (arith, nat_tests)
 
 either_lacks : (a b : ℕ) → (nat_lt 0 a || nat_lt 0 b) ≡ nat_lt 0 (a + b)
@@ -37,7 +37,7 @@ joined_if true y v w = refl
 joined_if false true v w = refl
 joined_if false false v w = ap Some (capped_more v w)
 
-joined_known : (a b v w : ℕ) → joined (known a v) (known b w) ≡ known (a + b) (v + w)
+pub joined_known : (a b v w : ℕ) → joined (known a v) (known b w) ≡ known (a + b) (v + w)
 joined_known a b v w = joined_if (nat_lt 0 a) (nat_lt 0 b) v w ∙ ap (λ t. cond t None (Some (capped (v + w)))) (either_lacks a b)
 
 -- what a number counts for that has no name
@@ -59,7 +59,7 @@ names_known names (p ∷ ps) h =
     (λ i. joined (one_known (name_of names p.0) p.1 h.0 i) (names_known names ps h.1 i))
     ∙ joined_known (p.1 * unnamed names p.0) (total (unnamed names) ps) (p.1 * name_length names p.0) (total (name_length names) ps)
 
-sum_two : (f g : Drawn → ℕ) (ds : List Drawn) → sum_by (λ d. f d + g d) ds ≡ sum_by f ds + sum_by g ds
+pub sum_two : (f g : Drawn → ℕ) (ds : List Drawn) → sum_by (λ d. f d + g d) ds ≡ sum_by f ds + sum_by g ds
 sum_two f g [] = refl
 sum_two f g (d ∷ ds) = omega (arith, sum_by-cons (λ x. f x + g x) d ds, sum_by-cons f d ds, sum_by-cons g d ds, sum_two f g ds)
 
@@ -133,7 +133,7 @@ module _ (names strings : List (ℕ × List ℕ)) where
         by (suc l) w = (λ i. cond (some_lack l i) None (Some (capped (w + suc l)))) ∙ (λ i. cond (sym (some_lack l) i) None (Some (capped w)))
 
   -- a cell and those after it
-  cell_and : (o : Option (List ℕ)) (u l : Bool) (es : List Element) (cs : List (List ℕ × List Element)) →
+  pub cell_and : (o : Option (List ℕ)) (u l : Bool) (es : List Element) (cs : List (List ℕ × List Element)) →
       joined (joined (head_weight o) (cond u None (Some (capped (sum_by weight_of es))))) (cond l None (Some (capped (cells_weight cs))))
       ≡ cond ((is_none o || u) || l) None (Some (capped (cells_weight (with_named o es cs))))
   cell_and None u l es cs = refl
@@ -169,7 +169,7 @@ min_step m a b c = grind arith
 min_twice : (m a : ℕ) → min (min a m) m ≡ min a m
 min_twice m a = grind arith
 
-joined_none : (a b : Option ℕ) → joined (Some 0) (joined a b) ≡ joined a b
+pub joined_none : (a b : Option ℕ) → joined (Some 0) (joined a b) ≡ joined a b
 joined_none None b = refl
 joined_none (Some a) None = refl
 joined_none (Some a) (Some b) = ap Some (min_once (2 ^ 64 - 1) (a + b))

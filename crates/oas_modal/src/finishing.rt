@@ -97,7 +97,7 @@ fn lacks_name(cells: &[HeldCell], names: &NameTable<Name>, strings: &NameTable<L
 }
 
 /// Whether two cells have one name. The set is ordered, so that no choice of names makes it slow.
-pub(crate) fn names_twice<S: CellStore>(
+pub fn names_twice<S: CellStore>(
     alloc: Global,
     cells: &[S],
     names: &NameTable<Name>,

@@ -29,6 +29,9 @@
 //!   (specs/Counted.antt). The `finish_counting` of a reader with such cells accepts exactly the records that END doesn't refuse,
 //!   and refuses others by `end_refusal`, or for want of memory.
 //!
+//! For stores of crates above, which are finished there, [`NameTable`], [`cell_meant`], [`element_meant`] and [`names_twice`] are
+//! public.
+//!
 //! The modal variables, and what a record draws by them, are those of `oas_drawing`.
 #![tactic(auto)]
 
@@ -48,7 +51,9 @@ mod stores;
 mod taking;
 
 pub use counted::CountedCell;
+pub use finishing::names_twice;
 pub use held::HeldCell;
-pub use names::Numbering;
+pub use names::{NameTable, Numbering, cell_meant};
+pub use putting::element_meant;
 pub use reader::Reader;
 pub use stores::CellStore;

@@ -23,7 +23,7 @@ use std::alloc::Global;
 use std::collections::BTreeMap;
 
 /// The element that is meant; None where its number has no name. A name behind a number is copied.
-fn element_meant(
+pub fn element_meant(
     alloc: Global,
     drawn: Drawn,
     names: &NameTable<Name>,

@@ -19,7 +19,7 @@
 //! the rising run and the map become runs, one after the other, and the last two runs are merged as long as the last has grown
 //! to half of the one before it. So each run is less than half of the one before, there are few of them, and a key is moved some
 //! log n times in whatever order keys come. A merge gives back each block that it has read. No contract speaks of time or of
-//! bytes; nothing uses this crate yet.
+//! bytes; oas_compact uses this crate, and no command does yet.
 #![tactic(auto)]
 
 mod adding;

@@ -1,5 +1,5 @@
 -- Elements are ordered as their keys are.
-use Rattle.std.proofs.Common.{◌≡◌, ℕ, ◌+◌, ◌<◌, ◌≤◌, ◌^◌, ℤ, Bool, true, false, true≢false, List, [], ◌∷◌, ◌++◌, refl, sym, ap, ◌∙◌, subst, append_assoc, arith}
+use Rattle.std.proofs.Common.{◌≡◌, ℕ, ◌<◌, ◌^◌, ℤ, Bool, true, false, true≢false, List, [], ◌∷◌, ◌++◌, refl, sym, ap, ◌∙◌, arith}
 use Rattle.std.specs.Prelude.{◌&&◌}
 use Rattle.std.specs.Ordering.{nat_cmp, int_cmp, bool_cmp, ordering_then}
 use Rattle.std.specs.declared.cmp.Ordering.{Ordering}
@@ -9,37 +9,37 @@ use Rattle.std.specs.List.{list_all}
 use Rattle.std.proofs.lemmas.List.{append-nil}
 use Rattle.std.proofs.lemmas.Cmp.{tied_itself, nat_list_cmp_total}
 use Rattle.std.proofs.lemmas.Map.Lookups.{exact_bytes}
-use Rattle.oas_num.specs.Texts.{IsOf, IsName, IsLabel, IsNameByte, IsLabelByte}
+use Rattle.oas_num.specs.Texts.{IsOf, IsNameByte, IsLabelByte}
 use Rattle.oas_ring.specs.declared.point.Point.{Point}
 use Rattle.oas_ring.specs.Points.{origin, list_cmp}
 use Rattle.oas_layout.specs.declared.element.Turns.{Turns}
 use Rattle.oas_layout.specs.declared.element.Element.{Element}
 use Rattle.oas_layout.specs.declared.element.Element.TheVariants.{Placement, Text, Rectangle, Polygon, Path, Circle}
-use Rattle.oas_layout.specs.Element.{element_cmp, turn_count, kind}
-use Rattle.oas_layout.specs.Grid.{fits_grid, is_coordinate, is_grid_point, reaches}
-use Rattle.oas_layout.specs.Sound.{IsSound, Fits}
+use Rattle.oas_layout.specs.Element.{element_cmp, turn_count}
+use Rattle.oas_layout.specs.Grid.{is_coordinate, is_grid_point, reaches}
+use Rattle.oas_layout.specs.Sound.{IsSound}
 use Rattle.oas_layout.specs.Laws.ElementLaws.{exact_elements}
-use Rattle.oas_keys.specs.Numbers.{IsStep, signed_key, unsigned_key}
-use Rattle.oas_keys.specs.Keys.{key_of, fields_key, text_key, points_key, turned_key}
-use Rattle.oas_keys.specs.Laws.NumberLaws.{Decided, signed_order, unsigned_order, then_assoc}
-use Rattle.oas_keys.specs.Laws.FieldLaws.{Ordered, ◌▸◌, ordered_as, NoZero, text_order, turned_order, AreWithin, coordinate_fits, points_order}
+use Rattle.oas_keys.specs.Numbers.{signed_key, unsigned_key}
+use Rattle.oas_keys.specs.Keys.{key_of, text_key, points_key, turned_key}
+use Rattle.oas_keys.specs.Laws.NumberLaws.{signed_order, unsigned_order}
+use Rattle.oas_keys.specs.Laws.FieldLaws.{Ordered, ◌▸◌, NoZero, text_order, turned_order, AreWithin, coordinate_fits, points_order}
 
 -- a name's bytes aren't 0
-name_bytes : (bytes : List ℕ) → IsOf IsNameByte bytes → NoZero bytes
+pub name_bytes : (bytes : List ℕ) → IsOf IsNameByte bytes → NoZero bytes
 name_bytes [] h = tt
 name_bytes (b ∷ bs) h = (omega (arith, h.0.0), name_bytes bs h.1)
 
-label_bytes : (bytes : List ℕ) → IsOf IsLabelByte bytes → NoZero bytes
+pub label_bytes : (bytes : List ℕ) → IsOf IsLabelByte bytes → NoZero bytes
 label_bytes [] h = tt
 label_bytes (b ∷ bs) h = (omega (arith, h.0.0), label_bytes bs h.1)
 
 -- points that pass the test are within the grid
-all_within : (ps : List Point) → list_all is_grid_point ps ≡ true → AreWithin ps
+pub all_within : (ps : List Point) → list_all is_grid_point ps ≡ true → AreWithin ps
 all_within [] h = tt
 all_within (p ∷ ps) h = let k : (is_grid_point p ≡ true) × (list_all is_grid_point ps ≡ true) = grind arith in (k.0, all_within ps k.1)
 
 -- both of two tests hold
-both : (a b : Bool) → (a && b) ≡ true → (a ≡ true) × (b ≡ true)
+pub both : (a b : Bool) → (a && b) ≡ true → (a ≡ true) × (b ≡ true)
 both true true h = (refl, refl)
 both true false h = (refl, h)
 both false b h = (h, absurd (true≢false (sym h)))

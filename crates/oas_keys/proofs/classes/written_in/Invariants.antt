@@ -1,6 +1,6 @@
-use Rattle.std.proofs.Common.{◌≡◌, ◌+◌, ◌%◌, ◌/◌, ◌*◌, ◌^◌, ◌<◌, ◌≤◌, ◌∷◌, ℕ, ◌-◌, List, length, drop}
+use Rattle.std.proofs.Common.{◌≡◌, ◌+◌, ◌≤◌, ℕ, List, drop}
 use Rattle.oas_keys.specs.declared.classes.Class.{Class}
-use Rattle.oas_keys.specs.Numbers.{number_in, digits, room, firsts_of, AreClasses}
+use Rattle.oas_keys.specs.Numbers.{number_in, firsts_of, AreClasses}
 use Rattle.oas_keys.proofs.classes.written_in.Given as goal
 
 -- what is left of the number is written in the classes that are left

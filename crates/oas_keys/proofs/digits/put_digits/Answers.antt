@@ -1,4 +1,4 @@
-use Rattle.std.proofs.Common.{rules, ◌≡◌, ◌+◌, ◌%◌, ◌*◌, ◌^◌, ◌≤◌, ◌++◌, vec_len, vec_capacity, ℕ, ◌-◌, ◌<◌, length, ◌/◌, suc, sym, ap, ◌∙◌, arith, List, [], ◌∷◌}
+use Rattle.std.proofs.Common.{rules, ◌≡◌, ◌%◌, ◌*◌, ◌^◌, ◌++◌, ℕ, ◌-◌, suc, sym, ap, ◌∙◌, arith, List}
 use Rattle.oas_keys.specs.Numbers.{digits}
 use Rattle.oas_keys.proofs.DigitLemmas.{step}
 use Rattle.oas_keys.proofs.digits.put_digits.Goals as goal

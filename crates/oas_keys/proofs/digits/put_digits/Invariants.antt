@@ -1,4 +1,4 @@
-use Rattle.std.proofs.Common.{◌≡◌, ◌+◌, ◌%◌, ◌*◌, ◌^◌, ◌≤◌, ◌++◌, vec_len, vec_capacity, ℕ, ◌-◌, ◌<◌, List, length}
+use Rattle.std.proofs.Common.{◌≡◌, ◌+◌, ◌%◌, ◌*◌, ◌^◌, ◌≤◌, ◌++◌, vec_len, vec_capacity, ℕ, List}
 use Rattle.oas_keys.specs.Numbers.{digits}
 use Rattle.oas_keys.proofs.digits.put_digits.Given as goal
 

@@ -1,5 +1,4 @@
-use Rattle.std.proofs.Common.{◌≡◌, ◌≤◌, ◌^◌, ◌++◌, ◌∙◌, sym, ap, ℕ, ◌-◌, List, w64, ℤ, pos, negsuc, ◌-ℤ◌, to_z, of_z, arith}
-use Rattle.std.specs.Int.Signed.{◌≤ℤ◌}
+use Rattle.std.proofs.Common.{◌≡◌, ◌++◌, ◌∙◌, ap, w64, ℤ, ◌-ℤ◌, to_z, of_z, arith}
 use Rattle.std.proofs.lemmas.Int.{ints}
 use Rattle.oas_keys.specs.Numbers.{signed_key}
 use Rattle.oas_keys.specs.Laws.FieldLaws.{parts, coordinate_bounds}

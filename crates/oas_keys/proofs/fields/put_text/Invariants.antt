@@ -1,4 +1,4 @@
-use Rattle.std.proofs.Common.{◌≡◌, ◌+◌, ◌++◌, length, vec_len, vec_capacity, ℕ, take}
+use Rattle.std.proofs.Common.{◌≡◌, ◌+◌, ◌++◌, vec_len, vec_capacity, take}
 use Rattle.oas_keys.proofs.fields.put_text.Given as goal
 
 abbrev pub invariant-loop-byte : goal.invariant-loop-byte

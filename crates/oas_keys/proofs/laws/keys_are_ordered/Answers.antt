@@ -1,4 +1,4 @@
-use Rattle.std.proofs.Common.{ap, [], ◌++◌, ◌∙◌, sym}
+use Rattle.std.proofs.Common.{ap, [], ◌∙◌, sym}
 use Rattle.std.proofs.lemmas.List.{append-nil}
 use Rattle.oas_keys.specs.Keys.{key_of}
 use Rattle.oas_keys.specs.Laws.KeyLaws.{key_order, one_key}

@@ -1,0 +1,4 @@
+pub mod KeptLemmas
+pub mod PlaceLemmas
+pub mod DrawLemmas
+pub mod WeighLemmas

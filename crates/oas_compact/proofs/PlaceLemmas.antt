@@ -1,0 +1,128 @@
+-- What waits, placed by the names of the whole file.
+use Rattle.std.proofs.Common.{◌≡◌, ℕ, ◌+◌, ◌*◌, ◌<◌, ◌≤◌, ◌^◌, List, [], ◌∷◌, true, false, Option, None, Some, refl, sym, ◌∙◌, ap, subst, arith}
+use Rattle.std.specs.Prelude.{sum_by}
+use Rattle.std.specs.Option.{option_map}
+use Rattle.std.specs.Ordering.{nat_cmp}
+use Rattle.std.specs.Cmp.Lexicographic.{slice_cmp}
+use Rattle.std.specs.List.{AllByRecursion}
+use Rattle.oas_layout.specs.declared.profile.Profile.{Profile}
+use Rattle.oas_layout.specs.declared.element.Element.{Element}
+use Rattle.oas_layout.specs.declared.element.Element.TheVariants.{Placement, Text}
+use Rattle.oas_layout.specs.Bag.{put_more}
+use Rattle.oas_layout.specs.Grid.{fits_grid}
+use Rattle.oas_layout.specs.Laws.BagLaws.{total}
+use Rattle.oas_layout.specs.Laws.SameLaws.{normal-normal}
+use Rattle.oas_layout.specs.Same.{normal}
+use Rattle.oas_layout.specs.Sound.{IsSound}
+use Rattle.oas_layout.specs.Weight.{lacks_points}
+use Rattle.oas_keys.specs.Keys.{key_of}
+use Rattle.oas_store.specs.Entries.{Entry}
+use Rattle.oas_drawing.specs.declared.drawn.Drawn.{Drawn}
+use Rattle.oas_drawing.specs.declared.drawn.Drawn.TheVariants.{Named, PlacementBy, TextBy}
+use Rattle.oas_modal.specs.Finish.{IsFit}
+use Rattle.oas_modal.specs.Meaning.{element_by, elements_meant}
+use Rattle.oas_modal.specs.Names.{name_of}
+use Rattle.oas_modal.proofs.Alike.{weighed, sum-meant}
+use Rattle.oas_modal.proofs.WeighLemmas.{sum_two}
+use Rattle.oas_compact.specs.Compact.{Compact, by_key, by_number, Keeps, IsKey, AreKeys, Waits}
+use Rattle.oas_compact.specs.Placing.{with_placed, placed, MeansElements}
+use Rattle.oas_compact.proofs.KeptLemmas.{normal_sound}
+use Rattle.oas_compact.proofs.DrawLemmas.{all-put_more, few_is, keys_more}
+
+-- ---- an element that is meant
+
+-- it has its points, and lies within the grid
+pub record IsWithin (e : Element) : Type 0 where
+  pub points : lacks_points e ≡ false
+  pub inside : fits_grid e ≡ true
+
+pub meant_within : (names strings : List (ℕ × List ℕ)) (d : Drawn) (e : Element) → IsFit d → element_by names strings d ≡ Some e → IsWithin e
+meant_within names strings (Named x) e f h = let same : x ≡ e = cc in subst IsWithin same (record { points = f.points; inside = f.inside })
+meant_within names strings (PlacementBy number x y turns flip) e f h = by (name_of names number) h
+  where
+    by : (o : Option (List ℕ)) → option_map (λ (c : List ℕ). Placement c x y turns flip) o ≡ Some e → IsWithin e
+    by None h = let no : ⊥ = cc in absurd no
+    by (Some c) h = let same : Placement c x y turns flip ≡ e = cc in subst IsWithin same (record { points = refl; inside = f.inside })
+meant_within names strings (TextBy number textlayer texttype x y) e f h = by (name_of strings number) h
+  where
+    by : (o : Option (List ℕ)) → option_map (λ (c : List ℕ). Text c textlayer texttype x y) o ≡ Some e → IsWithin e
+    by None h = let no : ⊥ = cc in absurd no
+    by (Some c) h = let same : Text c textlayer texttype x y ≡ e = cc in subst IsWithin same (record { points = refl; inside = f.inside })
+
+-- its key is one more
+pub keys_with : (profile : Profile) (ks ls : List Entry) (e : Element) (n : ℕ) → IsSound e → AreKeys profile ks → ls ≡ put_more (slice_cmp nat_cmp) ks (key_of (normal profile e)) n → AreKeys profile ls
+keys_with profile ks ls e n sound a is =
+    subst (AreKeys profile) (sym is)
+    (all-put_more (λ p. IsKey profile p.0) (slice_cmp nat_cmp) ks (key_of (normal profile e)) n (λ p h. h)
+    (record { element = normal profile e; sound = normal_sound profile e sound; normal = normal-normal profile e; is = refl }) a)
+
+-- nothing is placed where there is none
+pub placed_none : (profile : Profile) (o : Option Element) (n : ℕ) (ks ls : List Entry) → o ≡ None → ls ≡ ks → ls ≡ with_placed profile o n ks
+placed_none profile o n ks ls e is = is ∙ ap (λ (x : Option Element). with_placed profile x n ks) (sym e)
+
+pub placed_some : (profile : Profile) (o : Option Element) (e : Element) (n : ℕ) (ks ls : List Entry) → o ≡ Some e → ls ≡ put_more (slice_cmp nat_cmp) ks (key_of (normal profile e)) n → ls ≡ with_placed profile o n ks
+placed_some profile o e n ks ls h is = is ∙ ap (λ (x : Option Element). with_placed profile x n ks) (sym h)
+
+-- ---- sums
+
+module _ (profile : Profile) (names strings : List (ℕ × List ℕ)) where
+  -- what the key of an element's kept form counts for
+  abbrev kept_key : (List ℕ → ℕ) → Element → ℕ
+  kept_key g e = g (key_of (normal profile e))
+
+  abbrev meant_key : (List ℕ → ℕ) → Drawn → ℕ
+  meant_key g d = weighed (kept_key g) (element_by names strings d)
+
+  one_placed : (g : List ℕ → ℕ) (o : Option Element) (n : ℕ) (ks : List Entry) → total g (with_placed profile o n ks) ≡ total g ks + n * weighed (kept_key g) o
+  one_placed g None n ks = omega arith
+  one_placed g (Some e) n ks = keys_more g ks (key_of (normal profile e)) n
+
+  all_placed : (g : List ℕ → ℕ) (ps : List (Drawn × ℕ)) (ks : List Entry) → total g (placed profile names strings ps ks) ≡ total g ks + total (meant_key g) ps
+  all_placed g [] ks = omega arith
+  all_placed g (p ∷ ps) ks =
+      omega (arith, all_placed g ps (with_placed profile (element_by names strings p.0) p.1 ks), one_placed g (element_by names strings p.0) p.1 ks)
+
+  -- room for all is room for one and the others
+  pub few_placed : (o : Option Element) (n : ℕ) (ks : List Entry) → total (λ _. 1) (with_placed profile o n ks) ≤ total (λ _. 1) ks + n
+  few_placed None n ks = omega arith
+  few_placed (Some e) n ks = omega (arith, few_is (slice_cmp nat_cmp) ks (key_of (normal profile e)) n)
+
+  by_both : (g : List ℕ → ℕ) (d : Drawn) → by_key profile g d + by_number (meant_key g) d ≡ meant_key g d
+  by_both g (Named e) = omega arith
+  by_both g (PlacementBy number x y turns flip) = omega arith
+  by_both g (TextBy number textlayer texttype x y) = omega arith
+
+  -- all that is meant
+  pub means : (c : Compact) (ds : List Drawn) (ks : List Entry) → Keeps profile c ds → ks ≡ placed profile names strings c.waiting c.keys → MeansElements profile ks (elements_meant names strings ds)
+  means c ds ks h is = record { sums = all }
+    where
+      all : (g : List ℕ → ℕ) → total g ks ≡ sum_by (kept_key g) (elements_meant names strings ds)
+      all g =
+          let split = sum_two (by_key profile g) (by_number (meant_key g)) ds in
+          let same : sum_by (λ d. by_key profile g d + by_number (meant_key g) d) ds ≡ sum_by (meant_key g) ds = λ i. sum_by (λ d. by_both g d i) ds in
+          let whole = ap (total g) is ∙ all_placed g c.waiting c.keys in
+          let keys = h.keys g in
+          let waiting = h.waiting (meant_key g) in
+          let meant = sum-meant names strings (kept_key g) ds in
+          omega (arith, whole, keys, waiting, split, same, meant)
+
+-- ---- the loop
+
+-- what is placed so far, and what is left
+pub record Placing (profile : Profile) (names strings : List (ℕ × List ℕ)) (first now : List Entry) (all rest : List (Drawn × ℕ)) : Type 0 where
+  pub same : placed profile names strings all first ≡ placed profile names strings rest now
+  pub keys : AreKeys profile now
+  pub waits : AllByRecursion Waits rest
+  pub room : total (λ _. 1) now + total (λ _. 1) rest < 2 ^ 64
+
+pub placing_more : (profile : Profile) (names strings : List (ℕ × List ℕ)) (first now new : List Entry) (all rest : List (Drawn × ℕ)) (p : Drawn × ℕ)
+    → Placing profile names strings first now all (p ∷ rest) → new ≡ with_placed profile (element_by names strings p.0) p.1 now → AreKeys profile new → Placing profile names strings first new all rest
+placing_more profile names strings first now new all rest p h is keys =
+    let few : total (λ _. 1) new ≤ total (λ _. 1) now + p.1 = subst (λ (ks : List Entry). total (λ _. 1) ks ≤ total (λ _. 1) now + p.1) (sym is) (few_placed profile names strings (element_by names strings p.0) p.1 now) in
+    let room = h.room in
+    record {
+      same = h.same ∙ ap (placed profile names strings rest) (sym is);
+      keys = keys;
+      waits = h.waits.1;
+      room = omega arith;
+    }

@@ -1,0 +1,81 @@
+-- What is held of a CELL as keys.
+use Rattle.std.specs.Prelude.{◌≡◌, ℕ, ◌<◌, Bool, true, false, List, sum_by}
+use Rattle.std.specs.List.{AllByRecursion}
+use Rattle.oas_record.specs.declared.references.CellRef.{CellRef}
+use Rattle.oas_layout.specs.declared.profile.Profile.{Profile}
+use Rattle.oas_layout.specs.declared.element.Element.{Element}
+use Rattle.oas_layout.specs.Laws.BagLaws.{total}
+use Rattle.oas_layout.specs.Same.{normal, IsNormal}
+use Rattle.oas_layout.specs.Sound.{IsSound}
+use Rattle.oas_keys.specs.Keys.{key_of}
+use Rattle.oas_store.specs.Entries.{Entry}
+use Rattle.oas_drawing.specs.declared.drawn.Drawn.{Drawn}
+use Rattle.oas_drawing.specs.declared.drawn.Drawn.TheVariants.{Named, PlacementBy, TextBy}
+use Rattle.oas_drawing.specs.Drawn.{weight_so_far}
+use Rattle.oas_modal.specs.Finish.{IsFit}
+use Rattle.oas_modal.specs.Counted.{capped}
+use Rattle.oas_modal.specs.Stores.{Store}
+
+-- its reference, how many elements its records draw, what they weigh as long as numbers have no names, the keys of those that
+-- have their names, and those that wait for names; keys and those that wait ascend, each beside its count
+pub record Compact : Type 0 where
+  pub cell : CellRef
+  pub count : ℕ
+  pub weight : ℕ
+  pub keys : List Entry
+  pub waiting : List (Drawn × ℕ)
+
+-- whether it isn't drawn by a number
+abbrev pub is_named : Drawn → Bool
+is_named (Named e) = true
+is_named (PlacementBy number x y turns flip) = false
+is_named (TextBy number textlayer texttype x y) = false
+
+-- what the key of its kept form counts for, where it has its name
+abbrev pub by_key : Profile → (List ℕ → ℕ) → Drawn → ℕ
+by_key profile g (Named e) = g (key_of (normal profile e))
+by_key profile g (PlacementBy number x y turns flip) = 0
+by_key profile g (TextBy number textlayer texttype x y) = 0
+
+-- what it counts for, where it is drawn by a number
+abbrev pub by_number : (Drawn → ℕ) → Drawn → ℕ
+by_number g (Named e) = 0
+by_number g (PlacementBy number x y turns flip) = g (PlacementBy number x y turns flip)
+by_number g (TextBy number textlayer texttype x y) = g (TextBy number textlayer texttype x y)
+
+-- these were drawn: whatever each key counts for, and each thing by a number, the sums are equal
+pub record Keeps (profile : Profile) (c : Compact) (ds : List Drawn) : Type 0 where
+  pub weight : c.weight ≡ capped (sum_by weight_so_far ds)
+  pub keys : (g : List ℕ → ℕ) → total g c.keys ≡ sum_by (by_key profile g) ds
+  pub waiting : (g : Drawn → ℕ) → total g c.waiting ≡ sum_by (by_number g) ds
+
+-- a key is that of a sound element in the form that the profile keeps
+pub record IsKey (profile : Profile) (key : List ℕ) : Type 0 where
+  pub element : Element
+  pub sound : IsSound element
+  pub normal : IsNormal profile element
+  pub is : key ≡ key_of element
+
+-- each key is
+abbrev pub AreKeys : Profile → List Entry → Type 0
+AreKeys profile ks = AllByRecursion (λ p. IsKey profile p.0) ks
+
+-- something that waits is drawn by a number, at least once, within the grid
+pub record Waits (p : Drawn × ℕ) : Type 0 where
+  pub fit : IsFit p.0
+  pub numbered : is_named p.0 ≡ false
+  pub some : 0 < p.1
+
+-- the keys are those of elements, and what waits does so by numbers
+pub record IsCompact (profile : Profile) (c : Compact) : Type 0 where
+  pub keys : AreKeys profile c.keys
+  pub waiting : AllByRecursion Waits c.waiting
+
+-- what is held of a cell as keys
+abbrev pub compact_store : Profile → Store Compact
+compact_store profile = record {
+  cell = λ c. c.cell;
+  count = λ c. c.count;
+  IsSound = IsCompact profile;
+  Holds = Keeps profile;
+}

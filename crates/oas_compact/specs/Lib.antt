@@ -1,0 +1,4 @@
+pub mod Compact
+pub mod Weighing
+pub mod Placing
+pub mod Laws

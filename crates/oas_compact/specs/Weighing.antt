@@ -1,0 +1,34 @@
+-- What cells that are held as keys weigh with all names; None where a number has no name.
+use Rattle.std.specs.Prelude.{ℕ, ◌*◌, List, [], ◌∷◌, length, Option, None, Some}
+use Rattle.std.specs.Option.{option_map}
+use Rattle.oas_drawing.specs.declared.drawn.Drawn.{Drawn}
+use Rattle.oas_drawing.specs.declared.drawn.Drawn.TheVariants.{Named, PlacementBy, TextBy}
+use Rattle.oas_modal.specs.Names.{name_of}
+use Rattle.oas_modal.specs.References.{cell_by}
+use Rattle.oas_modal.specs.Counted.{capped, joined, head_weight}
+use Rattle.oas_compact.specs.Compact.{Compact}
+
+-- the bytes of the name behind a number
+abbrev pub behind : List (ℕ × List ℕ) → List (ℕ × List ℕ) → Drawn → Option ℕ
+behind names strings (Named e) = Some 0
+behind names strings (PlacementBy number x y turns flip) = option_map length (name_of names number)
+behind names strings (TextBy number textlayer texttype x y) = option_map length (name_of strings number)
+
+-- so many times
+abbrev pub behind_times : Option ℕ → ℕ → Option ℕ
+behind_times None n = None
+behind_times (Some len) n = Some (capped (n * len))
+
+-- all that waits
+abbrev pub waiting_weight : List (ℕ × List ℕ) → List (ℕ × List ℕ) → List (Drawn × ℕ) → Option ℕ
+waiting_weight names strings [] = Some 0
+waiting_weight names strings (p ∷ ps) = joined (behind_times (behind names strings p.0) p.1) (waiting_weight names strings ps)
+
+-- a cell
+abbrev pub cell_weight : List (ℕ × List ℕ) → List (ℕ × List ℕ) → Compact → Option ℕ
+cell_weight names strings c = joined (head_weight (cell_by names c.cell)) (joined (Some c.weight) (waiting_weight names strings c.waiting))
+
+-- all cells
+abbrev pub all_weight : List (ℕ × List ℕ) → List (ℕ × List ℕ) → List Compact → Option ℕ
+all_weight names strings [] = Some 0
+all_weight names strings (c ∷ cs) = joined (cell_weight names strings c) (all_weight names strings cs)

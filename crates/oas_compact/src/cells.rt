@@ -1,0 +1,166 @@
+//! What the records of a CELL draw: kept as keys, or waiting for names.
+
+ghost use Rattle.std.specs.Prelude.{◌≡◌, ◌+◌, ◌<◌, ◌^◌, [], List, false, replicate, OnOk, OnErr, IfOk, IfErr};
+ghost use Rattle.std.specs.Cmp.Lexicographic.{slice_cmp};
+ghost use Rattle.std.specs.Ordering.{nat_cmp};
+ghost use Rattle.oas_num.specs.declared.refusals.Why.TheVariants.{Memory};
+ghost use Rattle.oas_store.specs.Tally.{IsRun};
+ghost use Rattle.oas_drawing.specs.declared.drawn.Drawn.{Drawn as SomeDrawn};
+ghost use Rattle.oas_drawing.specs.declared.drawn.Drawn.TheVariants.{Named as OneNamed};
+ghost use Rattle.oas_modal.specs.Meaning.{elements_meant};
+ghost use Rattle.oas_modal.specs.Finish.{IsFit};
+ghost use Rattle.oas_modal.specs.Stores.{Draws};
+ghost use Rattle.oas_compact.specs.Compact.{compact_store, is_named, AreKeys, IsCompact, Keeps};
+ghost use Rattle.oas_compact.specs.Laws.CompactLaws.{kept_in_any_order};
+ghost use Rattle.oas_compact.specs.Placing.{MeansElements};
+ghost use Rattle.oas_compact.specs.Weighing.{cell_weight};
+
+use crate::elements::KeptElements;
+use crate::placing::place_all;
+use crate::profiles::KeptBy;
+use crate::waiting::Waiting;
+use crate::weighing::head_weight;
+use oas_drawing::Drawn;
+use oas_layout::Element;
+use oas_modal::{CellStore, NameTable};
+use oas_num::{Label, Name, Why};
+use oas_record::CellRef;
+use oas_store::Run;
+use std::alloc::{AllocError, Global};
+use std::marker::{Model, PhantomData};
+
+/// A CELL, by its name or a number, and what its records draw: elements in the form in which the profile keeps them, as keys with
+/// counts, and apart from them what is drawn by numbers.
+#[derive(Drop)]
+pub struct CompactCell<P: KeptBy> {
+    cell: CellRef,
+    /// How many elements were drawn.
+    count: u64,
+    /// What was drawn weighs this as long as numbers have no names; at most what 64 bits hold, which is more than any limits allow.
+    weight: u64,
+    kept: KeptElements,
+    waiting: Waiting,
+    by: PhantomData<P>,
+}
+
+impl<P: KeptBy> Model for CompactCell<P> {
+    ghost use Rattle.std.specs.Prelude.{◌+◌, ◌≤◌};
+    ghost use Rattle.oas_layout.specs.Laws.BagLaws.{total};
+    ghost use Rattle.oas_compact.specs.Compact.{Compact};
+
+    ghost Value = { Compact };
+
+    ghost view = { λ a. record { cell = a.cell; count = a.count; weight = a.weight; keys = a.kept; waiting = a.waiting } };
+
+    ghost invariant = { λ a. total (λ _. 1) a.kept + total (λ _. 1) a.waiting ≤ a.count };
+}
+
+impl<P: KeptBy> CompactCell<P> {
+    /// What it weighs with all names, as far as 64 bits tell it; None where a number has no name.
+    pub(crate) fn weight_by(
+        &self,
+        names: &NameTable<Name>,
+        strings: &NameTable<Label>,
+    ) -> Option<u64>
+        ensures { result ≡ cell_weight names.now.named strings.now.named self.now }
+    {
+        let head = head_weight(&self.cell, names)?;
+        let waiting = self.waiting.weight_by(names, strings)?;
+        Some(head.saturating_add(self.weight.saturating_add(waiting)))
+    }
+
+    /// The run of the keys of all elements that are meant by the tables of the whole file, in the forms in which the profile keeps
+    /// them; or want of memory. What is drawn by a number that has no name isn't among them.
+    pub fn into_run(
+        self,
+        alloc: Global,
+        names: &NameTable<Name>,
+        strings: &NameTable<Label>,
+    ) -> Result<Run, Why>
+        requires { IsCompact P.profile self }
+        ensures run { IfOk result (λ run. IsRun (slice_cmp nat_cmp) run) }
+        ensures keys { IfOk result (λ run. AreKeys P.profile run) }
+        ensures means { (ds : List SomeDrawn) → Keeps P.profile self ds → IfOk result (λ run. MeansElements P.profile run (elements_meant names.now.named strings.now.named ds)) }
+        ensures err { IfErr result (λ why. why ≡ Memory) }
+    {
+        let CompactCell {
+            mut kept,
+            waiting,
+            ..
+        } = self;
+        place_all(alloc, P::profile(), &mut kept, waiting, names, strings)?;
+        match kept.close() {
+            Ok(run) => Ok(run),
+            Err(_) => Err(Why::Memory),
+        }
+    }
+
+    /// Draws an element so many times more, in the form in which the profile keeps it.
+    fn keep(&mut self, element: Element, times: u64) -> Result<(), AllocError>
+        requires some { 0 < times }
+        requires fit { IsFit (OneNamed element) }
+        requires room { self.old.count + times < 2 ^ 64 }
+        ensures ok { OnOk result (Draws (compact_store P.profile) self.old (replicate times (OneNamed element)) self.new) }
+        ensures err { OnErr result (self.new ≡ self.old) }
+    {
+        let weight = element.weight().saturating_mul(times);
+        self.kept.add(P::profile(), &element, times)?;
+        self.count += times;
+        self.weight = self.weight.saturating_add(weight);
+        Ok(())
+    }
+
+    /// Draws something by a number so many times more.
+    fn wait(&mut self, drawn: Drawn, times: u64) -> Result<(), AllocError>
+        requires some { 0 < times }
+        requires fit { IsFit drawn }
+        requires unnamed { is_named drawn ≡ false }
+        requires room { self.old.count + times < 2 ^ 64 }
+        ensures ok { OnOk result (Draws (compact_store P.profile) self.old (replicate times drawn) self.new) }
+        ensures err { OnErr result (self.new ≡ self.old) }
+    {
+        self.waiting.add(drawn, times)?;
+        self.count += times;
+        self.weight = self.weight.saturating_add(times);
+        Ok(())
+    }
+}
+
+impl<P: KeptBy> CellStore for CompactCell<P> {
+    ghost store = { compact_store P.profile };
+
+    ghost alike = { kept_in_any_order P.profile };
+
+    fn begin(alloc: Global, cell: CellRef) -> CompactCell<P> {
+        CompactCell {
+            cell,
+            count: 0,
+            weight: 0,
+            kept: KeptElements::new(alloc),
+            waiting: Waiting::new(alloc),
+            by: PhantomData,
+        }
+    }
+
+    fn cell(&self) -> &CellRef {
+        &self.cell
+    }
+
+    fn draw(&mut self, drawn: Drawn, times: u64) -> Result<(), AllocError> {
+        match named_element(drawn) {
+            Ok(element) => self.keep(element, times),
+            Err(drawn) => self.wait(drawn, times),
+        }
+    }
+}
+
+/// The element, where it isn't drawn by a number.
+fn named_element(drawn: Drawn) -> Result<Element, Drawn>
+    ensures named { IfOk result (λ e. drawn ≡ OneNamed e) }
+    ensures numbered { IfErr result (λ d. (d ≡ drawn) × (is_named drawn ≡ false)) }
+{
+    match drawn {
+        Drawn::Named(element) => Ok(element),
+        by_number => Err(by_number),
+    }
+}

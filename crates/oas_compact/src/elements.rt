@@ -1,0 +1,100 @@
+//! Elements as their keys, each once beside its count.
+
+ghost use Rattle.std.specs.Prelude.{◌≡◌, ◌+◌, ◌<◌, ◌^◌, [], false, true, OnOk, OnErr, IfOk};
+ghost use Rattle.std.specs.Ordering.{nat_cmp};
+ghost use Rattle.std.specs.Cmp.Lexicographic.{slice_cmp};
+ghost use Rattle.oas_layout.specs.Bag.{put_more};
+ghost use Rattle.oas_layout.specs.Laws.BagLaws.{total};
+ghost use Rattle.oas_layout.specs.Grid.{fits_grid};
+ghost use Rattle.oas_layout.specs.Same.{normal};
+ghost use Rattle.oas_layout.specs.Sound.{IsSound};
+ghost use Rattle.oas_layout.specs.Weight.{lacks_points};
+ghost use Rattle.oas_keys.specs.Keys.{key_of};
+ghost use Rattle.oas_store.specs.Tally.{IsRun};
+
+use oas_keys::put_key;
+use oas_layout::{Element, Profile};
+use oas_store::{KeyStore, Run};
+use std::alloc::{AllocError, Global};
+use std::marker::Model;
+
+/// Elements in their kept forms, seen as the ascending list of their keys with counts.
+#[derive(Drop)]
+pub(crate) struct KeptElements {
+    alloc: Global,
+    keys: KeyStore,
+    /// The key that is being added, so that none takes memory of its own.
+    key: Vec<u8>,
+}
+
+impl Model for KeptElements {
+    ghost use Rattle.std.specs.Prelude.{List};
+    ghost use Rattle.oas_store.specs.Entries.{Entry};
+
+    ghost Value = { List Entry };
+
+    ghost view = { λ a. a.keys };
+}
+
+impl KeptElements {
+    /// No elements, and no memory.
+    pub(crate) fn new(alloc: Global) -> KeptElements
+        ensures { result ≡ [] }
+    {
+        KeptElements {
+            alloc,
+            keys: KeyStore::new(alloc),
+            key: Vec::new(alloc),
+        }
+    }
+
+    /// Adds an element in the form in which the profile keeps it, so many times; or, for want of memory, nothing.
+    pub(crate) fn add(
+        &mut self,
+        profile: Profile,
+        element: &Element,
+        times: u64,
+    ) -> Result<(), AllocError>
+        requires some { 0 < times }
+        requires points { lacks_points element.now ≡ false }
+        requires inside { fits_grid element.now ≡ true }
+        requires room { total (λ _. 1) self.old + times < 2 ^ 64 }
+        ensures ok { OnOk result (self.new ≡ put_more (slice_cmp nat_cmp) self.old (key_of (normal profile element.now)) times) }
+        ensures sound { OnOk result (IsSound element.now) }
+        ensures err { OnErr result (self.new ≡ self.old) }
+    {
+        element.fits();
+        put_kept(self.alloc, profile, element, &mut self.key)?;
+        self.keys.add(&self.key, times)?;
+        Ok(())
+    }
+
+    /// The run of the keys.
+    pub(crate) fn close(self) -> Result<Run, AllocError>
+        ensures same { IfOk result (λ run. run ≡ self) }
+        ensures run { IfOk result (λ run. IsRun (slice_cmp nat_cmp) run) }
+    {
+        match self.keys.close() {
+            Ok(run) => Ok(run),
+            Err(_) => Err(AllocError),
+        }
+    }
+}
+
+/// Puts the key of an element in the form in which the profile keeps it in place of what was there.
+fn put_kept(
+    alloc: Global,
+    profile: Profile,
+    element: &Element,
+    key: &mut Vec<u8>,
+) -> Result<(), AllocError>
+    requires { IsSound element.now }
+    ensures { OnOk result (key.new.items ≡ key_of (normal profile element.now)) }
+{
+    key.clear();
+    match element.kept_form(alloc, profile)? {
+        Some(kept) => put_key(&kept, key)?,
+        None => put_key(element, key)?,
+    }
+    Ok(())
+}

@@ -1,0 +1,67 @@
+//! What waits for names, placed among the elements once these are known.
+
+ghost use Rattle.std.specs.Prelude.{◌≡◌, ◌+◌, ◌<◌, ◌^◌, OnOk, IfErr};
+ghost use Rattle.std.specs.List.{AllByRecursion};
+ghost use Rattle.oas_num.specs.declared.refusals.Why.TheVariants.{Memory};
+ghost use Rattle.oas_layout.specs.Laws.BagLaws.{total};
+ghost use Rattle.oas_modal.specs.Finish.{IsFit};
+ghost use Rattle.oas_modal.specs.Meaning.{element_by};
+ghost use Rattle.oas_compact.specs.Compact.{AreKeys, Waits};
+ghost use Rattle.oas_compact.specs.Placing.{with_placed, placed};
+
+use crate::elements::KeptElements;
+use crate::waiting::Waiting;
+use oas_drawing::Drawn;
+use oas_layout::Profile;
+use oas_modal::{NameTable, element_meant};
+use oas_num::{Label, Name, Why};
+use std::alloc::Global;
+
+/// Places what was drawn so many times, if its number has a name.
+fn place_one(
+    alloc: Global,
+    profile: Profile,
+    kept: &mut KeptElements,
+    drawn: Drawn,
+    times: u64,
+    names: &NameTable<Name>,
+    strings: &NameTable<Label>,
+) -> Result<(), Why>
+    requires some { 0 < times }
+    requires fit { IsFit drawn }
+    requires room { total (λ _. 1) kept.old + times < 2 ^ 64 }
+    requires keys { AreKeys profile kept.old }
+    ensures placed { OnOk result (kept.new ≡ with_placed profile (element_by names.now.named strings.now.named drawn) times kept.old) }
+    ensures keys { OnOk result (AreKeys profile kept.new) }
+    ensures err { IfErr result (λ why. why ≡ Memory) }
+{
+    let Some(element) = element_meant(alloc, drawn, names, strings)? else {
+        return Ok(());
+    };
+    match kept.add(profile, &element, times) {
+        Ok(()) => Ok(()),
+        Err(_) => Err(Why::Memory),
+    }
+}
+
+/// Places all that waits, where its numbers have names.
+pub(crate) fn place_all(
+    alloc: Global,
+    profile: Profile,
+    kept: &mut KeptElements,
+    waiting: Waiting,
+    names: &NameTable<Name>,
+    strings: &NameTable<Label>,
+) -> Result<(), Why>
+    requires waits { AllByRecursion Waits waiting }
+    requires room { total (λ _. 1) kept.old + total (λ _. 1) waiting < 2 ^ 64 }
+    requires keys { AreKeys profile kept.old }
+    ensures placed { OnOk result (kept.new ≡ placed profile names.now.named strings.now.named waiting kept.old) }
+    ensures keys { OnOk result (AreKeys profile kept.new) }
+    ensures err { IfErr result (λ why. why ≡ Memory) }
+{
+    for (drawn, times) in waiting.times {
+        place_one(alloc, profile, kept, drawn, times, names, strings)?;
+    }
+    Ok(())
+}

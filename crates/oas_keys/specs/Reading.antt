@@ -1,0 +1,49 @@
+-- What bytes stand for, read from the front.
+use Rattle.std.specs.Prelude.{◌≡◌, ℕ, ◌+◌, ◌-◌, ◌*◌, ◌^◌, nat_lt, nat_eq, cond, List, [], ◌∷◌, ◌++◌, Option, None, Some}
+use Rattle.oas_ring.specs.declared.point.Point.{Point}
+use Rattle.oas_layout.specs.declared.element.Element.{Element}
+use Rattle.oas_layout.specs.declared.element.Element.TheVariants.{Placement, Text, Rectangle, Polygon, Path, Circle}
+use Rattle.oas_layout.specs.Sound.{IsSound}
+use Rattle.oas_keys.specs.declared.spelled.SpelledElement.{SpelledElement}
+use Rattle.oas_keys.specs.declared.spelled.SpelledElement.TheVariants as spelled
+use Rattle.oas_keys.specs.Keys.{points_key, fields_key}
+use Rattle.oas_keys.specs.declared.classes.Class.{Class}
+
+-- the number of more digits, to base 256
+abbrev pub joined_digits : ℕ → List ℕ → ℕ
+joined_digits n [] = n
+joined_digits n (b ∷ bs) = joined_digits (n * 256 + b) bs
+
+-- the least number of these classes that begins with a byte, where their first bytes begin at `base`
+abbrev pub least_with : List Class → ℕ → ℕ → ℕ
+least_with [] base first = 0
+least_with (c ∷ cs) base first = cond (nat_lt first (base + c.firsts)) ((first - base) * 2 ^ (8 * c.more)) (c.size + least_with cs (base + c.firsts) first)
+
+-- how many bytes stand after the first
+abbrev pub more_with : List Class → ℕ → ℕ → ℕ
+more_with [] base first = 8
+more_with (c ∷ cs) base first = cond (nat_lt first (base + c.firsts)) c.more (more_with cs (base + c.firsts) first)
+
+-- where the first 0 stands
+abbrev pub text_len : List ℕ → ℕ
+text_len [] = 0
+text_len (b ∷ bs) = cond (nat_eq b 0) 0 (1 + text_len bs)
+
+-- a list of points whose first is p, or none
+abbrev pub NextPoint : Option Point → List Point → List ℕ → List ℕ → Type 0
+NextPoint None ps rest new = (ps ≡ []) × (new ≡ rest)
+NextPoint (Some p) ps rest new = (qs : List Point) × (ps ≡ p ∷ qs) × (new ≡ points_key p qs ++ rest)
+
+-- these are the fields of a sound element
+pub record HasFields (e : Element) (bytes : List ℕ) : Type 0 where
+  pub sound : IsSound e
+  pub is : bytes ≡ fields_key e
+
+-- the element that is spelled
+abbrev pub spelled_element : SpelledElement → Element
+spelled_element (spelled.Placement cell x y turns flip) = Placement cell.now x y turns flip
+spelled_element (spelled.Text string textlayer texttype x y) = Text string.now textlayer texttype x y
+spelled_element (spelled.Rectangle layer datatype width height x y) = Rectangle layer datatype width height x y
+spelled_element (spelled.Polygon layer datatype points) = Polygon layer datatype points
+spelled_element (spelled.Path layer datatype half_width start end points) = Path layer datatype half_width start end points
+spelled_element (spelled.Circle layer datatype radius x y) = Circle layer datatype radius x y

@@ -1,0 +1,60 @@
+//! An element as its key has it.
+
+ghost use Rattle.std.specs.Prelude.{◌≡◌};
+
+use oas_layout::Turns;
+use oas_ring::Points;
+
+/// An element as its key has it: names and strings are those bytes of the key, and are copied nowhere. Lengths and places are
+/// in steps of the grid.
+#[derive(Debug, Drop)]
+pub enum SpelledElement<'a> {
+    /// Another cell, placed.
+    Placement {
+        cell: &'a [u8],
+        x: i64,
+        y: i64,
+        turns: Turns,
+        flip: bool,
+    },
+    /// A text.
+    Text {
+        string: &'a [u8],
+        textlayer: u64,
+        texttype: u64,
+        x: i64,
+        y: i64,
+    },
+    /// A rectangle, of which x and y is the lower left corner.
+    Rectangle {
+        layer: u64,
+        datatype: u64,
+        width: u64,
+        height: u64,
+        x: i64,
+        y: i64,
+    },
+    /// A polygon.
+    Polygon {
+        layer: u64,
+        datatype: u64,
+        points: Points,
+    },
+    /// A path.
+    Path {
+        layer: u64,
+        datatype: u64,
+        half_width: u64,
+        start: i64,
+        end: i64,
+        points: Points,
+    },
+    /// A circle, of which x and y is the centre.
+    Circle {
+        layer: u64,
+        datatype: u64,
+        radius: u64,
+        x: i64,
+        y: i64,
+    },
+}
