@@ -1,0 +1,5 @@
+use Rattle.oas_judge.proofs.keeping.take_record_kept.Given as goal
+
+-- the source as it is passed
+abbrev pub ghosts-take_record_named : goal.ghosts-take_record_named
+ghosts-take_record_named g a = record { script = g.S.Source.script a.source.now; name = a.source.ghost_name }

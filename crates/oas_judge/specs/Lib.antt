@@ -1,0 +1,4 @@
+pub mod Own
+pub mod Keeping
+pub mod KeptScripts
+pub mod Kept
