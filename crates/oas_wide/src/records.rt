@@ -53,7 +53,10 @@ pub enum WideRecord {
         number: Option<u64>,
     },
     /// Id 32.
-    ExtensionElement { attribute: u64, string: Padding },
+    ExtensionElement {
+        attribute: u64,
+        string: Padding,
+    },
     /// Id 33.
     ExtensionGeometry(ExtensionGeometry),
     /// Id 34. The block's bytes stand behind it.
@@ -177,11 +180,7 @@ fn read_fields<S: Source>(alloc: Global, id: u64, source: &mut S) -> Result<Wide
 }
 
 /// A record: an id, and what follows it. END has to be 256 bytes, its id and its signature included.
-fn read_whole<S: Source>(
-    alloc: Global,
-    in_end: bool,
-    source: &mut S,
-) -> Result<WideRecord, WideWhy>
+fn read_whole<S: Source>(alloc: Global, in_end: bool, source: &mut S) -> Result<WideRecord, WideWhy>
     ensures { ReadsWide in_end (S.script source.old) result (S.script source.new) }
 {
     let start = source.at();
