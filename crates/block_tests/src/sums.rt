@@ -1,4 +1,5 @@
-//! The sums of a source's bytes: those that zlib 1.2.13 gives of `abc`, and a byte behind it that is not taken.
+//! The sums of a source's bytes: those that zlib 1.2.13 gives of `abc`, behind which four bytes are taken that aren't summed,
+//! and one isn't taken.
 ghost use Rattle.std.specs.Prelude.{◌≡◌};
 
 use oas_num::{SliceSource, Source};
@@ -6,23 +7,32 @@ use oas_sums::{Start, SummedSource, Sums};
 use std::marker::Brand;
 use std::test::Fail;
 
-/// The sums of three bytes, and the source that is lent.
-fn sums_of_three<'a, S: Source, K: Start>(source: &'a mut S) -> (&'a mut S, Sums)
+/// The sums before the last four of so many bytes, and the source that is lent.
+fn sums_of<'a, S: Source, K: Start>(source: &'a mut S, count: usize) -> (&'a mut S, Sums)
     requires named { source.ghost_name ≡ K.name }
     requires starts { S.script source.old ≡ K.script }
 {
     let mut summed: SummedSource<'a, S, K> = SummedSource::new(source);
-    let _byte = summed.next();
-    let _byte = summed.next();
-    let _byte = summed.next();
+    for _ in 0..count {
+        let _byte = summed.next();
+    }
     summed.finish()
+}
+
+/// What is summed of seven bytes that are given, where so many are taken: the CRC-32 and the sum.
+fn both(count: usize) -> (u32, u32) {
+    let bytes = [0x61, 0x62, 0x63, 0xFF, 0xFE, 0xFD, 0xFC, 0xFB];
+    let mut source = SliceSource::new(&bytes, 8);
+    let (_source, sums) = sums_of::<SliceSource, Brand>(&mut source, count);
+    (sums.crc32(), sums.checksum32())
 }
 
 #[test]
 fn bytes_are_summed(rt: HostRuntime) -> Result<(), Fail> {
-    let mut source = SliceSource::new(&[0x61, 0x62, 0x63, 0x64], 4);
-    let (_source, sums) = sums_of_three::<SliceSource, Brand>(&mut source);
-    assert_eq!(rt; sums.crc32(), 0x3524_41C2);
-    assert_eq!(rt; sums.checksum32(), 294);
+    assert_eq!(rt; both(7), (0x3524_41C2, 294));
+    assert_eq!(rt; both(5), (0xE8B7_BE43, 97));
+    for few in 0..5 {
+        assert_eq!(rt; both(few), (0, 0));
+    }
     Ok(())
 }

@@ -1,3 +1,4 @@
 pub mod Crc
 pub mod Division
 pub mod Sums
+pub mod Signed

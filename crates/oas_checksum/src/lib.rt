@@ -8,7 +8,8 @@
 //! - Laws (module [`laws`]): what the division leaves is what the polynomial leaves of the whole message ([`laws::remainder`]).
 //!
 //! A byte costs one look into a table of 256 numbers, of which it is proved that each is what the division makes of that byte.
-//! The crate stands on std alone. Which bytes a signature is of is for the caller to see: in OASIS all of the file before it.
+//! The crate stands on std alone. Which bytes of a file its signature is of is defined here (`signed`, specs/Signed.antt); that
+//! these are the bytes that are put is for the caller to see.
 #![tactic(auto)]
 
 mod crc;

@@ -1,1 +1,2 @@
+pub mod SigningLemmas
 pub mod SummingLemmas

@@ -4,10 +4,11 @@ use Rattle.std.proofs.lemmas.List.{length-append, length-take-le, take-append-dr
 use Rattle.std.proofs.Math.Seq.{take-append_seam, drop-append_seam}
 use base.Fml.{GName}
 use Rattle.oas_bytes.specs.Script.{Script, Rest, Gave, Takes, Next}
-use Rattle.oas_sums.specs.Summing.{AreSums, SumsOf, IsSummed}
+use Rattle.oas_sums.specs.Signing.{AreSigned}
+use Rattle.oas_sums.specs.Summing.{SumsOf, IsSummed}
 
-sums_then : (a b c : Option Rest) (n : ℕ) (xs : List ℕ) (old new : ℕ × ℕ) → SumsOf a n b old → Gave b xs c
-    → ((bytes : List ℕ) → AreSums old bytes → AreSums new (bytes ++ xs)) → SumsOf a (n + length xs) c new
+sums_then : (a b c : Option Rest) (n : ℕ) (xs : List ℕ) (old new : (ℕ × ℕ) × List ℕ) → SumsOf a n b old → Gave b xs c
+    → ((bytes : List ℕ) → AreSigned old bytes → AreSigned new (bytes ++ xs)) → SumsOf a (n + length xs) c new
 sums_then None b c n xs old new f g h = tt
 sums_then (Some a) None c n xs old new f g h = absurd f
 sums_then (Some a) (Some b) None n xs old new f g h = absurd g
@@ -23,11 +24,11 @@ sums_then (Some a) (Some b) (Some c) n xs old new f g h =
       omega arith,
       sym (drop-append_seam xs c.bytes) ∙ ap (λ (x : List ℕ). drop (length xs) x) (sym e) ∙ drop-drop (length xs) n a.bytes,
       g.1 ∙ f.2,
-      subst (λ (x : List ℕ). AreSums new x) (sym front) (h (take n a.bytes) f.3),
+      subst (λ (x : List ℕ). AreSigned new x) (sym front) (h (take n a.bytes) f.3),
     )
 
-pub summed_then : {start : Script} {name same : GName} {s t : Script} {old : ℕ × ℕ} (xs : List ℕ) (new : ℕ × ℕ) → IsSummed start name same s old → Takes s xs t
-    → ((bytes : List ℕ) → AreSums old bytes → AreSums new (bytes ++ xs)) → IsSummed start name same t new
+pub summed_then : {start : Script} {name same : GName} {s t : Script} {old : (ℕ × ℕ) × List ℕ} (xs : List ℕ) (new : (ℕ × ℕ) × List ℕ) → IsSummed start name same s old → Takes s xs t
+    → ((bytes : List ℕ) → AreSigned old bytes → AreSigned new (bytes ++ xs)) → IsSummed start name same t new
 summed_then {start} {name} {same} {s} {t} {old} xs new f k h =
     let e : s.given - start.given + length xs ≡ t.given - start.given = omega (arith, f.fewer, k.given) in
     record {
@@ -40,18 +41,18 @@ summed_then {start} {name} {same} {s} {t} {old} xs new f k h =
     }
 
 -- the answer is that byte
-pub given_summed : {start : Script} {name same : GName} {s t : Script} {old : ℕ × ℕ} (byte : ℕ) (new : ℕ × ℕ) (answer : Option ℕ) → answer ≡ Some byte
+pub given_summed : {start : Script} {name same : GName} {s t : Script} {old : (ℕ × ℕ) × List ℕ} (byte : ℕ) (new : (ℕ × ℕ) × List ℕ) (answer : Option ℕ) → answer ≡ Some byte
     → IsSummed start name same s old → Next s (Ok answer) t
-    → ((bytes : List ℕ) → AreSums old bytes → AreSums new (bytes ++ byte ∷ [])) → IsSummed start name same t new
+    → ((bytes : List ℕ) → AreSigned old bytes → AreSigned new (bytes ++ byte ∷ [])) → IsSummed start name same t new
 given_summed {start} {name} {same} {s} {t} {old} byte new answer e f n h =
     summed_then (byte ∷ []) new f (subst (λ (a : Option ℕ). Next s (Ok a) t) e n).answers.1 h
 
 -- nothing was given yet
-start_sums : (r : Option Rest) (n : ℕ) (new : ℕ × ℕ) → n ≡ 0 → AreSums new [] → SumsOf r n r new
+start_sums : (r : Option Rest) (n : ℕ) (new : (ℕ × ℕ) × List ℕ) → n ≡ 0 → AreSigned new [] → SumsOf r n r new
 start_sums None n new z h = tt
-start_sums (Some r) n new z h = (omega arith, ap (λ (m : ℕ). drop m r.bytes) (sym z), refl, subst (λ (m : ℕ). AreSums new (take m r.bytes)) (sym z) h)
+start_sums (Some r) n new z h = (omega arith, ap (λ (m : ℕ). drop m r.bytes) (sym z), refl, subst (λ (m : ℕ). AreSigned new (take m r.bytes)) (sym z) h)
 
-pub summed_first : {start now : Script} {name same : GName} (new : ℕ × ℕ) → same ≡ name → now ≡ start → AreSums new [] → IsSummed start name same now new
+pub summed_first : {start now : Script} {name same : GName} (new : (ℕ × ℕ) × List ℕ) → same ≡ name → now ≡ start → AreSigned new [] → IsSummed start name same now new
 summed_first {start} {now} {name} {same} new e f h =
     subst (λ (s : Script). IsSummed start name same s new) (sym f) (record {
       same_source = e;
@@ -64,13 +65,13 @@ summed_first {start} {now} {name} {same} new e f h =
 
 -- ---- the sums of all that was taken
 
-sums_of_taken : (a c : Option Rest) (n : ℕ) (bytes : List ℕ) (sums : ℕ × ℕ) → IsSome a → n ≡ length bytes → SumsOf a n c sums → Gave a bytes c → AreSums sums bytes
+sums_of_taken : (a c : Option Rest) (n : ℕ) (bytes : List ℕ) (sums : (ℕ × ℕ) × List ℕ) → IsSome a → n ≡ length bytes → SumsOf a n c sums → Gave a bytes c → AreSigned sums bytes
 sums_of_taken None c n bytes sums known e f g = absurd cc
 sums_of_taken (Some a) None n bytes sums known e f g = absurd f
 sums_of_taken (Some a) (Some c) n bytes sums known e f g =
     let front : take n a.bytes ≡ bytes = ap (λ (m : ℕ). take m a.bytes) e ∙ ap (λ (x : List ℕ). take (length bytes) x) g.0 ∙ take-append_seam bytes c.bytes in
-    subst (λ (x : List ℕ). AreSums sums x) front f.3
+    subst (λ (x : List ℕ). AreSigned sums x) front f.3
 
-pub taken_sums : {start now : Script} {name same : GName} {sums : ℕ × ℕ} → IsSummed start name same now sums → (bytes : List ℕ) → IsSome start.rest → Takes start bytes now → AreSums sums bytes
+pub taken_sums : {start now : Script} {name same : GName} {sums : (ℕ × ℕ) × List ℕ} → IsSummed start name same now sums → (bytes : List ℕ) → IsSome start.rest → Takes start bytes now → AreSigned sums bytes
 taken_sums {start} {now} {name} {same} {sums} f bytes known k =
     sums_of_taken start.rest now.rest (now.given - start.given) bytes sums known (omega (arith, k.given)) f.are k.rest

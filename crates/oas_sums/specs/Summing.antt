@@ -3,22 +3,17 @@ use Rattle.std.specs.Prelude.{◌≡◌, ℕ, ◌-◌, ◌≤◌, List, length, 
 use Rattle.std.proofs.Props.{props}
 use base.Fml.{GName}
 use Rattle.oas_bytes.specs.Script.{Script, Rest}
-use Rattle.oas_checksum.specs.Crc.{IsRegister}
-use Rattle.oas_checksum.specs.Sums.{checksum32}
-
--- the sums, a register and a sum, are those of the bytes
-pub record AreSums (sums : ℕ × ℕ) (bytes : List ℕ) : Type 0 where
-  pub register : IsRegister sums.0 bytes
-  pub sum : sums.1 ≡ checksum32 bytes
+use Rattle.oas_sums.specs.Signing.{AreSigned}
+use Rattle.oas_sums.specs.Sums.{AreSums}
 
 -- So many bytes were given since then, and where they are known the sums are theirs.
-abbrev pub SumsOf : Option Rest → ℕ → Option Rest → ℕ × ℕ → Type 0
+abbrev pub SumsOf : Option Rest → ℕ → Option Rest → (ℕ × ℕ) × List ℕ → Type 0
 SumsOf None count new sums = Unit {0}
 SumsOf (Some old) count None sums = ⊥
-SumsOf (Some old) count (Some new) sums = (count ≤ length old.bytes) × (new.bytes ≡ drop count old.bytes) × (new.goes_on ≡ old.goes_on) × AreSums sums (take count old.bytes)
+SumsOf (Some old) count (Some new) sums = (count ≤ length old.bytes) × (new.bytes ≡ drop count old.bytes) × (new.goes_on ≡ old.goes_on) × AreSigned sums (take count old.bytes)
 
 -- The source is the one that was handed in, and the sums are those of all bytes that it gave since then.
-pub record IsSummed (start : Script) (name same : GName) (now : Script) (sums : ℕ × ℕ) : Type 0 where
+pub record IsSummed (start : Script) (name same : GName) (now : Script) (sums : (ℕ × ℕ) × List ℕ) : Type 0 where
   pub same_source : same ≡ name
   pub fewer : start.given ≤ now.given
   pub limit : now.limit ≡ start.limit
@@ -31,10 +26,13 @@ pub record IsSummed (start : Script) (name same : GName) (now : Script) (sums : 
 AreSums-prop : (sums : ℕ × ℕ) (bytes : List ℕ) → IsProp (AreSums sums bytes)
 AreSums-prop sums bytes = Prim.hlevel props
 
-SumsOf-prop : (old : Option Rest) (count : ℕ) (new : Option Rest) (sums : ℕ × ℕ) → IsProp (SumsOf old count new sums)
+AreSigned-prop : (sums : (ℕ × ℕ) × List ℕ) (bytes : List ℕ) → IsProp (AreSigned sums bytes)
+AreSigned-prop sums bytes = Prim.hlevel (AreSums-prop, props)
+
+SumsOf-prop : (old : Option Rest) (count : ℕ) (new : Option Rest) (sums : (ℕ × ℕ) × List ℕ) → IsProp (SumsOf old count new sums)
 SumsOf-prop None count new sums = Prim.hlevel props
 SumsOf-prop (Some old) count None sums = Prim.hlevel props
-SumsOf-prop (Some old) count (Some new) sums = Prim.hlevel (AreSums-prop, props)
+SumsOf-prop (Some old) count (Some new) sums = Prim.hlevel (AreSigned-prop, props)
 
-pub IsSummed-prop : (start : Script) (name same : GName) (now : Script) (sums : ℕ × ℕ) → IsProp (IsSummed start name same now sums)
+pub IsSummed-prop : (start : Script) (name same : GName) (now : Script) (sums : (ℕ × ℕ) × List ℕ) → IsProp (IsSummed start name same now sums)
 IsSummed-prop start name same now sums = Prim.hlevel (SumsOf-prop, props)

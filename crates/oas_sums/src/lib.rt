@@ -5,14 +5,16 @@
 //!
 //! - A [`SummedSource`] gives just what the source beneath it gives, with the same script: whatever a read through it says, it
 //!   says of that source.
-//! - Its [`Sums`] are those of all bytes that were taken since it was made (`IsSummed`, specs/Summing.antt), at every moment.
-//!   That is said where the bytes of the source are known.
-//!
-//! Which bytes of a file its signature is of is for the caller to see.
+//! - Its [`Sums`] are those of the bytes that were taken since it was made, all but the last four (`IsSummed`,
+//!   specs/Summing.antt). So after a whole file they are those of which its signature would be. That is said where the bytes of
+//!   the source are known.
 #![tactic(auto)]
 
+mod last;
+mod signing;
 mod sources;
 mod sums;
 
+pub use signing::SignedSums;
 pub use sources::{Start, SummedSource};
 pub use sums::Sums;

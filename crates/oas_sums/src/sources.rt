@@ -1,7 +1,10 @@
 ghost use Rattle.std.specs.Prelude.{◌≡◌, ℕ, List, IsSome};
 ghost use Rattle.oas_bytes.specs.Script.{Takes};
-ghost use Rattle.oas_sums.specs.Summing.{AreSums, IsSummed, IsSummed-prop};
+ghost use Rattle.oas_checksum.specs.Signed.{signed};
+ghost use Rattle.oas_sums.specs.Sums.{AreSums};
+ghost use Rattle.oas_sums.specs.Summing.{IsSummed, IsSummed-prop};
 
+use crate::signing::SignedSums;
 use crate::sums::Sums;
 use oas_bytes::{Source, SourceFault};
 use std::marker::{Brand, PhantomData};
@@ -25,13 +28,13 @@ impl Start for Brand {
     ghost name = { 0 };
 }
 
-/// The bytes of a borrowed source, with the sums of those that were taken.
+/// The bytes of a borrowed source, with the sums of those that were taken, all but the last four.
 #[derive(Drop)]
 pub struct SummedSource<'a, S: Source, K: Start> {
     /// The source.
     pub source: &'a mut S,
     /// The sums of the bytes that were taken.
-    pub sums: Sums,
+    pub sums: SignedSums,
     /// Where the source stood before the first of them.
     pub start: PhantomData<K>,
     ghost summed: { IsSummed K.script K.name source.ghost_name (S.script source.now) sums } by { IsSummed-prop K.script K.name source.ghost_name (S.script source.now) sums },
@@ -47,18 +50,18 @@ impl<'a, S: Source, K: Start> SummedSource<'a, S, K> {
     {
         SummedSource {
             source,
-            sums: Sums::new(),
+            sums: SignedSums::new(),
             start: PhantomData,
         }
     }
 
-    /// The source, and the sums of all bytes that were taken of it.
+    /// The source, and the sums of the bytes that were taken of it, all but the last four.
     pub fn finish(self) -> (&'a mut S, Sums)
         ensures same { result.0.ghost_name ≡ K.name }
         ensures now { result.0.now ≡ self.entry.source.now }
-        ensures sums { (bytes : List ℕ) → IsSome K.script.rest → Takes K.script bytes (S.script result.0.now) → AreSums result.1 bytes }
+        ensures sums { (bytes : List ℕ) → IsSome K.script.rest → Takes K.script bytes (S.script result.0.now) → AreSums result.1 (signed bytes) }
     {
-        (self.source, self.sums)
+        (self.source, self.sums.before())
     }
 }
 

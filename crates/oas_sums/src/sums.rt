@@ -1,7 +1,7 @@
 ghost use Rattle.std.specs.Prelude.{◌≡◌, List, [], ◌∷◌, ◌++◌, ℕ};
 ghost use Rattle.oas_checksum.specs.Crc.{crc32};
 ghost use Rattle.oas_checksum.specs.Sums.{checksum32};
-ghost use Rattle.oas_sums.specs.Summing.{AreSums};
+ghost use Rattle.oas_sums.specs.Sums.{AreSums};
 
 use oas_checksum::{Crc32, Sum32};
 use std::marker::Model;
