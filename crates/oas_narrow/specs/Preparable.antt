@@ -1,5 +1,8 @@
 -- Which files are prepared, and what they mean. Records are listed oldest first.
 use Rattle.std.specs.Prelude.{◌≡◌, ℕ, ◌<◌, ◌*◌, ◌^◌, List, reverse, None}
+use Rattle.oas_checksum.specs.Crc.{crc32}
+use Rattle.oas_checksum.specs.Signed.{signed}
+use Rattle.oas_checksum.specs.Sums.{checksum32}
 use Rattle.oas_num.specs.Ratio.{Ratio, Reduces}
 use Rattle.oas_wide.specs.declared.ends.Validation.{Validation}
 use Rattle.oas_wide.specs.declared.ends.Validation.TheVariants.{Unvalidated, Crc32, Checksum32}
@@ -24,11 +27,11 @@ pub record IsUnitOf (real : WideReal) (unit : Ratio) : Type 0 where
 
 -- ---- the signature
 
--- the bytes are a file of which its END says right that it came whole: only files without a signature are prepared
+-- the bytes are a file of which its END says right that it came whole (SEMI P39, END record, validation-scheme)
 abbrev pub IsValid : Validation → List ℕ → Type 0
 IsValid Unvalidated bytes = Unit {0}
-IsValid (Crc32 signature) bytes = ⊥
-IsValid (Checksum32 signature) bytes = ⊥
+IsValid (Crc32 signature) bytes = signature ≡ crc32 (signed bytes)
+IsValid (Checksum32 signature) bytes = signature ≡ checksum32 (signed bytes)
 
 -- ---- files
 

@@ -1,8 +1,10 @@
 -- A whole file, from what was gathered of it to what was written.
 use Rattle.std.proofs.Common.{◌≡◌, ℕ, ◌⊎◌, inl, inr, List, ◌++◌, Option, Some, None, Result, Ok, Err, IsTrue, IsSome, refl, sym, ◌∙◌, ap, subst, arith}
-use Rattle.oas_num.specs.declared.refusals.Why.TheVariants.{Write, Memory, ValidationScheme}
+use Rattle.oas_checksum.specs.Signed.{signed}
+use Rattle.oas_sums.specs.Sums.{AreSums}
+use Rattle.oas_num.specs.declared.refusals.Why.TheVariants.{Write, Memory}
 use Rattle.oas_num.specs.declared.refusals.Refusal.{Refusal}
-use Rattle.oas_num.specs.Script.{Script, Rest, Gave}
+use Rattle.oas_num.specs.Script.{Script, Rest, Gave, Takes}
 use Rattle.oas_num.specs.Written.{IsWritten, IsCutOff}
 use Rattle.oas_layout.specs.declared.limits.Limits.{Limits}
 use Rattle.oas_layout.specs.declared.profile.Profile.{Profile}
@@ -14,8 +16,6 @@ use Rattle.oas_form.specs.Bytes.{canonical_bytes}
 use Rattle.oas_form.specs.Canonical.{CanonicalForm}
 use Rattle.oas_form.proofs.Written.{canonical_form}
 use Rattle.oas_canon.proofs.Whole.{Cause, Bytes, End, Device, Limit, Writer, Room, cause_of, all_given, within_not}
-use Rattle.oas_wide.specs.declared.ends.Validation.{Validation}
-use Rattle.oas_wide.specs.declared.ends.Validation.TheVariants.{Unvalidated, Crc32, Checksum32}
 use Rattle.oas_wide.specs.declared.reasons.WideWhy.{WideWhy}
 use Rattle.oas_wide.specs.declared.reasons.WideWhy.TheVariants as wide
 use Rattle.oas_wide.specs.Reasons.{plain_of}
@@ -28,32 +28,22 @@ use Rattle.oas_narrow.specs.Preparable.{IsValid, Preparable}
 use Rattle.oas_narrow.specs.Rejections.{refused}
 use Rattle.oas_prepare.specs.declared.gathering.Gathered.{Gathered}
 use Rattle.oas_prepare.specs.Deciding.{decides}
-use Rattle.oas_prepare.specs.Finishing.{IsFinished, StopsAtEnd, Signed, Torn, Finishes, IsReadPrepared, ReadsPrepared}
+use Rattle.oas_prepare.specs.Finishing.{IsFinished, StopsAtEnd, Broken, Torn, Finishes, IsReadPrepared, ReadsPrepared}
 use Rattle.oas_prepare.specs.Gathering.{IsGathered}
 use Rattle.oas_prepare.specs.Run.{IsPreparedAs, IsTaken, IsDone, IsCut, IsStopped, Stops, IsDecided, IsWithinSource, Exactly}
 use Rattle.oas_prepare.proofs.Ending.{whole_stops, signed_stops, formed}
 
 -- ---- what was gathered
 
-unsigned_valid : (v : Validation) (bytes : List ℕ) → v ≡ Unvalidated → IsValid v bytes
-unsigned_valid Unvalidated bytes e = tt
-unsigned_valid (Crc32 s) bytes e = absurd cc
-unsigned_valid (Checksum32 s) bytes e = absurd cc
-
-valid_unsigned : (v : Validation) (bytes : List ℕ) → IsValid v bytes → v ≡ Unvalidated
-valid_unsigned Unvalidated bytes e = refl
-valid_unsigned (Crc32 s) bytes e = absurd e
-valid_unsigned (Checksum32 s) bytes e = absurd e
-
-module _ {limits : Limits} {profile : Profile} {dropping : Dropping} {old new : Script} {g : Gathered} (m : IsGathered limits profile dropping old g new) where
-  read_done : {l : Contents} {report : Report} → IsFinished g m.records l report → IsReadPrepared limits profile dropping old l report new
+module _ {limits : Limits} {profile : Profile} {dropping : Dropping} {old new : Script} {g : Gathered} (m : IsGathered limits profile dropping old g new) (sums : ℕ × ℕ) (summed : (bytes : List ℕ) → IsSome old.rest → Takes old bytes new → AreSums sums (signed bytes)) where
+  read_done : {l : Contents} {report : Report} → IsFinished g sums m.records l report → IsReadPrepared limits profile dropping old l report new
   unfolding formed
   read_done {l = l} f = record {
     bytes = m.bytes ++ m.last;
     takes = m.takes;
     ended = m.ended;
     formed = formed m f.whole;
-    valid = λ known. unsigned_valid g.end.validation (m.bytes ++ m.last) f.unsigned;
+    valid = λ known. f.right (m.bytes ++ m.last) (summed (m.bytes ++ m.last) known m.takes);
     meaning = records_mean g.preparation.reader.unit (narrowed m.records);
     means = record {
       start = m.start;
@@ -71,13 +61,13 @@ module _ {limits : Limits} {profile : Profile} {dropping : Dropping} {old new : 
     left_out = f.left_out;
   }
 
-  read_stops : (e : Rejection) → StopsAtEnd g m.records e → Stops limits dropping old e new
-  read_stops e (Signed not is) =
+  read_stops : (e : Rejection) → StopsAtEnd g sums m.records e → Stops limits dropping old e new
+  read_stops e (Broken wrong is) =
       subst (λ (x : Rejection). Stops limits dropping old x new) (sym is)
-      (signed_stops m (wide.Profile ValidationScheme) refl (λ known valid. not (valid_unsigned g.end.validation (m.bytes ++ m.last) valid)))
+      (signed_stops m wide.Checksum refl (λ tied. wrong (m.bytes ++ m.last) (summed (m.bytes ++ m.last) (tied refl) m.takes)))
   read_stops e (Torn refusal is at reason) = subst (λ (x : Rejection). Stops limits dropping old x new) (sym is) (whole_stops m refusal (at, reason))
 
-  pub finished : (result : Result (Contents × Report) Rejection) → Finishes g result → ReadsPrepared limits profile dropping old result new
+  pub finished : (result : Result (Contents × Report) Rejection) → Finishes g sums result → ReadsPrepared limits profile dropping old result new
   finished (Ok both) f = read_done (f m.records m.stands)
   finished (Err e) f = read_stops e (f m.records m.stands)
 

@@ -4,6 +4,7 @@ pub mod Run
 pub mod Heads
 pub mod Taking
 pub mod Gathering
+pub mod Signing
 pub mod Finishing
 pub mod Units
 pub mod Laws

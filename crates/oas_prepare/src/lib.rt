@@ -20,6 +20,7 @@ mod gathering;
 mod heads;
 pub mod laws;
 mod preparing;
+mod signing;
 mod taking;
 mod units;
 

@@ -6,29 +6,32 @@ ghost use Rattle.oas_prepare.specs.Run.{IsDone, IsCut, IsStopped, IsPlaced, Exac
 ghost use Rattle.oas_prepare.specs.Finishing.{Finishes, ReadsPrepared};
 
 use crate::gathering::{Gathered, gather};
+use crate::signing::came_whole;
 use crate::taking::Preparation;
 use oas_form::write_canonical;
 use oas_layout::{Layout, Limits, Profile};
 use oas_narrow::{Dropping, Place, Rejection, Report};
-use oas_num::{Source, Why};
-use oas_wide::{Validation, WideWhy};
+use oas_num::Source;
+use oas_sums::{Start, SummedSource, Sums};
+use oas_wide::WideWhy;
 use std::alloc::Global;
 use std::io::Write;
+use std::marker::Brand;
 
-/// The layout of all that was gathered, and what was left out. It stops at END: by `ValidationScheme` where the file is
-/// signed, and where END refuses its records.
-fn finish(gathered: Gathered) -> Result<(Layout, Report), Rejection>
-    ensures { Finishes gathered result }
+/// The layout of all that was gathered, and what was left out. The sums are those of the file's bytes before its signature. It
+/// stops at END: by `Checksum` where the signature is another, and then where END refuses its records.
+fn finish(gathered: Gathered, sums: &Sums) -> Result<(Layout, Report), Rejection>
+    ensures { Finishes gathered sums.now result }
 {
     let Gathered {
         preparation,
         at,
         end,
     } = gathered;
-    if end.validation != Validation::Unvalidated {
+    if !came_whole(end.validation, sums) {
         return Err(Rejection {
             place: Place::File(at),
-            why: WideWhy::Profile(Why::ValidationScheme),
+            why: WideWhy::Checksum,
         });
     }
     let Preparation { reader, report, .. } = preparation;
@@ -46,8 +49,31 @@ fn read_prepared<S: Source>(
 ) -> Result<(Layout, Report), Rejection>
     ensures { ReadsPrepared limits profile dropping (S.script from.old) result (S.script from.new) }
 {
-    let gathered = gather(alloc, from, limits, profile, dropping)?;
-    finish(gathered)
+    let (read, _from) = read_named::<S, Brand>(alloc, from, limits, profile, dropping);
+    read
+}
+
+/// The same, of the source that is named. It hands the borrow back, so that its lender knows it for its own.
+fn read_named<'a, S: Source, K: Start>(
+    alloc: Global,
+    from: &'a mut S,
+    limits: Limits,
+    profile: Profile,
+    dropping: Dropping,
+) -> (Result<(Layout, Report), Rejection>, &'a mut S)
+    requires named { from.ghost_name ≡ K.name }
+    requires starts { S.script from.old ≡ K.script }
+    ensures same { result.1.ghost_name ≡ from.entry.ghost_name }
+    ensures reads { ReadsPrepared limits profile dropping (S.script from.old) result.0 (S.script result.1.now) }
+{
+    let mut summed: SummedSource<'a, S, K> = SummedSource::new(from);
+    let outcome = gather(alloc, &mut summed, limits, profile, dropping);
+    let (from, sums) = summed.finish();
+    let read = match outcome {
+        Ok(gathered) => finish(gathered, &sums),
+        Err(rejection) => Err(rejection),
+    };
+    (read, from)
 }
 
 /// Writes the canonical file of what a file of the standard means, and answers what was left out of it.

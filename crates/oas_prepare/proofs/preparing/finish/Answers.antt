@@ -1,6 +1,6 @@
-use Rattle.std.proofs.Common.{refl, rules}
+use Rattle.std.proofs.Common.{refl}
 use Rattle.std.proofs.lemmas.Result.{err_from_is_err_and}
-use Rattle.oas_prepare.specs.Finishing.{Torn}
+use Rattle.oas_prepare.specs.Finishing.{Broken, Torn}
 use Rattle.oas_prepare.proofs.preparing.finish.Goals as goal
 
 pub returns-in_err-layout : goal.returns-in_err-layout
@@ -10,7 +10,7 @@ returns-in_err-layout c =
 
 pub returns : goal.returns
 returns c = λ ws s. record {
-  unsigned = search rules;
+  right = c.came_whole.ensures.right c.if-not-came_whole.false;
   whole = c.in_ok-layout.ensures.accepted _ s.reader;
   same = c.in_ok-layout.ensures.means _ s.reader;
   within = c.in_ok-layout.ensures.limits;
