@@ -1,5 +1,6 @@
 pub mod Rejections
 pub mod Dropping
+pub mod Placements
 pub mod Narrowing
 pub mod WideFiles
 pub mod Preparable

@@ -5,6 +5,7 @@ use Rattle.std.specs.Option.{option_or}
 use Rattle.oas_num.specs.declared.refusals.Why.{Why}
 use Rattle.oas_num.specs.declared.refusals.Why.TheVariants.{OutOfPlace, RecordLeftOut}
 use Rattle.oas_record.specs.declared.records.Record.{Record}
+use Rattle.oas_record.specs.declared.records.Record.TheVariants as record_of
 use Rattle.oas_record.specs.Records.{id_of}
 use Rattle.oas_layout.specs.declared.limits.Limits.{Limits}
 use Rattle.oas_drawing.specs.Drawing.{kind_of}
@@ -22,6 +23,7 @@ use Rattle.oas_wide.specs.declared.reasons.WideWhy.TheVariants.{Profile}
 use Rattle.oas_narrow.specs.declared.roles.Role.{Role}
 use Rattle.oas_narrow.specs.declared.roles.Role.TheVariants as role
 use Rattle.oas_narrow.specs.Dropping.{is_named, is_name, undropped, capped}
+use Rattle.oas_narrow.specs.Placements.{placement_of}
 
 -- what a record is to a file of the profile
 abbrev pub role_of : WideRecord → Role
@@ -35,6 +37,7 @@ role_of (wide.LayerName name) = role.Extra extra.LayerName
 role_of (wide.TextLayerName name) = role.Extra extra.LayerName
 role_of (wide.ExtensionName attribute string number) = role.Extra extra.ExtensionName
 role_of (wide.ExtensionElement attribute string) = role.Extra extra.ExtensionElement
+role_of (wide.Placement p) = role.Kept (record_of.Placement (placement_of p))
 role_of (wide.Trapezoid trapezoid) = role.Missing 23
 role_of (wide.NamedTrapezoid trapezoid) = role.Missing 26
 role_of (wide.ExtensionGeometry geometry) = role.Missing 33

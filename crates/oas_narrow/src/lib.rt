@@ -15,8 +15,10 @@
 #![tactic(auto)]
 
 mod dropping;
+pub mod laws;
 mod places;
 mod roles;
+mod turning;
 
 pub use dropping::{Dropping, Extra, Report};
 pub use places::{Place, Rejection};

@@ -2,6 +2,7 @@ ghost use Rattle.std.specs.Prelude.{◌≡◌};
 ghost use Rattle.oas_narrow.specs.Narrowing.{role_of, element_id, opens, obstacle_by};
 
 use crate::dropping::{Dropping, Extra};
+use crate::turning::placement_of;
 use oas_drawing::Kind;
 use oas_num::Why;
 use oas_record::{Record, Turn};
@@ -53,6 +54,7 @@ impl Role {
             }
             WideRecord::ExtensionName { .. } => Role::Extra(Extra::ExtensionName),
             WideRecord::ExtensionElement { .. } => Role::Extra(Extra::ExtensionElement),
+            WideRecord::Placement(placed) => Role::Kept(Record::Placement(placement_of(placed))),
             WideRecord::Trapezoid(_) => Role::Missing(23),
             WideRecord::NamedTrapezoid(_) => Role::Missing(26),
             WideRecord::ExtensionGeometry(_) => Role::Missing(33),

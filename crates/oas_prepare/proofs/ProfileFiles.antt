@@ -1,5 +1,5 @@
 -- Files of the profile are files of the standard, prepared with nothing left out.
-use Rattle.std.proofs.Common.{◌≡◌, ◌≢◌, ℕ, Bool, true, false, List, [], ◌∷◌, ◌++◌, reverse, Option, None, Some, refl, sym, ap, subst, ◌∙◌, arith}
+use Rattle.std.proofs.Common.{◌≡◌, ◌≢◌, ℕ, Bool, true, false, ◌+◌, List, [], ◌∷◌, ◌++◌, reverse, Option, None, Some, refl, sym, ap, subst, ◌∙◌, arith}
 use Rattle.std.proofs.lemmas.List.{reverse-append}
 use Rattle.std.specs.Option.{option_or}
 use Rattle.std.specs.Prelude.{cond}
@@ -7,8 +7,12 @@ use Rattle.oas_num.specs.declared.refusals.Why.{Why}
 use Rattle.oas_num.specs.Grammar.{IsEach, IsSuch}
 use Rattle.oas_num.specs.Style.{Any}
 use Rattle.oas_record.specs.declared.heads.Head.{Head}
+use Rattle.oas_record.specs.declared.placements.Turn.{Turn}
+use Rattle.oas_record.specs.declared.placements.Turn.TheVariants.{Quarters, Degrees}
 use Rattle.oas_record.specs.declared.records.Record.{Record}
 use Rattle.oas_record.specs.declared.records.Record.TheVariants as record_of
+use Rattle.oas_record.specs.declared.references.CellRef.{CellRef}
+use Rattle.oas_record.specs.declared.spots.Spot.{Spot}
 use Rattle.oas_record.specs.Records.{record_in, IsInner as IsInnerRecord}
 use Rattle.oas_layout.specs.declared.limits.Limits.{Limits}
 use Rattle.oas_layout.specs.Meaning.{Meaning, SameLayout}
@@ -25,16 +29,18 @@ use Rattle.oas_wide.specs.declared.ends.Validation.TheVariants.{Unvalidated}
 use Rattle.oas_wide.specs.declared.heads.WideStart.{WideStart}
 use Rattle.oas_wide.specs.declared.reasons.WideWhy.{WideWhy}
 use Rattle.oas_wide.specs.declared.records.WideRecord.{WideRecord}
-use Rattle.oas_wide.specs.declared.records.WideRecord.TheVariants.{Profile, End}
-use Rattle.oas_wide.specs.WideRecords.{wide_record_in, widened}
+use Rattle.oas_wide.specs.declared.records.WideRecord.TheVariants.{End}
+use Rattle.oas_wide.specs.WideRecords.{wide_record_in, inner_widened, widened}
 use Rattle.oas_wide.proofs.WidenedLemmas.{widen}
 use Rattle.oas_narrow.specs.declared.dropping.Dropping.{Dropping}
 use Rattle.oas_narrow.specs.declared.dropping.Extra.{Extra}
 use Rattle.oas_narrow.specs.declared.dropping.Extra.TheVariants as extra
 use Rattle.oas_narrow.specs.Dropping.{nothing_left_out, capped}
-use Rattle.oas_narrow.specs.Narrowing.{is_open, narrowed, element_id, element_obstacle, outside, refused_if, obstacle_after, ArePrepared, tally, report_of}
+use Rattle.oas_narrow.specs.Narrowing.{opens, is_open, with_kept, narrowed, element_id, element_obstacle, outside, obstacle_by, kept_obstacle, refused_if, obstacle_after, ArePrepared, one_if, tally, report_of}
+use Rattle.oas_narrow.specs.declared.roles.Role.{Role}
 use Rattle.oas_narrow.specs.Preparable.{IsUnitOf, Formed, WideMeans}
 use Rattle.oas_narrow.specs.WideFiles.{WideFileOf, WideParts, inner_in, end_in}
+use Rattle.oas_narrow.proofs.KeptLemmas.{kept}
 use Rattle.oas_prepare.specs.Laws.{ProfileIsPrepared, ProfileAsCanonical, PreparedAgain}
 use Rattle.oas_prepare.proofs.Ending.{OneFront-file}
 use Rattle.oas_prepare.proofs.ProfileHeads.{head_widened}
@@ -44,29 +50,29 @@ use Rattle.oas_prepare.proofs.WideMeanings.{one_wide_meaning}
 
 abbrev pub wide_all : List Record → List WideRecord
 wide_all [] = []
-wide_all (r ∷ rs) = Profile r ∷ wide_all rs
+wide_all (r ∷ rs) = inner_widened r ∷ wide_all rs
 
 wide-append : (rs ss : List Record) → wide_all (rs ++ ss) ≡ wide_all rs ++ wide_all ss
 wide-append [] ss = refl
-wide-append (r ∷ rs) ss = λ i. Profile r ∷ wide-append rs ss i
+wide-append (r ∷ rs) ss = λ i. inner_widened r ∷ wide-append rs ss i
 
 wide-reverse : (rs : List Record) → wide_all (reverse rs) ≡ reverse (wide_all rs)
 wide-reverse [] = refl
 wide-reverse (r ∷ rs) =
-    ap wide_all (reverse-append (r ∷ []) rs) ∙ wide-append (reverse rs) (r ∷ []) ∙ ap (λ (ws : List WideRecord). ws ++ Profile r ∷ []) (wide-reverse rs)
-    ∙ sym (reverse-append (Profile r ∷ []) (wide_all rs))
+    ap wide_all (reverse-append (r ∷ []) rs) ∙ wide-append (reverse rs) (r ∷ []) ∙ ap (λ (ws : List WideRecord). ws ++ inner_widened r ∷ []) (wide-reverse rs)
+    ∙ sym (reverse-append (inner_widened r ∷ []) (wide_all rs))
 
 narrowed-wide : (rs : List Record) → narrowed (wide_all rs) ≡ rs
 narrowed-wide [] = refl
-narrowed-wide (r ∷ rs) = λ i. r ∷ narrowed-wide rs i
+narrowed-wide (r ∷ rs) = ap (λ (q : Role). with_kept q (narrowed (wide_all rs))) (kept r) ∙ ap (λ (ss : List Record). r ∷ ss) (narrowed-wide rs)
 
 open-wide : (rs : List Record) → is_open (wide_all rs) ≡ is_in_cell rs
 open-wide [] = refl
-open-wide (r ∷ rs) = ap (λ (was : Bool). open_after was r) (open-wide rs)
+open-wide (r ∷ rs) = ap (λ (q : Role). opens (is_open (wide_all rs)) q) (kept r) ∙ ap (λ (was : Bool). open_after was r) (open-wide rs)
 
 tally-wide : (e : Extra) (rs : List Record) → tally e (wide_all rs) ≡ 0
 tally-wide e [] = refl
-tally-wide e (r ∷ rs) = omega (arith, tally-wide e rs)
+tally-wide e (r ∷ rs) = ap (λ (q : Role). tally e (wide_all rs) + one_if e q) (kept r) ∙ omega (arith, tally-wide e rs)
 
 none_left_out : (rs : List Record) → report_of (wide_all rs) ≡ nothing_left_out
 none_left_out rs = λ i. record {
@@ -93,9 +99,10 @@ in_a_cell limits before (record_of.Path p) e = inside (is_in_cell before) _ _ _ 
 in_a_cell limits before (record_of.Circle p) e = inside (is_in_cell before) _ _ _ e
 in_a_cell limits before _ e = refl
 
-no_obstacle : (limits : Limits) (dropping : Dropping) (before : List Record) (r : Record) → refused_after limits before r ≡ None → obstacle_after limits dropping (wide_all before) (Profile r) ≡ None
+no_obstacle : (limits : Limits) (dropping : Dropping) (before : List Record) (r : Record) → refused_after limits before r ≡ None → obstacle_after limits dropping (wide_all before) (inner_widened r) ≡ None
 no_obstacle limits dropping before r e =
-    ap (λ (o : Option WideWhy). option_or o (refused_if (refused_after limits (narrowed (wide_all before)) r))) (ap (λ (was : Bool). element_obstacle was (element_id r)) (open-wide before) ∙ in_a_cell limits before r e)
+    ap (λ (q : Role). option_or (obstacle_by dropping (is_open (wide_all before)) q) (kept_obstacle limits (narrowed (wide_all before)) q)) (kept r)
+    ∙ ap (λ (o : Option WideWhy). option_or o (refused_if (refused_after limits (narrowed (wide_all before)) r))) (ap (λ (was : Bool). element_obstacle was (element_id r)) (open-wide before) ∙ in_a_cell limits before r e)
     ∙ ap (λ (rs : List Record). refused_if (refused_after limits rs r)) (narrowed-wide before) ∙ ap refused_if e
 
 prepared : (limits : Limits) (dropping : Dropping) (rs : List Record) → stands.Allowed limits rs → ArePrepared limits dropping (wide_all rs)
@@ -104,10 +111,16 @@ prepared limits dropping (r ∷ before) a = (prepared limits dropping before a.0
 
 -- ---- the file
 
-not_end : (r : Record) (e : WideEnd) → Profile r ≡ End e → ⊥
-not_end r e is = cc
+placed_not_end : (c : Option CellRef) (turn : Turn) (flip : Bool) (at : Spot) (e : WideEnd) →
+    inner_widened (record_of.Placement (record { cell = c; turn = turn; flip = flip; spot = at })) ≡ End e → ⊥
+placed_not_end c (Quarters turns) flip at e is = cc
+placed_not_end c (Degrees magnification angle) flip at e is = cc
 
-widened_inner : (r : Record) → r ≢ record_of.End → widened r ≡ Profile r
+not_end : (r : Record) (e : WideEnd) → inner_widened r ≡ End e → ⊥
+not_end (record_of.Placement p) e is = placed_not_end p.cell p.turn p.flip p.spot e is
+not_end _ e is = cc
+
+widened_inner : (r : Record) → r ≢ record_of.End → widened r ≡ inner_widened r
 widened_inner record_of.End not = absurd (not refl)
 widened_inner _ not = refl
 

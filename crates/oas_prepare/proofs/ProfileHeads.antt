@@ -1,10 +1,8 @@
 -- START of the profile is START of the standard.
-use Rattle.std.proofs.Common.{◌≡◌, ℕ, zero, suc, ◌+◌, ◌*◌, ◌^◌, ◌<◌, Bool, true, false, List, Option, None, Some, inl, inr, refl, ap, subst, ◌∙◌, arith}
+use Rattle.std.proofs.Common.{◌≡◌, ℕ, zero, suc, ◌+◌, ◌*◌, ◌^◌, ◌<◌, Bool, true, false, List, Option, None, Some, refl, ap, subst, ◌∙◌, arith}
 use Rattle.std.specs.Prelude.{◌==◌}
-use Rattle.std.proofs.lemmas.Bool.Decides.{eqb_tells}
 use Rattle.oas_num.specs.declared.reals.Real.{Real}
 use Rattle.oas_num.specs.Grammar.{IsThere}
-use Rattle.oas_num.specs.Combinators.{IsEither}
 use Rattle.oas_num.specs.Integers.{IsUnsigned}
 use Rattle.oas_num.specs.Ratio.{Ratio, Reduces}
 use Rattle.oas_num.specs.Reals.{has_num, has_den, part_of, SpellsReal}
@@ -12,42 +10,14 @@ use Rattle.oas_num.specs.Style.{Any}
 use Rattle.oas_record.specs.declared.heads.Head.{Head}
 use Rattle.oas_record.specs.Heads.{head_in, IsUnit}
 use Rattle.oas_wide.specs.declared.heads.WideStart.{WideStart}
-use Rattle.oas_wide.specs.declared.reals.WideReal.{WideReal}
 use Rattle.oas_wide.specs.Heads.{IsPositive}
-use Rattle.oas_wide.specs.Reals.{SpellsWideReal, single, double, fraction, fraction_of}
+use Rattle.oas_wide.specs.Reals.{wide_of}
+use Rattle.oas_wide.proofs.RealLemmas.{real_widened}
 use Rattle.oas_narrow.specs.Preparable.{IsUnitOf}
 use Rattle.oas_narrow.specs.WideFiles.{wide_head}
 use Rattle.oas_prepare.proofs.Doubling.{times_some}
 
 -- ---- reals
-
-abbrev pub wide_of : Real → WideReal
-wide_of r = record { negative = r.negative; num = r.num; den = r.den; doubled = 0; halved = 0 }
-
-not_equal : (a b : ℕ) → a < b → (a == b) ≡ false
-not_equal a b less = elim (eqb_tells a b) [ inl p ↦ absurd (omega (arith, p.1, less)) | inr p ↦ p.0 ]
-
-otherwise : {V : Type 0} (A B : V → List ℕ → Type 0) (test : Bool) (v : V) (bytes : List ℕ) → test ≡ false → B v bytes → IsEither test A B v bytes
-otherwise A B true v bytes e p = absurd cc
-otherwise A B false v bytes e p = p
-
-real_widened : (r : Real) (bytes : List ℕ) → SpellsReal r bytes → SpellsWideReal (wide_of r) bytes
-real_widened r bytes p =
-    let s = p.spelled in
-    let type = p.from.0 in
-    let of : WideReal = fraction_of type p.from.1 in
-    record {
-      from = (type, of);
-      is = ap wide_of p.is;
-      spelled = record {
-        front = s.front;
-        back = s.back;
-        first = record { holds = omega (arith, s.first.holds); spelled = s.first.spelled };
-        second = otherwise single.any (IsEither (type == 7) double.any (fraction type).any) (type == 6) of s.back (not_equal type 6 s.first.holds)
-            (otherwise double.any (fraction type).any (type == 7) of s.back (not_equal type 7 (omega (arith, s.first.holds))) (record { from = p.from.1; is = refl; spelled = s.second }));
-        joined = s.joined;
-      };
-    }
 
 -- the parts fit
 part_fits : (there : Bool) (part : Option ℕ) (bytes : List ℕ) → IsThere there IsUnsigned part bytes → part_of part < 2 ^ 64

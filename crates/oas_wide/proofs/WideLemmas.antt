@@ -61,6 +61,7 @@ foreign_wide in_end id v q =
     (by_test id 10 _ _ v q (wide_id id 10 (omega arith) (omega arith))
     (by_test id 11 _ _ v q (wide_id id 11 (omega arith) (omega arith))
     (by_test id 12 _ _ v q (wide_id id 12 (omega arith) (omega arith))
+    (by_test id 18 _ _ v q (wide_id id 18 (omega arith) (omega arith))
     (by_test id 23 _ _ v q (wide_id id 23 (omega arith) (omega arith))
     (by_test id 24 _ _ v q (wide_id id 24 (omega arith) (omega arith))
     (by_test id 25 _ _ v q (wide_id id 25 (omega arith) (omega arith))
@@ -71,7 +72,7 @@ foreign_wide in_end id v q =
     (by_test id 31 _ _ v q (wide_id id 31 (omega arith) (omega arith))
     (by_test id 32 _ _ v q (wide_id id 32 (omega arith) (omega arith))
     (by_test id 33 _ _ v q (wide_id id 33 (omega arith) (omega arith))
-    (by_test id 34 _ _ v q (wide_id id 34 (omega arith) (omega arith)) (λ r. absurd r))))))))))))))))))
+    (by_test id 34 _ _ v q (wide_id id 34 (omega arith) (omega arith)) (λ r. absurd r)))))))))))))))))))
 
 -- what is one of two
 pub either_split : (test : Bool) (A B : WideRecord → List ℕ → Type 0) (v : WideRecord) (q : List ℕ) → IsEither test A B v q → A v q ⊎ B v q

@@ -1,25 +1,39 @@
 -- Records of the profile among those of the standard.
-use Rattle.std.proofs.Common.{◌≡◌, ℕ, Bool, true, false, inl, inr, List, [], Some, None, refl, sym, ap, subst, ◌∙◌, arith}
+use Rattle.std.proofs.Common.{◌≡◌, ℕ, Bool, true, false, inl, inr, List, [], Option, Some, None, refl, sym, ap, subst, ◌∙◌, arith}
+use Rattle.std.specs.Option.{option_map}
 use Rattle.std.specs.Prelude.{◌==◌}
 use Rattle.std.proofs.lemmas.List.{append-nil}
 use Rattle.oas_num.specs.Combinators.{IsEither}
 use Rattle.oas_num.specs.Grammar.{IsImage}
 use Rattle.oas_num.specs.Integers.{IsUnsigned}
 use Rattle.oas_num.specs.Style.{Any}
+use Rattle.oas_record.specs.declared.placements.Placement.{Placement}
 use Rattle.oas_record.specs.declared.placements.Turn.{Turn}
 use Rattle.oas_record.specs.declared.placements.Turn.TheVariants.{Quarters, Degrees}
 use Rattle.oas_record.specs.declared.records.Record.{Record}
 use Rattle.oas_record.specs.declared.records.Record.TheVariants as record_of
+use Rattle.oas_record.specs.declared.references.CellRef.{CellRef}
 use Rattle.oas_record.specs.declared.references.CellRef.TheVariants as cell
+use Rattle.oas_record.specs.declared.spots.Spot.{Spot}
 use Rattle.oas_record.specs.Ends.{end_in}
+use Rattle.oas_record.specs.Info.{has}
+use Rattle.oas_record.specs.Placements.{degrees_in}
 use Rattle.oas_record.specs.Records.{id_of, after, after_id, record_in}
 use Rattle.oas_record.proofs.IdLemmas.{either_id, id_after}
 use Rattle.oas_wide.specs.declared.ends.Validation.TheVariants.{Unvalidated}
+use Rattle.oas_wide.specs.declared.placements.WidePlacement.{WidePlacement}
 use Rattle.oas_wide.specs.declared.records.WideRecord.{WideRecord}
+use Rattle.oas_num.specs.declared.padding.Padding.{Padding}
+use Rattle.oas_num.specs.Texts.{SpellsPadding}
 use Rattle.oas_wide.specs.Ends.{SpellsWideEnd, SpellsValidation}
-use Rattle.oas_wide.specs.WideRecords.{profile, end, property_name, property_string, layers_named, textlayers_named, a_trapezoid, a_named_trapezoid, a_property, last_property, extension_name, extension_element, a_geometry, a_block}
+use Rattle.oas_wide.specs.Long.{long_padding}
+use Rattle.oas_wide.specs.Placements.{SpellsPlacement, as_wide}
+use Rattle.oas_wide.specs.Reals.{wide_of}
+use Rattle.oas_wide.specs.WideRecords.{profile, end, property_name, property_string, layers_named, textlayers_named, a_placement, a_trapezoid, a_named_trapezoid, a_property, last_property, extension_name, extension_element, a_geometry, a_block}
+use Rattle.oas_wide.proofs.LongLemmas.{long_unsigned}
+use Rattle.oas_wide.proofs.RealLemmas.{real_if_widened}
 use Rattle.oas_wide.proofs.WideLemmas.{either_split}
-use Rattle.oas_wide.specs.WideRecords.{foreign, fields_in, is_profile_id, wide_record_in, widened}
+use Rattle.oas_wide.specs.WideRecords.{foreign, fields_in, is_profile_id, wide_record_in, inner_widened, widened}
 
 -- ---- a record of the profile is one of the standard
 
@@ -37,6 +51,14 @@ unvalidated n bytes is s = record {
   };
 }
 
+-- a string that is passed over, with its length in ten bytes at most
+padded : (padding : Padding) (bytes : List ℕ) → SpellsPadding padding bytes → long_padding.any padding bytes
+padded padding bytes p = record {
+  from = (padding.length, padding);
+  is = refl;
+  spelled = record { front = p.front; back = p.back; first = long_unsigned padding.length p.front p.first; second = p.second; joined = p.joined };
+}
+
 end_widened : (in_end : Bool) (v : Unit {0}) (bytes : List ℕ) → end_in Any in_end v bytes → SpellsWideEnd in_end (record { validation = Unvalidated }) bytes
 end_widened in_end v bytes p =
     let s = p.spelled in
@@ -48,7 +70,7 @@ end_widened in_end v bytes p =
         front = s.front;
         back = s.back;
         first = s.first;
-        second = record { front = t.front; back = t.back; first = t.first; second = unvalidated p.from.1.1 t.back t.second.holds t.second.spelled; joined = t.joined };
+        second = record { front = t.front; back = t.back; first = padded p.from.1.0 t.front t.first; second = unvalidated p.from.1.1 t.back t.second.holds t.second.spelled; joined = t.joined };
         joined = s.joined;
       };
     }
@@ -68,9 +90,73 @@ inner in_end r bytes is p =
       };
     }
 
-turned : (turn : Turn) → is_profile_id (elim turn [ Quarters turns ↦ 17 | Degrees magnification angle ↦ 18 ]) ≡ true
-turned (Quarters turns) = refl
-turned (Degrees magnification angle) = refl
+-- a placement as one by reals
+as_turned : Placement → WidePlacement
+as_turned p = elim p.turn [ Quarters turns ↦ as_wide p None None | Degrees magnification angle ↦ as_wide p magnification angle ]
+
+degrees_widened : (p : Placement) (bytes : List ℕ) → degrees_in Any p bytes → SpellsPlacement (as_turned p) bytes
+unfolding as_turned
+degrees_widened p bytes d =
+    let info : ℕ = d.from.0 in
+    let s = d.spelled in
+    let cell = s.second in
+    let magnification = cell.second in
+    let angle = magnification.second in
+    record {
+      from = (info, (d.from.1.0, (option_map wide_of d.from.1.1.0, (option_map wide_of d.from.1.1.1.0, d.from.1.1.1.1))));
+      is = ap as_turned d.is;
+      spelled = record {
+        front = s.front;
+        back = s.back;
+        first = s.first.spelled;
+        second = record {
+          front = cell.front;
+          back = cell.back;
+          first = cell.first;
+          second = record {
+            front = magnification.front;
+            back = magnification.back;
+            first = real_if_widened (has info 4) d.from.1.1.0 magnification.front magnification.first;
+            second = record {
+              front = angle.front;
+              back = angle.back;
+              first = real_if_widened (has info 2) d.from.1.1.1.0 angle.front angle.first;
+              second = angle.second;
+              joined = angle.joined;
+            };
+            joined = magnification.joined;
+          };
+          joined = cell.joined;
+        };
+        joined = s.joined;
+      };
+    }
+
+same_placement : (p q : Placement) → record_of.Placement p ≡ record_of.Placement q → p ≡ q
+same_placement p q e = cc
+
+placed : (in_end : Bool) (c : Option CellRef) (turn : Turn) (flip : Bool) (at : Spot) (bytes : List ℕ) →
+    let p : Placement = record { cell = c; turn = turn; flip = flip; spot = at } in record_in Any in_end (record_of.Placement p) bytes → wide_record_in in_end (inner_widened (record_of.Placement p)) bytes
+unfolding as_turned
+placed in_end c (Quarters turns) flip at bytes p = inner in_end _ bytes refl p
+placed in_end c (Degrees magnification angle) flip at bytes p =
+    let b = p.parts in
+    let v : Placement = record { cell = c; turn = Degrees magnification angle; flip = flip; spot = at } in
+    record {
+      id = 18;
+      whole = λ e. absurd cc;
+      parts = record {
+        front = b.front;
+        back = b.back;
+        first = b.first;
+        second = record {
+          from = as_wide v magnification angle;
+          is = refl;
+          spelled = subst (λ (w : Placement). SpellsPlacement (as_turned w) b.back) (same_placement b.second.from v b.second.is) (degrees_widened b.second.from b.back b.second.spelled);
+        };
+        joined = b.joined;
+      };
+    }
 
 pub widen : (in_end : Bool) (r : Record) (bytes : List ℕ) → record_in Any in_end r bytes → wide_record_in in_end (widened r) bytes
 widen in_end record_of.End bytes p =
@@ -95,7 +181,7 @@ widen in_end (record_of.Cell (cell.Number number)) bytes p = inner in_end (recor
 widen in_end (record_of.Cell (cell.Name name)) bytes p = inner in_end (record_of.Cell (cell.Name name)) bytes refl p
 widen in_end record_of.XyAbsolute bytes p = inner in_end record_of.XyAbsolute bytes refl p
 widen in_end record_of.XyRelative bytes p = inner in_end record_of.XyRelative bytes refl p
-widen in_end (record_of.Placement v) bytes p = inner in_end (record_of.Placement v) bytes (turned v.turn) p
+widen in_end (record_of.Placement v) bytes p = placed in_end v.cell v.turn v.flip v.spot bytes p
 widen in_end (record_of.Text v) bytes p = inner in_end (record_of.Text v) bytes refl p
 widen in_end (record_of.Rectangle v) bytes p = inner in_end (record_of.Rectangle v) bytes refl p
 widen in_end (record_of.Polygon v) bytes p = inner in_end (record_of.Polygon v) bytes refl p
@@ -119,6 +205,7 @@ not_foreign in_end id r q =
     (by_kind id 10 _ _ (profile r) q (no_image property_string (λ u e. cc))
     (by_kind id 11 _ _ (profile r) q (no_image layers_named (λ u e. cc))
     (by_kind id 12 _ _ (profile r) q (no_image textlayers_named (λ u e. cc))
+    (by_kind id 18 _ _ (profile r) q (no_image a_placement (λ u e. cc))
     (by_kind id 23 _ _ (profile r) q (no_image a_trapezoid (λ u e. cc))
     (by_kind id 24 _ _ (profile r) q (no_image a_trapezoid (λ u e. cc))
     (by_kind id 25 _ _ (profile r) q (no_image a_trapezoid (λ u e. cc))
@@ -129,7 +216,7 @@ not_foreign in_end id r q =
     (by_kind id 31 _ _ (profile r) q (no_image extension_name (λ u e. cc))
     (by_kind id 32 _ _ (profile r) q (no_image extension_element (λ u e. cc))
     (by_kind id 33 _ _ (profile r) q (no_image a_geometry (λ u e. cc))
-    (by_kind id 34 _ _ (profile r) q (no_image a_block (λ u e. cc)) (λ h. h))))))))))))))))))
+    (by_kind id 34 _ _ (profile r) q (no_image a_block (λ u e. cc)) (λ h. h)))))))))))))))))))
 
 -- it is what follows its own id
 fields_narrowed : (in_end : Bool) (id : ℕ) (r : Record) (q : List ℕ) → fields_in in_end id (profile r) q → after_id Any in_end id r q

@@ -7,12 +7,13 @@ use Rattle.oas_num.specs.declared.padding.Padding.{Padding}
 use Rattle.oas_num.specs.Pieces.{Unless}
 use Rattle.oas_record.specs.Ends.{offsets_part}
 use Rattle.oas_record.specs.FoundParts.{settled_below}
-use Rattle.oas_record.specs.Kinds.{Kind, number, padding}
+use Rattle.oas_record.specs.Kinds.{Kind, number}
 use Rattle.oas_record.specs.Trees.{IsTest, pair, there, such, image_any, number_test}
 use Rattle.oas_wide.specs.declared.ends.WideEnd.{WideEnd}
 use Rattle.oas_wide.specs.declared.ends.Validation.{Validation}
 use Rattle.oas_wide.specs.declared.ends.Validation.TheVariants.{Unvalidated, Crc32, Checksum32}
 use Rattle.oas_wide.specs.Little.{four}
+use Rattle.oas_wide.specs.Long.{long_padding}
 
 -- the schemes that there are: none, CRC32, CHECKSUM32
 abbrev pub IsScheme : ℕ → Type 0
@@ -50,9 +51,9 @@ WideEndParts = Unit {0} × (Padding × Validation)
 abbrev pub wide_end_of : WideEndParts → WideEnd
 wide_end_of p = record { validation = p.1.1 }
 
--- table-offsets where START says so, padding, and the validation
+-- table-offsets where START says so, padding with a length in any number of bytes, and the validation
 abbrev pub wide_end : Bool → Kind WideEnd
-wide_end in_end = image_any wide_end_of (pair (offsets_part in_end) (λ _. pair padding (λ _. validation)))
+wide_end in_end = image_any wide_end_of (pair (offsets_part in_end) (λ _. pair long_padding (λ _. validation)))
 
 abbrev pub SpellsWideEnd : Bool → WideEnd → List ℕ → Type 0
 SpellsWideEnd in_end = (wide_end in_end).any

@@ -1,8 +1,10 @@
 pub mod Little
+pub mod Long
 pub mod Reals
 pub mod Heads
 pub mod Ends
 pub mod Strings
+pub mod Placements
 pub mod Properties
 pub mod LayerNames
 pub mod Extensions

@@ -1,6 +1,7 @@
 -- How reals of all eight types are spelled (SEMI P39, Reals), and which fractions floats are (IEEE 754).
 use Rattle.std.proofs.Common.{◌≡◌, ℕ, ◌+◌, ◌-◌, ◌/◌, ◌%◌, ◌^◌, ◌<◌, List, ◌++◌, arith}
 use Rattle.std.specs.Prelude.{◌==◌, if◌then◌else◌}
+use Rattle.oas_num.specs.declared.reals.Real.{Real}
 use Rattle.oas_num.specs.declared.refusals.Why.{Why}
 use Rattle.oas_num.specs.declared.refusals.Why.TheVariants.{Write, FloatReal, RealType}
 use Rattle.oas_num.specs.Begun.{HasSome}
@@ -116,3 +117,9 @@ SpellsWideReal = wide_real.any
 -- where in it a read of a real may fail
 abbrev pub WideRealTook : Why → List ℕ → Type 0
 WideRealTook = wide_real.took
+
+-- ---- reals of the profile
+
+-- what a real of the profile is among them
+abbrev pub wide_of : Real → WideReal
+wide_of r = record { negative = r.negative; num = r.num; den = r.den; doubled = 0; halved = 0 }

@@ -13,6 +13,7 @@ use Rattle.oas_num.specs.Integers.{IsUnsigned}
 use Rattle.oas_num.specs.Pieces.{IsBehind}
 use Rattle.oas_num.specs.Reading.{ReadsValue, FailsPiece, IntegerMay}
 use Rattle.oas_num.specs.Script.{Script}
+use Rattle.oas_record.specs.declared.placements.Turn.TheVariants.{Quarters, Degrees}
 use Rattle.oas_record.specs.declared.records.Record.{Record}
 use Rattle.oas_record.specs.declared.records.Record.TheVariants as profile_of
 use Rattle.oas_record.specs.Found.{found_image, found_either}
@@ -23,6 +24,7 @@ use Rattle.oas_wide.specs.declared.ends.WideEnd.{WideEnd}
 use Rattle.oas_wide.specs.declared.ends.Validation.TheVariants.{Unvalidated}
 use Rattle.oas_wide.specs.declared.extensions.ExtensionGeometry.{ExtensionGeometry}
 use Rattle.oas_wide.specs.declared.layer_names.LayerName.{LayerName}
+use Rattle.oas_wide.specs.declared.placements.WidePlacement.{WidePlacement}
 use Rattle.oas_wide.specs.declared.properties.Property.{Property}
 use Rattle.oas_wide.specs.declared.reasons.WideRefusal.{WideRefusal}
 use Rattle.oas_wide.specs.declared.reasons.WideWhy.{WideWhy}
@@ -35,6 +37,7 @@ use Rattle.oas_wide.specs.Blocks.{block_head}
 use Rattle.oas_wide.specs.Ends.{wide_end}
 use Rattle.oas_wide.specs.Extensions.{extension_geometry}
 use Rattle.oas_wide.specs.LayerNames.{layer_name}
+use Rattle.oas_wide.specs.Placements.{wide_placement, as_wide}
 use Rattle.oas_wide.specs.Properties.{property}
 use Rattle.oas_wide.specs.Reasons.{named, plain_of}
 use Rattle.oas_wide.specs.Strings.{string_kind, attributed}
@@ -59,6 +62,9 @@ layers_named n = record_of.LayerName n
 
 abbrev pub textlayers_named : LayerName → WideRecord
 textlayers_named n = record_of.TextLayerName n
+
+abbrev pub a_placement : WidePlacement → WideRecord
+a_placement p = record_of.Placement p
 
 abbrev pub a_trapezoid : Trapezoid → WideRecord
 a_trapezoid t = record_of.Trapezoid t
@@ -86,7 +92,7 @@ a_block b = record_of.Block b
 
 -- ---- what follows an id
 
--- END, and what the profile leaves out
+-- END, placements by reals, and what the profile leaves out
 abbrev pub foreign : Bool → ℕ → Choice WideRecord
 foreign in_end id =
     by_number (id == 2) (image_any end (wide_end in_end))
@@ -96,6 +102,7 @@ foreign in_end id =
     (by_number (id == 10) (image_any property_string (string_kind true))
     (by_number (id == 11) (image_any layers_named layer_name)
     (by_number (id == 12) (image_any textlayers_named layer_name)
+    (by_number (id == 18) (image_any a_placement wide_placement)
     (by_number (id == 23) (image_any a_trapezoid (trapezoid true true))
     (by_number (id == 24) (image_any a_trapezoid (trapezoid true false))
     (by_number (id == 25) (image_any a_trapezoid (trapezoid false true))
@@ -107,11 +114,13 @@ foreign in_end id =
     (by_number (id == 32) (image_any extension_element (attributed false))
     (by_number (id == 33) (image_any a_geometry extension_geometry)
     (by_number (id == 34) (image_any a_block block_head)
-    no_other)))))))))))))))))
+    no_other))))))))))))))))))
 
--- the ids that the profile has, END's left out
+-- the ids that the profile has, but that of END, which has no signature there, and that of placements by reals, which have
+-- no floats there
 abbrev pub is_profile_id : ℕ → Bool
-is_profile_id id = if id == 2 then false else (if ltb id 7 then true else (if ltb id 13 then false else (if ltb id 23 then true else id == 27)))
+is_profile_id id =
+    if id == 2 then false else (if id == 18 then false else (if ltb id 7 then true else (if ltb id 13 then false else (if ltb id 23 then true else id == 27))))
 
 -- what a value of a choice stands for
 abbrev pub image_choice : {U V : Type 0} → (U → V) → Choice U → Choice V
@@ -157,7 +166,7 @@ pub record wide_record_in (in_end : Bool) (r : WideRecord) (bytes : List ℕ) : 
 abbrev pub IsWideId : ℕ → Type 0
 IsWideId id = (id ≢ 1) × (id ≤ 34)
 
--- those that the profile leaves out
+-- those behind which it isn't as in the profile
 abbrev pub IsForeignId : ℕ → Type 0
 IsForeignId id = IsWideId id × ((id ≢ 2) × (is_profile_id id ≡ false))
 
@@ -215,7 +224,12 @@ ReadsWideAt in_end old (Err refusal) new = (refusal.at ≡ old.given) × FailsWi
 
 -- ---- records of the profile
 
--- what a record of the profile is among those of the standard
+-- what a record of the profile, END left out, is among those of the standard
+abbrev pub inner_widened : Record → WideRecord
+inner_widened (profile_of.Placement p) = elim p.turn [ Quarters turns ↦ record_of.Profile (profile_of.Placement p) | Degrees magnification angle ↦ record_of.Placement (as_wide p magnification angle) ]
+inner_widened r = record_of.Profile r
+
+-- and END
 abbrev pub widened : Record → WideRecord
 widened profile_of.End = record_of.End (record { validation = Unvalidated })
-widened r = record_of.Profile r
+widened r = inner_widened r

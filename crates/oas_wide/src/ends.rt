@@ -5,9 +5,9 @@ ghost use Rattle.oas_wide.specs.Little.{four};
 ghost use Rattle.oas_wide.specs.Ends.{validation_of, SpellsValidation, ValidationTook, SpellsWideEnd, WideEndTook};
 
 use crate::little::read_four;
-use oas_num::{Padding, Source, Spelled, Why, read_unsigned};
+use crate::long::read_long_padding;
+use oas_num::{Source, Why, read_unsigned};
 use oas_record::pass_offsets_if;
-use std::alloc::Global;
 
 /// How a file says that it came whole (SEMI P39, END record, validation-scheme).
 #[derive(Clone, Copy, Debug, PartialEq, Eq)]
@@ -66,11 +66,11 @@ pub struct WideEnd {
 impl WideEnd {
     /// What follows END's id: table-offsets where START says so, padding, the validation-scheme and its signature. That END
     /// is 256 bytes, its id and its signature included, is for the caller to see.
-    pub fn read<S: Source>(alloc: Global, in_end: bool, source: &mut S) -> Result<WideEnd, Why>
+    pub fn read<S: Source>(in_end: bool, source: &mut S) -> Result<WideEnd, Why>
         ensures { ReadsPiece (SpellsWideEnd in_end) (WideEndTook in_end) (S.script source.old) result (S.script source.new) }
     {
         pass_offsets_if(in_end, source)?;
-        Padding::read(alloc, source)?;
+        read_long_padding(source)?;
         let validation = Validation::read(source)?;
         Ok(WideEnd { validation })
     }

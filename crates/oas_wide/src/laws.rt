@@ -10,6 +10,7 @@ ghost use Rattle.oas_wide.specs.Ends.{SpellsWideEnd};
 ghost use Rattle.oas_wide.specs.Extensions.{SpellsGeometry};
 ghost use Rattle.oas_wide.specs.Heads.{SpellsWideStart};
 ghost use Rattle.oas_wide.specs.LayerNames.{SpellsLayerName};
+ghost use Rattle.oas_wide.specs.Placements.{SpellsPlacement};
 ghost use Rattle.oas_wide.specs.Properties.{SpellsProperty, SpellsValue};
 ghost use Rattle.oas_wide.specs.Strings.{SpellsString, SpellsAttributed};
 ghost use Rattle.oas_wide.specs.Trapezoids.{SpellsTrapezoid, SpellsNamedTrapezoid};
@@ -23,6 +24,7 @@ pub fn fronts()
     ensures value { OneFront SpellsValue }
     ensures property { OneFront SpellsProperty }
     ensures layer_name { OneFront SpellsLayerName }
+    ensures placement { OneFront SpellsPlacement }
     ensures attributed { (numbered : Bool) → OneFront (SpellsAttributed numbered) }
     ensures geometry { OneFront SpellsGeometry }
     ensures block { OneFront SpellsBlockHead }
@@ -38,6 +40,7 @@ pub fn some()
     ensures value { HasSome SpellsValue }
     ensures property { HasSome SpellsProperty }
     ensures layer_name { HasSome SpellsLayerName }
+    ensures placement { HasSome SpellsPlacement }
     ensures attributed { (numbered : Bool) → HasSome (SpellsAttributed numbered) }
     ensures geometry { HasSome SpellsGeometry }
     ensures block { HasSome SpellsBlockHead }
@@ -45,8 +48,9 @@ pub fn some()
     ensures named { HasSome SpellsNamedTrapezoid }
 {}
 
-/// Records: no spelling begins another, and none spells two. A record of the profile is spelled here as it is there, and
-/// nothing else spells it.
+/// Records: no spelling begins another, and none spells two. A record of the profile is spelled here as it is there: END
+/// without a signature, a placement by reals with these among those of all types, and each other one as itself, which nothing
+/// else spells.
 pub fn records()
     ensures front { (in_end : Bool) → OneFront (wide_record_in in_end) }
     ensures within { (in_end : Bool) (r : Record) (bytes : List ℕ) → record_in Any in_end r bytes → wide_record_in in_end (widened r) bytes }

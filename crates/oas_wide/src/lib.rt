@@ -7,12 +7,13 @@
 //!   spelling is a front of the bytes that stand there, however they go on. The contract is `ReadsPiece` of `oas_num`.
 //! - [`WideRecord::read`] reads any record but START, those of the profile too: `Ok` exactly where a spelling of it stands there
 //!   (`wide_record_in`, specs/WideRecords.antt), and its refusals have the record's place and a [`WideWhy`], which names what
-//!   the profile has no reason for. A record of the profile is read as there ([`laws::records`]).
+//!   the profile has no reason for. A record of the profile is read as there, but END, whose signature it has, and placements
+//!   by reals, whose reals are of all types ([`laws::records`]).
 //! - What is read is one tree a kind of record (`Kind` of `oas_record`, in the file of the same name in specs/): from it come
 //!   the spellings, the table of what goes wrong where (`took`), and that no spelling begins another ([`laws::fronts`]).
 //!
 //! The other reads are of what follows a record's id; [`WideStart`] reads its id too. They ask for no memory but what a repetition
-//! takes: strings and lists of values are passed over, and of both only the length is kept.
+//! takes, and a cell's name: other strings and lists of values are passed over, and of both only the length is kept.
 //!
 //! | Ids | What | Read |
 //! |---|---|---|
@@ -20,6 +21,7 @@
 //! | 2 | END, with any validation | [`WideEnd`] |
 //! | 7 to 10 | PROPNAME, PROPSTRING | [`read_string`] |
 //! | 11, 12 | LAYERNAME | [`LayerName`] |
+//! | 18 | PLACEMENT, with magnification and angle of any type | [`WidePlacement`] |
 //! | 23, 24, 25 | TRAPEZOID | [`Trapezoid`] |
 //! | 26 | CTRAPEZOID | [`NamedTrapezoid`] |
 //! | 28 | PROPERTY | [`Property`], [`PropertyValue`] |
@@ -45,6 +47,8 @@ mod heads;
 pub mod laws;
 mod layer_names;
 mod little;
+mod long;
+mod placements;
 mod properties;
 mod reals;
 mod reasons;
@@ -57,6 +61,7 @@ pub use ends::{Validation, WideEnd};
 pub use extensions::ExtensionGeometry;
 pub use heads::WideStart;
 pub use layer_names::{Interval, LayerName};
+pub use placements::WidePlacement;
 pub use properties::{Property, PropertyName, PropertyValue};
 pub use reals::WideReal;
 pub use reasons::{WideRefusal, WideWhy};

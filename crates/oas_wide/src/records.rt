@@ -6,6 +6,7 @@ use crate::blocks::BlockHead;
 use crate::ends::WideEnd;
 use crate::extensions::ExtensionGeometry;
 use crate::layer_names::LayerName;
+use crate::placements::WidePlacement;
 use crate::properties::Property;
 use crate::reasons::{WideRefusal, WideWhy, named};
 use crate::strings::{read_attributed, read_string};
@@ -20,7 +21,7 @@ const END_LENGTH: u64 = 256;
 /// A record of a file of the standard, START left out (SEMI P39, records).
 #[derive(Debug, Drop)]
 pub enum WideRecord {
-    /// A record that the profile has, END left out.
+    /// A record that is as the profile has it: neither END nor one that has reals.
     Profile(Record),
     /// Id 2.
     End(WideEnd),
@@ -38,6 +39,8 @@ pub enum WideRecord {
     LayerName(LayerName),
     /// Id 12: of textlayers and texttypes.
     TextLayerName(LayerName),
+    /// Id 18: by reals. Id 17 is the profile's.
+    Placement(WidePlacement),
     /// Ids 23, 24 and 25.
     Trapezoid(Trapezoid),
     /// Id 26.
@@ -76,11 +79,11 @@ fn refused_id(id: u64) -> Option<Why>
     None
 }
 
-/// Whether the profile has records of that id, END left out.
+/// Whether what follows that id is as the profile has it, whose END has no signature, and whose placements have no floats.
 fn is_profile_id(id: u64) -> bool
     ensures { result ≡ is_profile_id id }
 {
-    id != 2 && (id <= 6 || (id >= 13 && id <= 22) || id == 27)
+    id != 2 && id != 18 && (id <= 6 || (id >= 13 && id <= 22) || id == 27)
 }
 
 /// What follows the id of a name that isn't the profile's: 7 to 12.
@@ -141,13 +144,17 @@ fn read_extension<S: Source>(alloc: Global, id: u64, source: &mut S) -> Result<W
     }
 }
 
-/// What follows an id of the standard that the profile leaves out.
+/// What follows an id of the standard that isn't as the profile has it, but END's.
 fn read_foreign<S: Source>(alloc: Global, id: u64, source: &mut S) -> Result<WideRecord, Why>
     requires { IsForeignId id }
     ensures { (in_end : Bool) → ReadsPiece (foreign in_end id).any (foreign in_end id).took (S.script source.old) result (S.script source.new) }
 {
     if id <= 12 {
         return read_name(alloc, id, source);
+    }
+    if id == 18 {
+        let placement = WidePlacement::read(alloc, source)?;
+        return Ok(WideRecord::Placement(placement));
     }
     if id <= 26 {
         return read_trapezoid(alloc, id, source);
@@ -189,7 +196,7 @@ fn read_whole<S: Source>(alloc: Global, in_end: bool, source: &mut S) -> Result<
         return Err(WideWhy::Profile(why));
     }
     if id == 2 {
-        let end = WideEnd::read(alloc, in_end, source)?;
+        let end = WideEnd::read(in_end, source)?;
         let length = source.at() - start;
         if length != END_LENGTH {
             return Err(WideWhy::Profile(Why::EndLength));

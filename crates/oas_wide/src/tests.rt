@@ -89,8 +89,8 @@ fn outcome(alloc: Global, kind: &str, bytes: &[u8]) -> (u8, u64) {
     let s = &mut source;
     let found = match kind {
         "start" => number(WideStart::read(alloc, s)),
-        "end" => number(WideEnd::read(alloc, false, s)),
-        "end-with-offsets" => number(WideEnd::read(alloc, true, s)),
+        "end" => number(WideEnd::read(false, s)),
+        "end-with-offsets" => number(WideEnd::read(true, s)),
         "propname" => number(read_string(alloc, false, s)),
         "propname-8" => number(read_string(alloc, true, s)),
         "property" => number(Property::read(alloc, s)),
@@ -102,6 +102,7 @@ fn outcome(alloc: Global, kind: &str, bytes: &[u8]) -> (u8, u64) {
         "trapezoid" => number(Trapezoid::read(alloc, true, true, s)),
         "trapezoid-24" => number(Trapezoid::read(alloc, true, false, s)),
         "trapezoid-25" => number(Trapezoid::read(alloc, false, true, s)),
+        "placement" => number(WidePlacement::read(alloc, s)),
         "ctrapezoid" => number(NamedTrapezoid::read(alloc, s)),
         "record" => wide_number(WideRecord::read(alloc, s, false)),
         _ => 255,
@@ -122,6 +123,11 @@ start 10 9 0103312e30 00e807 02\n\
 start 13 1 02\n\
 end 0 255 fc01 00*252 00 ff\n\
 end 0 255 f801 00*248 01 78563412 ff\n\
+end 0 255 80*253 00 00 ff\n\
+end 0 255 8a 80*242 00 00*10 00 ff\n\
+end 3 10 80*9 02 00\n\
+end 3 12 80*11 01 00\n\
+end 2 300 80*300\n\
 end 0 255 f801 00*248 02 78563412 ff\n\
 end 29 251 f801 00*248 03 78563412\n\
 end 2 253 f801 00*248 01 7856\n\
@@ -154,17 +160,26 @@ trapezoid 0 3 80 0a 05 ff\n\
 trapezoid-24 0 2 00 0a ff\n\
 trapezoid-25 0 2 00 0a ff\n\
 trapezoid 2 2 00 0a\n\
+placement 0 18 f6 05 06 0000803f 07 0000000000805640 02 04 ff\n\
+placement 0 1 01 ff\n\
+placement 6 6 04 06 0000807f\n\
+placement 7 2 02 08\n\
+placement 2 4 02 06 0000\n\
 ctrapezoid 0 8 fb 01 02 19 64 32 02 04 ff\n\
 ctrapezoid 0 1 00 ff\n\
 ctrapezoid 14 2 80 1a\n\
 record 0 1 00 ff\n\
 record 0 6 14 63 01 02 64 32 ff\n\
 record 0 256 02 fc01 00*252 00 ff\n\
+record 0 256 02 80*253 00 00 ff\n\
 record 0 256 02 f801 00*248 02 78563412 ff\n\
 record 28 255 02 fb01 00*251 00\n\
 record 0 4 08 0141 05 ff\n\
 record 0 4 8700 0141 ff\n\
 record 112 4 0c 0141 05\n\
+record 0 4 12 04 00 01 ff\n\
+record 0 15 12 86 0141 01 00 07 0000000000805640 ff\n\
+record 7 3 12 02 09\n\
 record 0 10 17 7b 01 02 64 32 0a 05 02 04 ff\n\
 record 110 3 1a 80 1a\n\
 record 111 5 1c 14 0141 10\n\

@@ -3,6 +3,7 @@ use Rattle.oas_wide.specs.Ends.{wide_end}
 use Rattle.oas_wide.specs.Extensions.{extension_geometry}
 use Rattle.oas_wide.specs.Heads.{wide_start}
 use Rattle.oas_wide.specs.LayerNames.{layer_name}
+use Rattle.oas_wide.specs.Placements.{wide_placement}
 use Rattle.oas_wide.specs.Properties.{property, property_value}
 use Rattle.oas_wide.specs.Strings.{string_kind, attributed}
 use Rattle.oas_wide.specs.Trapezoids.{trapezoid, named_trapezoid}
@@ -16,6 +17,7 @@ returns c = record {
   value = property_value.found.one;
   property = property.found.one;
   layer_name = layer_name.found.one;
+  placement = wide_placement.found.one;
   attributed = λ numbered. (attributed numbered).found.one;
   geometry = extension_geometry.found.one;
   block = block_head.found.one;

@@ -3,6 +3,7 @@ use Rattle.oas_wide.specs.Ends.{wide_end}
 use Rattle.oas_wide.specs.Extensions.{extension_geometry}
 use Rattle.oas_wide.specs.Heads.{wide_start}
 use Rattle.oas_wide.specs.LayerNames.{layer_name}
+use Rattle.oas_wide.specs.Placements.{wide_placement}
 use Rattle.oas_wide.specs.Properties.{property, property_value}
 use Rattle.oas_wide.specs.Strings.{string_kind, attributed}
 use Rattle.oas_wide.specs.Trapezoids.{trapezoid, named_trapezoid}
@@ -16,6 +17,7 @@ returns c = record {
   value = property_value.some;
   property = property.some;
   layer_name = layer_name.some;
+  placement = wide_placement.some;
   attributed = λ numbered. (attributed numbered).some;
   geometry = extension_geometry.some;
   block = block_head.some;

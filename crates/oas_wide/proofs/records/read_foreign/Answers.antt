@@ -1,19 +1,24 @@
 use Rattle.std.proofs.Common.{◌≡◌, arith}
 use Rattle.std.proofs.lemmas.Result.{err_from_is_err_and}
 use Rattle.oas_num.proofs.MidwayLemmas.{image_fails}
-use Rattle.oas_wide.specs.WideRecords.{a_property, a_block}
+use Rattle.oas_wide.specs.WideRecords.{a_placement, a_property, a_block}
 use Rattle.oas_wide.proofs.ForeignLemmas.{last_read}
 use Rattle.oas_wide.proofs.records.read_foreign.Goals as goal
 
 pub returns-then-id-le12 : goal.returns-then-id-le12
 returns-then-id-le12 g c = λ in_end. c.read_name.ensures in_end
 
+pub returns-in_err-placement : goal.returns-in_err-placement
+returns-in_err-placement g c =
+    let p = err_from_is_err_and c.from_residual.result c.from_residual.ensures.1 in
+    λ in_end. rw (p.1, p.2) (rw c.if-id-eq18.true (image_fails a_placement c.in_err-placement.ensures))
+
 pub returns-then-id-le26 : goal.returns-then-id-le26
 returns-then-id-le26 g c = λ in_end. c.read_trapezoid.ensures in_end
 
 pub returns-in_err-property : goal.returns-in_err-property
 returns-in_err-property g c =
-    let p = err_from_is_err_and c.from_residual.result c.from_residual.ensures.1 in
+    let p = err_from_is_err_and c.from_residual-in_err-property.result c.from_residual-in_err-property.ensures.1 in
     λ in_end. rw (p.1, p.2) (rw c.if-id-eq28.true (image_fails a_property c.in_err-property.ensures))
 
 pub returns-then-id-eq29 : goal.returns-then-id-eq29

@@ -1,0 +1,3 @@
+pub mod TurningLemmas
+pub mod KeptLemmas
+pub mod TurningLaws
