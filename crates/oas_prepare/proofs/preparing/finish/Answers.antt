@@ -1,6 +1,6 @@
 use Rattle.std.proofs.Common.{refl}
 use Rattle.std.proofs.lemmas.Result.{err_from_is_err_and}
-use Rattle.oas_prepare.specs.Finishing.{Broken, Torn}
+use Rattle.oas_prepare.specs.Finishing.{Torn}
 use Rattle.oas_prepare.proofs.preparing.finish.Goals as goal
 
 pub returns-in_err-layout : goal.returns-in_err-layout
