@@ -1,7 +1,7 @@
 //! What no clause says: that a block is read where memory is there, and which fault is answered of the ways to go wrong. The
 //! streams were made by zlib 1.2.13, and what they stand for is what was given to it.
 
-use oas_block::{BlockFault, read_block};
+use oas_block::{Block, BlockEnd, BlockFault, read_block};
 use oas_num::{ReaderSource, SliceSource, Source, Why};
 use oas_wide::BlockHead;
 use std::alloc::Global;
@@ -27,26 +27,15 @@ const GIVEN: [(&str, &str); 4] = [
 ];
 
 /// Heads with their bytes, and why they aren't read.
-const REFUSED: [(&str, BlockFault); 10] = [
+const REFUSED: [(&str, BlockFault); 6] = [
     // kind 1
     ("01110acb48cdc9c957c8409000", BlockFault::Kind),
-    // no byte
-    ("000000", BlockFault::Deflate),
-    // one more byte stated
-    ("00120acb48cdc9c957c8409000", BlockFault::Length),
     // one byte fewer stated
     ("00100acb48cdc9c957c8409000", BlockFault::Length),
-    // 2^64-1 stated
-    (
-        "00ffffffffffffffffff010acb48cdc9c957c8409000",
-        BlockFault::Length,
-    ),
-    // a byte behind the stream
-    ("00110bcb48cdc9c957c840900000", BlockFault::Length),
-    // the stream is cut
-    ("001109cb48cdc9c957c8409000", BlockFault::Deflate),
     // no stream begins so
     ("0000020700", BlockFault::Deflate),
+    // nor so, behind eight bytes of data
+    ("00100b13a96664e012616080310000", BlockFault::Deflate),
     // the input ends in the stream
     ("00110acb48cdc9c957c84090", BlockFault::Why(Why::Truncated)),
     // the input ends behind the stream
@@ -56,12 +45,44 @@ const REFUSED: [(&str, BlockFault); 10] = [
     ),
 ];
 
+/// Heads with their bytes, of which the stream doesn't end as it should, how it ends, and what zlib gives of it.
+const WRONG: [(&str, BlockEnd, &str); 6] = [
+    // no byte
+    ("000000", BlockEnd::Unfinished, ""),
+    // the stream is cut
+    (
+        "00110f13a96664e012616010a96662e01239",
+        BlockEnd::Unfinished,
+        "147b01000a140000147b02000a14",
+    ),
+    // no block is marked as the last
+    (
+        "001116001100eeff147b01000a140000147b02000a14c80100",
+        BlockEnd::Unfinished,
+        "147b01000a140000147b02000a14c80100",
+    ),
+    // one more byte stated
+    (
+        "00120acb48cdc9c957c8409000",
+        BlockEnd::Other,
+        "68656c6c6f2068656c6c6f2068656c6c6f",
+    ),
+    // 2^64-1 stated
+    (
+        "00ffffffffffffffffff010acb48cdc9c957c8409000",
+        BlockEnd::Other,
+        "68656c6c6f2068656c6c6f2068656c6c6f",
+    ),
+    // a byte behind the stream
+    (
+        "00110bcb48cdc9c957c840900000",
+        BlockEnd::Other,
+        "68656c6c6f2068656c6c6f2068656c6c6f",
+    ),
+];
+
 /// Reads a head and its block.
-fn read_from<S: Source>(
-    alloc: Global,
-    source: &mut S,
-    limit: usize,
-) -> Result<Vec<u8>, BlockFault> {
+fn read_from<S: Source>(alloc: Global, source: &mut S, limit: usize) -> Result<Block, BlockFault> {
     match BlockHead::read(source) {
         Ok(head) => read_block(alloc, source, head, limit),
         Err(why) => Err(BlockFault::Why(why)),
@@ -74,7 +95,7 @@ fn read_text(
     text: &str,
     input: u64,
     limit: usize,
-) -> Result<Result<Vec<u8>, BlockFault>, Fail> {
+) -> Result<Result<Block, BlockFault>, Fail> {
     let bytes = hex::decode(alloc, text)?;
     let mut source = SliceSource::new(bytes.as_slice(), input);
     Ok(read_from(alloc, &mut source, limit))
@@ -102,9 +123,20 @@ impl Read for Failing<'_> {
 #[test]
 fn blocks_are_read(rt: HostRuntime) -> Result<(), Fail> {
     for (block, wanted) in GIVEN {
-        let wanted = hex::decode(rt.alloc(), wanted)?;
-        let found = read_text(rt.alloc(), block, 100, wanted.len())?;
-        assert!(rt; found == Ok(wanted));
+        let data = hex::decode(rt.alloc(), wanted)?;
+        let found = read_text(rt.alloc(), block, 100, data.len())?;
+        let end = BlockEnd::Whole;
+        assert!(rt; found == Ok(Block { data, end }));
+    }
+    Ok(())
+}
+
+#[test]
+fn what_a_stream_gave_is_kept(rt: HostRuntime) -> Result<(), Fail> {
+    for (block, end, given) in WRONG {
+        let data = hex::decode(rt.alloc(), given)?;
+        let found = read_text(rt.alloc(), block, 100, 100)?;
+        assert!(rt; found == Ok(Block { data, end }));
     }
     Ok(())
 }

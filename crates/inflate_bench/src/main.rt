@@ -27,7 +27,7 @@ fn digest(bytes: &[u8]) -> u64 {
 /// What a packet stands for.
 fn inflate_packet(alloc: Global, packet: &[u8]) -> Result<Vec<u8>, Fault> {
     let mut bits = Bits::new(SliceSource::new(packet, u64::MAX));
-    inflate(alloc, &mut bits, LIMIT)
+    inflate(alloc, &mut bits, LIMIT).map_err(|stopped| stopped.fault)
 }
 
 /// A length in four bytes, the lowest first.

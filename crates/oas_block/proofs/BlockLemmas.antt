@@ -1,5 +1,5 @@
 -- What was inflated of a source of a block's bytes is what the block stands for.
-use Rattle.std.proofs.Common.{◌≡◌, ◌≢◌, ℕ, ◌-◌, ◌<◌, ◌≤◌, Bool, true, false, List, [], ◌∷◌, ◌++◌, length, Result, Ok, Err, inl, inr, refl, sym, ap, subst, ◌∙◌, append_assoc, append-nil, arith}
+use Rattle.std.proofs.Common.{◌≡◌, ◌≢◌, ℕ, zero, suc, min, ◌-◌, ◌<◌, ◌≤◌, Bool, true, false, List, [], ◌∷◌, ◌++◌, length, Result, Ok, Err, inl, inr, refl, sym, ap, subst, ◌∙◌, append-nil, arith}
 use Rattle.std.specs.Prelude.{◌⊎◌}
 use Rattle.std.proofs.lemmas.List.{length-append}
 use base.Fml.{GName}
@@ -12,20 +12,29 @@ use Rattle.oas_inflate.specs.declared.faults.Fault.TheVariants as faults
 use Rattle.oas_inflate.specs.Bits.{bits_of}
 use Rattle.oas_inflate.specs.Grammar.{Chain}
 use Rattle.oas_inflate.specs.Deflate.{IsBlock, IsDeflated}
-use Rattle.oas_inflate.specs.Reading.{Found, Nothing, Spot, Through, CutShort, FoundOn, FailsOn}
+use Rattle.oas_inflate.specs.Cut.{IsCutOff}
+use Rattle.oas_inflate.specs.Reading.{Found, Nothing, Longer, Spot, Through, CutShort, FoundOn, FailsWithin}
 use Rattle.oas_inflate.proofs.BitLemmas.{bits_of-whole}
 use Rattle.oas_inflate.proofs.ThroughLemmas.{Takes-none, Takes-then}
 use Rattle.oas_wide.specs.declared.blocks.BlockHead.{BlockHead}
+use Rattle.oas_block.specs.declared.block.BlockEnd.{BlockEnd}
+use Rattle.oas_block.specs.declared.block.BlockEnd.TheVariants as ends
 use Rattle.oas_block.specs.declared.faults.BlockFault.{BlockFault}
 use Rattle.oas_block.specs.declared.faults.BlockFault.TheVariants as blocks
 use Rattle.oas_block.specs.Fronts.{front_script, IsFront}
-use Rattle.oas_block.specs.Reading.{IsRead, Tells, Stops, IsOther, FailsBlock, ReadsBlock}
-use Rattle.oas_block.specs.Inflating.{Passed, PassesByte, Passes, Finishes, IsWhole, FaultOf}
+use Rattle.oas_block.specs.Reading.{IsRead, Tells, TakesAll, Stops, IsUnfinished, IsOther, EndsBlock, FailsBlock, ReadsBlock}
+use Rattle.oas_block.specs.Inflating.{Passed, PassesByte, Passes, Finishes, IsWhole, IsJudged, FaultOf, EndOf}
 use Rattle.oas_block.proofs.FrontLemmas.{front_count, front_back, front_some, ended_back, failed_back, too_long_back}
 
 no_more : (a b : List ℕ) (n : ℕ) → length a ≡ n → length (a ++ b) ≤ n → b ≡ []
 no_more a [] n e le = refl
 no_more a (x ∷ b) n e le = let l = length-append a (x ∷ b) in absurd (omega arith)
+
+less_of : (n m : ℕ) → n ≤ m → n ≢ m → n < m
+less_of zero zero le ne = absurd (ne refl)
+less_of zero (suc m) le ne = omega arith
+less_of (suc n) zero le ne = absurd (omega arith)
+less_of (suc n) (suc m) le ne = let r = less_of n m (omega arith) (λ e. ne (ap suc e)) in omega arith
 
 -- a source's bytes were inflated, and stand for these
 module _ (head : BlockHead) {start m now : Script} {name same same2 : GName} {unread left : ℕ} (old mid : Spot) (plain : List ℕ)
@@ -64,51 +73,54 @@ module _ (head : BlockHead) {start m now : Script} {name same same2 : GName} {un
           within = le;
         }
 
-    other_read : (idle : ℕ) → idle ≡ length mid.pending → left ≡ 0 → ((length plain ≢ head.inflated) ⊎ ((0 < unread) ⊎ (8 ≤ idle)))
-        → Tells head (λ bytes. IsOther head bytes) start now
-    other_read idle is z wrong =
+    other_read : (idle : ℕ) → length plain ≤ head.inflated → idle ≡ length mid.pending → left ≡ 0 → ((length plain ≢ head.inflated) ⊎ ((0 < unread) ⊎ (8 ≤ idle)))
+        → TakesAll head (λ bytes. IsOther head plain bytes) start now
+    other_read idle le is z wrong =
         let n = front_count f first in
-        let l = front_count g both in record {
+        let l = front_count g both in
+        let a = length-append t.bytes p.bytes in
+        let b = length-append mid.pending (bits_of p.bytes) in
+        let c = bits_of-whole p.bytes in record {
           bytes = t.bytes ++ p.bytes;
           takes = front_back g both;
           kind = kind;
-          within = omega arith;
-          all = λ more e.
-              let j : t.bytes ++ (p.bytes ++ more) ≡ (t.bytes ++ p.bytes) ++ more = sym (append_assoc t.bytes p.bytes more) in
-              let a = length-append t.bytes p.bytes in
-              let b = length-append mid.pending (bits_of (p.bytes ++ more)) in
-              let c = bits_of-whole (p.bytes ++ more) in
-              let d = length-append p.bytes more in record {
-                plain = plain;
-                left = mid.pending ++ bits_of (p.bytes ++ more);
-                found = subst (λ (x : List ℕ). Found IsDeflated plain (bits_of x) (mid.pending ++ bits_of (p.bytes ++ more))) j (stands (p.bytes ++ more));
-                other = elim wrong [
-                  | inl w ↦ inl w
-                  | inr v ↦ inr (elim v [
-                    | inl w ↦ omega arith
-                    | inr w ↦ omega arith
-                  ])
-                ];
-              };
+          whole = omega arith;
+          is = record {
+            left = mid.pending ++ bits_of p.bytes;
+            found = stands p.bytes;
+            other = elim wrong [
+              | inl w ↦ inl (less_of (length plain) head.inflated le w)
+              | inr v ↦ inr (elim v [
+                | inl w ↦ omega arith
+                | inr w ↦ omega arith
+              ])
+            ];
+          };
         }
 
-  pub finished : {X : Type 0} (view : X → List ℕ) (limit idle : ℕ) (result : Result X BlockFault) → length plain ≤ limit → idle ≡ length mid.pending
-      → Finishes view plain head.inflated idle m unread result now left → ReadsBlock view head limit start result now
-  finished view limit idle (Ok x) le is h = subst (λ (y : List ℕ). IsRead head limit start y now) (sym h.2) (whole_read h.0 limit idle le is h.3)
-  finished view limit idle (Err blocks.Length) le is h = inl (other_read h.0 idle is h.1 h.2)
-  finished view limit idle (Err blocks.Kind) le is h = absurd h
-  finished view limit idle (Err blocks.Deflate) le is h = absurd h
-  finished view limit idle (Err blocks.Full) le is h = absurd h
-  finished view limit idle (Err (blocks.Why why.Truncated)) le is h =
+    ended : (limit idle : ℕ) (end : BlockEnd) → length plain ≤ limit → length plain ≤ head.inflated → idle ≡ length mid.pending → left ≡ 0
+        → IsJudged plain end head.inflated unread idle → EndsBlock head limit start plain end now
+    ended limit idle ends.Whole le few is z w = whole_read limit idle le is w
+    ended limit idle ends.Other le few is z w = other_read idle few is z w
+    ended limit idle ends.Unfinished le few is z w = absurd w
+
+  pub finished : {X : Type 0} (given : X → List ℕ) (end : X → BlockEnd) (limit idle : ℕ) (result : Result X BlockFault) → length plain ≤ limit → length plain ≤ head.inflated
+      → idle ≡ length mid.pending → Finishes given end plain head.inflated idle m unread result now left → ReadsBlock given end head limit start result now
+  finished given end limit idle (Ok x) le few is h = subst (λ (y : List ℕ). EndsBlock head limit start y (end x) now) (sym h.2.0) (ended h.0 limit idle (end x) le few is h.1 h.2.1)
+  finished given end limit idle (Err blocks.Length) le few is h = absurd h
+  finished given end limit idle (Err blocks.Kind) le few is h = absurd h
+  finished given end limit idle (Err blocks.Deflate) le few is h = absurd h
+  finished given end limit idle (Err blocks.Full) le few is h = absurd h
+  finished given end limit idle (Err (blocks.Why why.Truncated)) le few is h =
       let s = front_some g in let lt = h.0 in
       (record { bytes = s.0; takes = s.1; kind = kind; fewer = (let e = s.2 in omega arith) }, ended_back now left h.0 h.1)
-  finished view limit idle (Err (blocks.Why why.Read)) le is h =
+  finished given end limit idle (Err (blocks.Why why.Read)) le few is h =
       let s = front_some g in let b = failed_back now left h in let lt = b.1 in
       (record { bytes = s.0; takes = s.1; kind = kind; fewer = (let e = s.2 in omega arith) }, b.0)
-  finished view limit idle (Err (blocks.Why why.InputTooLong)) le is h =
+  finished given end limit idle (Err (blocks.Why why.InputTooLong)) le few is h =
       let s = front_some g in let b = too_long_back now left h in let lt = b.1 in
       (record { bytes = s.0; takes = s.1; kind = kind; fewer = (let e = s.2 in omega arith) }, b.0)
-  finished view limit idle (Err (blocks.Why _)) le is h = absurd h
+  finished given end limit idle (Err (blocks.Why _)) le few is h = absurd h
 
 -- a source's bytes weren't inflated
 module _ (head : BlockHead) {start m : Script} {name same : GName} {unread : ℕ} (old mid : Spot)
@@ -117,28 +129,27 @@ module _ (head : BlockHead) {start m : Script} {name same : GName} {unread : ℕ
   fronts : {bytes : List ℕ} → Takes old.script bytes mid.script → Takes (front_script start head.deflated) bytes (front_script m unread)
   fronts {bytes} k = subst (λ (s : Script). Takes (front_script start head.deflated) bytes s) (sym after) (subst (λ (s : Script). Takes s bytes mid.script) before k)
 
-  bad : Through old mid (λ a b. Nothing IsDeflated a) → Tells head (λ bytes. Nothing IsDeflated (bits_of bytes)) start m
-  bad t = let l = front_count f (fronts t.takes) in record {
+  -- what is so whatever comes behind what was taken
+  tells : (P : List ℕ → Type 0) → Through old mid (λ a b. P a) → Tells head (λ bytes. P (bits_of bytes)) start m
+  tells P t = let l = front_count f (fronts t.takes) in record {
     bytes = t.bytes;
     takes = front_back f (fronts t.takes);
     kind = kind;
     within = omega arith;
-    all = λ more e. subst (λ (p : List ℕ). Nothing IsDeflated (p ++ bits_of (t.bytes ++ more))) none (t.all more);
+    all = λ more e. subst (λ (p : List ℕ). P (p ++ bits_of (t.bytes ++ more))) none (t.all more);
   }
 
-  unfinished : CutShort old mid (λ a. Nothing IsDeflated a) → unread ≡ 0 → Tells head (λ bytes. Nothing IsDeflated (bits_of bytes)) start m
-  unfinished t z =
-      let l = front_count f (fronts t.takes) in
-      let full : length t.bytes ≡ head.deflated = omega arith in record {
-        bytes = t.bytes;
-        takes = front_back f (fronts t.takes);
-        kind = kind;
-        within = omega arith;
-        all = λ more e.
-            let n : more ≡ [] = no_more t.bytes more head.deflated full (omega arith) in
-            let j : t.bytes ≡ t.bytes ++ more = sym (ap (λ (x : List ℕ). t.bytes ++ x) n ∙ append-nil t.bytes) in
-            subst (λ (x : List ℕ). Nothing IsDeflated (bits_of x)) j (subst (λ (p : List ℕ). Nothing IsDeflated (p ++ bits_of t.bytes)) none t.all);
-      }
+  unfinished : (put : List ℕ) → CutShort old mid (λ a. Nothing IsDeflated a × IsCutOff put a) → unread ≡ 0 → TakesAll head (λ bytes. IsUnfinished put bytes) start m
+  unfinished put t z = let l = front_count f (fronts t.takes) in record {
+    bytes = t.bytes;
+    takes = front_back f (fronts t.takes);
+    kind = kind;
+    whole = omega arith;
+    is = record {
+      none = subst (λ (p : List ℕ). Nothing IsDeflated (p ++ bits_of t.bytes)) none t.all.0;
+      given = subst (λ (p : List ℕ). IsCutOff put (p ++ bits_of t.bytes)) none t.all.1;
+    };
+  }
 
   stops : 0 < unread → Stops head start m
   stops lt = let s = front_some f in let e = s.2 in record { bytes = s.0; takes = s.1; kind = kind; fewer = omega arith }
@@ -146,16 +157,24 @@ module _ (head : BlockHead) {start m : Script} {name same : GName} {unread : ℕ
   somehow : Tells head (λ bytes. Unit {0}) start m
   somehow = let s = front_some f in let e = s.2 in record { bytes = s.0; takes = s.1; kind = kind; within = omega arith; all = λ more e. tt }
 
-  pub refused : (limit : ℕ) (why : Fault) (fault : BlockFault) → FaultOf head limit unread why fault → FailsOn IsDeflated old mid why → FailsBlock head limit start fault m
-  refused limit (faults.Bad flaw) blocks.Deflate h t = bad t
-  refused limit faults.Cut blocks.Deflate h t = unfinished t h
-  refused limit faults.Cut (blocks.Why why.Truncated) h t = (stops h, ended_back m unread h (subst IsAtEnd (sym after) t.ended))
-  refused limit (faults.Source Device) (blocks.Why why.Read) h t = let b = failed_back m unread (subst HasFailed (sym after) t) in (stops b.1, b.0)
-  refused limit (faults.Source TooLong) (blocks.Why why.InputTooLong) h t = let b = too_long_back m unread (subst IsTooLong (sym after) t) in (stops b.1, b.0)
-  refused limit faults.Memory (blocks.Why why.Memory) h t = somehow
-  refused limit faults.Full blocks.Full h t = somehow
-  refused limit faults.Full blocks.Length h t = inr somehow
-  refused limit _ _ h t = absurd h
+  refused : (limit stop : ℕ) (why : Fault) (put : List ℕ) (fault : BlockFault) → stop ≡ min limit head.inflated → FaultOf head limit why fault → (why ≡ faults.Cut → 0 < unread)
+      → FailsWithin stop IsDeflated IsCutOff old why put mid → FailsBlock head limit start fault m
+  refused limit stop (faults.Bad flaw) put blocks.Deflate is h cut t = tells (λ a. Nothing IsDeflated a) t
+  refused limit stop faults.Cut put (blocks.Why why.Truncated) is h cut t = (stops (cut refl), ended_back m unread (cut refl) (subst IsAtEnd (sym after) t.ended))
+  refused limit stop (faults.Source Device) put (blocks.Why why.Read) is h cut t = let b = failed_back m unread (subst HasFailed (sym after) t) in (stops b.1, b.0)
+  refused limit stop (faults.Source TooLong) put (blocks.Why why.InputTooLong) is h cut t = let b = too_long_back m unread (subst IsTooLong (sym after) t) in (stops b.1, b.0)
+  refused limit stop faults.Memory put (blocks.Why why.Memory) is h cut t = somehow
+  refused limit stop faults.Full put blocks.Full is h cut t = (h, tells (λ a. Longer limit IsDeflated a) (subst (λ (n : ℕ). Through old mid (λ a b. Longer n IsDeflated a)) (is ∙ omega arith) t))
+  refused limit stop faults.Full put blocks.Length is h cut t = tells (λ a. Longer head.inflated IsDeflated a) (subst (λ (n : ℕ). Through old mid (λ a b. Longer n IsDeflated a)) (is ∙ omega arith) t)
+  refused limit stop _ put _ is h cut t = absurd h
+
+  pub cut : {X : Type 0} (given : X → List ℕ) (end : X → BlockEnd) (limit stop : ℕ) (why : Fault) (put : List ℕ) (result : Result X BlockFault) → stop ≡ min limit head.inflated
+      → EndOf given end head limit unread why put result → FailsWithin stop IsDeflated IsCutOff old why put mid → ReadsBlock given end head limit start result m
+  cut given end limit stop why put (Ok x) is h t =
+      let c : CutShort old mid (λ a. Nothing IsDeflated a × IsCutOff put a) = subst (λ (w : Fault). FailsWithin stop IsDeflated IsCutOff old w put mid) h.1 t in
+      subst (λ (e : BlockEnd). EndsBlock head limit start (given x) e m) (sym h.2)
+      (subst (λ (d : List ℕ). TakesAll head (λ bytes. IsUnfinished d bytes) start m) (sym h.3) (unfinished put c h.0))
+  cut given end limit stop why put (Err fault) is h t = refused limit stop why put fault is h.0 h.1 t
 
 -- ---- bytes that are passed over
 
@@ -191,13 +210,14 @@ no_blocks : (via : List (List ℕ)) (before after end : List ℕ) → Chain (IsB
 no_blocks [] before after end h = no_block 1 before after end h
 no_blocks (next ∷ via) before after end h = no_block 0 before next h.0 h.1
 
-pub no_bytes : (head : BlockHead) (s : Script) → head.kind ≡ 0 → head.deflated ≡ 0 → Tells head (λ bytes. Nothing IsDeflated (bits_of bytes)) s s
-no_bytes head s kind none = record {
+pub no_bytes : (head : BlockHead) (s : Script) (put : List ℕ) → head.kind ≡ 0 → head.deflated ≡ 0 → put ≡ [] → TakesAll head (λ bytes. IsUnfinished put bytes) s s
+no_bytes head s put kind none empty = record {
   bytes = [];
   takes = Takes-none s;
   kind = kind;
-  within = omega arith;
-  all = λ more e.
-      let n : [] ≡ more = sym (no_more [] more 0 refl (omega arith)) in
-      subst (λ (x : List ℕ). Nothing IsDeflated (bits_of x)) n (record { none = λ after end h. no_blocks h.via [] after end h.chain });
+  whole = omega arith;
+  is = record {
+    none = record { none = λ after end h. no_blocks h.via [] after end h.chain };
+    given = record { via = []; chain = inl (record { none = record { none = λ n end h. let e = h.3.first in absurd cc }; same = empty }) };
+  };
 }

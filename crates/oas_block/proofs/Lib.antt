@@ -1,3 +1,4 @@
 pub mod FrontLemmas
 pub mod BlockLemmas
 pub mod OneLemmas
+pub mod StandsLemmas

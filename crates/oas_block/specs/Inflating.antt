@@ -7,6 +7,8 @@ use Rattle.oas_num.specs.SourceFault.TheVariants.{Device, TooLong}
 use Rattle.oas_inflate.specs.declared.faults.Fault.{Fault}
 use Rattle.oas_inflate.specs.declared.faults.Fault.TheVariants as faults
 use Rattle.oas_wide.specs.declared.blocks.BlockHead.{BlockHead}
+use Rattle.oas_block.specs.declared.block.BlockEnd.{BlockEnd}
+use Rattle.oas_block.specs.declared.block.BlockEnd.TheVariants as ends
 use Rattle.oas_block.specs.declared.faults.BlockFault.{BlockFault}
 use Rattle.oas_block.specs.Fronts.{front_script}
 use Rattle.oas_block.specs.declared.faults.BlockFault.TheVariants as blocks
@@ -37,29 +39,35 @@ pub record IsWhole (plain : List ℕ) (inflated unread idle : ℕ) : Type 0 wher
   pub read : unread ≡ 0
   pub few : idle < 8
 
-abbrev pub Judges : {X : Type 0} → (X → List ℕ) → List ℕ → ℕ → ℕ → ℕ → Result X BlockFault → Type 0
-Judges view plain inflated unread idle (Ok x) = (view x ≡ plain) × IsWhole plain inflated unread idle
-Judges view plain inflated unread idle (Err blocks.Length) = (length plain ≢ inflated) ⊎ ((0 < unread) ⊎ (8 ≤ idle))
-Judges view plain inflated unread idle (Err _) = ⊥
+-- as they are to be, or not
+abbrev pub IsJudged : List ℕ → BlockEnd → ℕ → ℕ → ℕ → Type 0
+IsJudged plain ends.Whole inflated unread idle = IsWhole plain inflated unread idle
+IsJudged plain ends.Other inflated unread idle = (length plain ≢ inflated) ⊎ ((0 < unread) ⊎ (8 ≤ idle))
+IsJudged plain ends.Unfinished inflated unread idle = ⊥
+
+abbrev pub Judges : List ℕ → BlockEnd → List ℕ → ℕ → ℕ → ℕ → Type 0
+Judges given end plain inflated unread idle = (given ≡ plain) × IsJudged plain end inflated unread idle
 
 -- What is left of a block was taken, of which the stream was for these bytes and left so many bits.
-abbrev pub Finishes : {X : Type 0} → (X → List ℕ) → List ℕ → ℕ → ℕ → Script → ℕ → Result X BlockFault → Script → ℕ → Type 0
-Finishes view plain inflated idle old unread (Ok x) new left = Passed (front_script old unread) (front_script new left) × (left ≡ 0) × (view x ≡ plain) × IsWhole plain inflated unread idle
-Finishes view plain inflated idle old unread (Err blocks.Length) new left =
-    Passed (front_script old unread) (front_script new left) × (left ≡ 0) × ((length plain ≢ inflated) ⊎ ((0 < unread) ⊎ (8 ≤ idle)))
-Finishes view plain inflated idle old unread (Err (blocks.Why why.Truncated)) new left = (0 < left) × IsAtEnd (front_script new left)
-Finishes view plain inflated idle old unread (Err (blocks.Why why.Read)) new left = HasFailed (front_script new left)
-Finishes view plain inflated idle old unread (Err (blocks.Why why.InputTooLong)) new left = IsTooLong (front_script new left)
-Finishes view plain inflated idle old unread (Err _) new left = ⊥
+abbrev pub Finishes : {X : Type 0} → (X → List ℕ) → (X → BlockEnd) → List ℕ → ℕ → ℕ → Script → ℕ → Result X BlockFault → Script → ℕ → Type 0
+Finishes given end plain inflated idle old unread (Ok x) new left = Passed (front_script old unread) (front_script new left) × (left ≡ 0) × Judges (given x) (end x) plain inflated unread idle
+Finishes given end plain inflated idle old unread (Err (blocks.Why why.Truncated)) new left = (0 < left) × IsAtEnd (front_script new left)
+Finishes given end plain inflated idle old unread (Err (blocks.Why why.Read)) new left = HasFailed (front_script new left)
+Finishes given end plain inflated idle old unread (Err (blocks.Why why.InputTooLong)) new left = IsTooLong (front_script new left)
+Finishes given end plain inflated idle old unread (Err _) new left = ⊥
 
--- what a fault of inflating means for a block, of which so many bytes weren't taken
-abbrev pub FaultOf : BlockHead → ℕ → ℕ → Fault → BlockFault → Type 0
-FaultOf head limit left (faults.Bad flaw) blocks.Deflate = Unit {0}
-FaultOf head limit left faults.Cut blocks.Deflate = left ≡ 0
-FaultOf head limit left faults.Cut (blocks.Why why.Truncated) = 0 < left
-FaultOf head limit left (faults.Source Device) (blocks.Why why.Read) = Unit {0}
-FaultOf head limit left (faults.Source TooLong) (blocks.Why why.InputTooLong) = Unit {0}
-FaultOf head limit left faults.Memory (blocks.Why why.Memory) = Unit {0}
-FaultOf head limit left faults.Full blocks.Full = limit < head.inflated
-FaultOf head limit left faults.Full blocks.Length = head.inflated ≤ limit
-FaultOf head limit left _ _ = ⊥
+-- what a fault of inflating means for a block, of which not all bytes were taken where they ended
+abbrev pub FaultOf : BlockHead → ℕ → Fault → BlockFault → Type 0
+FaultOf head limit (faults.Bad flaw) blocks.Deflate = Unit {0}
+FaultOf head limit faults.Cut (blocks.Why why.Truncated) = Unit {0}
+FaultOf head limit (faults.Source Device) (blocks.Why why.Read) = Unit {0}
+FaultOf head limit (faults.Source TooLong) (blocks.Why why.InputTooLong) = Unit {0}
+FaultOf head limit faults.Memory (blocks.Why why.Memory) = Unit {0}
+FaultOf head limit faults.Full blocks.Full = limit < head.inflated
+FaultOf head limit faults.Full blocks.Length = head.inflated ≤ limit
+FaultOf head limit _ _ = ⊥
+
+-- the same of a block of which so many bytes weren't taken
+abbrev pub EndOf : {X : Type 0} → (X → List ℕ) → (X → BlockEnd) → BlockHead → ℕ → ℕ → Fault → List ℕ → Result X BlockFault → Type 0
+EndOf given end head limit left why bytes (Ok x) = (left ≡ 0) × (why ≡ faults.Cut) × (end x ≡ ends.Unfinished) × (given x ≡ bytes)
+EndOf given end head limit left why bytes (Err fault) = FaultOf head limit why fault × (why ≡ faults.Cut → 0 < left)

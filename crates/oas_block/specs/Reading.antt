@@ -4,8 +4,11 @@ use Rattle.oas_num.specs.declared.refusals.Why.TheVariants.{Truncated, Read, Inp
 use Rattle.oas_num.specs.Script.{Script, Takes, IsAtEnd, HasFailed, IsTooLong}
 use Rattle.oas_inflate.specs.Bits.{bits_of}
 use Rattle.oas_inflate.specs.Deflate.{IsDeflated}
-use Rattle.oas_inflate.specs.Reading.{Found, Nothing}
+use Rattle.oas_inflate.specs.Cut.{IsCutOff}
+use Rattle.oas_inflate.specs.Reading.{Found, Nothing, Longer}
 use Rattle.oas_wide.specs.declared.blocks.BlockHead.{BlockHead}
+use Rattle.oas_block.specs.declared.block.BlockEnd.{BlockEnd}
+use Rattle.oas_block.specs.declared.block.BlockEnd.TheVariants.{Whole, Unfinished, Other}
 use Rattle.oas_block.specs.declared.faults.BlockFault.{BlockFault}
 use Rattle.oas_block.specs.declared.faults.BlockFault.TheVariants.{Kind, Length, Deflate, Why, Full}
 use Rattle.oas_block.specs.Blocks.{StandsFor}
@@ -16,6 +19,14 @@ pub record IsRead (head : BlockHead) (limit : ℕ) (old : Script) (plain : List 
   pub takes : Takes old bytes new
   pub block : StandsFor head bytes plain
   pub within : length plain ≤ limit
+
+-- All bytes of the block were taken, and this holds of them.
+pub record TakesAll (head : BlockHead) (P : List ℕ → Type 0) (old new : Script) : Type 0 where
+  pub bytes : List ℕ
+  pub takes : Takes old bytes new
+  pub kind : head.kind ≡ 0
+  pub whole : length bytes ≡ head.deflated
+  pub is : P bytes
 
 -- Bytes of the block were taken, and this holds of all its bytes, whatever those are that are left.
 pub record Tells (head : BlockHead) (P : List ℕ → Type 0) (old new : Script) : Type 0 where
@@ -32,23 +43,29 @@ pub record Stops (head : BlockHead) (old new : Script) : Type 0 where
   pub kind : head.kind ≡ 0
   pub fewer : length bytes < head.deflated
 
--- a stream stands there, but for another number of bytes, or some bytes are left behind it
-pub record IsOther (head : BlockHead) (bytes : List ℕ) : Type 0 where
-  pub plain : List ℕ
+-- no stream is finished there, and the plain bytes are those that it gives before the bytes end
+pub record IsUnfinished (plain bytes : List ℕ) : Type 0 where
+  pub none : Nothing IsDeflated (bits_of bytes)
+  pub given : IsCutOff plain (bits_of bytes)
+
+-- a stream stands there for the plain bytes, but those are fewer than the head says, or some bytes are left behind it
+pub record IsOther (head : BlockHead) (plain bytes : List ℕ) : Type 0 where
   pub left : List ℕ
   pub found : Found IsDeflated plain (bits_of bytes) left
-  pub other : (length plain ≢ head.inflated) ⊎ (8 ≤ length left)
+  pub other : (length plain < head.inflated) ⊎ (8 ≤ length left)
 
--- inflating was stopped, since there was more than may be
-abbrev pub IsStopped : BlockHead → ℕ → Script → Script → Type 0
-IsStopped head limit = Tells head (λ bytes. Unit {0})
+-- how the stream of a block's bytes ends that were all taken
+abbrev pub EndsBlock : BlockHead → ℕ → Script → List ℕ → BlockEnd → Script → Type 0
+EndsBlock head limit old plain Whole new = IsRead head limit old plain new
+EndsBlock head limit old plain Unfinished new = TakesAll head (λ bytes. IsUnfinished plain bytes) old new
+EndsBlock head limit old plain Other new = TakesAll head (λ bytes. IsOther head plain bytes) old new
 
 -- why a block isn't read
 abbrev pub FailsBlock : BlockHead → ℕ → Script → BlockFault → Script → Type 0
 FailsBlock head limit old Kind new = (head.kind ≢ 0) × Takes old [] new
-FailsBlock head limit old Length new = Tells head (λ bytes. IsOther head bytes) old new ⊎ IsStopped head limit old new
+FailsBlock head limit old Length new = Tells head (λ bytes. Longer head.inflated IsDeflated (bits_of bytes)) old new
 FailsBlock head limit old Deflate new = Tells head (λ bytes. Nothing IsDeflated (bits_of bytes)) old new
-FailsBlock head limit old Full new = IsStopped head limit old new
+FailsBlock head limit old Full new = (limit < head.inflated) × Tells head (λ bytes. Longer limit IsDeflated (bits_of bytes)) old new
 FailsBlock head limit old (Why Truncated) new = Stops head old new × IsAtEnd new
 FailsBlock head limit old (Why Read) new = Stops head old new × HasFailed new
 FailsBlock head limit old (Why InputTooLong) new = Stops head old new × IsTooLong new
@@ -56,6 +73,6 @@ FailsBlock head limit old (Why Memory) new = Tells head (λ bytes. Unit {0}) old
 FailsBlock head limit old (Why _) new = ⊥
 
 -- A block of this head is read, whose plain bytes are seen as a list.
-abbrev pub ReadsBlock : {X : Type 0} → (X → List ℕ) → BlockHead → ℕ → Script → Result X BlockFault → Script → Type 0
-ReadsBlock view head limit old (Ok x) new = IsRead head limit old (view x) new
-ReadsBlock view head limit old (Err fault) new = FailsBlock head limit old fault new
+abbrev pub ReadsBlock : {X : Type 0} → (X → List ℕ) → (X → BlockEnd) → BlockHead → ℕ → Script → Result X BlockFault → Script → Type 0
+ReadsBlock given end head limit old (Ok x) new = EndsBlock head limit old (given x) (end x) new
+ReadsBlock given end head limit old (Err fault) new = FailsBlock head limit old fault new

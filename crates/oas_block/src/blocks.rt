@@ -1,31 +1,35 @@
 //! Reading a block into memory.
 ghost use Rattle.std.specs.Prelude.{◌≡◌, ◌≢◌, ◌<◌, min, List, ℕ};
 ghost use Rattle.oas_block.specs.Reading.{ReadsBlock};
-ghost use Rattle.oas_block.specs.Inflating.{PassesByte, Passes, Finishes, Judges, FaultOf};
+ghost use Rattle.oas_block.specs.Inflating.{PassesByte, Passes, Finishes, Judges, FaultOf, EndOf};
 
+use crate::block::{Block, BlockEnd};
 use crate::faults::BlockFault;
 use crate::fronts::{FrontSource, Start};
-use oas_inflate::{Bits, Fault, inflate};
+use oas_inflate::{Bits, Fault, Stopped, inflate};
 use oas_num::{Source, SourceFault, Why};
 use oas_wide::BlockHead;
 use std::alloc::Global;
 use std::marker::{Brand, PhantomData};
 
-/// The data that a block's bytes stand for, at most as many bytes as a limit (SEMI P39, CBLOCK record). They begin where the
-/// source stands, behind the head.
+/// The data that a block's bytes stand for, at most as many bytes as a limit (SEMI P39, CBLOCK record), or those that its
+/// stream gives where it doesn't end as it should. The bytes begin where the source stands, behind the head.
 pub fn read_block<S: Source>(
     alloc: Global,
     source: &mut S,
     head: BlockHead,
     limit: usize,
-) -> Result<Vec<u8>, BlockFault>
-    ensures { ReadsBlock (λ plain. plain.items) head limit (S.script source.old) result (S.script source.new) }
+) -> Result<Block, BlockFault>
+    ensures { ReadsBlock (λ block. block.«data».items) (λ block. block.end) head limit (S.script source.old) result (S.script source.new) }
 {
     if head.kind != 0 {
         return Err(BlockFault::Kind);
     }
     if head.deflated == 0 {
-        return Err(BlockFault::Deflate);
+        return Ok(Block {
+            data: Vec::new(alloc),
+            end: BlockEnd::Unfinished,
+        });
     }
     let (read, _source) = read_named::<S, Brand>(alloc, source, head, limit);
     read
@@ -37,14 +41,14 @@ fn read_named<'a, S: Source, K: Start>(
     source: &'a mut S,
     head: BlockHead,
     limit: usize,
-) -> (Result<Vec<u8>, BlockFault>, &'a mut S)
+) -> (Result<Block, BlockFault>, &'a mut S)
     requires named { source.ghost_name ≡ K.name }
     requires starts { S.script source.old ≡ K.script }
     requires count { head.deflated ≡ K.count }
     requires kind { head.kind ≡ 0 }
     requires some { 0 < head.deflated }
     ensures same { result.1.ghost_name ≡ source.entry.ghost_name }
-    ensures reads { ReadsBlock (λ plain. plain.items) head limit (S.script source.old) result.0 (S.script result.1.now) }
+    ensures reads { ReadsBlock (λ block. block.«data».items) (λ block. block.end) head limit (S.script source.old) result.0 (S.script result.1.now) }
 {
     let front: FrontSource<'a, S, K> = FrontSource {
         source,
@@ -57,7 +61,7 @@ fn read_named<'a, S: Source, K: Start>(
     let mut front = bits.into_source();
     let read = match outcome {
         Ok(plain) => finish(&mut front, plain, head, idle),
-        Err(fault) => Err(fault_of(fault, head, limit, front.left)),
+        Err(stopped) => cut_off(stopped, head, limit, front.left),
     };
     let FrontSource {
         source,
@@ -67,14 +71,14 @@ fn read_named<'a, S: Source, K: Start>(
     (read, source)
 }
 
-/// Takes what is left of a block behind its stream, and gives what that stands for, if it is what the head says.
+/// Takes what is left of a block behind its stream, and gives what that stands for.
 fn finish<'a, S: Source, K: Start>(
     front: &mut FrontSource<'a, S, K>,
     plain: Vec<u8>,
     head: BlockHead,
     idle: u8,
-) -> Result<Vec<u8>, BlockFault>
-    ensures { Finishes (λ plain. plain.items) plain.items head.inflated idle (S.script front.old.source.now) front.old.left result (S.script front.new.source.now) front.new.left }
+) -> Result<Block, BlockFault>
+    ensures { Finishes (λ block. block.«data».items) (λ block. block.end) plain.items head.inflated idle (S.script front.old.source.now) front.old.left result (S.script front.new.source.now) front.new.left }
 {
     let unread = front.left;
     if let Err(why) = pass(front) {
@@ -83,7 +87,7 @@ fn finish<'a, S: Source, K: Start>(
     if front.left > 0 {
         return Err(BlockFault::Why(Why::Truncated));
     }
-    judged(plain, head, unread, idle)
+    Ok(judged(plain, head, unread, idle))
 }
 
 /// Where inflating stops: at the limit, or where the data would be longer than the head says.
@@ -116,14 +120,26 @@ fn pass<S: Source>(source: &mut S) -> Result<(), Why>
     Ok(())
 }
 
-/// Why a block isn't read that wasn't inflated, where so many of its bytes weren't taken.
-fn fault_of(fault: Fault, head: BlockHead, limit: usize, left: u64) -> BlockFault
-    ensures { FaultOf head limit left fault result }
+/// What a block is whose stream isn't finished: what was given, where all its bytes were taken, or why it isn't read.
+fn cut_off(stopped: Stopped, head: BlockHead, limit: usize, left: u64) -> Result<Block, BlockFault>
+    ensures { EndOf (λ block. block.«data».items) (λ block. block.end) head limit left stopped.fault stopped.bytes.items result }
+{
+    match stopped.fault {
+        Fault::Cut if left == 0 => Ok(Block {
+            data: stopped.bytes,
+            end: BlockEnd::Unfinished,
+        }),
+        fault => Err(fault_of(fault, head, limit)),
+    }
+}
+
+/// Why a block isn't read that wasn't inflated. Where its bytes ended too early, the input did.
+fn fault_of(fault: Fault, head: BlockHead, limit: usize) -> BlockFault
+    ensures { FaultOf head limit fault result }
 {
     match fault {
         Fault::Bad(_) => BlockFault::Deflate,
-        Fault::Cut if left > 0 => BlockFault::Why(Why::Truncated),
-        Fault::Cut => BlockFault::Deflate,
+        Fault::Cut => BlockFault::Why(Why::Truncated),
         Fault::Source(SourceFault::Device) => BlockFault::Why(Why::Read),
         Fault::Source(SourceFault::TooLong) => BlockFault::Why(Why::InputTooLong),
         Fault::Memory => BlockFault::Why(Why::Memory),
@@ -132,14 +148,15 @@ fn fault_of(fault: Fault, head: BlockHead, limit: usize, left: u64) -> BlockFaul
     }
 }
 
-/// The bytes that a stream stands for, if they are what a head says: as many as that, with no byte unread behind the stream,
-/// and fewer bits than eight.
-fn judged(plain: Vec<u8>, head: BlockHead, unread: u64, idle: u8) -> Result<Vec<u8>, BlockFault>
-    ensures { Judges (λ plain. plain.items) plain.items head.inflated unread idle result }
+/// The bytes that a stream stands for, and whether they are what a head says: as many as that, with no byte unread behind the
+/// stream, and fewer bits than eight.
+fn judged(plain: Vec<u8>, head: BlockHead, unread: u64, idle: u8) -> Block
+    ensures { Judges result.«data».items result.end plain.items head.inflated unread idle }
 {
-    if plain.len() as u64 == head.inflated && unread == 0 && idle < 8 {
-        Ok(plain)
+    let end = if plain.len() as u64 == head.inflated && unread == 0 && idle < 8 {
+        BlockEnd::Whole
     } else {
-        Err(BlockFault::Length)
-    }
+        BlockEnd::Other
+    };
+    Block { data: plain, end }
 }

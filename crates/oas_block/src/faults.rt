@@ -5,9 +5,9 @@ use oas_num::Why;
 pub enum BlockFault {
     /// The kind of compression isn't 0.
     Kind,
-    /// The stream stands for other than the stated number of bytes, or doesn't use just the stated number.
+    /// The stream stands for more bytes than the head says.
     Length,
-    /// The bytes are no deflated stream, or one that isn't finished.
+    /// No deflated stream begins like the bytes.
     Deflate,
     /// The input ended or stopped within the block, or there was no memory.
     Why(Why),

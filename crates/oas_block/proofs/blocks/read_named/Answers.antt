@@ -1,5 +1,5 @@
 use Rattle.std.proofs.Common.{arith}
-use Rattle.oas_block.proofs.BlockLemmas.{finished, refused}
+use Rattle.oas_block.proofs.BlockLemmas.{finished, cut}
 use Rattle.oas_block.proofs.blocks.read_named.Goals.{in-Ok, in-Err}
 use Rattle.oas_block.proofs.blocks.read_named.Goals as goal
 
@@ -10,9 +10,10 @@ returns-clause-reads g c =
       | in-Ok w ↦
           let now = rw (← c.requires.starts, ← c.requires.count) at w.finish-read.new.front.front in
           rw (w.read-is, w.front-is) (finished c.args.head c.new-bits.result c.inflate-outcome.new.source _ c.requires.kind c.new-bits.ensures.script
-          c.new-bits.ensures.pending c.into_source-front.ensures front now w.in-Ok.ensures.reads (λ plain. plain.items) c.args.limit _ _
-          (omega (arith, w.in-Ok.ensures.within, c.stop_at.ensures)) c.left-idle.ensures w.finish-read.ensures)
+          c.new-bits.ensures.pending c.into_source-front.ensures front now w.in-Ok.ensures.gives (λ block. block.«data».items) (λ block. block.end) c.args.limit _ _
+          (omega (arith, w.in-Ok.ensures.within, c.stop_at.ensures)) (omega (arith, w.in-Ok.ensures.within, c.stop_at.ensures)) c.left-idle.ensures
+          w.finish-read.ensures)
       | in-Err w ↦
-          rw (w.read-is, w.front-is) (refused c.args.head c.new-bits.result c.inflate-outcome.new.source c.requires.kind c.new-bits.ensures.script
-          c.new-bits.ensures.pending c.into_source-front.ensures front c.args.limit _ _ w.fault_of.ensures w.in-Err.ensures.reads)
+          rw (w.read-is, w.front-is) (cut c.args.head c.new-bits.result c.inflate-outcome.new.source c.requires.kind c.new-bits.ensures.script
+          c.new-bits.ensures.pending c.into_source-front.ensures front (λ block. block.«data».items) (λ block. block.end) c.args.limit _ _ _ _ c.stop_at.ensures w.cut_off-read.ensures w.in-Err.ensures.gives)
     ]

@@ -1,0 +1,18 @@
+/// A block's data, and how its stream ends.
+#[derive(Debug, PartialEq, Eq, Drop)]
+pub struct Block {
+    pub data: Vec<u8>,
+    pub end: BlockEnd,
+}
+
+/// How the stream of a block's bytes ends, which were all taken.
+#[derive(Clone, Copy, Debug, PartialEq, Eq)]
+pub enum BlockEnd {
+    /// As it should: the data are what the block stands for.
+    Whole,
+    /// It isn't finished: the data are those that it gave before the block's bytes ended.
+    Unfinished,
+    /// It is finished, and stands for fewer bytes than the head says, or leaves bytes of the block over: the data are what it
+    /// stands for.
+    Other,
+}
