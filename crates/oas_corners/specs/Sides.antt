@@ -1,5 +1,5 @@
 -- The box of a CTRAPEZOID (SEMI P39, CTRAPEZOID record).
-use Rattle.std.specs.Prelude.{◌≡◌, ℕ, ◌*◌, ◌^◌, ◌≤◌, Bool, ◌||◌, ◌&&◌, ◌==◌, nat_lt, nat_le, Option, Some, None, Result, Ok, Err, IfSome, ◌⊎◌, if◌then◌else◌}
+use Rattle.std.specs.Prelude.{◌≡◌, ℕ, ◌*◌, ◌^◌, ◌≤◌, Bool, ◌||◌, ◌&&◌, ◌==◌, nat_lt, nat_le, Option, Some, None, Result, Ok, Err, IfSome, IsSomeAnd, ◌⊎◌, if◌then◌else◌}
 use Rattle.oas_corners.specs.declared.sides.Sides.{Sides}
 use Rattle.oas_corners.specs.declared.sides.Unsided.{Unsided}
 use Rattle.oas_corners.specs.declared.sides.Unsided.TheVariants.{Undefined, TooLong}
@@ -45,7 +45,7 @@ IsTooLong s = (2 ^ 64 ≤ s.width) ⊎ (2 ^ 64 ≤ s.height)
 abbrev pub IsSides : ℕ → Option ℕ → Option ℕ → Result Sides Unsided → Type 0
 IsSides kind w h (Ok s) = box_of kind w h ≡ Some s
 IsSides kind w h (Err Undefined) = box_of kind w h ≡ None
-IsSides kind w h (Err TooLong) = IfSome (box_of kind w h) (λ s. IsTooLong s)
+IsSides kind w h (Err TooLong) = IsSomeAnd (box_of kind w h) (λ s. IsTooLong s)
 
 -- a side that is given is that of the box
 abbrev pub Agree : Sides → Option ℕ → Option ℕ → Type 0

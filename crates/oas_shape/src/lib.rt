@@ -25,6 +25,7 @@ mod list_use;
 mod offset_list;
 mod offsets;
 mod places;
+mod plain_lists;
 mod point_list;
 mod repetitions;
 mod steps;

@@ -1,0 +1,6 @@
+pub mod Grids
+pub mod StepLemmas
+pub mod BoxLemmas
+pub mod LawLemmas
+pub mod ModalLemmas
+pub mod DrawLemmas

@@ -1,0 +1,96 @@
+-- What follows from the rules by which records are handed out.
+use Rattle.std.specs.Prelude.{◌≡◌, Bool, false, cond, ◌&&◌, is_none, List, [], ◌∷◌, ◌++◌, map, Option, None, Result, Ok, Err}
+use Rattle.oas_num.specs.declared.deltas.GDelta.{GDelta}
+use Rattle.oas_ring.specs.declared.point.Point.{Point}
+use Rattle.oas_shape.specs.PointLists.{plain_line}
+use Rattle.oas_shape.specs.Polylines.{vertices_of}
+use Rattle.oas_record.specs.declared.references.CellRef.{CellRef}
+use Rattle.oas_record.specs.declared.records.Record.{Record}
+use Rattle.oas_record.specs.declared.records.Record.TheVariants as record_of
+use Rattle.oas_wide.specs.declared.records.WideRecord.{WideRecord}
+use Rattle.oas_wide.specs.declared.records.WideRecord.TheVariants.{Profile}
+use Rattle.oas_wide.specs.declared.reasons.WideWhy.{WideWhy}
+use Rattle.oas_drawing.specs.Positions.{IsNear}
+use Rattle.oas_drawing.specs.Modal.{ModalState, stepped}
+use Rattle.oas_drawing.specs.Drawing.{drawn_at, offsets_of}
+use Rattle.oas_foreign.specs.Tracked.{Tracked, fresh, tracked}
+use Rattle.oas_foreign.specs.Kept.{filled, is_geometry, lacks_points}
+use Rattle.oas_foreign.specs.Shapes.{steps_of}
+use Rattle.oas_foreign.specs.Steps.{handed_by, kept_after}
+
+-- one list and another, or why one of them is refused
+abbrev pub joined : Result (List Record) WideWhy → Result (List Record) WideWhy → Result (List Record) WideWhy
+joined (Ok rs) (Ok more) = Ok (rs ++ more)
+joined (Ok rs) (Err why) = Err why
+joined (Err why) rest = Err why
+
+-- what is handed out for records, one after another, or why the first is refused that is
+abbrev pub handed_all : Tracked → List WideRecord → Result (List Record) WideWhy
+handed_all s [] = Ok []
+handed_all s (w ∷ ws) = joined (handed_by s w) (handed_all (kept_after s w) ws)
+
+-- records of the profile alone are handed out as they are
+abbrev pub ProfileAsItIs : Type 0
+ProfileAsItIs = (rs : List Record) → handed_all fresh (map (λ (r : Record). Profile r) rs) ≡ Ok rs
+
+-- a CELL is handed out, and behind it all is as at the beginning
+abbrev pub CellBeginsAnew : Type 0
+CellBeginsAnew = (s : Tracked) (cell : CellRef) → (handed_by s (Profile (record_of.Cell cell)) ≡ Ok (record_of.Cell cell ∷ [])) × (kept_after s (Profile (record_of.Cell cell)) ≡ fresh)
+
+-- the vertices of a list of steps, from the first of some points on, are these points
+abbrev pub VerticesAreCorners : Type 0
+VerticesAreCorners = (p : Point) (ps : List Point) → vertices_of (plain_line (steps_of (p ∷ ps))) p ≡ p ∷ ps
+
+-- ---- the variables
+
+-- what is kept are the variables of the standard
+pub record AreKept (s : Tracked) (m : ModalState) : Type 0 where
+  pub layer : s.layer ≡ m.layer
+  pub datatype : s.datatype ≡ m.datatype
+  pub width : s.width ≡ m.width
+  pub height : s.height ≡ m.height
+  pub polygon_points : s.polygon_points ≡ m.polygon_points
+  pub repetition : s.repetition ≡ m.repetition
+  pub relative : s.place.relative ≡ m.relative
+  pub x : s.place.x ≡ m.geometry.x
+  pub y : s.place.y ≡ m.geometry.y
+
+-- They stay so over each record of the profile that isn't past the limits.
+abbrev pub KeepsVariables : Type 0
+KeepsVariables = (s : Tracked) (m : ModalState) (r : Record) → AreKept s m → IsNear (stepped m r).geometry → AreKept (tracked s r) (stepped m r)
+
+-- ---- what is drawn
+
+-- Whoever reads the records handed out has these variables where the standard has those: the same of those that only records handed
+-- out set, and of those that are shared none that the standard leaves undefined.
+pub record AreRead (reader standard : ModalState) : Type 0 where
+  pub cell : reader.cell ≡ standard.cell
+  pub string : reader.string ≡ standard.string
+  pub textlayer : reader.textlayer ≡ standard.textlayer
+  pub texttype : reader.texttype ≡ standard.texttype
+  pub path_points : reader.path_points ≡ standard.path_points
+  pub half_width : reader.half_width ≡ standard.half_width
+  pub start : reader.start ≡ standard.start
+  pub end : reader.end ≡ standard.end
+  pub radius : reader.radius ≡ standard.radius
+  pub relative : reader.relative ≡ standard.relative
+  pub placement : reader.placement ≡ standard.placement
+  pub text : reader.text ≡ standard.text
+  pub layer : standard.layer ≡ None → reader.layer ≡ None
+  pub datatype : standard.datatype ≡ None → reader.datatype ≡ None
+  pub width : standard.width ≡ None → reader.width ≡ None
+  pub height : standard.height ≡ None → reader.height ≡ None
+  pub repetition : standard.repetition ≡ None → reader.repetition ≡ None
+
+-- the variables by which a record is drawn: behind it, in the mode in which it is handed out
+abbrev pub drawing : ModalState → Record → Record → ModalState
+drawing reader r filled = stepped (record reader { relative = cond (is_geometry r) false reader.relative }) filled
+
+-- In a cell with trapezoids or geometry of extensions, each element of the profile draws what it draws by the standard: s are the
+-- variables that are kept behind it.
+pub record DrawsTheSame (s : Tracked) (reader standard : ModalState) (r : Record) : Type 0 where
+  pub element : (d : GDelta) → drawn_at (drawing reader r (filled s r)) (filled s r) d ≡ drawn_at (stepped standard r) r d
+  pub offsets : offsets_of (drawing reader r (filled s r)) (filled s r) ≡ offsets_of (stepped standard r) r
+
+abbrev pub DrawnAsByTheStandard : Type 0
+DrawnAsByTheStandard = (s : Tracked) (reader standard : ModalState) (r : Record) → AreRead reader standard → AreKept s (stepped standard r) → (lacks_points r && is_none s.polygon_points) ≡ false → DrawsTheSame s reader standard r

@@ -1,0 +1,32 @@
+-- Where geometry stands (SEMI P39, Modal variables: geometry-x, geometry-y, xy-mode).
+use Rattle.std.specs.Prelude.{ℤ, pos, ◌+ℤ◌, Bool, false, cond, ◌&&◌, Option, Some, None}
+use Rattle.std.specs.Int.{saturate_signed, w64}
+use Rattle.oas_corners.specs.declared.corners.Corner.{Corner}
+use Rattle.oas_layout.specs.Grid.{is_coordinate}
+use Rattle.oas_record.specs.declared.spots.Spot.{Spot}
+use Rattle.oas_ring.specs.declared.point.Point.{Point}
+use Rattle.oas_foreign.specs.declared.places.Place.{Place}
+
+-- as a CELL leaves it
+abbrev pub origin : Place
+origin = record { relative = false; x = pos 0; y = pos 0 }
+
+-- A coordinate after another may be given. One past 64 bits stands as the nearest that isn't.
+abbrev pub coordinate_after : Bool → ℤ → Option ℤ → ℤ
+coordinate_after relative at None = at
+coordinate_after relative at (Some z) = cond relative (saturate_signed w64 (at +ℤ z)) z
+
+-- the place after a record's coordinates
+abbrev pub place_after : Place → Spot → Place
+place_after place spot =
+    record place {
+      x = coordinate_after place.relative place.x spot.x;
+      y = coordinate_after place.relative place.y spot.y;
+    }
+
+abbrev pub is_on_grid : Place → Bool
+is_on_grid place = is_coordinate place.x && is_coordinate place.y
+
+-- where a corner of a box stands whose lower left corner stands there
+abbrev pub point_of : Place → Corner → Point
+point_of place corner = record { x = place.x +ℤ pos corner.x; y = place.y +ℤ pos corner.y }

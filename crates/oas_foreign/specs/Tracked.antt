@@ -1,0 +1,97 @@
+-- What is kept of the modal variables (SEMI P39, Modal variables): those that trapezoids and geometry of extensions share with other
+-- elements, and ctrapezoid-type.
+use Rattle.std.specs.Prelude.{ℕ, Bool, true, false, cond, List, [], ◌∷◌, Option, None, Some}
+use Rattle.std.specs.Option.{option_or}
+use Rattle.oas_shape.specs.declared.repetitions.Repetition.{Repetition}
+use Rattle.oas_shape.specs.declared.repetitions.RepField.{RepField}
+use Rattle.oas_shape.specs.Polylines.{Polyline}
+use Rattle.oas_record.specs.declared.polygons.Polygon.{Polygon}
+use Rattle.oas_record.specs.declared.rectangles.Rectangle.{Rectangle}
+use Rattle.oas_record.specs.declared.spots.Spot.{Spot}
+use Rattle.oas_record.specs.declared.records.Record.{Record}
+use Rattle.oas_record.specs.declared.records.Record.TheVariants as record_of
+use Rattle.oas_drawing.specs.Values.{new_repetition}
+use Rattle.oas_foreign.specs.declared.places.Place.{Place}
+use Rattle.oas_foreign.specs.declared.resolved.Resolved.{Resolved}
+use Rattle.oas_foreign.specs.declared.resolved.Resolved.TheVariants.{Nothing, One, Absolute}
+use Rattle.oas_foreign.specs.Places.{origin, place_after}
+
+pub record Tracked : Type 0 where
+  -- whether a trapezoid or geometry of an extension was there since the CELL
+  pub is_mixed : Bool
+  -- ctrapezoid-type
+  pub kind : Option ℕ
+  pub layer : Option ℕ
+  pub datatype : Option ℕ
+  pub width : Option ℕ
+  pub height : Option ℕ
+  pub polygon_points : Option Polyline
+  pub repetition : Option Repetition
+  pub place : Place
+
+-- as a CELL leaves them
+abbrev pub fresh : Tracked
+fresh =
+    record {
+      is_mixed = false;
+      kind = None;
+      layer = None;
+      datatype = None;
+      width = None;
+      height = None;
+      polygon_points = None;
+      repetition = None;
+      place = origin;
+    }
+
+-- ---- how records of the profile change them
+
+-- by a repetition field
+abbrev pub repeated_by : Tracked → Option RepField → Tracked
+repeated_by s field = record s { repetition = option_or (new_repetition field) s.repetition }
+
+-- by what all kinds of geometry give
+abbrev pub drawn_by : Tracked → Option ℕ → Option ℕ → Spot → Tracked
+drawn_by s layer datatype spot =
+    record s {
+      layer = option_or layer s.layer;
+      datatype = option_or datatype s.datatype;
+      repetition = option_or (new_repetition spot.repetition) s.repetition;
+      place = place_after s.place spot;
+    }
+
+-- a square gives its width as its height, which may be the modal one
+abbrev pub rectangle_drawn : Tracked → Rectangle → Tracked
+rectangle_drawn s r =
+    record (drawn_by s r.layer r.datatype r.spot) {
+      width = option_or r.width s.width;
+      height = option_or (cond r.square (option_or r.width s.width) r.height) s.height;
+    }
+
+abbrev pub polygon_drawn : Tracked → Polygon → Tracked
+polygon_drawn s p = record (drawn_by s p.layer p.datatype p.spot) { polygon_points = option_or p.points s.polygon_points }
+
+-- by a record of the profile
+abbrev pub tracked : Tracked → Record → Tracked
+tracked s (record_of.Cell c) = fresh
+tracked s record_of.XyAbsolute = record s { place = record s.place { relative = false } }
+tracked s record_of.XyRelative = record s { place = record s.place { relative = true } }
+tracked s (record_of.Placement p) = repeated_by s p.spot.repetition
+tracked s (record_of.Text t) = repeated_by s t.spot.repetition
+tracked s (record_of.Rectangle r) = rectangle_drawn s r
+tracked s (record_of.Polygon p) = polygon_drawn s p
+tracked s (record_of.Path p) = drawn_by s p.layer p.datatype p.spot
+tracked s (record_of.Circle c) = drawn_by s c.layer c.datatype c.spot
+tracked s _ = s
+
+-- ---- what is handed out
+
+-- the records, in their order
+abbrev pub handed : Resolved → List Record
+handed Nothing = []
+handed (One r) = r ∷ []
+handed (Absolute r) = record_of.XyAbsolute ∷ r ∷ record_of.XyRelative ∷ []
+
+-- a record with absolute coordinates, where the mode may be relative
+abbrev pub placed : Bool → Record → List Record
+placed relative r = cond relative (record_of.XyAbsolute ∷ r ∷ record_of.XyRelative ∷ []) (r ∷ [])

@@ -1,0 +1,28 @@
+//! What follows from the rules: each function's contract is a law, and its body is empty.
+ghost use Rattle.oas_foreign.specs.Laws.{ProfileAsItIs, CellBeginsAnew, VerticesAreCorners, KeepsVariables, DrawnAsByTheStandard};
+
+/// Records of the profile alone are handed out as they are.
+pub fn profile_alone()
+    ensures { ProfileAsItIs }
+{}
+
+/// A CELL is handed out, and behind it all is as at the beginning.
+pub fn cells()
+    ensures { CellBeginsAnew }
+{}
+
+/// The list of a trapezoid's polygon has the trapezoid's corners as its vertices, where the polygon stands.
+pub fn corners()
+    ensures { VerticesAreCorners }
+{}
+
+/// What is kept are the variables of the standard, over each record of the profile that doesn't go past the limits.
+pub fn variables()
+    ensures { KeepsVariables }
+{}
+
+/// In a cell with trapezoids or geometry of extensions, each element of the profile is handed out so that it draws what it draws by
+/// the standard.
+pub fn drawing()
+    ensures { DrawnAsByTheStandard }
+{}
