@@ -68,7 +68,7 @@ impl Resolver {
     /// The records of the profile for which the next record stands.
     ///
     /// Records that the profile leaves out and that are no elements stand for none, and so do a CBLOCK and END: these are for the
-    /// caller to see to. It is refused by `ModalUndefined`, `CtrapezoidType`, `InfoByte`, `Trapezoid` and `CoordinateRange`, and by
+    /// caller to see to. So is a placement by reals, which is handed in as the record of the profile that it stands for. It is refused by `ModalUndefined`, `CtrapezoidType`, `InfoByte`, `Trapezoid` and `CoordinateRange`, and by
     /// `Memory`. Where it is refused nothing is said of what is kept.
     pub fn resolve(&mut self, alloc: Global, next: WideRecord) -> Result<Resolved, WideWhy>
         ensures handed { IfOk result (λ r. handed_by self.old next ≡ Ok (handed r)) }
@@ -95,6 +95,7 @@ impl Resolver {
             | WideRecord::LastProperty
             | WideRecord::ExtensionName { .. }
             | WideRecord::ExtensionElement { .. }
+            | WideRecord::Placement(_)
             | WideRecord::Block(_) => Ok(Resolved::Nothing),
         }
     }
