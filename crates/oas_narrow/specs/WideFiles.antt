@@ -1,13 +1,16 @@
--- What a file of the standard is: its front, its records and END (SEMI P39, OASIS file).
-use Rattle.std.specs.Prelude.{◌≡◌, ◌≢◌, ℕ, Bool, List, ◌++◌}
+-- What a file of the standard is: its front, its records and END (SEMI P39, OASIS file). Records stand by themselves, or in
+-- blocks (SEMI P39, CBLOCK record), and are the file's all the same.
+use Rattle.std.specs.Prelude.{◌≡◌, ◌≢◌, ℕ, Bool, List, [], ◌∷◌, ◌++◌}
 use Rattle.oas_num.specs.Grammar.{IsPair, IsSuch, IsImage, IsEach}
 use Rattle.oas_record.specs.Heads.{IsMagic}
+use Rattle.oas_wide.specs.declared.blocks.BlockHead.{BlockHead}
 use Rattle.oas_wide.specs.declared.ends.WideEnd.{WideEnd}
 use Rattle.oas_wide.specs.declared.heads.WideStart.{WideStart}
 use Rattle.oas_wide.specs.Heads.{SpellsWideStart}
 use Rattle.oas_wide.specs.declared.records.WideRecord.{WideRecord}
-use Rattle.oas_wide.specs.declared.records.WideRecord.TheVariants.{End}
+use Rattle.oas_wide.specs.declared.records.WideRecord.TheVariants.{End, Block}
 use Rattle.oas_wide.specs.WideRecords.{wide_record_in}
+use Rattle.oas_block.specs.Blocks.{StandsFor}
 
 abbrev pub after_magic : Unit {0} × WideStart → WideStart
 after_magic p = p.1
@@ -16,9 +19,12 @@ after_magic p = p.1
 abbrev pub wide_head : WideStart → List ℕ → Type 0
 wide_head = IsImage after_magic (IsPair IsMagic (λ _. SpellsWideStart))
 
--- a record that isn't END
-abbrev pub IsInner : WideRecord → Type 0
-IsInner w = (end : WideEnd) → w ≢ End end
+-- ---- records
+
+-- neither END nor the head of a block
+pub record IsInner (w : WideRecord) : Type 0 where
+  pub no_end : (end : WideEnd) → w ≢ End end
+  pub no_block : (head : BlockHead) → w ≢ Block head
 
 abbrev pub inner_in : Bool → WideRecord → List ℕ → Type 0
 inner_in in_end = IsSuch IsInner (wide_record_in in_end)
@@ -27,21 +33,57 @@ inner_in in_end = IsSuch IsInner (wide_record_in in_end)
 abbrev pub end_in : Bool → WideEnd → List ℕ → Type 0
 end_in in_end end bytes = wide_record_in in_end (End end) bytes
 
-abbrev pub WideParts : Type 0
-WideParts = WideStart × (List WideRecord × WideEnd)
+-- ---- blocks
 
--- the magic and START, then records and END, by START's word on where the table-offsets stand
+-- what stands before a block's bytes
+abbrev pub head_in : Bool → BlockHead → List ℕ → Type 0
+head_in in_end head bytes = wide_record_in in_end (Block head) bytes
+
+-- a block's bytes, by the data that they stand for
+abbrev pub packed_by : BlockHead → List ℕ → List ℕ → Type 0
+packed_by head plain bytes = StandsFor head bytes plain
+
+-- a block, by its head and its data
+abbrev pub block_in : Bool → BlockHead × List ℕ → List ℕ → Type 0
+block_in in_end = IsPair (head_in in_end) packed_by
+
+-- a block whose data are these records, each of them whole
+pub record is_block_of (in_end : Bool) (ws : List WideRecord) (bytes : List ℕ) : Type 0 where
+  pub block : BlockHead × List ℕ
+  pub spelled : block_in in_end block bytes
+  pub each : IsEach (inner_in in_end) ws block.1
+
+-- ---- the file
+
+-- a record, or a block of records
+pub data item_in (in_end : Bool) (ws : List WideRecord) (bytes : List ℕ) : Type 0 where
+  AsRecord : (w : WideRecord) → w ∷ [] ≡ ws → inner_in in_end w bytes → item_in in_end ws bytes
+  AsBlock : is_block_of in_end ws bytes → item_in in_end ws bytes
+
+-- the records of all items, in their order
+abbrev pub records_of : List (List WideRecord) → List WideRecord
+records_of [] = []
+records_of (ws ∷ items) = ws ++ records_of items
+
+abbrev pub WideParts : Type 0
+WideParts = WideStart × (List (List WideRecord) × WideEnd)
+
+-- the magic and START, then items and END, by START's word on where the table-offsets stand
 abbrev pub wide_file : WideParts → List ℕ → Type 0
-wide_file = IsPair wide_head (λ start. IsPair (IsEach (inner_in start.flag_in_end)) (λ _. end_in start.flag_in_end))
+wide_file = IsPair wide_head (λ start. IsPair (IsEach (item_in start.flag_in_end)) (λ _. end_in start.flag_in_end))
 
 -- the bytes are a file with this START, these records and this END
 pub record WideFileOf (start : WideStart) (ws : List WideRecord) (end : WideEnd) (bytes : List ℕ) : Type 0 where
-  pub spelled : wide_file (start, (ws, end)) bytes
+  pub items : List (List WideRecord)
+  pub all : records_of items ≡ ws
+  pub spelled : wide_file (start, (items, end)) bytes
 
 -- the bytes are the front of a file: the magic, START and these records
 pub record WideFrontOf (head : WideStart) (ws : List WideRecord) (bytes : List ℕ) : Type 0 where
+  pub items : List (List WideRecord)
+  pub all : records_of items ≡ ws
   pub start : List ℕ
   pub body : List ℕ
   pub begun : wide_head head start
-  pub each : IsEach (inner_in head.flag_in_end) ws body
+  pub each : IsEach (item_in head.flag_in_end) items body
   pub joined : bytes ≡ start ++ body

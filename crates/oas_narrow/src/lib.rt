@@ -11,7 +11,8 @@
 //! - [`Report`] counts what was left out, as far as 64 bits count.
 //!
 //! A record is left out because it is named to be ([`Dropping`]): without its word it stops the file. A name record that is
-//! left out closes the open cell, as each name record does (SEMI P39, CELL record).
+//! left out closes the open cell, as each name record does (SEMI P39, CELL record). The records of a compressed block are the
+//! file's, as if they stood there by themselves (SEMI P39, CBLOCK record); the block itself is none.
 #![tactic(auto)]
 
 mod dropping;

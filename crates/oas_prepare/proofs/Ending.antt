@@ -6,7 +6,6 @@ use Rattle.oas_num.specs.declared.refusals.Why.TheVariants.{TrailingBytes, Read,
 use Rattle.oas_num.specs.declared.refusals.Refusal.{Refusal}
 use Rattle.oas_num.specs.Laws.GrammarLaws.{after_same, OneFront-pair}
 use Rattle.oas_num.specs.Grammar.{OneFront, IsPair, IsEach}
-use Rattle.oas_num.specs.Combinators.{IsApart}
 use Rattle.oas_num.specs.Laws.CombinatorLaws.{OneFront-until}
 use Rattle.oas_num.specs.Script.{Script, Takes, IsAtEnd}
 use Rattle.oas_num.proofs.ReadLemmas.{Takes-then}
@@ -18,7 +17,6 @@ use Rattle.oas_file.proofs.Judged.{end_decides}
 use Rattle.oas_wide.specs.declared.ends.WideEnd.{WideEnd}
 use Rattle.oas_wide.specs.declared.heads.WideStart.{WideStart}
 use Rattle.oas_wide.specs.declared.records.WideRecord.{WideRecord}
-use Rattle.oas_wide.specs.declared.records.WideRecord.TheVariants.{End}
 use Rattle.oas_wide.specs.declared.reasons.WideWhy.{WideWhy}
 use Rattle.oas_wide.specs.declared.reasons.WideWhy.TheVariants as wide
 use Rattle.oas_narrow.specs.declared.dropping.Dropping.{Dropping}
@@ -27,7 +25,7 @@ use Rattle.oas_narrow.specs.declared.places.Rejection.{Rejection}
 use Rattle.oas_narrow.specs.Narrowing.{narrowed}
 use Rattle.oas_narrow.specs.Preparable.{IsUnitOf, AllPrepared, IsValid, Formed, Preparable}
 use Rattle.oas_narrow.specs.Rejections.{refused}
-use Rattle.oas_narrow.specs.WideFiles.{WideParts, WideFileOf, WideFrontOf, wide_head, wide_file, inner_in, end_in}
+use Rattle.oas_narrow.specs.WideFiles.{WideParts, WideFileOf, WideFrontOf, wide_head, wide_file, item_in, end_in, records_of}
 use Rattle.oas_prepare.specs.declared.gathering.Gathered.{Gathered}
 use Rattle.oas_prepare.specs.declared.taking.Preparation.{Preparation}
 use Rattle.oas_prepare.specs.Gathering.{HasAll, IsGathered}
@@ -35,19 +33,25 @@ use Rattle.oas_prepare.specs.Places.{at_file, StopsAt, AfterLast, ByEnd}
 use Rattle.oas_wide.specs.Reasons.{plain_of}
 use Rattle.oas_prepare.specs.Deciding.{decides}
 use Rattle.oas_prepare.specs.Run.{IsTied, IsPlaced, Stops}
-use Rattle.oas_prepare.proofs.Refusing.{ForMemory, Decided, judged_stopped, memory_placed}
-use Rattle.oas_prepare.proofs.WideLaws.{OneFront-head, OneFront-inner, OneFront-end, OneFront-wide}
+use Rattle.oas_prepare.proofs.Refusing.{ForMemory, Decided, judged_stopped, memory_placed, there_at}
+use Rattle.oas_prepare.proofs.Items.{OneFront-item, IsApart-item}
+use Rattle.oas_prepare.proofs.WideLaws.{OneFront-head, OneFront-end}
 
 -- ---- one file
 
-IsApart-end : (in_end : Bool) → IsApart (inner_in in_end) (end_in in_end)
-IsApart-end in_end = record { apart = λ w e a b x y p q j. p.holds e ((OneFront-wide in_end).one w (End e) a b x y p.spelled q j).1 }
-
 pub OneFront-file : OneFront wide_file
-OneFront-file = OneFront-pair wide_head (λ head. IsPair (IsEach (inner_in head.flag_in_end)) (λ _. end_in head.flag_in_end)) OneFront-head (λ head. OneFront-until (inner_in head.flag_in_end) (end_in head.flag_in_end) (OneFront-inner head.flag_in_end) (OneFront-end head.flag_in_end) (IsApart-end head.flag_in_end))
+OneFront-file =
+    OneFront-pair wide_head (λ head. IsPair (IsEach (item_in head.flag_in_end)) (λ _. end_in head.flag_in_end)) OneFront-head
+    (λ head. OneFront-until (item_in head.flag_in_end) (end_in head.flag_in_end) (OneFront-item head.flag_in_end) (OneFront-end head.flag_in_end) (IsApart-item head.flag_in_end))
+
+-- one file has the same records
+pub same_all : {head first : WideStart} {ws vs : List WideRecord} {end other : WideEnd} {b c : List ℕ} (f : WideFileOf head ws end b) (g : WideFileOf first vs other c) → f.items ≡ g.items → ws ≡ vs
+same_all f g e = sym f.all ∙ ap records_of e ∙ g.all
 
 pub file_all : {head : WideStart} {ws : List WideRecord} {end : WideEnd} {bytes last : List ℕ} → WideFrontOf head ws bytes → end_in head.flag_in_end end last → WideFileOf head ws end (bytes ++ last)
 file_all {last = last} f ends = record {
+  items = f.items;
+  all = f.all;
   spelled = record {
     front = f.start;
     back = f.body ++ last;
@@ -65,7 +69,7 @@ none_after {head = head} {first = first} {ws = ws} {vs = vs} {end = end} {other 
   tails =
       let whole = (bytes ++ last) ++ (byte ∷ more) in
       let e : (bytes ++ last) ++ (byte ∷ more) ≡ whole ++ [] = sym (append-nil whole) in
-      let one = OneFront-file.one (head, (ws, end)) (first, (vs, other)) (bytes ++ last) whole (byte ∷ more) [] (file_all f ends).spelled file.spelled e in
+      let one = OneFront-file.one (head, ((file_all f ends).items, end)) (first, (file.items, other)) (bytes ++ last) whole (byte ∷ more) [] (file_all f ends).spelled file.spelled e in
       after_same (bytes ++ last) whole (byte ∷ more) [] one.0 e
 
   not_nil : byte ∷ more ≡ [] → ⊥
@@ -87,7 +91,7 @@ module _ {old mid : Script} {head : WideStart} {first p : Preparation} {end_at :
   all_taken : (whole rest : List ℕ) → whole ++ rest ≡ all → Preparable limits dropping whole → rest ≡ []
   all_taken whole rest e a =
       let same : whole ++ rest ≡ all ++ [] = e ∙ sym (append-nil all) in
-      let one = OneFront-file.one (a.formed.start, (a.formed.records, a.formed.end)) (head, (m.records, end)) whole all rest [] a.formed.file.spelled (file_all m.front m.ends).spelled same in
+      let one = OneFront-file.one (a.formed.start, (a.formed.file.items, a.formed.end)) (head, ((file_all m.front m.ends).items, end)) whole all rest [] a.formed.file.spelled (file_all m.front m.ends).spelled same in
       after_same whole all rest [] one.0 same
 
   tail_place : (at : ℕ) → at ≡ mid.given → old.given ≡ 0 → at ≡ length m.bytes + length m.last
@@ -98,9 +102,8 @@ module _ {old mid : Script} {head : WideStart} {first p : Preparation} {end_at :
     judged_stopped both (Decided refl (λ tied more a. not more a)),
     record {
       bytes = all ++ (byte ∷ []);
-      at = at;
       takes = both;
-      place = refl;
+      there = tt;
       placed = λ tied fresh _ more _. AfterLast (record {
         left = m.last ++ (byte ∷ more);
         start = head;
@@ -140,7 +143,7 @@ module _ {old mid : Script} {head : WideStart} {first p : Preparation} {end_at :
       too_long = λ e. absurd cc;
       reading = λ e. cc;
     },
-    record { bytes = all; at = at; takes = taken_all h.0; place = refl; placed = λ tied fresh of_file. absurd cc },
+    record { bytes = all; takes = taken_all h.0; there = tt; placed = λ tied fresh of_file. absurd cc },
   )
   tail_stops at InputTooLong is h = (
     record {
@@ -153,7 +156,7 @@ module _ {old mid : Script} {head : WideStart} {first p : Preparation} {end_at :
       too_long = λ _. h.1;
       reading = λ e. cc;
     },
-    record { bytes = all; at = at; takes = taken_all h.0; place = refl; placed = λ tied fresh of_file. absurd cc },
+    record { bytes = all; takes = taken_all h.0; there = tt; placed = λ tied fresh of_file. absurd cc },
   )
   tail_stops at _ is h = absurd h
 
@@ -199,9 +202,9 @@ module _ {limits : Limits} {profile : Profile} {dropping : Dropping} {old new : 
   same : (more : List ℕ) (a : Formed limits dropping (whole ++ more)) → Same more a
   same more a =
       let e : whole ++ more ≡ (whole ++ more) ++ [] = sym (append-nil (whole ++ more)) in
-      let both = OneFront-file.one (m.start, (m.records, g.end)) (a.start, (a.records, a.end)) whole (whole ++ more) more [] file.spelled a.file.spelled e in
+      let both = OneFront-file.one (m.start, (file.items, g.end)) (a.start, (a.file.items, a.end)) whole (whole ++ more) more [] file.spelled a.file.spelled e in
       record {
-        records = ap (λ (p : WideParts). p.1.0) both.1;
+        records = same_all file a.file (ap (λ (p : WideParts). p.1.0) both.1);
         end = ap (λ (p : WideParts). p.1.1) both.1;
         none = after_same whole (whole ++ more) more [] both.0 e;
       }
@@ -209,12 +212,11 @@ module _ {limits : Limits} {profile : Profile} {dropping : Dropping} {old new : 
   end_placed : (e : Rejection) → e.place ≡ File g.at → (IsTied e.why old → end_refusal limits (narrowed m.records) ≡ None → IsValid g.end.validation whole → ⊥) → IsPlaced limits dropping old e new
   end_placed e place torn = record {
     bytes = whole;
-    at = g.at;
     takes = m.takes;
-    place = place;
+    there = there_at old whole place;
     placed = λ tied fresh _ more ends.
         let is : whole ≡ whole ++ more = sym (append-nil whole) ∙ ap (λ (c : List ℕ). whole ++ c) (sym (ends m.ended)) in
-        subst (λ (b : List ℕ). StopsAt limits dropping b g.at) is (ByEnd (record {
+        subst (λ (b : List ℕ). StopsAt limits dropping b e.place) is (subst (StopsAt limits dropping whole) (sym place) (ByEnd (record {
           left = m.last;
           start = m.start;
           records = m.records;
@@ -222,12 +224,12 @@ module _ {limits : Limits} {profile : Profile} {dropping : Dropping} {old new : 
           end = g.end;
           ends = m.ends;
           torn = torn tied;
-        }));
+        })));
   }
 
   -- END refuses the records
   torn_stops : (e : Rejection) (why : Why) → e ≡ at_file g.at (wide.Profile why) → (why ≡ Memory) ⊎ (end_refusal limits (narrowed m.records) ≡ Some why) → Stops limits dropping old e new
-  torn_stops e why is (inl memory) = (judged_stopped m.takes (ForMemory (ap plain_of (ap (λ (x : Rejection). x.why) is) ∙ memory)), memory_placed g.at e whole m.takes (ap (λ (x : Rejection). x.place) is) (ap plain_of (ap (λ (x : Rejection). x.why) is) ∙ memory))
+  torn_stops e why is (inl memory) = (judged_stopped m.takes (ForMemory (ap plain_of (ap (λ (x : Rejection). x.why) is) ∙ memory)), memory_placed e whole m.takes (there_at old whole (ap (λ (x : Rejection). x.place) is)) (ap plain_of (ap (λ (x : Rejection). x.why) is) ∙ memory))
   torn_stops e why is (inr some) = (
     judged_stopped m.takes (Decided decided (λ tied more a.
         let none : end_refusal limits (narrowed m.records) ≡ None = ap (λ (ws : List WideRecord). end_refusal limits (narrowed ws)) (same more a.formed).records ∙ a.formed.whole in

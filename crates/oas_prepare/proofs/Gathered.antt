@@ -21,16 +21,17 @@ use Rattle.oas_narrow.specs.declared.places.Place.TheVariants.{File}
 use Rattle.oas_narrow.specs.declared.places.Rejection.{Rejection}
 use Rattle.oas_narrow.specs.Preparable.{AllPrepared}
 use Rattle.oas_narrow.specs.Rejections.{rejected}
-use Rattle.oas_narrow.specs.WideFiles.{WideFrontOf, inner_in, end_in}
+use Rattle.oas_narrow.specs.WideFiles.{WideFrontOf, inner_in, end_in, AsRecord}
 use Rattle.oas_prepare.specs.declared.taking.Preparation.{Preparation}
 use Rattle.oas_prepare.specs.Gathering.{HasGathered, HasAll}
 use Rattle.oas_prepare.specs.Heads.{HasStarted}
-use Rattle.oas_prepare.specs.Places.{ByRecord}
+use Rattle.oas_prepare.specs.Places.{ByRecord, StopsAt}
 use Rattle.oas_prepare.specs.Run.{Stops, IsPlaced}
 use Rattle.oas_prepare.specs.Taking.{Stands, SameRun, IsStop, obstacle_next}
 use Rattle.oas_prepare.proofs.Fronts.{allowed_last, allowed_more, front_allowed, front_more}
-use Rattle.oas_prepare.proofs.Refusing.{record_stops, Judges, ForMemory, Decided, judged_stopped, memory_placed}
+use Rattle.oas_prepare.proofs.Refusing.{record_stops, Judges, ForMemory, Decided, judged_stopped, memory_placed, there_at}
 use Rattle.oas_prepare.proofs.Reasons.{obstacle_decides}
+use Rattle.oas_prepare.proofs.Items.{record_no_block, block_is}
 use Rattle.oas_prepare.proofs.WideLaws.{OneFront-wide}
 
 -- after the head
@@ -62,7 +63,7 @@ module _ {origin mid : Script} {head : WideStart} {first p : Preparation} (m : H
       both = Takes-then origin mid new m.bytes read.bytes m.takes read.takes
 
       front : WideFrontOf head (m.records ++ w ∷ []) (m.bytes ++ read.bytes)
-      front = front_more m.front read.spelled
+      front = front_more (w ∷ []) m.front (AsRecord w refl read.spelled)
 
       -- under the limits of the first
       same_next : obstacle_next p.reader.limits p.dropping m.records w ≡ obstacle_next limits dropping m.records w
@@ -91,24 +92,24 @@ module _ {origin mid : Script} {head : WideStart} {first p : Preparation} (m : H
       not_prepared why some a = let none = allowed_last limits dropping m.records w a in let e = sym none ∙ some in cc
 
       next_placed : (at : ℕ) (e : Rejection) → e.place ≡ File at → at ≡ mid.given → (e.why ≡ Profile Memory) ⊎ (obstacle_next limits dropping m.records w ≡ Some e.why) → IsPlaced limits dropping origin e new
-      next_placed at e place is (inl memory) = memory_placed at e (m.bytes ++ read.bytes) both place (ap plain_of memory)
+      next_placed at e place is (inl memory) = memory_placed e (m.bytes ++ read.bytes) both (there_at origin (m.bytes ++ read.bytes) place) (ap plain_of memory)
       next_placed at e place is (inr some) = record {
         bytes = m.bytes ++ read.bytes;
-        at = at;
         takes = both;
-        place = place;
-        placed = λ tied fresh of_file more ended. ByRecord (record {
+        there = there_at origin (m.bytes ++ read.bytes) place;
+        placed = λ tied fresh of_file more ended. subst (StopsAt limits dropping ((m.bytes ++ read.bytes) ++ more)) (sym place) (ByRecord (record {
           left = read.bytes ++ more;
           start = head;
           records = m.records;
           before = record { before = m.bytes; front = m.front; prepared = m.prepared; place = omega (arith, is, m.takes.given, fresh); joined = append_assoc m.bytes read.bytes more };
-          no_end = record { none = λ end front rest ends j. read.spelled.holds end ((OneFront-wide head.flag_in_end).one w (End end) read.bytes front more rest read.spelled.spelled ends j).1 };
+          no_end = record { none = λ end front rest ends j. read.spelled.holds.no_end end ((OneFront-wide head.flag_in_end).one w (End end) read.bytes front more rest read.spelled.spelled ends j).1 };
           no_record = record {
             none = λ q front rest next j.
                 let same = ((OneFront-wide head.flag_in_end).one w q read.bytes front more rest read.spelled.spelled next.spelled.spelled j).1 in
                 not_prepared e.why some (subst (λ (k : WideRecord). AllPrepared limits dropping (m.records ++ k ∷ [])) (sym same) next.prepared);
           };
-        });
+          no_block = record { none = λ b front rest s j. record_no_block head.flag_in_end w b.0 read.bytes s.front more (s.back ++ rest) read.spelled s.first (j ∙ block_is rest s) };
+        }));
       }
 
       next_stops : (at : ℕ) (e : Rejection) → e.place ≡ File at → at ≡ mid.given → (e.why ≡ Profile Memory) ⊎ (obstacle_next limits dropping m.records w ≡ Some e.why) → Stops limits dropping origin e new

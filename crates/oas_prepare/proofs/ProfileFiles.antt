@@ -24,12 +24,13 @@ use Rattle.oas_file.specs.Files.{FileOf}
 use Rattle.oas_form.specs.Laws.FormLaws.{form_is_accepted}
 use Rattle.oas_form.proofs.Forms.{one_canonical_form}
 use Rattle.oas_layout.proofs.LawProofs.{symmetric}
+use Rattle.oas_wide.specs.declared.blocks.BlockHead.{BlockHead}
 use Rattle.oas_wide.specs.declared.ends.WideEnd.{WideEnd}
 use Rattle.oas_wide.specs.declared.ends.Validation.TheVariants.{Unvalidated}
 use Rattle.oas_wide.specs.declared.heads.WideStart.{WideStart}
 use Rattle.oas_wide.specs.declared.reasons.WideWhy.{WideWhy}
 use Rattle.oas_wide.specs.declared.records.WideRecord.{WideRecord}
-use Rattle.oas_wide.specs.declared.records.WideRecord.TheVariants.{End}
+use Rattle.oas_wide.specs.declared.records.WideRecord.TheVariants.{End, Block}
 use Rattle.oas_wide.specs.WideRecords.{wide_record_in, inner_widened, widened}
 use Rattle.oas_wide.proofs.WidenedLemmas.{widen}
 use Rattle.oas_narrow.specs.declared.dropping.Dropping.{Dropping}
@@ -39,10 +40,11 @@ use Rattle.oas_narrow.specs.Dropping.{nothing_left_out, capped}
 use Rattle.oas_narrow.specs.Narrowing.{opens, is_open, with_kept, narrowed, element_id, element_obstacle, outside, obstacle_by, kept_obstacle, refused_if, obstacle_after, ArePrepared, one_if, tally, report_of}
 use Rattle.oas_narrow.specs.declared.roles.Role.{Role}
 use Rattle.oas_narrow.specs.Preparable.{IsUnitOf, Formed, WideMeans}
-use Rattle.oas_narrow.specs.WideFiles.{WideFileOf, WideParts, inner_in, end_in}
+use Rattle.oas_narrow.specs.WideFiles.{WideFileOf, WideParts, inner_in, item_in, end_in}
 use Rattle.oas_narrow.proofs.KeptLemmas.{kept}
 use Rattle.oas_prepare.specs.Laws.{ProfileIsPrepared, ProfileAsCanonical, PreparedAgain}
-use Rattle.oas_prepare.proofs.Ending.{OneFront-file}
+use Rattle.oas_prepare.proofs.Ending.{OneFront-file, same_all}
+use Rattle.oas_prepare.proofs.Items.{alone, records-alone, each_alone}
 use Rattle.oas_prepare.proofs.ProfileHeads.{head_widened}
 use Rattle.oas_prepare.proofs.WideMeanings.{one_wide_meaning}
 
@@ -120,6 +122,15 @@ not_end : (r : Record) (e : WideEnd) → inner_widened r ≡ End e → ⊥
 not_end (record_of.Placement p) e is = placed_not_end p.cell p.turn p.flip p.spot e is
 not_end _ e is = cc
 
+placed_not_block : (c : Option CellRef) (turn : Turn) (flip : Bool) (at : Spot) (head : BlockHead) →
+    inner_widened (record_of.Placement (record { cell = c; turn = turn; flip = flip; spot = at })) ≡ Block head → ⊥
+placed_not_block c (Quarters turns) flip at head is = cc
+placed_not_block c (Degrees magnification angle) flip at head is = cc
+
+not_block : (r : Record) (head : BlockHead) → inner_widened r ≡ Block head → ⊥
+not_block (record_of.Placement p) head is = placed_not_block p.cell p.turn p.flip p.spot head is
+not_block _ head is = cc
+
 widened_inner : (r : Record) → r ≢ record_of.End → widened r ≡ inner_widened r
 widened_inner record_of.End not = absurd (not refl)
 widened_inner _ not = refl
@@ -129,7 +140,7 @@ each_wide in_end [] bytes h = h
 each_wide in_end (r ∷ rs) bytes h = (
   h.0,
   h.1,
-  record { holds = not_end r; spelled = subst (λ (w : WideRecord). wide_record_in in_end w h.0) (widened_inner r h.2.holds) (widen in_end r h.0 h.2.spelled) },
+  record { holds = record { no_end = not_end r; no_block = not_block r }; spelled = subst (λ (w : WideRecord). wide_record_in in_end w h.0) (widened_inner r h.2.holds) (widen in_end r h.0 h.2.spelled) },
   each_wide in_end rs h.1 h.3,
   h.4,
 )
@@ -147,6 +158,8 @@ file_wide head rs b f =
     record {
       start = w.start;
       file = record {
+        items = alone (wide_all rs);
+        all = records-alone (wide_all rs);
         spelled = record {
           front = s.front;
           back = s.back;
@@ -154,7 +167,8 @@ file_wide head rs b f =
           second = record {
             front = t.front;
             back = t.back;
-            first = subst (λ (in_end : Bool). IsEach (inner_in in_end) (wide_all rs) t.front) (sym w.flag) (each_wide head.flag_in_end rs t.front t.first);
+            first = subst (λ (in_end : Bool). IsEach (item_in in_end) (alone (wide_all rs)) t.front) (sym w.flag)
+                (each_alone head.flag_in_end (wide_all rs) t.front (each_wide head.flag_in_end rs t.front t.first));
             second = subst (λ (in_end : Bool). end_in in_end (record { validation = Unvalidated }) t.back) (sym w.flag) (widen head.flag_in_end record_of.End t.back t.second.spelled);
             joined = t.joined;
           };
@@ -197,7 +211,7 @@ module _ {limits : Limits} {b : List ℕ} (a : Accepted limits b) where
 
   same_records : (start : WideStart) (ws : List WideRecord) (end : WideEnd) → WideFileOf start ws end b → ws ≡ wide_all a.records
   same_records start ws end f =
-      ap (λ (w : WideParts). w.1.0) (OneFront-file.one (start, (ws, end)) (wide.start, (wide_all a.records, record { validation = Unvalidated })) b b [] [] f.spelled wide.file.spelled refl).1
+      same_all f wide.file (ap (λ (w : WideParts). w.1.0) (OneFront-file.one (start, (f.items, end)) (wide.start, (wide.file.items, record { validation = Unvalidated })) b b [] [] f.spelled wide.file.spelled refl).1)
 
 pub profile_is_prepared : ProfileIsPrepared
 unfolding formed

@@ -15,28 +15,30 @@ use Rattle.oas_file.proofs.Judged.{decided_not, decided_uncut, decides_format, f
 use Rattle.oas_file.specs.Reading as file
 use Rattle.oas_wide.specs.declared.heads.WideStart.{WideStart}
 use Rattle.oas_wide.specs.declared.records.WideRecord.{WideRecord}
-use Rattle.oas_wide.specs.declared.records.WideRecord.TheVariants.{End}
+use Rattle.oas_wide.specs.declared.records.WideRecord.TheVariants.{End, Block}
 use Rattle.oas_wide.specs.declared.reasons.WideWhy.{WideWhy}
 use Rattle.oas_wide.specs.declared.reasons.WideWhy.TheVariants as wide
 use Rattle.oas_wide.specs.Heads.{SpellsWideStart, WideStartTook, wide_start}
 use Rattle.oas_wide.specs.Reasons.{plain_of}
 use Rattle.oas_wide.specs.WideRecords.{FailsWide}
 use Rattle.oas_narrow.specs.declared.dropping.Dropping.{Dropping}
+use Rattle.oas_narrow.specs.declared.places.Place.{Place}
 use Rattle.oas_narrow.specs.declared.places.Place.TheVariants.{File}
 use Rattle.oas_narrow.specs.declared.places.Rejection.{Rejection}
 use Rattle.oas_narrow.specs.Preparable.{IsUnitOf, AllPrepared, Formed, Preparable}
 use Rattle.oas_narrow.specs.WideFiles.{wide_file, WideFrontOf}
 use Rattle.oas_prepare.specs.Deciding.{decides, is_cut}
 use Rattle.oas_prepare.specs.Heads.{HasStarted}
-use Rattle.oas_prepare.specs.Places.{at_file, ByMagic, ByStart, ByRecord}
+use Rattle.oas_prepare.specs.Places.{at_file, ByMagic, ByStart, ByRecord, IsPlace}
 use Rattle.oas_prepare.specs.Run.{IsTied, IsStopped, IsPlaced, Stops}
 use Rattle.oas_prepare.proofs.Fronts.{magic_wanted, start_wanted, file_wants, file_start}
+use Rattle.oas_prepare.proofs.Items.{block_is}
 use Rattle.oas_prepare.proofs.WideLaws.{wide_never}
 
 -- ---- what can't be read
 
 -- the end of the input cuts it off
-ended_cut : (why : Why) → why ≡ Truncated → IsTrue (num.is_cut why)
+pub ended_cut : (why : Why) → why ≡ Truncated → IsTrue (num.is_cut why)
 ended_cut why e = subst (λ (w : Why). IsTrue (num.is_cut w)) (sym e) refl
 
 -- what fails where a file wants it stops the file
@@ -46,11 +48,11 @@ read_stopped {next = next} {old = old} {mid = mid} {new = new} why limits droppi
   bytes = front ++ f.bytes;
   takes = Takes-then old mid new front f.bytes takes f.takes;
   decided = λ tied is more a.
-      (NoneFits-after wide_file next front f.bytes wants (f.format (decides_format (plain_of why) is))).none (a.formed.start, (a.formed.records, a.formed.end)) ((front ++ f.bytes) ++ more) [] more a.formed.file.spelled
+      (NoneFits-after wide_file next front f.bytes wants (f.format (decides_format (plain_of why) is))).none (a.formed.start, (a.formed.file.items, a.formed.end)) ((front ++ f.bytes) ++ more) [] more a.formed.file.spelled
       (append-nil ((front ++ f.bytes) ++ more));
-  cut = λ is whole rest e a. absurd ((NoneWithin-after wide_file next front f.bytes wants (f.cut is)).none (a.formed.start, (a.formed.records, a.formed.end)) whole rest a.formed.file.spelled e);
+  cut = λ is whole rest e a. absurd ((NoneWithin-after wide_file next front f.bytes wants (f.cut is)).none (a.formed.start, (a.formed.file.items, a.formed.end)) whole rest a.formed.file.spelled e);
   truncated = λ is. (
-    λ a. (NoneWithin-after wide_file next front f.bytes wants (f.cut (ended_cut (plain_of why) is))).none (a.formed.start, (a.formed.records, a.formed.end)) (front ++ f.bytes) [] a.formed.file.spelled (append-nil (front ++ f.bytes)),
+    λ a. (NoneWithin-after wide_file next front f.bytes wants (f.cut (ended_cut (plain_of why) is))).none (a.formed.start, (a.formed.file.items, a.formed.end)) (front ++ f.bytes) [] a.formed.file.spelled (append-nil (front ++ f.bytes)),
     f.truncated is,
   );
   device = f.device;
@@ -100,14 +102,17 @@ module _ {limits : Limits} {dropping : Dropping} {old : Script} {bytes : List �
     reading = judged_not Write (λ e. cc) refl j;
   }
 
+-- an offset in the file
+pub there_at : (old : Script) (bytes : List ℕ) {at : ℕ} {place : Place} → place ≡ File at → IsPlace old bytes place
+there_at old bytes e = subst (λ (p : Place). IsPlace old bytes p) (sym e) tt
+
 -- want of memory has no place
-pub memory_placed : {limits : Limits} {dropping : Dropping} {old new : Script} (at : ℕ) (rejection : Rejection) (bytes : List ℕ) → Takes old bytes new → rejection.place ≡ File at
+pub memory_placed : {limits : Limits} {dropping : Dropping} {old new : Script} (rejection : Rejection) (bytes : List ℕ) → Takes old bytes new → IsPlace old bytes rejection.place
     → plain_of rejection.why ≡ Memory → IsPlaced limits dropping old rejection new
-memory_placed at rejection bytes takes place e = record {
+memory_placed rejection bytes takes there e = record {
   bytes = bytes;
-  at = at;
   takes = takes;
-  place = place;
+  there = there;
   placed = λ tied fresh is. let f : IsTrue (file.is_of_file Memory) = subst (λ (w : Why). IsTrue (file.is_of_file w)) e is in absurd cc;
 }
 
@@ -129,9 +134,8 @@ module _ {limits : Limits} {dropping : Dropping} {old new : Script} where
     read_stopped (wide.Profile why) limits dropping [] magic_wanted (Takes-none old) f (not_writing why MagicMay f.reason.last (λ h. h) f.reason.holds),
     record {
       bytes = f.bytes;
-      at = 0;
       takes = f.takes;
-      place = refl;
+      there = tt;
       placed = λ tied fresh is more ended. ByMagic (record { place = refl; differs = λ rest. none_stands f is more ended tt magic rest refl });
     },
   )
@@ -142,9 +146,8 @@ module _ {limits : Limits} {dropping : Dropping} {old new : Script} where
       read_stopped (wide.Profile why) limits dropping magic start_wanted first f (not_writing why WideStartTook f.bytes (wide_start.never.none f.bytes) (whole_piece f)),
       record {
         bytes = magic ++ f.bytes;
-        at = 13;
         takes = Takes-then old mid new magic f.bytes first f.takes;
-        place = refl;
+        there = tt;
         placed = λ tied fresh is more ended. ByStart (record {
           left = f.bytes ++ more;
           place = refl;
@@ -166,9 +169,8 @@ module _ {limits : Limits} {dropping : Dropping} {old new : Script} where
         judged_stopped (Takes-then old mid new magic read.bytes first read.takes) (Decided is (λ tied more a. not_formed more a.formed)),
         record {
           bytes = magic ++ read.bytes;
-          at = 13;
           takes = Takes-then old mid new magic read.bytes first read.takes;
-          place = refl;
+          there = tt;
           placed = λ tied fresh of_file more ended. ByStart (record {
             left = read.bytes ++ more;
             place = refl;
@@ -188,9 +190,8 @@ module _ {limits : Limits} {dropping : Dropping} {origin mid new : Script} {head
     read_stopped why limits dropping bytes (file_wants front) takes f (wide_never head.flag_in_end why f.bytes (whole_piece f)),
     record {
       bytes = bytes ++ f.bytes;
-      at = at;
       takes = Takes-then origin mid new bytes f.bytes takes f.takes;
-      place = refl;
+      there = tt;
       placed = λ tied fresh is more ended. ByRecord (record {
         left = f.bytes ++ more;
         start = head;
@@ -198,6 +199,7 @@ module _ {limits : Limits} {dropping : Dropping} {origin mid new : Script} {head
         before = record { before = bytes; front = front; prepared = prepared; place = omega (arith, is_at, takes.given, fresh); joined = append_assoc bytes f.bytes more };
         no_end = record { none = λ e front rest s. none_stands f is more ended (End e) front rest s };
         no_record = record { none = λ w front rest s. none_stands f is more ended w front rest s.spelled.spelled };
+        no_block = record { none = λ b front rest s e. none_stands f is more ended (Block b.0) s.front (s.back ++ rest) s.first (e ∙ block_is rest s) };
       });
     },
   )
@@ -212,6 +214,8 @@ started {old = old} {mid = mid} {new = new} {start = start} first read is = reco
   bytes = magic ++ read.bytes;
   takes = Takes-then old mid new magic read.bytes first read.takes;
   front = record {
+    items = [];
+    all = refl;
     start = magic ++ read.bytes;
     body = [];
     begun = record { from = (tt, start); is = refl; spelled = record { front = magic; back = read.bytes; first = refl; second = read.spelled; joined = refl } };

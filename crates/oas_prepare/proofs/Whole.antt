@@ -126,7 +126,7 @@ front_not bytes rest None g n a = absurd g
 front_not {limits = limits} {dropping = dropping} bytes rest (Some r) g n a = n r.bytes (subst (Preparable limits dropping) g.0 a)
 
 -- only want of memory itself is like it
-memory_is : (why : WideWhy) → plain_of why ≡ Memory → why ≡ wide.Profile Memory
+pub memory_is : (why : WideWhy) → plain_of why ≡ Memory → why ≡ wide.Profile Memory
 memory_is (wide.Profile reason) e = ap wide.Profile e
 memory_is wide.ValueType e = absurd cc
 memory_is _ e = absurd cc

@@ -12,7 +12,7 @@ use Rattle.oas_narrow.specs.Narrowing.{narrowed}
 use Rattle.oas_narrow.specs.Preparable.{IsUnitOf}
 use Rattle.oas_narrow.specs.WideFiles.{WideParts}
 use Rattle.oas_prepare.specs.Laws.{OneWideMeaning, SamePrepared}
-use Rattle.oas_prepare.proofs.Ending.{OneFront-file}
+use Rattle.oas_prepare.proofs.Ending.{OneFront-file, same_all}
 
 one_unit : (s t : WideStart) (u v : Ratio) → s ≡ t → IsUnitOf s.unit u → IsUnitOf t.unit v → u ≡ v
 one_unit s t u v e p q =
@@ -21,9 +21,9 @@ one_unit s t u v e p q =
 
 pub one_wide_meaning : OneWideMeaning
 one_wide_meaning b m n p q =
-    let both = OneFront-file.one (p.start, (p.records, p.end)) (q.start, (q.records, q.end)) b b [] [] p.file.spelled q.file.spelled refl in
+    let both = OneFront-file.one (p.start, (p.file.items, p.end)) (q.start, (q.file.items, q.end)) b b [] [] p.file.spelled q.file.spelled refl in
     let unit = one_unit p.start q.start p.unit q.unit (ap (λ (w : WideParts). w.0) both.1) p.is_unit q.is_unit in
-    let records : p.records ≡ q.records = ap (λ (w : WideParts). w.1.0) both.1 in
+    let records : p.records ≡ q.records = same_all p.file q.file (ap (λ (w : WideParts). w.1.0) both.1) in
     sym p.is ∙ ap (λ (x : Ratio × List WideRecord). records_mean x.0 (narrowed x.1)) (λ i. (unit i, records i)) ∙ q.is
 
 pub same_prepared : SamePrepared

@@ -9,23 +9,24 @@ use Rattle.oas_layout.specs.declared.limits.Limits.{Limits}
 use Rattle.oas_narrow.specs.declared.dropping.Dropping.{Dropping}
 use Rattle.oas_narrow.specs.declared.places.Rejection.{Rejection}
 use Rattle.oas_narrow.specs.Preparable.{IsUnitOf, AllPrepared}
-use Rattle.oas_narrow.specs.WideFiles.{WideFrontOf, inner_in, end_in}
+use Rattle.oas_narrow.specs.WideFiles.{WideFrontOf, inner_in, end_in, head_in}
 use Rattle.oas_layout.specs.declared.profile.Profile.{Profile}
 use Rattle.oas_wide.specs.declared.reasons.WideRefusal.{WideRefusal}
 use Rattle.oas_wide.specs.WideRecords.{FailsWide}
 use Rattle.oas_prepare.specs.declared.gathering.Gathered.{Gathered}
 use Rattle.oas_prepare.specs.declared.gathering.Next.{Next}
-use Rattle.oas_prepare.specs.declared.gathering.Next.TheVariants.{Record, End}
+use Rattle.oas_prepare.specs.declared.gathering.Next.TheVariants.{Record, End, Block}
 use Rattle.oas_prepare.specs.declared.taking.Preparation.{Preparation}
 use Rattle.oas_prepare.specs.Run.{Stops}
 use Rattle.oas_prepare.specs.Taking.{Stands, SameRun}
 
 -- ---- one record
 
--- a record before END was taken, or END was, or neither can be
+-- a record before END was taken, or END was, or the head of a block, or none of them can be
 abbrev pub TakesNext : Bool → Script → Result Next WideRefusal → Script → Type 0
 TakesNext in_end old (Ok (Record w)) new = ReadsValue (inner_in in_end) old w new
 TakesNext in_end old (Ok (End end)) new = ReadsValue (end_in in_end) old end new
+TakesNext in_end old (Ok (Block head)) new = ReadsValue (head_in in_end) old head new
 TakesNext in_end old (Err refusal) new = (refusal.at ≡ old.given) × FailsWide in_end old refusal.why new
 
 -- ---- all records

@@ -3,6 +3,7 @@ pub mod Places
 pub mod Run
 pub mod Heads
 pub mod Taking
+pub mod Inside
 pub mod Gathering
 pub mod Signing
 pub mod Finishing

@@ -1,21 +1,27 @@
 -- Where a file of the standard that isn't prepared stops.
-use Rattle.std.specs.Prelude.{◌≡◌, ◌≢◌, ℕ, ◌+◌, List, [], ◌∷◌, ◌++◌, length, None}
+use Rattle.std.specs.Prelude.{◌≡◌, ◌≢◌, ℕ, ◌+◌, Bool, List, [], ◌∷◌, ◌++◌, length, None, ◌⊎◌}
 use Rattle.oas_record.specs.Found.{NoneStands}
 use Rattle.oas_record.specs.Heads.{magic}
+use Rattle.oas_num.specs.Grammar.{IsEach}
+use Rattle.oas_num.specs.Script.{Script}
+use Rattle.oas_wide.specs.declared.blocks.BlockHead.{BlockHead}
 use Rattle.oas_wide.specs.declared.ends.WideEnd.{WideEnd}
 use Rattle.oas_wide.specs.declared.heads.WideStart.{WideStart}
 use Rattle.oas_wide.specs.Heads.{SpellsWideStart}
 use Rattle.oas_num.specs.Ratio.{Ratio}
+use Rattle.oas_block.specs.Blocks.{StandsFor}
+use Rattle.oas_block.specs.Reading.{IsUnfinished, IsOther}
 use Rattle.oas_layout.specs.declared.limits.Limits.{Limits}
 use Rattle.oas_modal.specs.Stands.{end_refusal}
 use Rattle.oas_wide.specs.declared.records.WideRecord.{WideRecord}
 use Rattle.oas_narrow.specs.declared.dropping.Dropping.{Dropping}
 use Rattle.oas_wide.specs.declared.reasons.WideWhy.{WideWhy}
 use Rattle.oas_narrow.specs.declared.places.Rejection.{Rejection}
-use Rattle.oas_narrow.specs.declared.places.Place.TheVariants.{File}
+use Rattle.oas_narrow.specs.declared.places.Place.{Place}
+use Rattle.oas_narrow.specs.declared.places.Place.TheVariants.{File, Block}
 use Rattle.oas_narrow.specs.Narrowing.{narrowed}
 use Rattle.oas_narrow.specs.Preparable.{IsUnitOf, IsValid, AllPrepared}
-use Rattle.oas_narrow.specs.WideFiles.{WideFrontOf, inner_in, end_in}
+use Rattle.oas_narrow.specs.WideFiles.{WideFrontOf, inner_in, end_in, head_in, block_in}
 
 -- before the magic
 pub record AtMagic (b : List ℕ) (at : ℕ) : Type 0 where
@@ -44,18 +50,19 @@ pub record IsBefore (limits : Limits) (dropping : Dropping) (b left : List ℕ) 
   pub joined : b ≡ before ++ left
 
 -- a record by which they are prepared still
-pub record IsNext (limits : Limits) (dropping : Dropping) (start : WideStart) (ws : List WideRecord) (w : WideRecord) (bytes : List ℕ) : Type 0 where
-  pub spelled : inner_in start.flag_in_end w bytes
+pub record IsNext (limits : Limits) (dropping : Dropping) (in_end : Bool) (ws : List WideRecord) (w : WideRecord) (bytes : List ℕ) : Type 0 where
+  pub spelled : inner_in in_end w bytes
   pub prepared : AllPrepared limits dropping (ws ++ w ∷ [])
 
--- at a record: neither END nor one that is prepared stands there
+-- at a record: neither END nor one that is prepared stands there, nor a block, whatever its data are
 pub record AtRecord (limits : Limits) (dropping : Dropping) (b : List ℕ) (at : ℕ) : Type 0 where
   pub left : List ℕ
   pub start : WideStart
   pub records : List WideRecord
   pub before : IsBefore limits dropping b left at start records
   pub no_end : NoneStands (end_in start.flag_in_end) left
-  pub no_record : NoneStands (IsNext limits dropping start records) left
+  pub no_record : NoneStands (IsNext limits dropping start.flag_in_end records) left
+  pub no_block : NoneStands (block_in start.flag_in_end) left
 
 -- after END, where a byte follows
 pub record AfterEnd (limits : Limits) (dropping : Dropping) (b : List ℕ) (at : ℕ) : Type 0 where
@@ -82,13 +89,87 @@ pub record AtEnd (limits : Limits) (dropping : Dropping) (b : List ℕ) (at : �
   pub ends : end_in start.flag_in_end end left
   pub torn : end_refusal limits (narrowed records) ≡ None → IsValid end.validation b → ⊥
 
+-- an offset at which it stops
+pub data StopsInFile (limits : Limits) (dropping : Dropping) (b : List ℕ) (at : ℕ) : Type 0 where
+  ByMagic : AtMagic b at → StopsInFile limits dropping b at
+  ByStart : AtStart b at → StopsInFile limits dropping b at
+  ByRecord : AtRecord limits dropping b at → StopsInFile limits dropping b at
+  AfterLast : AfterEnd limits dropping b at → StopsInFile limits dropping b at
+  ByEnd : AtEnd limits dropping b at → StopsInFile limits dropping b at
+
+-- ---- in a block
+
+-- in its data: before the place stand records that are prepared, and there none is, though the data go on
+pub record StopsInData (limits : Limits) (dropping : Dropping) (in_end : Bool) (records : List WideRecord) (plain : List ℕ) (within : ℕ) : Type 0 where
+  pub before : List ℕ
+  pub left : List ℕ
+  pub inner : List WideRecord
+  pub place : within ≡ length before
+  pub joined : plain ≡ before ++ left
+  pub goes_on : left ≢ []
+  pub each : IsEach (inner_in in_end) inner before
+  pub prepared : AllPrepared limits dropping (records ++ inner)
+  pub no_record : NoneStands (IsNext limits dropping in_end (records ++ inner)) left
+
+-- in data that are records that are prepared: at the last of them
+pub record EndsInData (limits : Limits) (dropping : Dropping) (in_end : Bool) (records : List WideRecord) (plain : List ℕ) (within : ℕ) : Type 0 where
+  pub before : List ℕ
+  pub last : List ℕ
+  pub inner : List WideRecord
+  pub w : WideRecord
+  pub place : within ≡ length before
+  pub joined : plain ≡ before ++ last
+  pub each : IsEach (inner_in in_end) inner before
+  pub spelled : inner_in in_end w last
+  pub prepared : AllPrepared limits dropping (records ++ (inner ++ w ∷ []))
+
+-- the stream of these bytes doesn't end as it should, and gives this
+abbrev pub IsVain : BlockHead → List ℕ → List ℕ → Type 0
+IsVain head plain packed = (length packed ≡ head.deflated) × (IsUnfinished plain packed ⊎ IsOther head plain packed)
+
+-- in a block of that head and these bytes: they stand for data in which it stops there, or for none, and it stops in what
+-- their stream gives, or at the last record of that
+pub data StopsInBytes (limits : Limits) (dropping : Dropping) (in_end : Bool) (records : List WideRecord) (head : BlockHead) (packed : List ℕ) (within : ℕ) : Type 0 where
+  ByData : (plain : List ℕ) → StandsFor head packed plain → StopsInData limits dropping in_end records plain within → StopsInBytes limits dropping in_end records head packed within
+  ByStream : (plain : List ℕ) → IsVain head plain packed → StopsInData limits dropping in_end records plain within ⊎ EndsInData limits dropping in_end records plain within →
+      StopsInBytes limits dropping in_end records head packed within
+
+-- at a block: its head stands there, and it stops in the bytes behind
+pub record AtBlock (limits : Limits) (dropping : Dropping) (b : List ℕ) (at within : ℕ) : Type 0 where
+  pub left : List ℕ
+  pub start : WideStart
+  pub records : List WideRecord
+  pub before : IsBefore limits dropping b left at start records
+  pub head : BlockHead
+  pub begin : List ℕ
+  pub packed : List ℕ
+  pub rest : List ℕ
+  pub begun : head_in start.flag_in_end head begin
+  pub joined : left ≡ begin ++ (packed ++ rest)
+  pub stops : StopsInBytes limits dropping start.flag_in_end records head packed within
+
 -- a place at which it stops
-pub data StopsAt (limits : Limits) (dropping : Dropping) (b : List ℕ) (at : ℕ) : Type 0 where
-  ByMagic : AtMagic b at → StopsAt limits dropping b at
-  ByStart : AtStart b at → StopsAt limits dropping b at
-  ByRecord : AtRecord limits dropping b at → StopsAt limits dropping b at
-  AfterLast : AfterEnd limits dropping b at → StopsAt limits dropping b at
-  ByEnd : AtEnd limits dropping b at → StopsAt limits dropping b at
+abbrev pub StopsAt : Limits → Dropping → List ℕ → Place → Type 0
+StopsAt limits dropping b (File at) = StopsInFile limits dropping b at
+StopsAt limits dropping b (Block block within) = AtBlock limits dropping b block within
+
+-- among these bytes stands a block's head at that offset, behind the front of a file
+pub record HasBlock (old : Script) (bytes : List ℕ) (at : ℕ) : Type 0 where
+  pub start : WideStart
+  pub records : List WideRecord
+  pub before : List ℕ
+  pub head : BlockHead
+  pub begin : List ℕ
+  pub rest : List ℕ
+  pub front : WideFrontOf start records before
+  pub begun : head_in start.flag_in_end head begin
+  pub joined : bytes ≡ before ++ (begin ++ rest)
+  pub place : at ≡ old.given + length before
+
+-- a place in a block is in one that is there
+abbrev pub IsPlace : Script → List ℕ → Place → Type 0
+IsPlace old bytes (File at) = Unit {0}
+IsPlace old bytes (Block block within) = HasBlock old bytes block
 
 -- a rejection at an offset in the file
 abbrev pub at_file : ℕ → WideWhy → Rejection

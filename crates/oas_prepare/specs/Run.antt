@@ -18,7 +18,7 @@ use Rattle.oas_wide.specs.Reasons.{plain_of}
 use Rattle.oas_narrow.specs.Narrowing.{report_of}
 use Rattle.oas_narrow.specs.Preparable.{Formed, Preparable, WideMeans, IsValid}
 use Rattle.oas_prepare.specs.Deciding.{decides, is_of_file, is_cut}
-use Rattle.oas_prepare.specs.Places.{StopsAt}
+use Rattle.oas_prepare.specs.Places.{StopsAt, IsPlace}
 
 -- c is the canonical form of what the file's records stand for, and that was left out
 pub record IsPreparedAs (limits : Limits) (profile : Profile) (dropping : Dropping) (bytes c : List ℕ) (report : Report) : Type 0 where
@@ -73,14 +73,13 @@ pub record IsStopped (limits : Limits) (dropping : Dropping) (old : Script) (why
   pub too_long : plain_of why ≡ InputTooLong → IsTooLong new
   pub reading : plain_of why ≢ Write
 
--- Of a source that had given nothing before: the rejection's place is one at which each file stops that goes on so; where the
--- source has ended, it goes on by nothing.
+-- The rejection's place is in the file, or in a block that is there. Of a source that had given nothing before: it is one at
+-- which each file stops that goes on so; where the source has ended, it goes on by nothing.
 pub record IsPlaced (limits : Limits) (dropping : Dropping) (old : Script) (rejection : Rejection) (new : Script) : Type 0 where
   pub bytes : List ℕ
-  pub at : ℕ
   pub takes : Takes old bytes new
-  pub place : rejection.place ≡ File at
-  pub placed : IsTied rejection.why old → old.given ≡ 0 → IsTrue (is_of_file rejection.why) → (more : List ℕ) → (IsAtEnd new → more ≡ []) → StopsAt limits dropping (bytes ++ more) at
+  pub there : IsPlace old bytes rejection.place
+  pub placed : IsTied rejection.why old → old.given ≡ 0 → IsTrue (is_of_file rejection.why) → (more : List ℕ) → (IsAtEnd new → more ≡ []) → StopsAt limits dropping (bytes ++ more) rejection.place
 
 abbrev pub Stops : Limits → Dropping → Script → Rejection → Script → Type 0
 Stops limits dropping old rejection new = IsStopped limits dropping old rejection.why new × IsPlaced limits dropping old rejection new

@@ -3,18 +3,21 @@ ghost use Rattle.oas_file.specs.Gathering.{FindsEnd};
 ghost use Rattle.oas_prepare.specs.Gathering.{TakesNext, Gathers, GathersFile};
 
 use crate::heads::read_wide_head;
+use crate::inside::take_block;
 use crate::taking::Preparation;
 use oas_layout::{Limits, Profile};
 use oas_narrow::{Dropping, Rejection};
 use oas_num::{Refusal, Source, SourceFault, Why};
-use oas_wide::{WideEnd, WideRecord, WideRefusal, WideStart};
+use oas_wide::{BlockHead, WideEnd, WideRecord, WideRefusal, WideStart};
 use std::alloc::Global;
 
 /// What stands next in a file.
-enum Next {
+pub(crate) enum Next {
     /// A record before END.
     Record(WideRecord),
     End(WideEnd),
+    /// What stands before the bytes of a block.
+    Block(BlockHead),
 }
 
 /// What is made of all records, with END and its offset.
@@ -26,7 +29,7 @@ pub(crate) struct Gathered {
 }
 
 /// Takes the next record.
-fn take_next<S: Source>(
+pub(crate) fn take_next<S: Source>(
     alloc: Global,
     source: &mut S,
     flag_in_end: bool,
@@ -35,6 +38,7 @@ fn take_next<S: Source>(
 {
     match WideRecord::read(alloc, source, flag_in_end)? {
         WideRecord::End(end) => Ok(Next::End(end)),
+        WideRecord::Block(head) => Ok(Next::Block(head)),
         record => Ok(Next::Record(record)),
     }
 }
@@ -53,6 +57,9 @@ fn take_records<S: Source>(
         match take_next(alloc, source, head.flag_in_end)? {
             Next::End(end) => return Ok((at, end)),
             Next::Record(next) => preparation.take(at, next)?,
+            Next::Block(block) => {
+                take_block(alloc, source, at, block, head.flag_in_end, preparation)?
+            }
         }
         at = source.at();
     }

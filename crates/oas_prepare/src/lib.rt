@@ -7,7 +7,10 @@
 //!   records stand, and the answer has how many records of each kind were left out (`IsDone`, specs/Run.antt). Else nothing
 //!   was written, or the writer failed after a front of it.
 //! - On both sides: a rejection whose reason lies in the bytes says that no file that is prepared begins with what was taken,
-//!   and of a source that had given nothing before that its place is one at which every file stops that goes on so.
+//!   and of a source that had given nothing before that its place is one at which every file stops that goes on so. A place in
+//!   a block is in one that is there: in its data, or in bytes that stand for none.
+//! - A block's data are held in memory while its records are taken, at most 2^30 bytes of them; more are refused for want of
+//!   memory (own rule).
 //! - The laws stand over the definitions alone ([`laws`]): a file means one layout; two files whose records stand for the same
 //!   layout are prepared to the same bytes; a file that the profile accepts is prepared to its canonical file with nothing
 //!   left out; what is prepared is prepared to itself.
@@ -18,6 +21,7 @@
 
 mod gathering;
 mod heads;
+mod inside;
 pub mod laws;
 mod preparing;
 mod signing;

@@ -3,4 +3,8 @@
 #![tactic(auto)]
 
 #[cfg(test)]
+mod block_rows;
+#[cfg(test)]
+mod blocks;
+#[cfg(test)]
 mod signatures;

@@ -1,0 +1,135 @@
+-- A block that was taken, by how its stream ends.
+use Rattle.std.proofs.Common.{◌≡◌, ◌≢◌, ℕ, ◌<◌, ◌≤◌, Bool, true, false, List, [], ◌∷◌, ◌++◌, length, take, drop, Option, None, Some, Result, Ok, Err, IsTrue, ◌⊎◌, inl, inr, refl, sym, ap, subst, ◌∙◌, append_assoc, arith}
+use Rattle.std.specs.Prelude.{nat_lt}
+use Rattle.std.proofs.lemmas.Bool.{le-ltb}
+use Rattle.std.proofs.lemmas.List.{append-nil, length-append, append_cancel_left, take_all}
+use Rattle.oas_num.specs.declared.refusals.Why.{Why}
+use Rattle.oas_num.specs.declared.refusals.Why.TheVariants as why_of
+use Rattle.oas_num.specs.Grammar.{IsEach}
+use Rattle.oas_num.specs.Reading.{ReadsValue}
+use Rattle.oas_num.specs.Script.{Script, Rest, Gave, Takes, IsAtEnd, HasFailed, IsTooLong, NoneLeft, slice_script}
+use Rattle.oas_num.proofs.ReadLemmas.{Takes-none, Takes-then}
+use Rattle.oas_num.proofs.PieceLemmas.{whole_piece}
+use Rattle.oas_record.specs.Found.{NoneStands}
+use Rattle.oas_block.specs.declared.block.BlockEnd.{BlockEnd}
+use Rattle.oas_block.specs.declared.block.BlockEnd.TheVariants.{Whole, Unfinished, Other}
+use Rattle.oas_block.specs.declared.faults.BlockFault.{BlockFault}
+use Rattle.oas_block.specs.declared.faults.BlockFault.TheVariants as fault
+use Rattle.oas_block.specs.Blocks.{StandsFor}
+use Rattle.oas_block.specs.Reading.{Tells, TakesAll, EndsBlock, FailsBlock, IsUnfinished, IsOther}
+use Rattle.oas_block.proofs.StandsLemmas.{StandsForNothing, nothing_stands, longer_stands, told}
+use Rattle.oas_canon.proofs.Whole.{Cause, Bytes, End, Device, Limit, Writer, Room, cause_of}
+use Rattle.oas_file.proofs.Judged.{decides_format}
+use Rattle.oas_layout.specs.declared.limits.Limits.{Limits}
+use Rattle.oas_wide.specs.declared.blocks.BlockHead.{BlockHead}
+use Rattle.oas_wide.specs.declared.ends.WideEnd.{WideEnd}
+use Rattle.oas_wide.specs.declared.reasons.WideWhy.{WideWhy}
+use Rattle.oas_wide.specs.declared.reasons.WideWhy.TheVariants as wide
+use Rattle.oas_wide.specs.declared.records.WideRecord.{WideRecord}
+use Rattle.oas_wide.specs.Reasons.{plain_of}
+use Rattle.oas_wide.specs.WideRecords.{FailsWide}
+use Rattle.oas_narrow.specs.declared.dropping.Dropping.{Dropping}
+use Rattle.oas_narrow.specs.declared.places.Place.{Place}
+use Rattle.oas_narrow.specs.declared.places.Place.TheVariants.{File, Block}
+use Rattle.oas_narrow.specs.declared.places.Rejection.{Rejection}
+use Rattle.oas_narrow.specs.Preparable.{AllPrepared}
+use Rattle.oas_narrow.specs.WideFiles.{inner_in, end_in, head_in}
+use Rattle.oas_prepare.specs.declared.taking.Preparation.{Preparation}
+use Rattle.oas_prepare.specs.Deciding.{decides}
+use Rattle.oas_prepare.specs.Inside.{FailsInside, Unread, EndInside, BlockInside, HasInner, IsOfData, StopsInner, TakesData, fault_why, run_out_why, place_in, why_in, in_block, place_of_last, ended_by, HasTaken, IsAtBlock, NoData, StopsBlock, ForMemory, CutOff, ByBytes, InVain, AtInner, TakesBlock, IsLast}
+use Rattle.oas_prepare.specs.Places.{at_file, IsNext, StopsInData, EndsInData, IsVain}
+use Rattle.oas_prepare.specs.Taking.{Stands, SameRun, IsStop, obstacle_next}
+use Rattle.oas_prepare.proofs.Packed.{vain_no_data}
+use Rattle.oas_prepare.proofs.Fronts.{allowed_last, allowed_more, push, not_both}
+use Rattle.oas_prepare.proofs.Items.{none_long, record_no_block, record_no_end}
+use Rattle.oas_prepare.proofs.Reasons.{obstacle_decides}
+use Rattle.oas_prepare.proofs.Refusing.{ended_cut}
+use Rattle.oas_prepare.proofs.Whole.{memory_is}
+use Rattle.oas_prepare.proofs.WideLaws.{OneFront-inner, wide_never}
+
+no_data : {head : BlockHead} {old new : Script} (t : Tells head (λ bytes. StandsForNothing head bytes) old new) → NoData head t.bytes
+no_data t = record { within = t.within; none = λ more plain s. (t.all more s.deflated).none plain s }
+
+-- what is no block isn't taken
+pub fault_stops : {limits : Limits} {dropping : Dropping} {in_end : Bool} (at : ℕ) {head : BlockHead} {records : List WideRecord} (limit : ℕ) {old new : Script} (why : BlockFault) → FailsBlock head limit old why new →
+    StopsBlock limits dropping in_end at head old records (at_file at (fault_why why)) new
+fault_stops at {head = head} limit fault.Kind h = ByBytes [] h.1 (record { within = omega arith; none = λ more plain s. h.0 s.kind }) refl refl
+fault_stops at {head = head} limit fault.Length h = let t = told h (longer_stands head) in ByBytes t.bytes t.takes (no_data t) refl refl
+fault_stops at {head = head} limit fault.Deflate h = let t = told h (nothing_stands head) in ByBytes t.bytes t.takes (no_data t) refl refl
+fault_stops at limit fault.Full h = ForMemory h.1.bytes h.1.takes refl refl
+fault_stops at limit (fault.Why why_of.Truncated) h = CutOff h.0.bytes h.0.takes h.0.fewer refl h.1
+fault_stops at limit (fault.Why why_of.Read) h = CutOff h.0.bytes h.0.takes h.0.fewer refl h.1
+fault_stops at limit (fault.Why why_of.InputTooLong) h = CutOff h.0.bytes h.0.takes h.0.fewer refl h.1
+fault_stops at limit (fault.Why why_of.Memory) h = ForMemory h.bytes h.takes refl refl
+fault_stops at limit (fault.Why _) h = absurd h
+
+-- the bytes of a block whose stream doesn't end as it should
+record Vain (head : BlockHead) (plain : List ℕ) (old new : Script) : Type 0 where
+  bytes : List ℕ
+  takes : Takes old bytes new
+  is : IsVain head plain bytes
+
+unfinished : (head : BlockHead) (plain : List ℕ) {old new : Script} → TakesAll head (λ bytes. IsUnfinished plain bytes) old new → Vain head plain old new
+unfinished head plain t = record { bytes = t.bytes; takes = t.takes; is = (t.whole, inl t.is) }
+
+other : (head : BlockHead) (plain : List ℕ) {old new : Script} → TakesAll head (λ bytes. IsOther head plain bytes) old new → Vain head plain old new
+other head plain t = record { bytes = t.bytes; takes = t.takes; is = (t.whole, inr t.is) }
+
+run_out_decides : (end : BlockEnd) → IsTrue (decides (run_out_why end))
+run_out_decides Whole = refl
+run_out_decides Unfinished = refl
+run_out_decides Other = refl
+
+kept_decides : (end : BlockEnd) (why : WideWhy) → IsTrue (decides why) → IsTrue (decides (why_in end why))
+kept_decides end (wide.Profile why_of.Truncated) is = run_out_decides end
+kept_decides end _ is = is
+
+why_decides : (end : BlockEnd) (why : WideWhy) → IsOfData why → IsTrue (decides (why_in end why))
+why_decides end why (inl e) = subst (λ (w : WideWhy). IsTrue (decides (why_in end w))) (sym e) (run_out_decides end)
+why_decides end why (inr is) = kept_decides end why is
+
+module _ (in_end : Bool) (at : ℕ) (head : BlockHead) (old new : Script) (first p : Preparation) (plain : List ℕ) where
+  -- all records of what such a stream gives were taken
+  vain : (why : WideWhy) (last : Option ℕ) → Vain head plain old new → TakesData in_end plain first (Ok last) p → IsTrue (decides why) →
+      TakesBlock in_end at head old first (Err (record { place = place_of_last at last; why = why })) new p
+  vain why None v d decided = λ records stands prepared. ByBytes v.bytes v.takes (vain_no_data v.is) refl decided
+  vain why (Some within) v d decided = λ records stands prepared. InVain v.bytes plain within v.takes v.is refl decided (inr (d records stands prepared).1)
+
+  -- all records of the data were taken
+  pub data_taken : (limit : ℕ) (end : BlockEnd) (last : Option ℕ) (result : Result (Unit {0}) Rejection) → result ≡ ended_by at end last → EndsBlock head limit old plain end new
+      → TakesData in_end plain first (Ok last) p → TakesBlock in_end at head old first result new p
+  data_taken limit Whole last result is h d =
+      subst (λ (r : Result (Unit {0}) Rejection). TakesBlock in_end at head old first r new p) (sym is)
+      (omega (arith, h.takes.given), λ records stands prepared. record { bytes = h.bytes; takes = h.takes; plain = plain; is = h.block; made = (d records stands prepared).0 })
+  data_taken limit Unfinished last result is h d =
+      subst (λ (r : Result (Unit {0}) Rejection). TakesBlock in_end at head old first r new p) (sym is) (vain (run_out_why Unfinished) last (unfinished head plain h) d refl)
+  data_taken limit Other last result is h d =
+      subst (λ (r : Result (Unit {0}) Rejection). TakesBlock in_end at head old first r new p) (sym is) (vain (run_out_why Other) last (other head plain h) d refl)
+
+  module _ (limits : Limits) (dropping : Dropping) (records : List WideRecord) (e : Rejection) (s : StopsInner limits dropping in_end records plain e) where
+    place_is : (end : BlockEnd) → (in_block at end e).place ≡ Block at s.within
+    place_is end = ap (place_in at) s.place
+
+    abbrev Halts : BlockEnd → Type 0
+    Halts end = StopsBlock limits dropping in_end at head old records (in_block at end e) new
+
+    memory_stops : (end : BlockEnd) (bytes : List ℕ) → Takes old bytes new → e.why ≡ wide.Profile why_of.Memory → Halts end
+    memory_stops end bytes takes is = ForMemory bytes takes (subst (IsAtBlock at) (sym (place_is end)) refl) (ap (why_in end) is)
+
+    vain_inner : (end : BlockEnd) → Vain head plain old new → Halts end
+    vain_inner end v = by s.reason where
+      by : (e.why ≡ wide.Profile why_of.Memory) ⊎ (IsOfData e.why × StopsInData limits dropping in_end records plain s.within) → Halts end
+      by (inl is) = memory_stops end v.bytes v.takes is
+      by (inr b) = InVain v.bytes plain s.within v.takes v.is (place_is end) (why_decides end e.why b.0) (inl b.1)
+
+    inner_stops : (limit : ℕ) (end : BlockEnd) → EndsBlock head limit old plain end new → Halts end
+    inner_stops limit Whole h = by s.reason where
+      by : (e.why ≡ wide.Profile why_of.Memory) ⊎ (IsOfData e.why × StopsInData limits dropping in_end records plain s.within) → Halts Whole
+      by (inl is) = memory_stops Whole h.bytes h.takes is
+      by (inr b) = AtInner h.bytes plain s.within h.takes h.block (place_is Whole) (why_decides Whole e.why b.0) b.1
+    inner_stops limit Unfinished h = vain_inner Unfinished (unfinished head plain h)
+    inner_stops limit Other h = vain_inner Other (other head plain h)
+
+  -- or it stops at one
+  pub data_stops : (limit : ℕ) (end : BlockEnd) (e : Rejection) → EndsBlock head limit old plain end new → TakesData in_end plain first (Err e) p → TakesBlock in_end at head old first (Err (in_block at end e)) new p
+  data_stops limit end e h d = λ records stands prepared. inner_stops first.reader.limits first.dropping records e (d records stands prepared) limit end h

@@ -1,0 +1,290 @@
+-- A block that was taken, or stops the file.
+use Rattle.std.proofs.Common.{◌≡◌, ◌≢◌, ℕ, ◌+◌, ◌<◌, ◌≤◌, Bool, List, [], ◌∷◌, ◌++◌, length, drop, IsTrue, ◌⊎◌, inl, inr, refl, sym, ap, subst, ◌∙◌, append_assoc, arith}
+use Rattle.std.proofs.lemmas.List.{append-nil, length-append, append_cancel_left}
+use Rattle.oas_num.specs.declared.refusals.Why.{Why}
+use Rattle.oas_num.specs.declared.refusals.Why.TheVariants as why_of
+use Rattle.oas_num.specs.Grammar.{IsEach}
+use Rattle.oas_num.specs.Laws.GrammarLaws.{after_same}
+use Rattle.oas_num.specs.Reading.{ReadsValue}
+use Rattle.oas_num.specs.Script.{Script, Takes, IsAtEnd}
+use Rattle.oas_num.proofs.ReadLemmas.{Takes-then}
+use Rattle.oas_record.specs.Found.{NoneStands}
+use Rattle.oas_block.specs.Blocks.{StandsFor}
+use Rattle.oas_block.proofs.OneLemmas.{one_block}
+use Rattle.oas_block.proofs.StandsLemmas.{StandsForNothing, unfinished_stands, other_stands}
+use Rattle.oas_layout.specs.declared.limits.Limits.{Limits}
+use Rattle.oas_wide.specs.declared.blocks.BlockHead.{BlockHead}
+use Rattle.oas_wide.specs.declared.ends.WideEnd.{WideEnd}
+use Rattle.oas_wide.specs.declared.heads.WideStart.{WideStart}
+use Rattle.oas_wide.specs.declared.reasons.WideWhy.{WideWhy}
+use Rattle.oas_wide.specs.declared.reasons.WideWhy.TheVariants as wide
+use Rattle.oas_wide.specs.declared.records.WideRecord.{WideRecord}
+use Rattle.oas_wide.specs.Reasons.{plain_of}
+use Rattle.oas_narrow.specs.declared.dropping.Dropping.{Dropping}
+use Rattle.oas_narrow.specs.declared.places.Place.{Place}
+use Rattle.oas_narrow.specs.declared.places.Place.TheVariants.{File, Block}
+use Rattle.oas_narrow.specs.declared.places.Rejection.{Rejection}
+use Rattle.oas_narrow.specs.Preparable.{AllPrepared, Formed, Preparable}
+use Rattle.oas_narrow.specs.WideFiles.{WideFrontOf, inner_in, end_in, head_in, block_in, is_block_of, item_in, AsRecord, AsBlock, records_of}
+use Rattle.oas_prepare.specs.declared.taking.Preparation.{Preparation}
+use Rattle.oas_prepare.specs.Deciding.{decides, is_cut}
+use Rattle.oas_prepare.specs.Gathering.{HasGathered}
+use Rattle.oas_prepare.specs.Inside.{HasTaken, IsAtBlock, IsCutBy, NoData, StopsBlock, ForMemory, CutOff, ByBytes, InVain, AtInner}
+use Rattle.oas_prepare.specs.Places.{at_file, ByRecord, StopsInData, EndsInData, IsVain, StopsInBytes, ByData, ByStream, AtBlock, StopsAt, StopsInFile, HasBlock, IsPlace, IsBefore, IsNext}
+use Rattle.oas_prepare.specs.Run.{IsStopped, IsPlaced, Stops}
+use Rattle.oas_prepare.proofs.Fronts.{Compared, Same, More, Less, compare, Fronts, fronts, Ended, ended, end_by, not_both, allowed_front, front_more, goes_on}
+use Rattle.oas_prepare.proofs.Items.{front_none, none_long, same_long, inner_some, OneFront-block_head, block_is, record_no_block, block_no_end}
+use Rattle.oas_prepare.proofs.Refusing.{Judges, ForMemory as Wanting, Decided, judged_stopped, memory_placed, there_at}
+use Rattle.oas_prepare.proofs.WideLaws.{OneFront-inner}
+use Rattle.oas_prepare.proofs.Packed.{Behind, behind, few_bytes, no_data, vain_no_data, one_plain, not_inner}
+
+-- ---- a file that goes on behind a block's head
+
+-- by a block of that head
+record GoesOn (in_end : Bool) (block : BlockHead) (before : List WideRecord) (bytes : List ℕ) (all : List WideRecord) : Type 0 where
+  plain : List ℕ
+  rest : List ℕ
+  inner : List WideRecord
+  tail : List WideRecord
+  behind : Behind block plain bytes rest
+  each : IsEach (inner_in in_end) inner plain
+  records : all ≡ before ++ (inner ++ tail)
+
+module _ {origin mid : Script} {head : WideStart} {first p : Preparation} (m : HasGathered origin head first mid p) {block : BlockHead} {begun : Script} (read : ReadsValue (head_in head.flag_in_end) mid block begun) where
+  abbrev in_end : Bool
+  in_end = head.flag_in_end
+
+  abbrev limits : Limits
+  limits = first.reader.limits
+
+  abbrev dropping : Dropping
+  dropping = first.dropping
+
+  abbrev before : List ℕ
+  before = m.bytes ++ read.bytes
+
+  taken : {new : Script} (bytes : List ℕ) → Takes begun bytes new → Takes origin (before ++ bytes) new
+  taken {new = new} bytes takes = Takes-then origin begun new before bytes (Takes-then origin mid begun m.bytes read.bytes m.takes read.takes) takes
+
+  block_goes_on : {start : WideStart} {ss : List WideRecord} {end : WideEnd} {whole : List ℕ} (r bytes : List ℕ) → Ended start ss end whole → whole ++ r ≡ before ++ bytes → GoesOn in_end block m.records bytes ss
+  block_goes_on {start = start} {ss = ss} {end = end} {whole = whole} r bytes g e = by both.items where
+    both : Fronts head start m.front.items g.front.items (read.bytes ++ bytes) (g.last ++ r)
+    both = fronts (read.bytes ++ bytes) (g.last ++ r) m.front g.front (sym (append_assoc m.bytes read.bytes bytes) ∙ sym e ∙ ap (λ (c : List ℕ). c ++ r) g.joined ∙ append_assoc g.before g.last r)
+
+    ends : end_in in_end end g.last
+    ends = end_by both.heads g.ends
+
+    item : (ws : List WideRecord) (tail : List (List WideRecord)) (front more : List ℕ) → g.front.items ≡ (m.front.items ++ ws ∷ []) ++ tail → item_in in_end ws front → read.bytes ++ bytes ≡ front ++ more → GoesOn in_end block m.records bytes ss
+    item ws tail front more is (AsRecord w same one) stands = absurd (record_no_block in_end w block front read.bytes more bytes one read.spelled (sym stands))
+    item ws tail front more is (AsBlock b) stands = record {
+      plain = b.block.1;
+      rest = more;
+      inner = ws;
+      tail = records_of tail;
+      behind = behind in_end block read.bytes bytes b.block front more read.spelled b.spelled stands;
+      each = b.each;
+      records = goes_on m.front g.front ws tail is;
+    }
+
+    by : Compared (item_in in_end) m.front.items g.front.items (read.bytes ++ bytes) (g.last ++ r) → GoesOn in_end block m.records bytes ss
+    by (Same same lefts) = absurd (block_no_end in_end block end read.bytes g.last bytes r read.spelled ends lefts)
+    by (More ws tail front more is one stands) = item ws tail front more is one stands
+    by (Less ws tail front more is one stands) = absurd (not_both in_end ws end front g.last more r one ends (sym stands))
+
+  in_file : (bytes more : List ℕ) (a : Formed limits dropping ((before ++ bytes) ++ more)) → GoesOn in_end block m.records (bytes ++ more) a.records
+  in_file bytes more a = let whole = (before ++ bytes) ++ more in block_goes_on [] (bytes ++ more) (ended a.file) (append-nil whole ∙ append_assoc before bytes more)
+
+  inner_prepared : {bytes : List ℕ} {all : List WideRecord} (g : GoesOn in_end block m.records bytes all) → AllPrepared limits dropping all → AllPrepared limits dropping (m.records ++ g.inner)
+  inner_prepared g a = allowed_front limits dropping (m.records ++ g.inner) g.tail (subst (AllPrepared limits dropping) (g.records ∙ sym (append_assoc m.records g.inner g.tail)) a)
+
+  -- ---- it is taken
+
+  pub block_more : {new : Script} {after : Preparation} → HasTaken in_end block begun p m.records new after → HasGathered origin head first new after
+  block_more {new = new} {after = after} h = record {
+    records = m.records ++ h.made.inner;
+    bytes = m.bytes ++ (read.bytes ++ h.bytes);
+    takes = subst (λ (b : List ℕ). Takes origin b new) (append_assoc m.bytes read.bytes h.bytes) (taken h.bytes h.takes);
+    front = front_more h.made.inner m.front (AsBlock (record {
+      block = (block, h.plain);
+      spelled = record { front = read.bytes; back = h.bytes; first = read.spelled; second = h.is; joined = refl };
+      each = h.made.each;
+    }));
+    prepared = subst (λ (b : Limits × Dropping). AllPrepared b.0 b.1 (m.records ++ h.made.inner)) (λ i. (m.same.limits i, m.same.dropping i)) h.made.prepared;
+    stands = h.made.stands;
+    same = record {
+      unit = h.made.same.unit ∙ m.same.unit;
+      limits = h.made.same.limits ∙ m.same.limits;
+      profile = h.made.same.profile ∙ m.same.profile;
+      dropping = h.made.same.dropping ∙ m.same.dropping;
+    };
+  }
+
+  -- ---- it stops the file
+
+  module _ (at : ℕ) (is_at : at ≡ mid.given) {new : Script} (bytes : List ℕ) (takes : Takes begun bytes new) where
+    there : (place : Place) → IsAtBlock at place → IsPlace origin (before ++ bytes) place
+    there (File other) e = tt
+    there (Block other within) e = record {
+      start = head;
+      records = m.records;
+      before = m.bytes;
+      head = block;
+      begin = read.bytes;
+      rest = bytes;
+      front = m.front;
+      begun = read.spelled;
+      joined = append_assoc m.bytes read.bytes bytes;
+      place = e ∙ is_at ∙ m.takes.given;
+    }
+
+    is_before : (more : List ℕ) → origin.given ≡ 0 → IsBefore limits dropping ((before ++ bytes) ++ more) (read.bytes ++ (bytes ++ more)) at head m.records
+    is_before more fresh = record {
+      before = m.bytes;
+      front = m.front;
+      prepared = m.prepared;
+      place = omega (arith, is_at, m.takes.given, fresh);
+      joined = append_assoc before bytes more ∙ append_assoc m.bytes read.bytes (bytes ++ more);
+    }
+
+    -- at the block
+    at_head : (more : List ℕ) → origin.given ≡ 0 → ((plain rest : List ℕ) → Behind block plain (bytes ++ more) rest → ⊥) → StopsInFile limits dropping ((before ++ bytes) ++ more) at
+    at_head more fresh none = ByRecord (record {
+      left = read.bytes ++ (bytes ++ more);
+      start = head;
+      records = m.records;
+      before = is_before more fresh;
+      no_end = record { none = λ end front rest ends e. block_no_end in_end block end read.bytes front (bytes ++ more) rest read.spelled ends e };
+      no_record = record { none = λ w front rest next e. record_no_block in_end w block front read.bytes rest (bytes ++ more) next.spelled read.spelled (sym e) };
+      no_block = record { none = λ b front rest s e. none b.1 rest (behind in_end block read.bytes (bytes ++ more) b front rest read.spelled s e) };
+    })
+
+    -- in it
+    in_it : (more : List ℕ) (within : ℕ) → origin.given ≡ 0 → StopsInBytes limits dropping in_end m.records block bytes within → AtBlock limits dropping ((before ++ bytes) ++ more) at within
+    in_it more within fresh stops = record {
+      left = read.bytes ++ (bytes ++ more);
+      start = head;
+      records = m.records;
+      before = is_before more fresh;
+      head = block;
+      begin = read.bytes;
+      packed = bytes;
+      rest = more;
+      begun = read.spelled;
+      joined = refl;
+      stops = stops;
+    }
+
+    -- for want of memory
+    wanting_stops : (e : Rejection) → IsAtBlock at e.place → e.why ≡ wide.Profile why_of.Memory → Stops limits dropping origin e new
+    wanting_stops e place is = (judged_stopped (taken bytes takes) (Wanting (ap plain_of is)), memory_placed e (before ++ bytes) (taken bytes takes) (there e.place place) (ap plain_of is))
+
+    -- since no block begins so
+    bytes_stop : (e : Rejection) → NoData block bytes → e.place ≡ File at → IsTrue (decides e.why) → Stops limits dropping origin e new
+    bytes_stop e n place is = (
+      judged_stopped (taken bytes takes) (Decided is (λ tied more a. no_data more n (in_file bytes more a.formed).behind)),
+      record {
+        bytes = before ++ bytes;
+        takes = taken bytes takes;
+        there = there_at origin (before ++ bytes) place;
+        placed = λ tied fresh of_file more ended. subst (StopsAt limits dropping ((before ++ bytes) ++ more)) (sym place) (at_head more fresh (λ plain rest b. no_data more n b));
+      },
+    )
+
+    -- in what a stream gives that doesn't end as it should
+    vain_stops : (e : Rejection) (plain : List ℕ) (within : ℕ) → IsVain block plain bytes → e.place ≡ Block at within → IsTrue (decides e.why) →
+        StopsInData limits dropping in_end m.records plain within ⊎ EndsInData limits dropping in_end m.records plain within → Stops limits dropping origin e new
+    vain_stops e plain within vain is decided s = (
+      judged_stopped (taken bytes takes) (Decided decided (λ tied more a. no_data more (vain_no_data vain) (in_file bytes more a.formed).behind)),
+      record {
+        bytes = before ++ bytes;
+        takes = taken bytes takes;
+        there = subst (IsPlace origin (before ++ bytes)) (sym is) (there (Block at within) refl);
+        placed = λ tied fresh of_file more ended. subst (StopsAt limits dropping ((before ++ bytes) ++ more)) (sym is) (in_it more within fresh (ByStream plain vain s));
+      },
+    )
+
+    -- at a record of its data
+    inner_stops : (e : Rejection) (plain : List ℕ) (within : ℕ) → StandsFor block bytes plain → e.place ≡ Block at within → IsTrue (decides e.why) →
+        StopsInData limits dropping in_end m.records plain within → Stops limits dropping origin e new
+    inner_stops e plain within stands is decided s = (
+      judged_stopped (taken bytes takes) (Decided decided (λ tied more a. not more a.formed)),
+      record {
+        bytes = before ++ bytes;
+        takes = taken bytes takes;
+        there = subst (IsPlace origin (before ++ bytes)) (sym is) (there (Block at within) refl);
+        placed = λ tied fresh of_file more ended. subst (StopsAt limits dropping ((before ++ bytes) ++ more)) (sym is) (in_it more within fresh (ByData plain stands s));
+      },
+    ) where
+      not : (more : List ℕ) → Formed limits dropping ((before ++ bytes) ++ more) → ⊥
+      not more a =
+          let g = in_file bytes more a in
+          not_inner s g.inner (subst (IsEach (inner_in in_end) g.inner) (sym (one_plain more stands g.behind)) g.each) (inner_prepared g a.prepared)
+
+    -- since the source ended or stopped
+    cut_not : length bytes < block.deflated → (front rest : List ℕ) → front ++ rest ≡ before ++ bytes → Formed limits dropping front → ⊥
+    cut_not few front rest e a = few_bytes (block_goes_on rest bytes (ended a.file) e).behind few
+
+    cut_stops : (why : WideWhy) → length bytes < block.deflated → IsCutBy why new → Stops limits dropping origin (at_file at why) new
+    cut_stops (wide.Profile why_of.Truncated) few cut = (
+      record {
+        bytes = before ++ bytes;
+        takes = taken bytes takes;
+        decided = λ tied d. absurd cc;
+        cut = λ _ front rest e a. absurd (cut_not few front rest e a.formed);
+        truncated = λ _. (λ a. cut_not few (before ++ bytes) [] (append-nil (before ++ bytes)) a.formed, cut);
+        device = λ e. absurd cc;
+        too_long = λ e. absurd cc;
+        reading = λ e. cc;
+      },
+      record {
+        bytes = before ++ bytes;
+        takes = taken bytes takes;
+        there = tt;
+        placed = λ tied fresh of_file more ended.
+            let all : bytes ++ more ≡ bytes = ap (λ (c : List ℕ). bytes ++ c) (ended cut) ∙ append-nil bytes in
+            at_head more fresh (λ plain rest b. few_bytes (subst (λ (c : List ℕ). Behind block plain c rest) all b) few);
+      },
+    )
+    cut_stops (wide.Profile why_of.Read) few cut = (
+      record {
+        bytes = before ++ bytes;
+        takes = taken bytes takes;
+        decided = λ tied d. absurd cc;
+        cut = λ _ front rest e a. absurd (cut_not few front rest e a.formed);
+        truncated = λ e. absurd cc;
+        device = λ _. cut;
+        too_long = λ e. absurd cc;
+        reading = λ e. cc;
+      },
+      record { bytes = before ++ bytes; takes = taken bytes takes; there = tt; placed = λ tied fresh of_file. absurd cc },
+    )
+    cut_stops (wide.Profile why_of.InputTooLong) few cut = (
+      record {
+        bytes = before ++ bytes;
+        takes = taken bytes takes;
+        decided = λ tied d. absurd cc;
+        cut = λ _ front rest e a. absurd (cut_not few front rest e a.formed);
+        truncated = λ e. absurd cc;
+        device = λ e. absurd cc;
+        too_long = λ _. cut;
+        reading = λ e. cc;
+      },
+      record { bytes = before ++ bytes; takes = taken bytes takes; there = tt; placed = λ tied fresh of_file. absurd cc },
+    )
+    cut_stops _ few cut = absurd cut
+
+  same_by : (at : ℕ) (e : Rejection) → e.place ≡ File at → at_file at e.why ≡ e
+  same_by at e is = λ i. record { place = sym is i; why = e.why }
+
+  pub block_stops : (at : ℕ) → at ≡ mid.given → {new : Script} (e : Rejection) → StopsBlock p.reader.limits p.dropping in_end at block begun m.records e new → Stops limits dropping origin e new
+  block_stops at is_at {new = new} e stop = by (subst (λ (b : Limits × Dropping). StopsBlock b.0 b.1 in_end at block begun m.records e new) (λ i. (m.same.limits i, m.same.dropping i)) stop) where
+    by : StopsBlock limits dropping in_end at block begun m.records e new → Stops limits dropping origin e new
+    by (ForMemory bytes takes place is) = wanting_stops at is_at bytes takes e place is
+    by (CutOff bytes takes few place cut) = subst (λ (x : Rejection). Stops limits dropping origin x new) (same_by at e place) (cut_stops at is_at bytes takes e.why few cut)
+    by (ByBytes bytes takes none place is) = bytes_stop at is_at bytes takes e none place is
+    by (InVain bytes plain within takes vain place is s) = vain_stops at is_at bytes takes e plain within vain place is s
+    by (AtInner bytes plain within takes stands place is s) = inner_stops at is_at bytes takes e plain within stands place is s
+
+  -- what is prepared is so by the limits and the names of the preparation
+  pub prepared_by : AllPrepared p.reader.limits p.dropping m.records
+  prepared_by = subst (λ (b : Limits × Dropping). AllPrepared b.0 b.1 m.records) (λ i. (sym m.same.limits i, sym m.same.dropping i)) m.prepared

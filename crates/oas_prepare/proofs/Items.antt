@@ -1,0 +1,170 @@
+-- Laws of what stands in a file before END: a record, or a block of records.
+use Rattle.std.proofs.Common.{◌≡◌, ◌≢◌, ℕ, ◌<◌, Bool, List, [], ◌∷◌, ◌++◌, length, refl, sym, ap, subst, ◌∙◌, append_assoc, arith}
+use Rattle.std.proofs.lemmas.List.{append-nil}
+use Rattle.oas_num.specs.Combinators.{IsApart}
+use Rattle.oas_num.specs.Grammar.{OneFront, IsEach}
+use Rattle.oas_num.specs.Integers.{IsClosed}
+use Rattle.oas_num.specs.Script.{Script, Takes}
+use Rattle.oas_num.specs.Laws.GrammarLaws.{after_same, OneFront-pair}
+use Rattle.oas_block.specs.Blocks.{StandsFor}
+use Rattle.oas_block.proofs.OneLemmas.{one_block}
+use Rattle.oas_wide.specs.declared.blocks.BlockHead.{BlockHead}
+use Rattle.oas_wide.specs.declared.ends.WideEnd.{WideEnd}
+use Rattle.oas_wide.specs.declared.records.WideRecord.{WideRecord}
+use Rattle.oas_wide.specs.declared.records.WideRecord.TheVariants.{End, Block}
+use Rattle.oas_wide.specs.WideRecords.{wide_record_in}
+use Rattle.oas_narrow.specs.WideFiles.{inner_in, end_in, head_in, packed_by, block_in, is_block_of, item_in, AsRecord, AsBlock, records_of}
+use Rattle.oas_prepare.proofs.WideLaws.{OneFront-wide, OneFront-inner}
+
+-- ---- bytes
+
+pub front_none : (a b : List ℕ) → a ++ b ≡ [] → a ≡ []
+front_none [] b e = refl
+front_none (x ∷ a) b e = absurd cc
+
+pub none_long : (l : List ℕ) → length l ≡ 0 → l ≡ []
+none_long [] e = refl
+none_long (x ∷ l) e = absurd (omega (arith, e))
+
+-- as many bytes at the front of the same
+pub same_long : (a b x y : List ℕ) → length a ≡ length b → a ++ x ≡ b ++ y → a ≡ b
+same_long [] [] x y n e = refl
+same_long [] (c ∷ b) x y n e = absurd (omega (arith, n))
+same_long (c ∷ a) [] x y n e = absurd (omega (arith, n))
+same_long (c ∷ a) (d ∷ b) x y n e =
+    let head : c ≡ d = cc in
+    let tail : a ++ x ≡ b ++ y = cc in
+    let rest = same_long a b x y (omega (arith, n)) tail in
+    λ i. head i ∷ rest i
+
+some_long : (l : List ℕ) → l ≢ [] → 0 < length l
+some_long [] some = absurd (some refl)
+some_long (x ∷ l) some = omega arith
+
+-- ---- records
+
+closed_some : (bytes : List ℕ) → IsClosed bytes → bytes ≢ []
+closed_some [] h e = h
+closed_some (b ∷ bytes) h e = cc
+
+-- a record has one byte at least
+wide_some : (in_end : Bool) (w : WideRecord) (bytes : List ℕ) → wide_record_in in_end w bytes → bytes ≢ []
+wide_some in_end w bytes r e = let p = r.parts in closed_some p.front p.first.closed (front_none p.front p.back (sym p.joined ∙ e))
+
+-- so a read of one goes on
+pub wide_onward : (in_end : Bool) (w : WideRecord) {old new : Script} (bytes : List ℕ) → wide_record_in in_end w bytes → Takes old bytes new → old.given < new.given
+wide_onward in_end w bytes r takes = omega (arith, takes.given, some_long bytes (wide_some in_end w bytes r))
+
+pub inner_some : (in_end : Bool) (w : WideRecord) (bytes : List ℕ) → inner_in in_end w bytes → bytes ≢ []
+inner_some in_end w bytes r = wide_some in_end w bytes r.spelled
+
+each_same : {V : Type 0} (A : V → List ℕ → Type 0) → OneFront A → ((v : V) (a : List ℕ) → A v a → a ≢ []) → (vs ws : List V) (a b : List ℕ) → IsEach A vs a → IsEach A ws b → a ≡ b → vs ≡ ws
+each_same A law some [] [] a b p q e = refl
+each_same A law some [] (w ∷ ws) a b p q e = absurd (some w q.0 q.2 (front_none q.0 q.1 (sym q.4 ∙ sym e ∙ p)))
+each_same A law some (v ∷ vs) [] a b p q e = absurd (some v p.0 p.2 (front_none p.0 p.1 (sym p.4 ∙ e ∙ q)))
+each_same A law some (v ∷ vs) (w ∷ ws) a b p q e =
+    let j : p.0 ++ p.1 ≡ q.0 ++ q.1 = sym p.4 ∙ e ∙ q.4 in
+    let one = law.one v w p.0 q.0 p.1 q.1 p.2 q.2 j in
+    let rest = each_same A law some vs ws p.1 q.1 p.3 q.3 (after_same p.0 q.0 p.1 q.1 one.0 j) in
+    λ i. one.1 i ∷ rest i
+
+-- ---- blocks
+
+same_head : (h g : BlockHead) → Block h ≡ Block g → h ≡ g
+same_head h g p = cc
+
+pub OneFront-block_head : (in_end : Bool) → OneFront (head_in in_end)
+OneFront-block_head in_end = record { one = λ h g a b x y p q j. let both = (OneFront-wide in_end).one (Block h) (Block g) a b x y p q j in (both.0, same_head h g both.1) }
+
+OneFront-packed : (head : BlockHead) → OneFront (packed_by head)
+OneFront-packed head = record {
+  one = λ v w a b x y p q e.
+      let same = same_long a b x y (p.deflated ∙ sym q.deflated) e in
+      (same, one_block head b v w (subst (λ (c : List ℕ). StandsFor head c v) same p) q);
+}
+
+pub OneFront-block : (in_end : Bool) → OneFront (block_in in_end)
+OneFront-block in_end = OneFront-pair (head_in in_end) packed_by (OneFront-block_head in_end) OneFront-packed
+
+-- a block begins with its head
+pub block_is : {in_end : Bool} {block : BlockHead × List ℕ} {bytes : List ℕ} (rest : List ℕ) (b : block_in in_end block bytes) → bytes ++ rest ≡ b.front ++ (b.back ++ rest)
+block_is rest b = ap (λ (c : List ℕ). c ++ rest) b.joined ∙ append_assoc b.front b.back rest
+
+-- a record is no block
+pub record_no_block : (in_end : Bool) (w : WideRecord) (head : BlockHead) (a b x y : List ℕ) → inner_in in_end w a → head_in in_end head b → a ++ x ≡ b ++ y → ⊥
+record_no_block in_end w head a b x y p q e = p.holds.no_block head ((OneFront-wide in_end).one w (Block head) a b x y p.spelled q e).1
+
+-- nor is it END
+pub record_no_end : (in_end : Bool) (w : WideRecord) (end : WideEnd) (a b x y : List ℕ) → inner_in in_end w a → end_in in_end end b → a ++ x ≡ b ++ y → ⊥
+record_no_end in_end w end a b x y p q e = p.holds.no_end end ((OneFront-wide in_end).one w (End end) a b x y p.spelled q e).1
+
+head_not_end : (head : BlockHead) (end : WideEnd) → Block head ≡ End end → ⊥
+head_not_end head end e = cc
+
+-- nor is a block END
+pub block_no_end : (in_end : Bool) (head : BlockHead) (end : WideEnd) (a b x y : List ℕ) → head_in in_end head a → end_in in_end end b → a ++ x ≡ b ++ y → ⊥
+block_no_end in_end head end a b x y p q e = head_not_end head end ((OneFront-wide in_end).one (Block head) (End end) a b x y p q e).1
+
+-- ---- items
+
+mixed : (in_end : Bool) (w : WideRecord) (vs : List WideRecord) (a b x y : List ℕ) → inner_in in_end w a → is_block_of in_end vs b → a ++ x ≡ b ++ y → ⊥
+mixed in_end w vs a b x y p q e =
+    let s = q.spelled in record_no_block in_end w q.block.0 a s.front x (s.back ++ y) p s.first (e ∙ block_is y s)
+
+item_one : (in_end : Bool) (v w : List WideRecord) (a b x y : List ℕ) → item_in in_end v a → item_in in_end w b → a ++ x ≡ b ++ y → (a ≡ b) × (v ≡ w)
+item_one in_end v w a b x y (AsRecord r is p) (AsRecord s also q) e =
+    let one = (OneFront-inner in_end).one r s a b x y p q e in
+    (one.0, sym is ∙ ap (λ (k : WideRecord). k ∷ []) one.1 ∙ also)
+item_one in_end v w a b x y (AsRecord r is p) (AsBlock q) e = absurd (mixed in_end r w a b x y p q e)
+item_one in_end v w a b x y (AsBlock p) (AsRecord s also q) e = absurd (mixed in_end s v b a y x q p (sym e))
+item_one in_end v w a b x y (AsBlock p) (AsBlock q) e =
+    let one = (OneFront-block in_end).one p.block q.block a b x y p.spelled q.spelled e in
+    (one.0, each_same (inner_in in_end) (OneFront-inner in_end) (inner_some in_end) v w p.block.1 q.block.1 p.each q.each (ap (λ (k : BlockHead × List ℕ). k.1) one.1))
+
+pub OneFront-item : (in_end : Bool) → OneFront (item_in in_end)
+OneFront-item in_end = record { one = item_one in_end }
+
+-- an item begins with a record, or with the head of a block
+pub record ItemBegins (in_end : Bool) (rest : List ℕ) (bytes : List ℕ) : Type 0 where
+  pub value : WideRecord
+  pub front : List ℕ
+  pub more : List ℕ
+  pub spelled : wide_record_in in_end value front
+  pub no_end : (end : WideEnd) → value ≢ End end
+  pub joined : bytes ++ rest ≡ front ++ more
+
+pub item_begins : (in_end : Bool) (ws : List WideRecord) (bytes rest : List ℕ) → item_in in_end ws bytes → ItemBegins in_end rest bytes
+item_begins in_end ws bytes rest (AsRecord w is p) = record { value = w; front = bytes; more = rest; spelled = p.spelled; no_end = p.holds.no_end; joined = refl }
+item_begins in_end ws bytes rest (AsBlock p) =
+    let s = p.spelled in
+    record { value = Block p.block.0; front = s.front; more = s.back ++ rest; spelled = s.first; no_end = head_not_end p.block.0; joined = block_is rest s }
+
+pub IsApart-item : (in_end : Bool) → IsApart (item_in in_end) (end_in in_end)
+IsApart-item in_end = record {
+  apart = λ ws e a b x y p q j.
+      let i = item_begins in_end ws a x p in
+      i.no_end e ((OneFront-wide in_end).one i.value (End e) i.front b i.more y i.spelled q (sym i.joined ∙ j)).1;
+}
+
+-- ---- lists of items
+
+pub records-more : (items tail : List (List WideRecord)) (ws : List WideRecord) → records_of ((items ++ ws ∷ []) ++ tail) ≡ records_of items ++ (ws ++ records_of tail)
+records-more [] tail ws = refl
+records-more (vs ∷ items) tail ws = ap (λ (rs : List WideRecord). vs ++ rs) (records-more items tail ws) ∙ sym (append_assoc vs (records_of items) (ws ++ records_of tail))
+
+pub records-push : (items : List (List WideRecord)) (ws : List WideRecord) → records_of (items ++ ws ∷ []) ≡ records_of items ++ ws
+records-push [] ws = append-nil ws
+records-push (vs ∷ items) ws = ap (λ (rs : List WideRecord). vs ++ rs) (records-push items ws) ∙ sym (append_assoc vs (records_of items) ws)
+
+-- each record by itself
+abbrev pub alone : List WideRecord → List (List WideRecord)
+alone [] = []
+alone (w ∷ ws) = (w ∷ []) ∷ alone ws
+
+pub records-alone : (ws : List WideRecord) → records_of (alone ws) ≡ ws
+records-alone [] = refl
+records-alone (w ∷ ws) = λ i. w ∷ records-alone ws i
+
+pub each_alone : (in_end : Bool) (ws : List WideRecord) (bytes : List ℕ) → IsEach (inner_in in_end) ws bytes → IsEach (item_in in_end) (alone ws) bytes
+each_alone in_end [] bytes h = h
+each_alone in_end (w ∷ ws) bytes h = (h.0, h.1, AsRecord w refl h.2, each_alone in_end ws h.1 h.3, h.4)

@@ -1,0 +1,15 @@
+use Rattle.std.proofs.Common.{◌≡◌, ◌-◌, ◌^◌, List, length}
+use Rattle.oas_wide.specs.declared.records.WideRecord.{WideRecord}
+use Rattle.oas_narrow.specs.Preparable.{AllPrepared}
+use Rattle.oas_prepare.specs.Taking.{Stands}
+use Rattle.oas_prepare.proofs.Inner.{HasSome}
+use Rattle.oas_prepare.proofs.inside.take_data.Given as goal
+
+abbrev pub invariant-records : goal.invariant-records
+invariant-records l = record {
+  some : (records : List WideRecord) → Stands l.fn.preparation records → AllPrepared l.fn.preparation.reader.limits l.fn.preparation.dropping records →
+      HasSome l.flag_in_end l.fn.preparation records l.plain l.source l.preparation l.last;
+}
+
+abbrev pub decreases-records : goal.decreases-records
+decreases-records l = 2 ^ 64 - l.source.given

@@ -1,0 +1,152 @@
+//! The records of a compressed block's data.
+ghost use Rattle.std.specs.Prelude.{◌≡◌};
+ghost use Rattle.oas_block.specs.declared.block.BlockEnd.{BlockEnd as End};
+ghost use Rattle.oas_prepare.specs.Places.{at_file};
+ghost use Rattle.oas_prepare.specs.Inside.{ReadsInside, TakesData, TakesBlock, fault_why, run_out_why, ended_by, in_block};
+
+use crate::gathering::{Next, take_next};
+use crate::taking::Preparation;
+use oas_block::{BlockEnd, BlockFault, read_block};
+use oas_narrow::{Place, Rejection};
+use oas_num::{SliceSource, Source, Why};
+use oas_wide::{BlockHead, WideRecord, WideWhy};
+use std::alloc::Global;
+
+/// How many bytes of data a block may have at most, since they are held in memory: 2^30 (own rule).
+const DATA_MAX: usize = 1_073_741_824;
+
+/// A rejection at an offset in a block's data.
+fn stopped(at: u64, why: WideWhy) -> Rejection
+    ensures { result ≡ at_file at why }
+{
+    Rejection {
+        place: Place::File(at),
+        why,
+    }
+}
+
+/// Reads the next record of a block's data, in which neither END nor a block may stand.
+fn read_inside<S: Source>(
+    alloc: Global,
+    source: &mut S,
+    flag_in_end: bool,
+) -> Result<WideRecord, Rejection>
+    ensures { ReadsInside flag_in_end (S.script source.old) result (S.script source.new) }
+{
+    let at = source.at();
+    match take_next(alloc, source, flag_in_end)? {
+        Next::Record(next) => Ok(next),
+        Next::End(_) => Err(stopped(at, WideWhy::Profile(Why::OutOfPlace(2)))),
+        Next::Block(_) => Err(stopped(at, WideWhy::CblockNested)),
+    }
+}
+
+/// Takes the records of a block's data, and answers where in the data the last of them begins, if there is one.
+fn take_data(
+    alloc: Global,
+    plain: &[u8],
+    flag_in_end: bool,
+    preparation: &mut Preparation,
+) -> Result<Option<u64>, Rejection>
+    ensures { TakesData flag_in_end plain.now preparation.old result preparation.new }
+{
+    let length = plain.len() as u64;
+    let mut source = SliceSource::new(plain, length);
+    let mut last = None;
+    'records: loop {
+        let within = source.at();
+        if within == length {
+            return Ok(last);
+        }
+        let next = read_inside(alloc, &mut source, flag_in_end)?;
+        preparation.take(within, next)?;
+        last = Some(within);
+    }
+}
+
+/// Why a block isn't read.
+fn fault_why(fault: BlockFault) -> WideWhy
+    ensures { result ≡ fault_why fault }
+{
+    match fault {
+        BlockFault::Kind => WideWhy::CblockType,
+        BlockFault::Length => WideWhy::CblockLength,
+        BlockFault::Deflate => WideWhy::Deflate,
+        BlockFault::Why(why) => WideWhy::Profile(why),
+        BlockFault::Full => WideWhy::Profile(Why::Memory),
+    }
+}
+
+/// Why a record that runs out of a block's data isn't prepared.
+fn run_out_why(end: BlockEnd) -> WideWhy
+    ensures { result ≡ run_out_why end }
+{
+    match end {
+        BlockEnd::Whole => WideWhy::CblockBorder,
+        BlockEnd::Unfinished => WideWhy::Deflate,
+        BlockEnd::Other => WideWhy::CblockLength,
+    }
+}
+
+/// Where and why a record in the block at that offset isn't prepared, whose place was given in the block's data.
+fn in_block(block: u64, end: BlockEnd, inner: Rejection) -> Rejection
+    ensures { result ≡ in_block block end inner }
+{
+    let place = match inner.place {
+        Place::File(within) => Place::Block { block, within },
+        place => place,
+    };
+    let why = match inner.why {
+        WideWhy::Profile(Why::Truncated) => run_out_why(end),
+        why => why,
+    };
+    Rejection { place, why }
+}
+
+/// Whether a block whose records were all taken is at its end, and where and why it isn't prepared if not: at the last of
+/// them, or at the block where there is none.
+fn ended(block: u64, end: BlockEnd, last: Option<u64>) -> Result<(), Rejection>
+    ensures { result ≡ ended_by block end last }
+{
+    if end == BlockEnd::Whole {
+        return Ok(());
+    }
+    let place = match last {
+        Some(within) => Place::Block { block, within },
+        None => Place::File(block),
+    };
+    Err(Rejection {
+        place,
+        why: run_out_why(end),
+    })
+}
+
+/// Takes a block whose head was read, which begins at byte `at`: its bytes, and the records of the data that they stand for.
+///
+/// It stops at the block where its bytes are no block's of that head, as far as they were inflated, and else at the record in
+/// its data. A stream that isn't finished, stands for too few bytes or leaves bytes over stops it at the last record that
+/// begins in what there is.
+pub(crate) fn take_block<S: Source>(
+    alloc: Global,
+    source: &mut S,
+    at: u64,
+    head: BlockHead,
+    flag_in_end: bool,
+    preparation: &mut Preparation,
+) -> Result<(), Rejection>
+    ensures { TakesBlock flag_in_end at head (S.script source.old) preparation.old result (S.script source.new) preparation.new }
+{
+    let block = match read_block(alloc, source, head, DATA_MAX) {
+        Ok(block) => block,
+        Err(fault) => {
+            return Err(Rejection {
+                place: Place::File(at),
+                why: fault_why(fault),
+            });
+        }
+    };
+    match take_data(alloc, &block.data, flag_in_end, preparation) {
+        Ok(last) => ended(at, block.end, last),
+        Err(inner) => Err(in_block(at, block.end, inner)),
+    }
+}

@@ -1,0 +1,133 @@
+//! Blocks that stop a file. The streams that aren't stored bytes were made by zlib 1.2.13.
+
+use oas_narrow::Place;
+use oas_num::Why;
+use oas_wide::WideWhy;
+
+/// A block and what stands behind it, behind the head of a file and a cell (37 bytes), and where and why that file stops, which
+/// goes on by END.
+pub(crate) const REFUSED: [(&str, Place, WideWhy); 17] = [
+    // kind 1
+    ("220100020300", Place::File(37), WideWhy::CblockType),
+    // no stream begins so
+    ("220000020700", Place::File(37), WideWhy::Deflate),
+    // no bytes at all
+    ("22000000", Place::File(37), WideWhy::Deflate),
+    // 17 bytes of data, where 8 are stated
+    (
+        "2200081113a96664e012616010a96602d227181900",
+        Place::File(37),
+        WideWhy::CblockLength,
+    ),
+    // where 18 are: at the last record that begins in the data
+    (
+        "2200121113a96664e012616010a96602d227181900",
+        Place::Block {
+            block: 37,
+            within: 8,
+        },
+        WideWhy::CblockLength,
+    ),
+    // three bytes are left over
+    (
+        "2200111413a96664e012616010a96602d227181900000000",
+        Place::Block {
+            block: 37,
+            within: 8,
+        },
+        WideWhy::CblockLength,
+    ),
+    // a second stream behind the first
+    (
+        "2200111413a96664e0126160000013a96664e01261600000",
+        Place::Block {
+            block: 37,
+            within: 0,
+        },
+        WideWhy::CblockLength,
+    ),
+    // the stream is cut, in a record
+    (
+        "2200110e13a96664e012616010a96602d227",
+        Place::Block {
+            block: 37,
+            within: 8,
+        },
+        WideWhy::Deflate,
+    ),
+    // and behind one, where no part of it is the last
+    (
+        "22001116001100eeff147b01000a140000147b02000a14c80100",
+        Place::Block {
+            block: 37,
+            within: 8,
+        },
+        WideWhy::Deflate,
+    ),
+    // a record over the border
+    (
+        "22000d12010d00f2ff147b01000a140000147b02000a14c80100",
+        Place::Block {
+            block: 37,
+            within: 8,
+        },
+        WideWhy::CblockBorder,
+    ),
+    // an integer over it
+    (
+        "22000207010200fdff008000",
+        Place::Block {
+            block: 37,
+            within: 1,
+        },
+        WideWhy::CblockBorder,
+    ),
+    // a block
+    (
+        "22000e13010e00f1ff147b01000a140000220000020300",
+        Place::Block {
+            block: 37,
+            within: 8,
+        },
+        WideWhy::CblockNested,
+    ),
+    // START
+    (
+        "2200161b011600e9ff000103312e3000e80700000000000000000000000000",
+        Place::Block {
+            block: 37,
+            within: 1,
+        },
+        WideWhy::Profile(Why::OutOfPlace(1)),
+    ),
+    // an element behind a name
+    (
+        "22000b10010b00f4ff030142147b01000a140000",
+        Place::Block {
+            block: 37,
+            within: 3,
+        },
+        WideWhy::Profile(Why::OutOfPlace(20)),
+    ),
+    // a property that isn't to be left out
+    (
+        "22000207010200fdff001d",
+        Place::Block {
+            block: 37,
+            within: 1,
+        },
+        WideWhy::Properties,
+    ),
+    // an element behind a block that ends in a name
+    (
+        "22000308010300fcff030142147b01000a140000",
+        Place::File(49),
+        WideWhy::Profile(Why::OutOfPlace(20)),
+    ),
+    // the input ends in the block
+    (
+        "220011e80713a96664e012616010a96602d227181900",
+        Place::File(37),
+        WideWhy::Profile(Why::Truncated),
+    ),
+];
