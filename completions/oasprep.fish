@@ -1,0 +1,5 @@
+# Completions of oasprep for fish.
+complete -c oasprep -x -l drop -a '(__fish_append , properties layer-names extensions)' -d 'Leaves these out, and counts them'
+complete -c oasprep -l large -d 'Takes larger files'
+complete -c oasprep -f -l help -d 'Prints what is understood'
+complete -c oasprep -f -l version -d 'Prints the version'

@@ -1,0 +1,82 @@
+//! The command `oasprep`: the canonical file of an OASIS file as tools write it.
+//!
+//! What its words ask for is answered by [`usage`]; [`words`] has them of the process, and prints the help and what is wrong
+//! with them. Files by name are those of `oas_files`. The work is done by the run of `oas_preparing`; `main` opens the streams
+//! of the process and calls it.
+//!
+//! Not under a contract: that `main` hands the run what it opened.
+#![tactic(auto)]
+
+mod usage;
+mod words;
+
+use oas_canon::{Limits, ReaderSource, Refusal, Why};
+use oas_command::{limits_of, name_of, run_refused, run_unopened};
+use oas_files::{Input, Output, Printed};
+use oas_preparing::run_prepare;
+use std::process::ExitCode;
+use usage::{Request, parse};
+
+fn main(rt: HostRuntime) -> ExitCode {
+    let status = match words::words_of(&rt) {
+        Ok(words) => match parse(rt.alloc(), words.as_slice()) {
+            Ok(request) => answer(&rt, request),
+            Err(error) => words::end(&rt, &error),
+        },
+        Err(status) => status,
+    };
+    ExitCode::from(status)
+}
+
+/// Does what is asked for, and answers the status.
+fn answer(rt: &HostRuntime, request: Request<'_>) -> u8 {
+    match prepare(rt, request) {
+        Ok(status) => status,
+        Err(status) => status,
+    }
+}
+
+/// Prepares the input, or answers the status of a run that could not begin.
+fn prepare(rt: &HostRuntime, request: Request<'_>) -> Result<u8, u8> {
+    let (alloc, limits) = (rt.alloc(), limits_of(request.is_large));
+    let mut err = rt.stderr();
+    let printed = match Printed::new(alloc, name_of(request.input)) {
+        Ok(printed) => printed,
+        Err(_) => return Err(unbegun(rt, "?")),
+    };
+    let name = printed.as_str();
+    let mut from = source(rt, request.input, name, limits)?;
+    let mut out = Output::new(rt, request.output);
+    Ok(run_prepare(
+        alloc,
+        name,
+        &mut from,
+        &mut out,
+        &mut err,
+        limits,
+        request.dropping,
+    ))
+}
+
+/// The source of an input, or the status where there is none, after its line on standard error under this name.
+fn source(
+    rt: &HostRuntime,
+    input: Option<&str>,
+    name: &str,
+    limits: Limits,
+) -> Result<ReaderSource<Input>, u8> {
+    let opened = match Input::open(rt, input) {
+        Ok(opened) => opened,
+        Err(_) => return Err(run_unopened(name, &mut rt.stderr())),
+    };
+    match ReaderSource::new(rt.alloc(), opened, limits.input()) {
+        Ok(source) => Ok(source),
+        Err(_) => Err(unbegun(rt, name)),
+    }
+}
+
+/// The status of a run for which there is no memory, after its line on standard error under this name.
+fn unbegun(rt: &HostRuntime, name: &str) -> u8 {
+    let why = Why::Memory;
+    run_refused(name, Refusal { at: 0, why }, &mut rt.stderr())
+}

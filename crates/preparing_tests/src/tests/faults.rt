@@ -1,0 +1,106 @@
+//! Readers and writers that fail at each byte.
+
+use super::devices::{Narrow, Torn};
+use super::rows::{bytes_of, dropping_of};
+use oas_canon::Limits;
+use oas_num::{INPUT_MAX, ReaderSource, SliceSource};
+use oas_preparing::run_prepare;
+use std::alloc::Global;
+use std::process::Abort;
+use std::test::Fail;
+
+/// A file of 304 bytes, of which a name of properties is left out.
+const FILE: &str = "HEAD 070150 CELL RECT TAIL";
+
+/// What it becomes, in 301 bytes.
+const PREPARED: &str = "HEAD CELL RECT TAIL";
+
+/// The first offset of the record at an offset of the file, which is where a reader that fails there is refused.
+fn record_at(offset: usize) -> usize {
+    match offset {
+        0..=12 => 0,
+        13..=33 => 13,
+        34..=36 => 34,
+        37..=39 => 37,
+        40..=47 => 40,
+        48..=303 => 48,
+        _ => 304,
+    }
+}
+
+/// Runs from a reader that fails behind these bytes, and asserts that it is refused and that nothing is written.
+fn expect_torn(rt: &impl Abort, alloc: Global, front: &[u8]) -> Result<(), Fail> {
+    let mut from = ReaderSource::new(alloc, Torn { rest: front }, INPUT_MAX)?;
+    let mut out: Vec<u8> = Vec::new(alloc);
+    let mut err: Vec<u8> = Vec::new(alloc);
+    let (limits, dropping) = (Limits::standard(), dropping_of("properties"));
+    let status = run_prepare(
+        alloc, "chip.oas", &mut from, &mut out, &mut err, limits, dropping,
+    );
+    let at = record_at(front.len());
+    let line = format!(in alloc; "chip.oas: refused 32 at {at}\n")?;
+    assert_eq!(rt; err.as_slice(), line.as_bytes());
+    assert_eq!(rt; status, 1, "at {at}");
+    assert!(rt; out.is_empty(), "at {at}");
+    Ok(())
+}
+
+#[test]
+fn readers_that_fail(rt: HostRuntime) -> Result<(), Fail> {
+    let alloc = rt.alloc();
+    let file = bytes_of(alloc, FILE)?;
+    assert_eq!(&rt; file.len(), 304);
+    for len in 0..305usize {
+        let (front, _) = file.as_slice().split_at(len);
+        expect_torn(&rt, alloc, front)?;
+    }
+    Ok(())
+}
+
+/// Runs to an output and an error output with so much room.
+fn run(alloc: Global, file: &[u8], out: &mut Narrow, err: &mut Narrow) -> u8 {
+    let mut from = SliceSource::new(file, INPUT_MAX);
+    let (limits, dropping) = (Limits::standard(), dropping_of("properties"));
+    run_prepare(alloc, "chip.oas", &mut from, out, err, limits, dropping)
+}
+
+/// A writer with so much room.
+fn narrow(alloc: Global, room: usize) -> Narrow {
+    Narrow {
+        taken: Vec::new(alloc),
+        room,
+    }
+}
+
+#[test]
+fn writers_that_fail(rt: HostRuntime) -> Result<(), Fail> {
+    let alloc = rt.alloc();
+    let (file, prepared) = (bytes_of(alloc, FILE)?, bytes_of(alloc, PREPARED)?);
+    assert_eq!(&rt; prepared.len(), 301);
+    for room in 0..301usize {
+        let (mut out, mut err) = (narrow(alloc, room), narrow(alloc, usize::MAX));
+        let status = run(alloc, file.as_slice(), &mut out, &mut err);
+        let line = format!(in alloc; "chip.oas: refused 33 at {room}\n")?;
+        assert_eq!(&rt; err.taken.as_slice(), line.as_bytes());
+        assert_eq!(&rt; status, 1, "at {room}");
+        let (front, _) = prepared.as_slice().split_at(room);
+        assert_eq!(&rt; out.taken.as_slice(), front, "at {room}");
+    }
+    Ok(())
+}
+
+#[test]
+fn error_outputs_that_fail(rt: HostRuntime) -> Result<(), Fail> {
+    let alloc = rt.alloc();
+    let (file, prepared) = (bytes_of(alloc, FILE)?, bytes_of(alloc, PREPARED)?);
+    let line = "chip.oas: left out 1 property name\n".as_bytes();
+    for room in 0..36usize {
+        let (mut out, mut err) = (narrow(alloc, usize::MAX), narrow(alloc, room));
+        let status = run(alloc, file.as_slice(), &mut out, &mut err);
+        assert_eq!(&rt; status, 0, "at {room}");
+        assert_eq!(&rt; out.taken.as_slice(), prepared.as_slice(), "at {room}");
+        let (front, _) = line.split_at(room.min(line.len()));
+        assert_eq!(&rt; err.taken.as_slice(), front, "at {room}");
+    }
+    Ok(())
+}
