@@ -1,5 +1,5 @@
 -- What is drawn by the records handed out.
-use Rattle.std.proofs.Common.{◌≡◌, ℕ, Bool, true, false, List, refl, ap, sym, ◌∙◌}
+use Rattle.std.proofs.Common.{◌≡◌, ℕ, Bool, true, false, refl, ap, sym, ◌∙◌}
 use Rattle.std.specs.Prelude.{ℤ, ◌&&◌, is_some, is_none, cond, Option, Some, None}
 use Rattle.std.specs.Option.{option_or}
 use Rattle.oas_num.specs.declared.deltas.GDelta.{GDelta}
@@ -7,7 +7,6 @@ use Rattle.oas_shape.specs.declared.repetitions.Repetition.{Repetition}
 use Rattle.oas_shape.specs.declared.repetitions.RepField.{RepField}
 use Rattle.oas_shape.specs.declared.repetitions.RepField.TheVariants.{Again, New}
 use Rattle.oas_shape.specs.Polylines.{Polyline}
-use Rattle.oas_ring.specs.declared.point.Point.{Point}
 use Rattle.oas_record.specs.declared.circles.Circle.{Circle}
 use Rattle.oas_record.specs.declared.paths.Path.{Path}
 use Rattle.oas_record.specs.declared.paths.Extensions.{Extensions}
@@ -21,14 +20,13 @@ use Rattle.oas_record.specs.declared.spots.Spot.{Spot}
 use Rattle.oas_record.specs.declared.texts.Text.{Text}
 use Rattle.oas_record.specs.declared.records.Record.{Record}
 use Rattle.oas_record.specs.declared.records.Record.TheVariants as record_of
-use Rattle.oas_drawing.specs.declared.drawn.Drawn.{Drawn}
 use Rattle.oas_drawing.specs.declared.positions.Position.{Position}
 use Rattle.oas_drawing.specs.Values.{new_repetition, start_number, end_number}
 use Rattle.oas_drawing.specs.Modal.{ModalState, moved_by, stepped}
 use Rattle.oas_drawing.specs.Turns.{turned}
 use Rattle.oas_drawing.specs.Drawing.{placement_at, text_at, rectangle_at, polygon_at, path_at, circle_at, point_from, offsets_if}
 use Rattle.oas_foreign.specs.Tracked.{Tracked}
-use Rattle.oas_foreign.specs.Kept.{repetition_given, filled, lacks_points}
+use Rattle.oas_foreign.specs.Kept.{repetition_given, lacks_points}
 use Rattle.oas_foreign.specs.Laws.{AreKept, AreRead, DrawsTheSame}
 
 -- a value that is given in place of a variable's
@@ -52,6 +50,20 @@ copies_are (Some k) mine old (Some (New repetition)) e n = refl
 copies_are None mine old (Some (New repetition)) e n = refl
 copies_are (Some k) mine old (Some Again) e n = ap (offsets_if true) e
 copies_are None mine old (Some Again) e n = ap (offsets_if true) (n (sym e)) ∙ ap (offsets_if true) e
+
+-- a value that is undefined by the standard
+pub still_none : {A : Type 0} (kept mine own old : Option A) → kept ≡ option_or own old → (old ≡ None → mine ≡ None) → option_or own old ≡ None → option_or kept mine ≡ None
+still_none kept mine own old e n h = filled_is kept mine own old e n ∙ h
+
+-- the repetition, if it is
+pub still_once : (kept mine old : Option Repetition) (field : Option RepField) → kept ≡ option_or (new_repetition field) old → (old ≡ None → mine ≡ None) →
+    option_or (new_repetition field) old ≡ None → option_or (new_repetition (repetition_given kept field)) mine ≡ None
+still_once (Some k) mine old None e n h = n h
+still_once None mine old None e n h = n h
+still_once (Some k) mine old (Some (New repetition)) e n h = cc
+still_once None mine old (Some (New repetition)) e n h = cc
+still_once (Some k) mine old (Some Again) e n h = cc
+still_once None mine old (Some Again) e n h = n h
 
 -- ---- elements of equal values
 

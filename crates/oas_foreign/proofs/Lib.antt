@@ -4,3 +4,5 @@ pub mod BoxLemmas
 pub mod LawLemmas
 pub mod ModalLemmas
 pub mod DrawLemmas
+pub mod ReadLemmas
+pub mod ShapeLemmas

@@ -1,5 +1,5 @@
 -- The variables that are kept, beside all variables of the standard.
-use Rattle.std.proofs.Common.{◌≡◌, ℕ, ◌≤◌, Bool, true, false, refl, ap, sym, ◌∙◌, arith}
+use Rattle.std.proofs.Common.{◌≡◌, ℕ, Bool, true, false, refl, ap, ◌∙◌, arith}
 use Rattle.std.proofs.lemmas.Int.{ints}
 use Rattle.std.specs.Prelude.{ℤ, pos, negsuc, neg_ℤ, ◌≤ℤ◌, ◌+ℤ◌, ◌-◌, ◌^◌, min, cond, Option, Some, None}
 use Rattle.std.specs.Int.{saturate_signed, w64}
@@ -40,10 +40,10 @@ height_kept square width height sw mw sh mh e f =
     ∙ ap (option_or (cond square (option_or width mw) height)) f
 
 module _ (s : Tracked) (m : ModalState) (k : AreKept s m) where
-  x_kept : (spot : Spot) → IsNear (moved_by m.relative m.geometry spot) → coordinate_after s.place.relative s.place.x spot.x ≡ moved m.relative m.geometry.x spot.x
+  pub x_kept : (spot : Spot) → IsNear (moved_by m.relative m.geometry spot) → coordinate_after s.place.relative s.place.x spot.x ≡ moved m.relative m.geometry.x spot.x
   x_kept spot near = kept_moved s.place.relative m.relative s.place.x m.geometry.x spot.x k.relative k.x near.x
 
-  y_kept : (spot : Spot) → IsNear (moved_by m.relative m.geometry spot) → coordinate_after s.place.relative s.place.y spot.y ≡ moved m.relative m.geometry.y spot.y
+  pub y_kept : (spot : Spot) → IsNear (moved_by m.relative m.geometry spot) → coordinate_after s.place.relative s.place.y spot.y ≡ moved m.relative m.geometry.y spot.y
   y_kept spot near = kept_moved s.place.relative m.relative s.place.y m.geometry.y spot.y k.relative k.y near.y
 
   pub record_kept : (r : Record) → IsNear (stepped m r).geometry → AreKept (tracked s r) (stepped m r)

@@ -1,5 +1,5 @@
 -- How records of the profile are handed out. s are the variables after the record.
-use Rattle.std.specs.Prelude.{ℕ, Bool, true, false, ◌&&◌, is_none, if◌then◌else◌, List, [], ◌∷◌, Option, None, Some, Result, Ok, Err}
+use Rattle.std.specs.Prelude.{Bool, true, false, ◌&&◌, is_none, if◌then◌else◌, List, [], ◌∷◌, Option, Some, Result, Ok, Err}
 use Rattle.std.specs.Option.{option_or}
 use Rattle.oas_num.specs.declared.refusals.Why.TheVariants.{ModalUndefined}
 use Rattle.oas_shape.specs.declared.repetitions.Repetition.{Repetition}

@@ -1,21 +1,31 @@
 -- What follows from the rules by which records are handed out.
-use Rattle.std.specs.Prelude.{◌≡◌, Bool, false, cond, ◌&&◌, is_none, List, [], ◌∷◌, ◌++◌, map, Option, None, Result, Ok, Err}
+use Rattle.std.specs.Prelude.{◌≡◌, false, cond, ◌&&◌, is_none, ℕ, List, [], ◌∷◌, ◌++◌, map, Option, Some, None, Result, Ok, Err}
+use Rattle.std.specs.Option.{option_or}
 use Rattle.oas_num.specs.declared.deltas.GDelta.{GDelta}
 use Rattle.oas_ring.specs.declared.point.Point.{Point}
 use Rattle.oas_shape.specs.PointLists.{plain_line}
 use Rattle.oas_shape.specs.Polylines.{vertices_of}
 use Rattle.oas_record.specs.declared.references.CellRef.{CellRef}
+use Rattle.oas_record.specs.declared.spots.Spot.{Spot}
 use Rattle.oas_record.specs.declared.records.Record.{Record}
 use Rattle.oas_record.specs.declared.records.Record.TheVariants as record_of
 use Rattle.oas_wide.specs.declared.records.WideRecord.{WideRecord}
 use Rattle.oas_wide.specs.declared.records.WideRecord.TheVariants.{Profile}
 use Rattle.oas_wide.specs.declared.reasons.WideWhy.{WideWhy}
+use Rattle.oas_wide.specs.declared.extensions.ExtensionGeometry.{ExtensionGeometry}
+use Rattle.oas_wide.specs.declared.trapezoids.NamedTrapezoid.{NamedTrapezoid}
+use Rattle.oas_wide.specs.declared.trapezoids.Trapezoid.{Trapezoid}
+use Rattle.oas_corners.specs.declared.corners.Corner.{Corner}
+use Rattle.oas_corners.specs.declared.sides.Sides.{Sides}
 use Rattle.oas_drawing.specs.Positions.{IsNear}
-use Rattle.oas_drawing.specs.Modal.{ModalState, stepped}
+use Rattle.oas_drawing.specs.Values.{new_repetition}
+use Rattle.oas_drawing.specs.Modal.{ModalState, moved_by, stepped}
 use Rattle.oas_drawing.specs.Drawing.{drawn_at, offsets_of}
-use Rattle.oas_foreign.specs.Tracked.{Tracked, fresh, tracked}
+use Rattle.oas_foreign.specs.Tracked.{Tracked, fresh, tracked, placed}
 use Rattle.oas_foreign.specs.Kept.{filled, is_geometry, lacks_points}
-use Rattle.oas_foreign.specs.Shapes.{steps_of}
+use Rattle.oas_foreign.specs.Shapes.{steps_of, geometry_of}
+use Rattle.oas_foreign.specs.Trapezoids.{modal_box, trapezoid_after, named_box, named_after}
+use Rattle.oas_foreign.specs.Extensions.{geometry_after}
 use Rattle.oas_foreign.specs.Steps.{handed_by, kept_after}
 
 -- one list and another, or why one of them is refused
@@ -94,3 +104,55 @@ pub record DrawsTheSame (s : Tracked) (reader standard : ModalState) (r : Record
 
 abbrev pub DrawnAsByTheStandard : Type 0
 DrawnAsByTheStandard = (s : Tracked) (reader standard : ModalState) (r : Record) → AreRead reader standard → AreKept s (stepped standard r) → (lacks_points r && is_none s.polygon_points) ≡ false → DrawsTheSame s reader standard r
+
+-- the variables behind more records, oldest first
+abbrev pub read_all : ModalState → List Record → ModalState
+read_all m [] = m
+read_all m (r ∷ rs) = read_all (stepped m r) rs
+
+-- whoever reads has them still behind what is handed out for a record of the profile
+abbrev pub StaysRead : Type 0
+StaysRead = (s : Tracked) (reader standard : ModalState) (r : Record) → AreRead reader standard → AreKept s (stepped standard r) →
+    AreRead (read_all reader (placed (is_geometry r && s.place.relative) (filled s r))) (stepped standard r)
+
+-- ---- trapezoids and geometry of extensions
+
+-- the variables of the standard behind a trapezoid with that box
+abbrev pub boxed : ModalState → Option ℕ → Option ℕ → Spot → Sides → ModalState
+boxed m layer datatype spot box =
+    record m {
+      layer = option_or layer m.layer;
+      datatype = option_or datatype m.datatype;
+      width = Some box.width;
+      height = Some box.height;
+      repetition = option_or (new_repetition spot.repetition) m.repetition;
+      geometry = moved_by m.relative m.geometry spot;
+    }
+
+-- and behind geometry of an extension
+abbrev pub passed_over : ModalState → ExtensionGeometry → ModalState
+passed_over m g =
+    record m {
+      layer = option_or g.layer m.layer;
+      datatype = option_or g.datatype m.datatype;
+      repetition = option_or (new_repetition g.spot.repetition) m.repetition;
+      geometry = moved_by m.relative m.geometry g.spot;
+    }
+
+-- what is kept are they
+pub record KeepsShapes (s : Tracked) (m : ModalState) : Type 0 where
+  pub trapezoid : (t : Trapezoid) (box : Sides) → modal_box (trapezoid_after s t) ≡ Ok box → IsNear (moved_by m.relative m.geometry t.spot) → AreKept (trapezoid_after s t) (boxed m t.layer t.datatype t.spot box)
+  pub named : (t : NamedTrapezoid) (box : Sides) → named_box s t ≡ Ok box → IsNear (moved_by m.relative m.geometry t.spot) → AreKept (named_after s t) (boxed m t.layer t.datatype t.spot box)
+  pub extension : (g : ExtensionGeometry) → IsNear (moved_by m.relative m.geometry g.spot) → AreKept (geometry_after s g) (passed_over m g)
+
+abbrev pub ShapesAreKept : Type 0
+ShapesAreKept = (s : Tracked) (m : ModalState) → AreKept s m → KeepsShapes s m
+
+-- and whoever reads has them behind what is handed out
+pub record ReadsShapes (s : Tracked) (reader standard : ModalState) : Type 0 where
+  pub shape : (layer datatype : Option ℕ) (spot : Spot) (box : Sides) (corners : List Corner) → AreKept s (boxed standard layer datatype spot box) →
+      AreRead (read_all reader (placed s.place.relative (geometry_of s spot.repetition box corners))) (boxed standard layer datatype spot box)
+  pub extension : (g : ExtensionGeometry) → AreRead reader (passed_over standard g)
+
+abbrev pub ShapesAreRead : Type 0
+ShapesAreRead = (s : Tracked) (reader standard : ModalState) → AreRead reader standard → ReadsShapes s reader standard

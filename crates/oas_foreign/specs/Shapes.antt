@@ -1,5 +1,5 @@
 -- The records for the corners of a box. s are the variables after the record that has them.
-use Rattle.std.specs.Prelude.{◌-ℤ◌, pos, Bool, false, if◌then◌else◌, List, [], ◌∷◌, map, Option, None, Some, Result, Ok, Err}
+use Rattle.std.specs.Prelude.{◌-ℤ◌, pos, Bool, false, if◌then◌else◌, List, [], ◌∷◌, map, Option, Some, Result, Ok, Err}
 use Rattle.std.specs.Cmp.Lexicographic.{pointwise}
 use Rattle.std.specs.List.{list_all}
 use Rattle.oas_num.specs.declared.deltas.GDelta.{GDelta}

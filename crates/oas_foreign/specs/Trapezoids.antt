@@ -1,5 +1,5 @@
 -- What trapezoids stand for (SEMI P39, TRAPEZOID and CTRAPEZOID records).
-use Rattle.std.specs.Prelude.{◌≡◌, ℕ, ℤ, pos, ◌^◌, Bool, true, ◌&&◌, nat_lt, nat_le, ◌==◌, cond, if◌then◌else◌, List, Option, None, Some, unwrap_or, Result, Ok, Err}
+use Rattle.std.specs.Prelude.{ℕ, pos, ◌^◌, Bool, true, ◌&&◌, nat_lt, nat_le, ◌==◌, if◌then◌else◌, List, Option, None, Some, unwrap_or, Result, Ok, Err}
 use Rattle.std.specs.Option.{option_or}
 use Rattle.oas_num.specs.declared.refusals.Why.TheVariants.{ModalUndefined, InfoByte, CoordinateRange}
 use Rattle.oas_shape.specs.declared.repetitions.RepField.{RepField}

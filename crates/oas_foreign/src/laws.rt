@@ -1,5 +1,5 @@
 //! What follows from the rules: each function's contract is a law, and its body is empty.
-ghost use Rattle.oas_foreign.specs.Laws.{ProfileAsItIs, CellBeginsAnew, VerticesAreCorners, KeepsVariables, DrawnAsByTheStandard};
+ghost use Rattle.oas_foreign.specs.Laws.{ProfileAsItIs, CellBeginsAnew, VerticesAreCorners, KeepsVariables, DrawnAsByTheStandard, StaysRead, ShapesAreKept, ShapesAreRead};
 
 /// Records of the profile alone are handed out as they are.
 pub fn profile_alone()
@@ -25,4 +25,16 @@ pub fn variables()
 /// the standard.
 pub fn drawing()
     ensures { DrawnAsByTheStandard }
+{}
+
+/// Whoever reads the records handed out has the same of the standard's variables behind one more record of the profile.
+pub fn reading()
+    ensures { StaysRead }
+{}
+
+/// Behind a trapezoid and behind geometry of an extension too what is kept are the variables of the standard, and whoever reads
+/// the records handed out has the same of them.
+pub fn shapes()
+    ensures kept { ShapesAreKept }
+    ensures read { ShapesAreRead }
 {}
