@@ -1,5 +1,5 @@
 -- What was read of a source whose bytes are kept is read of that source.
-use Rattle.std.proofs.Common.{◌≡◌, ◌≢◌, ℕ, Bool, List, [], Option, Some, None, Ok, Err, inl, inr, refl, sym, subst}
+use Rattle.std.proofs.Common.{◌≡◌, ◌≢◌, ℕ, Bool, List, Option, Some, None, Ok, Err, inl, inr, refl, sym, subst}
 use Rattle.std.specs.Prelude.{◌⊎◌}
 use base.Fml.{GName}
 use Rattle.oas_num.specs.declared.refusals.Why.{Why}
@@ -8,7 +8,6 @@ use Rattle.oas_num.specs.SourceFault.TheVariants.{Device, TooLong}
 use Rattle.oas_num.specs.Reading.{ReadsValue, FailsPiece}
 use Rattle.oas_num.specs.Script.{Script, Takes, IsAtEnd, HasFailed, IsTooLong}
 use Rattle.oas_num.specs.Style.{Any}
-use Rattle.oas_num.proofs.ReadLemmas.{Takes-none}
 use Rattle.oas_record.specs.declared.heads.Head.{Head}
 use Rattle.oas_record.specs.declared.records.Record.{Record}
 use Rattle.oas_record.specs.Heads.{ReadsHead}
@@ -144,14 +143,7 @@ module _ {start now : Script} {name same : GName} {kept : List ℕ} {ending : En
       RefusesKept limits start (record { at = at; why = reason_by ending why }) now
   head_refused at why f limits = kept_refused at why (head_refuses (record { at = at; why = why }) f)
 
--- ---- memory is wanted before the first byte
+-- ---- memory is wanted behind bytes that were taken
 
-pub wants_at_once : (limits : Limits) (s : Script) (at : ℕ) → RefusesKept limits s (record { at = at; why = Memory }) s
-wants_at_once limits s at = (
-  judged_refused [] (Takes-none s) (ForMemory refl),
-  memory_placed at Memory [] (Takes-none s) refl,
-  inl refl,
-)
-
-pub next_wants : (in_end : Bool) (s : Script) → RefusesNext in_end s (record { at = s.given; why = Memory }) s
-next_wants in_end s = (refl, inl (refl, record { bytes = []; takes = Takes-none s }))
+pub wants_memory : (limits : Limits) (old new : Script) (bytes : List ℕ) (at : ℕ) → Takes old bytes new → RefusesKept limits old (record { at = at; why = Memory }) new
+wants_memory limits old new bytes at takes = (judged_refused bytes takes (ForMemory refl), memory_placed at Memory bytes takes refl, inl refl)

@@ -1,2 +1,6 @@
 pub mod OwnLemmas
 mod KeptLemmas
+mod RightRecords
+mod JudgeSteps
+mod RecordSteps
+mod FileLemmas

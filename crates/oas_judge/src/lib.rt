@@ -1,16 +1,25 @@
-//! What judging a file as it is read stands on: the element that a record gives by its own fields, and the bytes of the
-//! part of a file that is read.
+//! Whether a file is canonical, judged record by record as it is read.
 //!
 //! What this crate promises to the crates above it:
 //!
-//! - A record in the shortest style gives all its fields, so what it draws is a function of the record alone (`own_drawn`,
-//!   specs/Own.antt). `own_element` gives that element, or None where there is none within the grid (`IsOwn`). Where
-//!   coordinates are absolute it is what the record draws after any records (`own_draws`, proofs/OwnLemmas.antt); and the
-//!   record of each element gives all its fields (`element_gives`).
-//! - `read_head_kept` and `take_record_kept` read the front of a file, or a record or END, and answer the bytes that were taken
-//!   (`HeadKept`, `NextKept`, specs/Kept.antt). They refuse as the readers beneath do, and for want of memory at any byte. The
-//!   memory for the bytes is handed in and back, and holds one part at a time.
+//! - [`is_canonical`] answers whether an accepted file is a canonical form by the profile that it is handed, whatever the source
+//!   (`IsJudged`, specs/Judged.antt). It makes no layout, and keeps names, numbers and counts, and one record at a time.
+//! - [`read_judged`] answers that and, in the same pass, the layout as another profile keeps it (`IsReadAndJudged`).
+//! - Both refuse as `read_layout` of oas_file does, but that memory may be wanted at any byte (`RefusesKept`, specs/Kept.antt).
+//!
+//! A record in the shortest style gives all its fields, so what it draws is a function of the record alone (`own_drawn`,
+//! specs/Own.antt), and what it may be in a canonical file is too (`IsCandidate`, specs/Candidates.antt). Where coordinates are
+//! absolute it is what the record draws after any records (`own_draws`, proofs/OwnLemmas.antt). The bytes that spell a record
+//! are read with it (`NextIs`, specs/Spelled.antt), and a judge of oas_form compares them with the canonical ones
+//! (`IsJudging`, specs/FileJudges.antt).
 #![tactic(auto)]
 
+mod candidates;
+mod checking;
+mod judge;
 mod keeping;
 mod own;
+mod records;
+mod spelled;
+
+pub use checking::{is_canonical, read_judged};

@@ -1,0 +1,135 @@
+-- A whole file: it is accepted, and the judge says whether it is a canonical form.
+use Rattle.std.proofs.Common.{◌≡◌, ◌↔◌, ℕ, Bool, true, false, IsTrue, List, [], ◌++◌, None, refl, sym, ap, subst, ◌∙◌, append_assoc}
+use Rattle.std.specs.Prelude.{◌&&◌}
+use Rattle.std.proofs.lemmas.List.{append-nil}
+use Rattle.oas_num.specs.declared.refusals.Refusal.{Refusal}
+use Rattle.oas_num.specs.Ratio.{Ratio}
+use Rattle.oas_num.specs.Script.{Script, Takes, IsAtEnd}
+use Rattle.oas_num.proofs.ReadLemmas.{Takes-then}
+use Rattle.oas_record.specs.declared.heads.Head.{Head}
+use Rattle.oas_layout.specs.declared.limits.Limits.{Limits}
+use Rattle.oas_layout.specs.declared.profile.Profile.{Profile}
+use Rattle.oas_layout.specs.Contents.{Contents, meaning_of}
+use Rattle.oas_layout.specs.Meaning.{Meaning, SameLayout}
+use Rattle.oas_modal.specs.Stores.{Store}
+use Rattle.oas_modal.specs.Stands.{ReaderState, StandsFor, records_mean, end_refusal}
+use Rattle.oas_file.specs.Acceptance.{Allowed, Accepted}
+use Rattle.oas_file.specs.Files.{FileOf}
+use Rattle.oas_file.specs.Gathering.{HasAll}
+use Rattle.oas_file.proofs.Ending.{file_all}
+use Rattle.oas_form.specs.Bytes.{end_bytes}
+use Rattle.oas_form.specs.Canonical.{CanonicalForm}
+use Rattle.oas_form.specs.Judging.{entry_records, entry_bytes, IsReadAs}
+use Rattle.oas_form.proofs.JudgeBytes.{bytes_judge}
+use Rattle.oas_judge.specs.declared.judge.FileJudge.{FileJudge}
+use Rattle.oas_judge.specs.FileJudges.{holds, BeginsJudging}
+use Rattle.oas_judge.specs.Judged.{HasBegun, HasSeenAll, IsJudged, IsReadAndJudged}
+use Rattle.oas_judge.specs.Kept.{RefusesKept}
+use Rattle.oas_judge.proofs.RecordSteps.{front_of}
+
+hold_both : (a b : Bool) → IsTrue a → IsTrue b → IsTrue (a && b)
+hold_both true true h t = refl
+hold_both true false h t = cc
+hold_both false b h t = cc
+
+both_hold : (a b : Bool) → IsTrue (a && b) → IsTrue a × IsTrue b
+both_hold true b h = (refl, h)
+both_hold false b h = absurd cc
+
+-- the front was judged, and a reader has no records
+abbrev pub has_begun : {C : Type 0} {t : Store C} {profile : Profile} {old now : Script} {head : Head} {first : ReaderState C} {j : FileJudge} → BeginsJudging profile old head j now →
+    StandsFor t first [] → HasBegun t profile head now first j
+has_begun {old = old} begun stands = record { origin = old; begun = begun; stands = stands }
+
+-- limits that are the reader's
+pub kept_within : {limits reader : Limits} {old new : Script} {refusal : Refusal} → reader ≡ limits → RefusesKept reader old refusal new → RefusesKept limits old refusal new
+kept_within {old = old} {new = new} {refusal = refusal} same r = subst (λ (l : Limits). RefusesKept l old refusal new) same r
+
+module _ {C : Type 0} {t : Store C} {profile : Profile} {head : Head} {now mid : Script} {first s : ReaderState C} {j k : FileJudge} {at : ℕ} (b : HasBegun t profile head now first j)
+    (m : HasSeenAll t profile head b.begun.start b.origin first at mid s k) where
+  -- as a reader has it
+  abbrev pub all_seen : HasAll t b.origin head first at mid s
+  all_seen = record {
+    records = entry_records m.entries;
+    bytes = b.begun.start ++ entry_bytes m.entries;
+    last = m.last;
+    takes = m.takes;
+    front = front_of m.entries b.begun.spelled m.each;
+    end = m.end;
+    place = m.place;
+    taken = m.taken;
+  }
+
+  module _ {limits : Limits} (within : first.limits ≡ limits) (whole : end_refusal s.limits (entry_records m.entries) ≡ None) where
+    file : FileOf head (entry_records m.entries) ((b.begun.start ++ entry_bytes m.entries) ++ m.last)
+    file = file_all (front_of m.entries b.begun.spelled m.each) m.end
+
+    accepted : Accepted limits ((b.begun.start ++ entry_bytes m.entries) ++ m.last)
+    accepted = record {
+      head = head;
+      records = entry_records m.entries;
+      file = file;
+      allowed = subst (λ (l : Limits). Allowed l (entry_records m.entries)) within m.taken.allowed;
+      whole = ap (λ (l : Limits). end_refusal l (entry_records m.entries)) (sym (m.taken.same.limits ∙ within)) ∙ whole;
+    }
+
+    read_as : IsReadAs ((b.begun.start ++ entry_bytes m.entries) ++ m.last) head b.begun.start m.entries m.last
+    read_as = record { begun = b.begun.spelled; each = m.each; ended = m.end; joined = append_assoc b.begun.start (entry_bytes m.entries) m.last }
+
+    -- what the judge says is whether it is a canonical form
+    told : (answer : Bool) → IsTrue answer ↔ (IsTrue (holds k) × (end_bytes ≡ k.bytes.items)) → IsTrue answer ↔ CanonicalForm limits profile ((b.begun.start ++ entry_bytes m.entries) ++ m.last)
+    told answer says =
+        let right = bytes_judge limits profile ((b.begun.start ++ entry_bytes m.entries) ++ m.last) head b.begun.start m.entries m.last accepted read_as in (
+          λ is.
+              let done = says.0 is in
+              let both = both_hold k.begins k.form.holds done.0 in
+              let front = m.judging.begins.0 both.0 in
+              right.1 (record {
+                flag = front.flag;
+                start_is = sym front.bytes;
+                match = (m.judging.stands both.0).holds_is.0 both.1;
+                last_is = sym (m.tied done.0) ∙ sym done.1;
+              }),
+          λ form.
+              let parts = right.0 form in
+              let begins = m.judging.begins.1 (record { flag = parts.flag; bytes = sym parts.start_is }) in
+              let holding = hold_both k.begins k.form.holds begins ((m.judging.stands begins).holds_is.1 parts.match) in
+              says.1 (holding, sym parts.last_is ∙ sym (m.tied holding)),
+        )
+
+    -- nothing stands behind it
+    module _ {new : Script} (takes : Takes mid [] new) (ended : IsAtEnd new) where
+      all_taken : Takes b.origin ((b.begun.start ++ entry_bytes m.entries) ++ m.last) new
+      all_taken = subst (λ (bytes : List ℕ). Takes b.origin bytes new) (append-nil ((b.begun.start ++ entry_bytes m.entries) ++ m.last))
+          (Takes-then b.origin mid new ((b.begun.start ++ entry_bytes m.entries) ++ m.last) [] m.takes takes)
+
+      pub judged : (answer : Bool) → IsTrue answer ↔ (IsTrue (holds k) × (end_bytes ≡ k.bytes.items)) → IsJudged limits profile b.origin answer new
+      judged answer says = record { bytes = (b.begun.start ++ entry_bytes m.entries) ++ m.last; takes = all_taken; ended = ended; accepted = accepted; answer = told answer says }
+
+      same_back : (profile : Profile) (a c : Meaning) → SameLayout profile a c → SameLayout profile c a
+      same_back profile a c same = record { unit = sym same.unit; cells = λ name. sym (same.cells name); counts = λ name e. sym (same.counts name e) }
+
+      -- and its layout
+      pub read_judged : {kept_by : Profile} (l : Contents) (answer : Bool) → first.unit ≡ head.unit → first.profile ≡ kept_by →
+          SameLayout s.profile (meaning_of l) (records_mean s.unit (entry_records m.entries)) → l.limits ≡ s.limits → l.profile ≡ s.profile →
+          IsTrue answer ↔ (IsTrue (holds k) × (end_bytes ≡ k.bytes.items)) → IsReadAndJudged limits profile kept_by b.origin l answer new
+      read_judged {kept_by = kept_by} l answer unit by same limits_kept profile_kept says =
+          let kept = m.taken.same in
+          let there : SameLayout kept_by (meaning_of l) (records_mean s.unit (entry_records m.entries)) =
+          subst (λ (p : Profile). SameLayout p (meaning_of l) (records_mean s.unit (entry_records m.entries))) (kept.profile ∙ by) same in
+          let means : SameLayout kept_by (meaning_of l) (records_mean head.unit (entry_records m.entries)) =
+          subst (λ (u : Ratio). SameLayout kept_by (meaning_of l) (records_mean u (entry_records m.entries))) (kept.unit ∙ unit) there in
+          record {
+            read = record {
+              bytes = (b.begun.start ++ entry_bytes m.entries) ++ m.last;
+              takes = all_taken;
+              ended = ended;
+              accepted = accepted;
+              meaning = records_mean head.unit (entry_records m.entries);
+              means = record { head = head; records = entry_records m.entries; file = file; is = refl };
+              same = same_back kept_by (meaning_of l) (records_mean head.unit (entry_records m.entries)) means;
+              within = limits_kept ∙ (kept.limits ∙ within);
+              by = profile_kept ∙ (kept.profile ∙ by);
+            };
+            answer = told answer says;
+          }

@@ -1,0 +1,165 @@
+-- How the records of a file are taken and judged, one after another.
+use Rattle.std.proofs.Common.{◌≡◌, ℕ, Bool, IsTrue, List, [], ◌∷◌, ◌++◌, None, Some, ◌⊎◌, inl, inr, refl, sym, ap, subst, ◌∙◌, append_assoc}
+use Rattle.std.proofs.lemmas.List.{append-nil}
+use Rattle.std.specs.List.{AllByRecursion}
+use Rattle.oas_num.specs.declared.refusals.Why.{Why}
+use Rattle.oas_num.specs.declared.refusals.Why.TheVariants.{Memory}
+use Rattle.oas_num.specs.declared.refusals.Refusal.{Refusal}
+use Rattle.oas_num.specs.Grammar.{IsEach}
+use Rattle.oas_num.specs.Reading.{ReadsValue}
+use Rattle.oas_num.specs.Script.{Script, Takes}
+use Rattle.oas_num.specs.Style.{Any}
+use Rattle.oas_num.proofs.ReadLemmas.{Takes-then}
+use Rattle.oas_record.specs.declared.heads.Head.{Head}
+use Rattle.oas_record.specs.declared.records.Record.{Record}
+use Rattle.oas_record.specs.Heads.{head_in}
+use Rattle.oas_layout.specs.declared.limits.Limits.{Limits}
+use Rattle.oas_layout.specs.declared.profile.Profile.{Profile}
+use Rattle.oas_modal.specs.Standing.{MayWant}
+use Rattle.oas_modal.specs.Stores.{Store}
+use Rattle.oas_modal.specs.Stands.{ReaderState, StandsFor, refusal as refusal_of}
+use Rattle.oas_file.specs.Files.{FrontOf}
+use Rattle.oas_file.specs.Gathering.{inner_in, HasGathered, HasTaken}
+use Rattle.oas_file.specs.Reading.{Refuses}
+use Rattle.oas_file.proofs.Fronts.{allowed_more}
+use Rattle.oas_file.proofs.Taking.{gather_fails, gather_refuses}
+use Rattle.oas_form.specs.Judging.{Entry, entry_records, entry_bytes}
+use Rattle.oas_form.proofs.JudgeRecords.{all_more}
+use Rattle.oas_judge.specs.declared.candidates.Candidate.{Candidate}
+use Rattle.oas_judge.specs.declared.judge.FileJudge.{FileJudge}
+use Rattle.oas_judge.specs.Candidates.{IsCandidate}
+use Rattle.oas_judge.specs.FileJudges.{holds, IsJudging, GoesOn}
+use Rattle.oas_judge.specs.Judged.{HasBegun, HasSeen, HasSeenAll}
+use Rattle.oas_judge.specs.Kept.{RefusesKept, RefusesNext}
+use Rattle.oas_judge.specs.Spelled.{NextTaken}
+use Rattle.oas_judge.proofs.KeptLemmas.{wants_memory}
+
+-- ---- entries
+
+each_read : (flag : Bool) (entries : List Entry) → AllByRecursion (λ e. inner_in flag e.0 e.1) entries → IsEach (inner_in flag) (entry_records entries) (entry_bytes entries)
+each_read flag [] each = refl
+each_read flag (e ∷ es) each = (e.1, entry_bytes es, each.0, each_read flag es each.1, refl)
+
+records_with : (entries : List Entry) (e : Entry) → entry_records (entries ++ e ∷ []) ≡ entry_records entries ++ e.0 ∷ []
+records_with [] e = refl
+records_with (f ∷ fs) e = ap (λ (rs : List Record). f.0 ∷ rs) (records_with fs e)
+
+bytes_with : (entries : List Entry) (e : Entry) → entry_bytes (entries ++ e ∷ []) ≡ entry_bytes entries ++ e.1
+bytes_with [] e = append-nil e.1
+bytes_with (f ∷ fs) e = ap (λ (b : List ℕ). f.1 ++ b) (bytes_with fs e) ∙ sym (append_assoc f.1 (entry_bytes fs) e.1)
+
+-- the front of a file, of its entries
+pub front_of : {head : Head} {start : List ℕ} (entries : List Entry) → head_in Any head start → AllByRecursion (λ e. inner_in head.flag_in_end e.0 e.1) entries →
+    FrontOf head (entry_records entries) (start ++ entry_bytes entries)
+front_of {head = head} {start = start} entries begun each = record {
+  start = start;
+  body = entry_bytes entries;
+  begun = begun;
+  each = each_read head.flag_in_end entries each;
+  joined = refl;
+}
+
+-- a refusal of a reader is one here
+pub as_kept : {limits : Limits} {old new : Script} {refusal : Refusal} → Refuses limits old refusal new → RefusesKept limits old refusal new
+as_kept r = (r.0, r.1, inr r.2)
+
+module _ {C : Type 0} {t : Store C} {profile : Profile} {head : Head} {now : Script} {first : ReaderState C} {j : FileJudge} (b : HasBegun t profile head now first j) where
+  pub seen_none : HasSeen t profile head b.begun.start b.origin first now first j
+  seen_none = record {
+    entries = [];
+    takes = subst (λ (bytes : List ℕ). Takes b.origin bytes now) (sym (append-nil b.begun.start)) b.begun.takes;
+    each = tt;
+    taken = record { stands = b.stands; allowed = tt; same = record { unit = refl; limits = refl; profile = refl } };
+    judging = b.begun.judging;
+  }
+
+  module _ {mid : Script} {s : ReaderState C} {k : FileJudge} (m : HasSeen t profile head b.begun.start b.origin first mid s k) where
+    abbrev gathered : HasGathered t b.origin head first mid s
+    gathered = record {
+      records = entry_records m.entries;
+      bytes = b.begun.start ++ entry_bytes m.entries;
+      takes = m.takes;
+      front = front_of m.entries b.begun.spelled m.each;
+      taken = m.taken;
+    }
+
+    -- neither a record nor END can be read, or memory is wanted
+    pub next_fails : {new : Script} (refusal : Refusal) → RefusesNext head.flag_in_end mid refusal new → RefusesKept first.limits b.origin refusal new
+    next_fails {new = new} refusal f =
+        elim f.1 [
+          | inl wants ↦ memory_refuses refusal wants.0 (Takes-then b.origin mid new (b.begun.start ++ entry_bytes m.entries) wants.1.bytes m.takes wants.1.takes)
+          | inr fails ↦ as_kept (gather_fails gathered refusal f.0 fails)
+        ] where
+          memory_refuses : {bytes : List ℕ} (refusal : Refusal) → refusal.why ≡ Memory → Takes b.origin bytes new → RefusesKept first.limits b.origin refusal new
+          memory_refuses {bytes = bytes} refusal is takes =
+              subst (λ (why : Why). RefusesKept first.limits b.origin (record { at = refusal.at; why = why }) new) (sym is) (wants_memory first.limits b.origin new bytes refusal.at takes)
+
+    -- the judge after its bytes were taken anew
+    module _ {l : FileJudge} (same : l ≡ record k { bytes = l.bytes }) where
+      holds_so : holds l ≡ holds k
+      holds_so = ap (λ (j : FileJudge). holds j) same
+
+      judging_so : IsJudging profile l head b.begun.start m.entries
+      judging_so = subst (λ (j : FileJudge). IsJudging profile j head b.begun.start m.entries) (sym same) (record { by = m.judging.by; begins = m.judging.begins; stands = m.judging.stands })
+
+      -- END was taken
+      pub seen_all : {new : Script} (at : ℕ) → at ≡ mid.given → NextTaken (holds k) head.flag_in_end mid None l.bytes.items new → HasSeenAll t profile head b.begun.start b.origin first at new s l
+      seen_all {new = new} at is next = record {
+        entries = m.entries;
+        last = next.bytes;
+        takes = Takes-then b.origin mid new (b.begun.start ++ entry_bytes m.entries) next.bytes m.takes next.takes;
+        each = m.each;
+        end = next.spelled;
+        place = is ∙ m.takes.given;
+        taken = m.taken;
+        judging = judging_so;
+        tied = λ told. next.tied (sym holds_so ∙ told);
+      }
+
+      -- a record was
+      module _ {new : Script} {r : Record} (next : NextTaken (holds k) head.flag_in_end mid (Some r) l.bytes.items new) where
+        abbrev read : ReadsValue (inner_in head.flag_in_end) mid r new
+        read = record { bytes = next.bytes; spelled = next.spelled; takes = next.takes }
+
+        both : Takes b.origin ((b.begun.start ++ entry_bytes m.entries) ++ next.bytes) new
+        both = Takes-then b.origin mid new (b.begun.start ++ entry_bytes m.entries) next.bytes m.takes next.takes
+
+        -- memory is wanted for what it may be
+        pub candidate_fails : (refusal : Refusal) → refusal.why ≡ Memory → RefusesKept first.limits b.origin refusal new
+        candidate_fails refusal is =
+            subst (λ (why : Why). RefusesKept first.limits b.origin (record { at = refusal.at; why = why }) new) (sym is)
+            (wants_memory first.limits b.origin new ((b.begun.start ++ entry_bytes m.entries) ++ next.bytes) refusal.at both)
+
+        -- it is refused
+        pub take_refused : (at : ℕ) (refusal : Refusal) → at ≡ mid.given →
+            (refusal.at ≡ at) × (((refusal.why ≡ Memory) × MayWant (refusal_of s.limits (entry_records m.entries) r)) ⊎ (refusal_of s.limits (entry_records m.entries) r ≡ Some refusal.why)) →
+            RefusesKept first.limits b.origin refusal new
+        take_refused at refusal is e = as_kept (gather_refuses gathered read at refusal is e)
+
+        -- it is taken and judged
+        module _ (after : ReaderState C) (judged : FileJudge) (candidate : Candidate)
+            (taken : (refusal_of s.limits (entry_records m.entries) r ≡ None) × StandsFor t after (entry_records m.entries ++ r ∷ []))
+            (unit : after.unit ≡ s.unit) (limits : after.limits ≡ s.limits) (by : after.profile ≡ s.profile)
+            (says : IsTrue (holds l) → IsCandidate l.profile candidate r) (goes_on : GoesOn l candidate judged) where
+          all_taken : HasTaken t first after (entry_records (m.entries ++ (r, next.bytes) ∷ []))
+          all_taken =
+              let same = m.taken.same in
+              subst (λ (rs : List Record). HasTaken t first after rs) (sym (records_with m.entries (r, next.bytes))) (record {
+                stands = taken.1;
+                allowed = allowed_more first.limits (entry_records m.entries) r m.taken.allowed (ap (λ (l : Limits). refusal_of l (entry_records m.entries) r) (sym same.limits) ∙ taken.0);
+                same = record { unit = unit ∙ same.unit; limits = limits ∙ same.limits; profile = by ∙ same.profile };
+              })
+
+          all_each : AllByRecursion (λ e. inner_in head.flag_in_end e.0 e.1) (m.entries ++ (r, next.bytes) ∷ [])
+          all_each = (all_more (λ (e : Entry). inner_in head.flag_in_end e.0 e.1) m.entries (r, next.bytes)).1 (m.each, next.spelled)
+
+          pub seen_more : HasSeen t profile head b.begun.start b.origin first new after judged
+          seen_more = record {
+            entries = m.entries ++ (r, next.bytes) ∷ [];
+            takes = subst (λ (bytes : List ℕ). Takes b.origin bytes new)
+                (append_assoc b.begun.start (entry_bytes m.entries) next.bytes ∙ ap (λ (bytes : List ℕ). b.begun.start ++ bytes) (sym (bytes_with m.entries (r, next.bytes)))) both;
+            each = all_each;
+            taken = all_taken;
+            judging = goes_on first.limits profile head b.begun.start m.entries r next.bytes (record { each = all_each; allowed = all_taken.allowed })
+                (λ told. subst (λ (p : Profile). IsCandidate p candidate r) judging_so.by (says told)) (λ told. next.tied (sym holds_so ∙ told)) judging_so;
+          }

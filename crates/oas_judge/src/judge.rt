@@ -1,0 +1,140 @@
+//! The judge of a file, which sees it part by part.
+ghost use Rattle.std.specs.Prelude.{◌≡◌, ◌↔◌, IsTrue, [], OnOk, IfOk, IfErr};
+ghost use Rattle.oas_num.specs.declared.refusals.Why.TheVariants.{Memory as NoMemory};
+ghost use Rattle.oas_layout.specs.declared.limits.Limits.{Limits};
+ghost use Rattle.oas_form.specs.Bytes.{end_bytes};
+ghost use Rattle.oas_judge.specs.Candidates.{IsCandidate, IsFitting};
+ghost use Rattle.oas_judge.specs.FileJudges.{holds, BeginsJudging, GoesOn, IsFront, IsJudging};
+ghost use Rattle.oas_judge.specs.Kept.{RefusesKept, RefusesNext};
+ghost use Rattle.oas_judge.specs.Spelled.{NextTaken};
+
+use crate::candidates::{Candidate, candidate_of};
+use crate::spelled::{read_head_spelled, take_record_spelled};
+use oas_file::take_record;
+use oas_form::{FormJudge, is_end, is_head};
+use oas_layout::Profile;
+use oas_num::{Fraction, Refusal, Source, Why};
+use oas_record::{Head, Record};
+use std::alloc::Global;
+use std::mem;
+
+/// Judges whether a file is canonical by a profile, part by part as these are read.
+///
+/// It keeps the name of the open cell and the latest element in it, and the bytes of one part at a time. Once a part isn't as
+/// in a canonical file it keeps no bytes more.
+#[derive(Drop)]
+pub(crate) struct FileJudge {
+    profile: Profile,
+    /// Whether the front of the file is as in a canonical one.
+    begins: bool,
+    form: FormJudge,
+    /// The bytes of the latest part.
+    bytes: Vec<u8>,
+}
+
+/// Whether these are the canonical bytes of the front of a file.
+fn is_front(unit: Fraction, flag_in_end: bool, bytes: &[u8]) -> bool
+    ensures { IsTrue result ↔ IsFront (record { unit = unit; flag_in_end = flag_in_end }) bytes.now }
+{
+    !flag_in_end && is_head(unit, bytes)
+}
+
+impl FileJudge {
+    /// Reads the front of a file, and begins to judge it.
+    pub(crate) fn begin<S: Source>(
+        alloc: Global,
+        source: &mut S,
+        profile: Profile,
+    ) -> Result<(Head, FileJudge), Refusal>
+        ensures begun { IfOk result (λ begun. BeginsJudging profile (S.script source.old) begun.0 begun.1 (S.script source.new)) }
+        ensures refused { IfErr result (λ refusal. (limits : Limits) → RefusesKept limits (S.script source.old) refusal (S.script source.new)) }
+    {
+        let (head, bytes) = read_head_spelled(alloc, source, Vec::new(alloc))?;
+        let judge = FileJudge::of_front(profile, head.unit, head.flag_in_end, bytes);
+        Ok((head, judge))
+    }
+
+    /// The judge of a file that begins with these bytes.
+    fn of_front(profile: Profile, unit: Fraction, flag_in_end: bool, bytes: Vec<u8>) -> FileJudge
+        ensures { IsJudging profile result (record { unit = unit; flag_in_end = flag_in_end }) bytes.items [] }
+    {
+        FileJudge {
+            profile,
+            begins: is_front(unit, flag_in_end, &bytes),
+            form: FormJudge::new(),
+            bytes,
+        }
+    }
+
+    /// Whether all parts so far were as in a canonical file.
+    pub(crate) fn holds(&self) -> bool
+        ensures { result ≡ holds self.now }
+    {
+        self.begins && self.form.holds()
+    }
+
+    /// Takes the next record, or END, with its bytes as long as they are judged.
+    pub(crate) fn next<S: Source>(
+        &mut self,
+        alloc: Global,
+        source: &mut S,
+        flag_in_end: bool,
+    ) -> Result<Option<Record>, Refusal>
+        ensures taken { IfOk result (λ next. NextTaken (holds self.old) flag_in_end (S.script source.old) next self.new.bytes.items (S.script source.new)) }
+        ensures same { OnOk result (self.new ≡ record self.old { bytes = self.new.bytes }) }
+        ensures refused { IfErr result (λ refusal. RefusesNext flag_in_end (S.script source.old) refusal (S.script source.new)) }
+    {
+        if !self.holds() {
+            return take_record(alloc, source, flag_in_end);
+        }
+        let room = mem::replace(&mut self.bytes, Vec::new(alloc));
+        let (next, bytes) = take_record_spelled(alloc, source, flag_in_end, room)?;
+        self.bytes = bytes;
+        Ok(next)
+    }
+
+    /// What a record that starts at byte `at` may be in a canonical file, where it is still judged.
+    pub(crate) fn candidate(
+        &self,
+        alloc: Global,
+        at: u64,
+        next: &Record,
+    ) -> Result<Candidate, Refusal>
+        ensures ok { IfOk result (λ candidate. IsTrue (holds self.now) → IsCandidate self.now.profile candidate next.now) }
+        ensures fit { IfOk result IsFitting }
+        ensures err { IfErr result (λ refusal. (refusal.at ≡ at) × (refusal.why ≡ NoMemory)) }
+    {
+        if !self.holds() {
+            return Ok(Candidate::Other);
+        }
+        match candidate_of(alloc, self.profile, next) {
+            Ok(candidate) => Ok(candidate),
+            Err(_) => Err(Refusal {
+                at,
+                why: Why::Memory,
+            }),
+        }
+    }
+
+    /// Judges the record that was taken last, which was accepted.
+    pub(crate) fn judge(&mut self, candidate: Candidate)
+        requires { IsFitting candidate }
+        ensures { GoesOn self.old candidate self.new }
+    {
+        if !self.holds() {
+            return;
+        }
+        match candidate {
+            Candidate::Cell(name) => self.form.open(name, &self.bytes),
+            Candidate::Element(element) => self.form.draw(element, &self.bytes),
+            Candidate::Other => self.form.refuse(),
+        }
+    }
+
+    /// Whether the file is canonical, once END was taken.
+    pub(crate) fn is_done(&self) -> bool
+        ensures { IsTrue result ↔ (IsTrue (holds self.now) × (end_bytes ≡ self.now.bytes.items)) }
+    {
+        self.holds() && is_end(&self.bytes)
+    }
+}

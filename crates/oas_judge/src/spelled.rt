@@ -1,0 +1,90 @@
+//! The parts of a file with the bytes that spell them.
+//!
+//! Of a source that isn't known beforehand no contract says which bytes were taken, but how many. So the bytes that were kept
+//! are read once more, from memory, and it is these of which the part is known to be spelled.
+ghost use Rattle.std.specs.Prelude.{◌≡◌, IfOk, IfErr, IfSome};
+ghost use Rattle.oas_num.specs.Script.{Takes};
+ghost use Rattle.oas_num.specs.Style.{Any};
+ghost use Rattle.oas_record.specs.Heads.{head_in};
+ghost use Rattle.oas_layout.specs.declared.limits.Limits.{Limits};
+ghost use Rattle.oas_judge.specs.Kept.{RefusesKept, RefusesNext};
+ghost use Rattle.oas_judge.specs.Spelled.{NextIs};
+
+use crate::keeping::{read_head_kept, take_record_kept};
+use oas_file::take_record;
+use oas_num::{Refusal, SliceSource, Source, Why};
+use oas_record::{Head, Record, read_head};
+use std::alloc::Global;
+
+/// The front of a file that is spelled by all of these bytes. None where there is no memory, or they are none.
+fn head_of(alloc: Global, bytes: &[u8]) -> Option<Head>
+    ensures { IfSome result (λ head. head_in Any head bytes.now) }
+{
+    let mut source = SliceSource::new(bytes, bytes.len() as u64);
+    let Ok(head) = read_head(alloc, &mut source) else {
+        return None;
+    };
+    if source.at() == bytes.len() as u64 {
+        Some(head)
+    } else {
+        None
+    }
+}
+
+/// The record, or None for END, that is spelled by all of these bytes. None where there is no memory, or they are none.
+fn next_of(alloc: Global, bytes: &[u8], flag_in_end: bool) -> Option<Option<Record>>
+    ensures { IfSome result (λ next. NextIs flag_in_end next bytes.now) }
+{
+    let mut source = SliceSource::new(bytes, bytes.len() as u64);
+    let Ok(next) = take_record(alloc, &mut source, flag_in_end) else {
+        return None;
+    };
+    if source.at() == bytes.len() as u64 {
+        Some(next)
+    } else {
+        None
+    }
+}
+
+/// Reads the front of a file, and answers the bytes that spell it too, in the memory that it is handed.
+pub(crate) fn read_head_spelled<S: Source>(
+    alloc: Global,
+    source: &mut S,
+    room: Vec<u8>,
+) -> Result<(Head, Vec<u8>), Refusal>
+    ensures spelled { IfOk result (λ read. head_in Any read.0 read.1.items) }
+    ensures takes { IfOk result (λ read. Takes (S.script source.old) read.1.items (S.script source.new)) }
+    ensures refused { IfErr result (λ refusal. (limits : Limits) → RefusesKept limits (S.script source.old) refusal (S.script source.new)) }
+{
+    let at = source.at();
+    let (_, bytes) = read_head_kept(alloc, source, room)?;
+    match head_of(alloc, &bytes) {
+        Some(head) => Ok((head, bytes)),
+        None => Err(Refusal {
+            at,
+            why: Why::Memory,
+        }),
+    }
+}
+
+/// Takes the next record, or END, and answers the bytes that spell it too, in the memory that it is handed.
+pub(crate) fn take_record_spelled<S: Source>(
+    alloc: Global,
+    source: &mut S,
+    flag_in_end: bool,
+    room: Vec<u8>,
+) -> Result<(Option<Record>, Vec<u8>), Refusal>
+    ensures spelled { IfOk result (λ read. NextIs flag_in_end read.0 read.1.items) }
+    ensures takes { IfOk result (λ read. Takes (S.script source.old) read.1.items (S.script source.new)) }
+    ensures refused { IfErr result (λ refusal. RefusesNext flag_in_end (S.script source.old) refusal (S.script source.new)) }
+{
+    let at = source.at();
+    let (_, bytes) = take_record_kept(alloc, source, flag_in_end, room)?;
+    match next_of(alloc, &bytes, flag_in_end) {
+        Some(next) => Ok((next, bytes)),
+        None => Err(Refusal {
+            at,
+            why: Why::Memory,
+        }),
+    }
+}
