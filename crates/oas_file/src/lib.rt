@@ -10,7 +10,8 @@
 //! - [`accept_file`] accepts what a source gives exactly where it is an accepted file, and refuses it else, by the same clauses
 //!   (`AcceptsFile`). It keeps no element.
 //! - Their parts, for a reader that does more with each record: [`take_record`] takes the next record, or END (`TakesNext`,
-//!   specs/Gathering.antt), and [`find_end_of_input`] finds that nothing follows (`FindsEnd`).
+//!   specs/Gathering.antt), [`take_records`] has a reader take all of them, whatever its stores (`Gathers`), and
+//!   [`find_end_of_input`] finds that nothing follows (`FindsEnd`).
 //! - Of a source that had given nothing before: the offset of a refusal whose reason lies in the file is a place at which
 //!   every file that goes on so is refused (`IsPlaced`), and each refusal says which of the bytes that were taken decided,
 //!   and that its reason holds of them (`IsReasoned`, specs/Deciding.antt).
@@ -29,4 +30,4 @@ pub mod laws;
 mod reading;
 
 pub use accepting::accept_file;
-pub use reading::{find_end_of_input, read_layout, take_record};
+pub use reading::{find_end_of_input, read_layout, take_record, take_records};

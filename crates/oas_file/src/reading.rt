@@ -23,7 +23,7 @@ pub fn take_record<S: Source>(
 }
 
 /// Has the reader take the records up to END, and answers END's offset.
-pub(crate) fn take_records<S: Source, C: CellStore>(
+pub fn take_records<S: Source, C: CellStore>(
     alloc: Global,
     source: &mut S,
     head: Head,

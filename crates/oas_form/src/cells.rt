@@ -44,7 +44,7 @@ fn put_elements<K: Sink>(sink: &mut K, elements: Elements<'_>) -> Result<u64, Si
 }
 
 /// Puts a CELL record by name.
-pub(crate) fn put_opening<K: Sink>(sink: &mut K, name: &[u8]) -> Result<u64, SinkFault>
+pub fn put_opening<K: Sink>(sink: &mut K, name: &[u8]) -> Result<u64, SinkFault>
     requires { length name.now ≤ 2 ^ 30 }
     ensures counts { Counts K.given K.failures sink.old (opening_bytes name.now) result sink.new }
     ensures short { IfOk result (λ n. n ≤ 11 + length name.now) }

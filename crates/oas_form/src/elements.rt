@@ -60,7 +60,7 @@ fn placement_info(turns: Turns, flip: bool) -> u8
 }
 
 /// Puts a PLACEMENT record.
-fn put_placement<K: Sink>(
+pub fn put_placement<K: Sink>(
     sink: &mut K,
     cell: &[u8],
     x: i64,
@@ -80,7 +80,7 @@ fn put_placement<K: Sink>(
 }
 
 /// Puts a TEXT record.
-fn put_text<K: Sink>(
+pub fn put_text<K: Sink>(
     sink: &mut K,
     string: &[u8],
     textlayer: u64,
@@ -102,7 +102,7 @@ fn put_text<K: Sink>(
 }
 
 /// Puts a RECTANGLE record.
-fn put_rectangle<K: Sink>(
+pub fn put_rectangle<K: Sink>(
     sink: &mut K,
     layer: u64,
     datatype: u64,
@@ -172,7 +172,7 @@ fn put_path<K: Sink>(
 }
 
 /// Puts a CIRCLE record.
-fn put_circle<K: Sink>(
+pub fn put_circle<K: Sink>(
     sink: &mut K,
     layer: u64,
     datatype: u64,

@@ -54,7 +54,7 @@ fn put_unit<K: Sink>(sink: &mut K, num: u64, den: u64) -> Result<u64, SinkFault>
 }
 
 /// Puts the magic and START.
-pub(crate) fn put_head<K: Sink>(sink: &mut K, num: u64, den: u64) -> Result<u64, SinkFault>
+pub fn put_head<K: Sink>(sink: &mut K, num: u64, den: u64) -> Result<u64, SinkFault>
     ensures counts { Counts K.given K.failures sink.old (head_bytes (record { num = num; den = den })) result sink.new }
     ensures short { IfOk result (λ n. n ≤ 52) }
 {
@@ -65,7 +65,7 @@ pub(crate) fn put_head<K: Sink>(sink: &mut K, num: u64, den: u64) -> Result<u64,
 }
 
 /// Puts END: 252 zeros of padding, and no signature.
-pub(crate) fn put_end<K: Sink>(sink: &mut K) -> Result<u64, SinkFault>
+pub fn put_end<K: Sink>(sink: &mut K) -> Result<u64, SinkFault>
     ensures counts { Counts K.given K.failures sink.old end_bytes result sink.new }
     ensures short { IfOk result (λ n. n ≤ 256) }
 {

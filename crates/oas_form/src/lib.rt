@@ -21,6 +21,8 @@
 //! - [`judge_laws`] says when an accepted file is a canonical form, record by record as it is read (specs/Judging.antt), and
 //!   [`FormJudge`] judges so: of what was read it keeps the name of the open cell and the latest element. [`is_head`] and
 //!   [`is_end`] say whether bytes are those before the first record and END.
+//! - The parts of the writer, for one that has its elements in another form: each puts the bytes of a part, and answers how many
+//!   they are ([`put_head`], [`put_opening`], [`put_rectangle`], [`put_step`] and their like, [`put_end`]).
 //! - [`meaning_laws`] and [`spelling_laws`] say of the records of a canonical file (`records_of`, specs/Records.antt) what
 //!   they mean, that they are accepted, and how they are spelled.
 #![tactic(auto)]
@@ -41,6 +43,11 @@ pub mod spelling_laws;
 mod writing;
 
 pub use alone::put_cell_alone;
+pub use cells::put_opening;
+pub use elements::{put_circle, put_placement, put_rectangle, put_text};
+pub use frames::{put_end, put_head};
 pub use judging::{FormJudge, is_end, is_head};
 pub use matching::has_canonical_bytes;
+pub use parts::{put_bytes, put_coordinate, put_number, put_place};
+pub use point_lists::put_step;
 pub use writing::{put_canonical, write_canonical};

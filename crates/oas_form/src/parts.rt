@@ -18,7 +18,7 @@ fn signed_len(value: i64) -> u64
 }
 
 /// Puts bytes as they are, and answers how many.
-pub(crate) fn put_bytes<K: Sink>(sink: &mut K, bytes: &[u8]) -> Result<u64, SinkFault>
+pub fn put_bytes<K: Sink>(sink: &mut K, bytes: &[u8]) -> Result<u64, SinkFault>
     ensures { Counts K.given K.failures sink.old bytes.now result sink.new }
 {
     sink.put_all(bytes)?;
@@ -26,7 +26,7 @@ pub(crate) fn put_bytes<K: Sink>(sink: &mut K, bytes: &[u8]) -> Result<u64, Sink
 }
 
 /// Puts a number, and answers its length.
-pub(crate) fn put_number<K: Sink>(sink: &mut K, value: u64) -> Result<u64, SinkFault>
+pub fn put_number<K: Sink>(sink: &mut K, value: u64) -> Result<u64, SinkFault>
     ensures counts { Counts K.given K.failures sink.old (shortest value) result sink.new }
     ensures short { IfOk result (λ n. n ≤ 10) }
 {
@@ -35,7 +35,7 @@ pub(crate) fn put_number<K: Sink>(sink: &mut K, value: u64) -> Result<u64, SinkF
 }
 
 /// Puts a coordinate or an extension, and answers its length.
-pub(crate) fn put_coordinate<K: Sink>(sink: &mut K, value: i64) -> Result<u64, SinkFault>
+pub fn put_coordinate<K: Sink>(sink: &mut K, value: i64) -> Result<u64, SinkFault>
     requires { is_coordinate value ≡ true }
     ensures counts { Counts K.given K.failures sink.old (shortest_signed value) result sink.new }
     ensures short { IfOk result (λ n. n ≤ 10) }
@@ -45,7 +45,7 @@ pub(crate) fn put_coordinate<K: Sink>(sink: &mut K, value: i64) -> Result<u64, S
 }
 
 /// Puts x and y, and answers their length.
-pub(crate) fn put_place<K: Sink>(sink: &mut K, x: i64, y: i64) -> Result<u64, SinkFault>
+pub fn put_place<K: Sink>(sink: &mut K, x: i64, y: i64) -> Result<u64, SinkFault>
     requires x { is_coordinate x ≡ true }
     requires y { is_coordinate y ≡ true }
     ensures counts { Counts K.given K.failures sink.old (place_bytes x y) result sink.new }

@@ -41,7 +41,7 @@ fn step_len(step: GDelta) -> u64
 }
 
 /// Puts the step from a point to another, and answers its length.
-fn put_step<K: Sink>(sink: &mut K, from: Point, to: Point) -> Result<u64, SinkFault>
+pub fn put_step<K: Sink>(sink: &mut K, from: Point, to: Point) -> Result<u64, SinkFault>
     requires from { is_grid_point from ≡ true }
     requires to { is_grid_point to ≡ true }
     ensures counts { Counts K.given K.failures sink.old (shortest_gdelta (to.x -ℤ from.x) (to.y -ℤ from.y)) result sink.new }

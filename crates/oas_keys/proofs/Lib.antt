@@ -3,3 +3,4 @@ pub mod KindLemmas
 pub mod PartLemmas
 pub mod PutLemmas
 pub mod ReadingLemmas
+pub mod PointLemmas

@@ -1,13 +1,16 @@
 -- What bytes stand for, read from the front.
-use Rattle.std.specs.Prelude.{◌≡◌, ℕ, ◌+◌, ◌-◌, ◌*◌, ◌^◌, nat_lt, nat_eq, cond, List, [], ◌∷◌, ◌++◌, Option, None, Some}
+use Rattle.std.specs.Prelude.{◌≡◌, ℕ, ◌+◌, ◌-◌, ◌*◌, ◌^◌, nat_lt, nat_eq, cond, true, List, [], ◌∷◌, ◌++◌, Option, None, Some}
 use Rattle.oas_ring.specs.declared.point.Point.{Point}
 use Rattle.oas_layout.specs.declared.element.Element.{Element}
 use Rattle.oas_layout.specs.declared.element.Element.TheVariants.{Placement, Text, Rectangle, Polygon, Path, Circle}
+use Rattle.oas_layout.specs.Grid.{is_grid_point}
 use Rattle.oas_layout.specs.Sound.{IsSound}
+use Rattle.oas_keys.specs.declared.points.SpelledPoints.{SpelledPoints}
 use Rattle.oas_keys.specs.declared.spelled.SpelledElement.{SpelledElement}
 use Rattle.oas_keys.specs.declared.spelled.SpelledElement.TheVariants as spelled
 use Rattle.oas_keys.specs.Keys.{points_key, fields_key}
 use Rattle.oas_keys.specs.declared.classes.Class.{Class}
+use Rattle.oas_keys.specs.Laws.FieldLaws.{AreWithin}
 
 -- the number of more digits, to base 256
 abbrev pub joined_digits : ℕ → List ℕ → ℕ
@@ -39,11 +42,23 @@ pub record HasFields (e : Element) (bytes : List ℕ) : Type 0 where
   pub sound : IsSound e
   pub is : bytes ≡ fields_key e
 
--- the element that is spelled
-abbrev pub spelled_element : SpelledElement → Element
-spelled_element (spelled.Placement cell x y turns flip) = Placement cell.now x y turns flip
-spelled_element (spelled.Text string textlayer texttype x y) = Text string.now textlayer texttype x y
-spelled_element (spelled.Rectangle layer datatype width height x y) = Rectangle layer datatype width height x y
-spelled_element (spelled.Polygon layer datatype points) = Polygon layer datatype points
-spelled_element (spelled.Path layer datatype half_width start end points) = Path layer datatype half_width start end points
-spelled_element (spelled.Circle layer datatype radius x y) = Circle layer datatype radius x y
+-- these are the points that are still to be read
+pub record HasPoints (s : SpelledPoints) (ps : List Point) : Type 0 where
+  pub rest : List ℕ
+  pub from : is_grid_point s.before ≡ true
+  pub within : AreWithin ps
+  pub is : s.left ≡ points_key s.before ps ++ rest
+
+-- the first of these points was read, or there was none
+abbrev pub GivesPoint : Option Point → List Point → SpelledPoints → Type 0
+GivesPoint None ps new = ps ≡ []
+GivesPoint (Some p) ps new = (qs : List Point) × (ps ≡ p ∷ qs) × (is_grid_point p ≡ true) × HasPoints new qs
+
+-- this element is spelled
+abbrev pub Spells : SpelledElement → Element → Type 0
+Spells (spelled.Placement cell x y turns flip) e = Placement cell.now x y turns flip ≡ e
+Spells (spelled.Text string textlayer texttype x y) e = Text string.now textlayer texttype x y ≡ e
+Spells (spelled.Rectangle layer datatype width height x y) e = Rectangle layer datatype width height x y ≡ e
+Spells (spelled.Polygon layer datatype points) e = (ps : List Point) × HasPoints points ps × (Polygon layer datatype ps ≡ e)
+Spells (spelled.Path layer datatype half_width start end points) e = (ps : List Point) × HasPoints points ps × (Path layer datatype half_width start end ps ≡ e)
+Spells (spelled.Circle layer datatype radius x y) e = Circle layer datatype radius x y ≡ e

@@ -9,7 +9,7 @@ use crate::firsts::first_found;
 use std::marker::Model;
 
 /// What is left of a key, seen as its bytes.
-#[derive(Drop)]
+#[derive(Debug, Drop)]
 pub(crate) struct Cursor<'a> {
     bytes: &'a [u8],
 }

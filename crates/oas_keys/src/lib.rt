@@ -6,8 +6,8 @@
 //! - [`put_key`] puts an element's key: a byte for its kind, and then its fields in the order in which elements are compared,
 //!   each as bytes that no other's begin (`key_of`, specs/Keys.antt). Want of memory leaves what was there.
 //! - [`read_key`] answers the element that a key spells, as a [`SpelledElement`]: a name or a string is those bytes of the key,
-//!   and memory is wanted for points alone. What is read is the element of which the key is (`spelled_element`,
-//!   specs/Reading.antt), for there is one.
+//!   and points are read one by one ([`SpelledPoints`]), so no memory is wanted. What is read is the element of which the key is
+//!   (`Spells`, specs/Reading.antt), for there is one.
 //! - Numbers are divided into classes, ascending (specs/Numbers.antt). A number's first byte tells its class and the highest
 //!   part of its place there, the bytes after it the rest, highest first. An unsigned number takes one byte below 128, two
 //!   below 16,512, three below 2,113,664; a signed one takes one byte up to 31 from 0, two up to 10,271, three up to
@@ -26,10 +26,12 @@ mod firsts;
 pub mod laws;
 mod numbers;
 mod parts;
+mod points;
 mod putting;
 mod reading;
 mod spelled;
 
+pub use points::SpelledPoints;
 pub use putting::put_key;
 pub use reading::read_key;
 pub use spelled::SpelledElement;

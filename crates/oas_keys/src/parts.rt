@@ -1,8 +1,7 @@
 //! The fields of a key that are no number alone, read from its front.
 
-ghost use Rattle.std.specs.Prelude.{◌≡◌, ◌≤◌, ◌<◌, ◌+◌, ◌*◌, ◌++◌, ◌∷◌, ◌^◌, true, Bool, ℕ, ℤ, List, length, IfOk, IfSome};
+ghost use Rattle.std.specs.Prelude.{◌≡◌, ◌≤◌, ◌<◌, ◌+◌, ◌*◌, ◌++◌, ◌∷◌, ◌^◌, true, Bool, ℕ, ℤ, List, length, IfSome};
 ghost use Rattle.oas_ring.specs.declared.point.Point.{Point as OnePoint};
-ghost use Rattle.oas_ring.specs.Points.{origin};
 ghost use Rattle.oas_layout.specs.declared.element.Turns.{Turns as SomeTurns};
 ghost use Rattle.oas_layout.specs.Element.{turn_count};
 ghost use Rattle.oas_layout.specs.Grid.{is_grid_point};
@@ -13,8 +12,7 @@ ghost use Rattle.oas_keys.specs.Reading.{text_len, NextPoint};
 
 use crate::cursor::Cursor;
 use oas_layout::Turns;
-use oas_ring::{Point, Points};
-use std::alloc::{AllocError, Global};
+use oas_ring::Point;
 
 /// Turns, and the flip before them.
 #[derive(Clone, Copy, Debug)]
@@ -107,7 +105,7 @@ impl<'a> Cursor<'a> {
     }
 
     /// Takes the way to the next point, and answers that; or takes the end of the list.
-    fn next_point(&mut self, before: Point) -> Option<Point>
+    pub(crate) fn next_point(&mut self, before: Point) -> Option<Point>
         requires from { is_grid_point before ≡ true }
         requires stands { (ps : List OnePoint) × (rest : List ℕ) × AreWithin ps × (self.old ≡ points_key before ps ++ rest) }
         ensures next { (ps : List OnePoint) (rest : List ℕ) → AreWithin ps → self.old ≡ points_key before ps ++ rest → NextPoint result ps rest self.new }
@@ -122,21 +120,5 @@ impl<'a> Cursor<'a> {
             x: before.x + step.0,
             y: before.y + step.1,
         })
-    }
-
-    /// Takes a list of points and its end.
-    pub(crate) fn points(&mut self, alloc: Global) -> Result<Points, AllocError>
-        requires { (ps : List OnePoint) × (rest : List ℕ) × AreWithin ps × (self.old ≡ points_key origin ps ++ rest) }
-        ensures { IfOk result (λ points. (ps : List OnePoint) (rest : List ℕ) → AreWithin ps → self.old ≡ points_key origin ps ++ rest → (points ≡ ps) × (self.new ≡ rest)) }
-    {
-        let mut points = Vec::new(alloc);
-        let mut before = Point { x: 0, y: 0 };
-        while let Some(point) = self.next_point(before) {
-            if points.push(point).is_err() {
-                return Err(AllocError);
-            }
-            before = point;
-        }
-        Ok(Points::new(points))
     }
 }

@@ -1,22 +1,22 @@
 //! The element that a key spells.
 
-ghost use Rattle.std.specs.Prelude.{◌≡◌, Bool, ℕ, ℤ, List, IfOk};
+ghost use Rattle.std.specs.Prelude.{◌≡◌, Bool, ℕ, ℤ, List};
 ghost use Rattle.oas_ring.specs.declared.point.Point.{Point as OnePoint};
 ghost use Rattle.oas_layout.specs.declared.element.Turns.{Turns as SomeTurns};
 ghost use Rattle.oas_layout.specs.declared.element.Element.{Element as OneElement};
 ghost use Rattle.oas_layout.specs.declared.element.Element.TheVariants.{Placement, Text, Rectangle, Polygon, Path, Circle};
 ghost use Rattle.oas_layout.specs.Sound.{IsSound};
 ghost use Rattle.oas_keys.specs.Keys.{key_of};
-ghost use Rattle.oas_keys.specs.Reading.{HasFields, spelled_element};
+ghost use Rattle.oas_keys.specs.Reading.{HasFields, Spells};
 
 use crate::cursor::Cursor;
+use crate::points::SpelledPoints;
 use crate::spelled::SpelledElement;
-use std::alloc::{AllocError, Global};
 
 /// A placement by its fields.
 fn placement(mut left: Cursor<'_>) -> SpelledElement<'_>
     requires { (cell : List ℕ) × (x : ℤ) × (y : ℤ) × (turns : SomeTurns) × (flip : Bool) × HasFields (Placement cell x y turns flip) left }
-    ensures { (cell : List ℕ) (x y : ℤ) (turns : SomeTurns) (flip : Bool) → HasFields (Placement cell x y turns flip) left.entry → spelled_element result ≡ Placement cell x y turns flip }
+    ensures { (cell : List ℕ) (x y : ℤ) (turns : SomeTurns) (flip : Bool) → HasFields (Placement cell x y turns flip) left.entry → Spells result (Placement cell x y turns flip) }
 {
     let cell = left.text();
     let place = left.signed_pair();
@@ -33,7 +33,7 @@ fn placement(mut left: Cursor<'_>) -> SpelledElement<'_>
 /// A text by its fields.
 fn text(mut left: Cursor<'_>) -> SpelledElement<'_>
     requires { (string : List ℕ) × (textlayer : ℕ) × (texttype : ℕ) × (x : ℤ) × (y : ℤ) × HasFields (Text string textlayer texttype x y) left }
-    ensures { (string : List ℕ) (textlayer texttype : ℕ) (x y : ℤ) → HasFields (Text string textlayer texttype x y) left.entry → spelled_element result ≡ Text string textlayer texttype x y }
+    ensures { (string : List ℕ) (textlayer texttype : ℕ) (x y : ℤ) → HasFields (Text string textlayer texttype x y) left.entry → Spells result (Text string textlayer texttype x y) }
 {
     let string = left.text();
     let layer = left.unsigned_pair();
@@ -50,7 +50,7 @@ fn text(mut left: Cursor<'_>) -> SpelledElement<'_>
 /// A rectangle by its fields.
 fn rectangle(mut left: Cursor<'_>) -> SpelledElement<'_>
     requires { (layer : ℕ) × (datatype : ℕ) × (width : ℕ) × (height : ℕ) × (x : ℤ) × (y : ℤ) × HasFields (Rectangle layer datatype width height x y) left }
-    ensures { (layer datatype width height : ℕ) (x y : ℤ) → HasFields (Rectangle layer datatype width height x y) left.entry → spelled_element result ≡ Rectangle layer datatype width height x y }
+    ensures { (layer datatype width height : ℕ) (x y : ℤ) → HasFields (Rectangle layer datatype width height x y) left.entry → Spells result (Rectangle layer datatype width height x y) }
 {
     let layer = left.unsigned_pair();
     let size = left.unsigned_pair();
@@ -66,43 +66,41 @@ fn rectangle(mut left: Cursor<'_>) -> SpelledElement<'_>
 }
 
 /// A polygon by its fields.
-fn polygon(alloc: Global, mut left: Cursor<'_>) -> Result<SpelledElement<'_>, AllocError>
+fn polygon(mut left: Cursor<'_>) -> SpelledElement<'_>
     requires { (layer : ℕ) × (datatype : ℕ) × (points : List OnePoint) × HasFields (Polygon layer datatype points) left }
-    ensures { IfOk result (λ e. (layer datatype : ℕ) (points : List OnePoint) → HasFields (Polygon layer datatype points) left.entry → spelled_element e ≡ Polygon layer datatype points) }
+    ensures { (layer datatype : ℕ) (points : List OnePoint) → HasFields (Polygon layer datatype points) left.entry → Spells result (Polygon layer datatype points) }
 {
     let layer = left.unsigned_pair();
-    let points = left.points(alloc)?;
-    Ok(SpelledElement::Polygon {
+    SpelledElement::Polygon {
         layer: layer.0,
         datatype: layer.1,
-        points,
-    })
+        points: SpelledPoints::of(left),
+    }
 }
 
 /// A path by its fields.
-fn path(alloc: Global, mut left: Cursor<'_>) -> Result<SpelledElement<'_>, AllocError>
+fn path(mut left: Cursor<'_>) -> SpelledElement<'_>
     requires { (layer : ℕ) × (datatype : ℕ) × (half_width : ℕ) × (start : ℤ) × (end : ℤ) × (points : List OnePoint) × HasFields (Path layer datatype half_width start end points) left }
-    ensures { IfOk result (λ e. (layer datatype half_width : ℕ) (start end : ℤ) (points : List OnePoint) →
-        HasFields (Path layer datatype half_width start end points) left.entry → spelled_element e ≡ Path layer datatype half_width start end points) }
+    ensures { (layer datatype half_width : ℕ) (start end : ℤ) (points : List OnePoint) →
+        HasFields (Path layer datatype half_width start end points) left.entry → Spells result (Path layer datatype half_width start end points) }
 {
     let layer = left.unsigned_pair();
     let half_width = left.unsigned();
     let ends = left.signed_pair();
-    let points = left.points(alloc)?;
-    Ok(SpelledElement::Path {
+    SpelledElement::Path {
         layer: layer.0,
         datatype: layer.1,
         half_width,
         start: ends.0,
         end: ends.1,
-        points,
-    })
+        points: SpelledPoints::of(left),
+    }
 }
 
 /// A circle by its fields.
 fn circle(mut left: Cursor<'_>) -> SpelledElement<'_>
     requires { (layer : ℕ) × (datatype : ℕ) × (radius : ℕ) × (x : ℤ) × (y : ℤ) × HasFields (Circle layer datatype radius x y) left }
-    ensures { (layer datatype radius : ℕ) (x y : ℤ) → HasFields (Circle layer datatype radius x y) left.entry → spelled_element result ≡ Circle layer datatype radius x y }
+    ensures { (layer datatype radius : ℕ) (x y : ℤ) → HasFields (Circle layer datatype radius x y) left.entry → Spells result (Circle layer datatype radius x y) }
 {
     let layer = left.unsigned_pair();
     let radius = left.unsigned();
@@ -116,18 +114,18 @@ fn circle(mut left: Cursor<'_>) -> SpelledElement<'_>
     }
 }
 
-/// Reads the element that a key spells. Memory is wanted for the points of a polygon or a path alone.
-pub fn read_key(alloc: Global, key: &[u8]) -> Result<SpelledElement<'_>, AllocError>
+/// Reads the element that a key spells.
+pub fn read_key(key: &[u8]) -> SpelledElement<'_>
     requires { (e : OneElement) × IsSound e × (key.now ≡ key_of e) }
-    ensures { IfOk result (λ spelled. (e : OneElement) → IsSound e → key.now ≡ key_of e → spelled_element spelled ≡ e) }
+    ensures { (e : OneElement) → IsSound e → key.now ≡ key_of e → Spells result e }
 {
     let mut left = Cursor::of(key);
     match left.byte() {
-        1 => Ok(placement(left)),
-        2 => Ok(text(left)),
-        3 => Ok(rectangle(left)),
-        4 => polygon(alloc, left),
-        5 => path(alloc, left),
-        _ => Ok(circle(left)),
+        1 => placement(left),
+        2 => text(left),
+        3 => rectangle(left),
+        4 => polygon(left),
+        5 => path(left),
+        _ => circle(left),
     }
 }

@@ -1,12 +1,10 @@
 //! An element as its key has it.
 
-ghost use Rattle.std.specs.Prelude.{◌≡◌};
-
+use crate::points::SpelledPoints;
 use oas_layout::Turns;
-use oas_ring::Points;
 
-/// An element as its key has it: names and strings are those bytes of the key, and are copied nowhere. Lengths and places are
-/// in steps of the grid.
+/// An element as its key has it: names and strings are those bytes of the key, and points are read from it one by one, so that
+/// no memory is wanted. Lengths and places are in steps of the grid.
 #[derive(Debug, Drop)]
 pub enum SpelledElement<'a> {
     /// Another cell, placed.
@@ -38,7 +36,7 @@ pub enum SpelledElement<'a> {
     Polygon {
         layer: u64,
         datatype: u64,
-        points: Points,
+        points: SpelledPoints<'a>,
     },
     /// A path.
     Path {
@@ -47,7 +45,7 @@ pub enum SpelledElement<'a> {
         half_width: u64,
         start: i64,
         end: i64,
-        points: Points,
+        points: SpelledPoints<'a>,
     },
     /// A circle, of which x and y is the centre.
     Circle {

@@ -8,7 +8,6 @@ use Rattle.oas_num.specs.declared.refusals.Refusal.{Refusal as OneRefusal}
 use Rattle.oas_num.specs.declared.refusals.Why.{Why}
 use Rattle.oas_num.specs.declared.refusals.Why.TheVariants.{Memory, UnknownReference, DuplicateCell, TooHeavy}
 use Rattle.oas_record.specs.declared.records.Record.{Record}
-use Rattle.oas_layout.specs.declared.element.Element.{Element}
 use Rattle.oas_layout.specs.declared.limits.Limits.{Limits}
 use Rattle.oas_layout.specs.Meaning.{cells_weight}
 use Rattle.oas_drawing.specs.Drawing.{elements_at}

@@ -1,5 +1,5 @@
 -- What is counted after more was drawn.
-use Rattle.std.proofs.Common.{◌≡◌, ℕ, ◌+◌, ◌*◌, ◌<◌, ◌≤◌, List, [], ◌∷◌, ◌++◌, true, false, Some, length, replicate, unwrap_or, cond, refl, sym, ◌∙◌, ap, subst, arith}
+use Rattle.std.proofs.Common.{◌≡◌, ℕ, ◌+◌, ◌*◌, ◌<◌, ◌≤◌, List, [], ◌∷◌, ◌++◌, true, false, Some, replicate, unwrap_or, cond, refl, sym, ◌∙◌, ap, subst, arith}
 use Rattle.std.proofs.lemmas.List.{length-replicate}
 use Rattle.std.proofs.lemmas.List.Folds.{sum_by-replicate}
 use Rattle.std.proofs.lemmas.List.Sums.{sum_by-append}
@@ -18,7 +18,7 @@ use Rattle.oas_drawing.specs.declared.drawn.Drawn.{Drawn}
 use Rattle.oas_drawing.specs.declared.drawn.Drawn.TheVariants.{Named, PlacementBy, TextBy}
 use Rattle.oas_drawing.specs.Drawn.{weight_so_far}
 use Rattle.oas_modal.specs.Stores.{Draws, IsBegun}
-use Rattle.oas_modal.specs.Counted.{Counted, capped, placed_by, written_by, CountsThese, AllUsed, counted_store, IsTold, placed_more, written_more, counted_more}
+use Rattle.oas_modal.specs.Counted.{Counted, capped, placed_by, written_by, AllUsed, counted_store, placed_more, written_more, counted_more}
 use Rattle.oas_modal.proofs.StoreLemmas.{draws_none}
 
 -- ---- weights as far as 64 bits tell them

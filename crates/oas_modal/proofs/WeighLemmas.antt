@@ -1,5 +1,5 @@
 -- What is counted weighs what was drawn.
-use Rattle.std.proofs.Common.{◌≡◌, ℕ, zero, suc, ◌+◌, ◌*◌, ◌<◌, ◌≤◌, List, [], ◌∷◌, Bool, true, false, cond, ◌||◌, Option, None, Some, length, unwrap_or, refl, sym, ◌∙◌, ap, subst, arith}
+use Rattle.std.proofs.Common.{◌≡◌, ℕ, zero, suc, ◌+◌, ◌*◌, ◌<◌, List, [], ◌∷◌, Bool, true, false, cond, ◌||◌, Option, None, Some, length, unwrap_or, refl, sym, ◌∙◌, ap, subst, arith}
 use Rattle.std.specs.Prelude.{sum_by, nat_lt, is_none, min, ◌^◌, ◌-◌}
 use Rattle.std.specs.Option.{option_map}
 use Rattle.std.specs.List.{AllByRecursion, list_any}
@@ -15,7 +15,7 @@ use Rattle.oas_drawing.specs.declared.drawn.Drawn.TheVariants.{Named, PlacementB
 use Rattle.oas_drawing.specs.Drawn.{weight_so_far}
 use Rattle.oas_modal.specs.Names.{name_of}
 use Rattle.oas_modal.specs.References.{cell_by}
-use Rattle.oas_modal.specs.Meaning.{DrawnCell, element_by, elements_meant, with_named, cells_meant, is_unnamed, cell_lacks, lacks_name}
+use Rattle.oas_modal.specs.Meaning.{DrawnCell, element_by, elements_meant, with_named, cells_meant, is_unnamed, lacks_name}
 use Rattle.oas_modal.specs.Stores.{HoldCells}
 use Rattle.oas_modal.specs.Counted.{Counted, capped, placed_by, written_by, CountsThese, AllUsed, counted_store, joined, name_weight, names_weight, head_weight, counted_weight, all_weight}
 use Rattle.oas_modal.proofs.Alike.{any-sum, weighed, sum-meant}

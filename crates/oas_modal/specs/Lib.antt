@@ -9,5 +9,6 @@ pub mod Counted
 pub mod Standing
 pub mod Stands
 pub mod Parts
+pub mod Taken
 pub mod Copying
 pub mod Laws

@@ -29,8 +29,8 @@
 //!   (specs/Counted.antt). The `finish_counting` of a reader with such cells accepts exactly the records that END doesn't refuse,
 //!   and refuses others by `end_refusal`, or for want of memory.
 //!
-//! For stores of crates above, which are finished there, [`NameTable`], [`cell_meant`], [`element_meant`] and [`names_twice`] are
-//! public.
+//! For stores of crates above, which are finished there, the `hand_over` of a reader answers what was taken ([`Taken`],
+//! `HandsOver`, specs/Taken.antt), and [`NameTable`], [`cell_meant`], [`element_meant`] and [`names_twice`] are public.
 //!
 //! The modal variables, and what a record draws by them, are those of `oas_drawing`.
 #![tactic(auto)]
@@ -48,6 +48,7 @@ mod putting;
 mod reader;
 pub mod reader_laws;
 mod stores;
+mod taken;
 mod taking;
 
 pub use counted::CountedCell;
@@ -57,3 +58,4 @@ pub use names::{NameTable, Numbering, cell_meant};
 pub use putting::element_meant;
 pub use reader::Reader;
 pub use stores::CellStore;
+pub use taken::Taken;

@@ -8,6 +8,7 @@ ghost use Rattle.oas_modal.specs.Standing.{MayWant};
 ghost use Rattle.oas_modal.specs.Stands.{StandsFor, refusal, records_mean, end_refusal};
 ghost use Rattle.oas_modal.specs.Stores.{held_store};
 ghost use Rattle.oas_modal.specs.Counted.{counted_store};
+ghost use Rattle.oas_modal.specs.Taken.{HandsOver};
 ghost use Rattle.oas_layout.specs.Meaning.{SameLayout};
 ghost use Rattle.oas_layout.specs.Contents.{meaning_of};
 
@@ -17,6 +18,7 @@ use crate::held::HeldCell;
 use crate::names::NameTable;
 use crate::parts::{Parts, layout_of};
 use crate::stores::CellStore;
+use crate::taken::{Taken, taken_of};
 use crate::taking::accept;
 use oas_drawing::ModalVariables;
 use oas_layout::{Layout, Limits, Profile};
@@ -104,6 +106,20 @@ impl<S: CellStore> Reader<S> {
                 Err(refusal)
             }
         }
+    }
+
+    /// What was taken, with the stores of all cells, for a caller that finishes them; END starts at byte `at`. After a refusal
+    /// it is refused by the same one, and else for want of memory alone.
+    pub fn hand_over(self, at: u64) -> Result<Taken<S>, Refusal>
+        ensures ok { IfOk result (HandsOver S.store self) }
+        ensures again { (e : OneRefusal) → self.failed ≡ Some e → result ≡ Err e }
+        ensures refused { IfErr result (λ e. self.failed ≡ None → (e.at ≡ at) × (e.why ≡ Memory)) }
+    {
+        let Reader { failed, parts } = self;
+        if let Some(refusal) = failed {
+            return Err(refusal);
+        }
+        taken_of(parts, at)
     }
 }
 

@@ -1,5 +1,5 @@
 -- What stores stand for, in whatever order it was drawn.
-use Rattle.std.proofs.Common.{ℕ, List, ◌∙◌, ap}
+use Rattle.std.proofs.Common.{List, ◌∙◌, ap}
 use Rattle.oas_drawing.specs.declared.drawn.Drawn.{Drawn}
 use Rattle.oas_drawing.specs.Drawn.{weight_so_far}
 use Rattle.oas_modal.specs.Alike.{SameDrawn}

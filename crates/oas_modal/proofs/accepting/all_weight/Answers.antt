@@ -1,4 +1,4 @@
-use Rattle.std.proofs.Common.{rules, ◌≡◌, ◌∷◌, ◌∙◌}
+use Rattle.std.proofs.Common.{rules}
 use Rattle.std.specs.Vec.Iter.{into_iter_items}
 use Rattle.oas_modal.proofs.WeighLemmas.{cells_begin}
 use Rattle.oas_modal.proofs.accepting.all_weight.Goals as goal

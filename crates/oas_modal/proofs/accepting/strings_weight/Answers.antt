@@ -1,4 +1,4 @@
-use Rattle.std.proofs.Common.{rules, ◌≡◌, ◌∷◌, ◌∙◌}
+use Rattle.std.proofs.Common.{◌∙◌}
 use Rattle.oas_modal.proofs.WeighLemmas.{names_begin}
 use Rattle.oas_modal.proofs.accepting.strings_weight.Goals as goal
 

@@ -1,0 +1,24 @@
+-- The points of a key, read one by one.
+use Rattle.std.proofs.Common.{◌≡◌, ℕ, ◌+◌, ◌<◌, ◌≤◌, true, List, [], ◌∷◌, ◌++◌, Option, None, Some, length, refl, sym, ap, ◌∙◌, subst, arith}
+use Rattle.std.proofs.lemmas.List.{append-nil}
+use Rattle.oas_ring.specs.declared.point.Point.{Point}
+use Rattle.oas_ring.specs.Points.{origin}
+use Rattle.oas_layout.specs.Grid.{is_grid_point}
+use Rattle.oas_keys.specs.declared.points.SpelledPoints.{SpelledPoints}
+use Rattle.oas_keys.specs.Keys.{points_key}
+use Rattle.oas_keys.specs.Laws.FieldLaws.{AreWithin}
+use Rattle.oas_keys.specs.Reading.{HasPoints, GivesPoint, NextPoint}
+
+-- from the origin on, all points of a key
+pub has_points : (s : SpelledPoints) (ps : List Point) → AreWithin ps → s.left ≡ points_key origin ps → s.before ≡ origin → HasPoints s ps
+has_points s ps within is from = record {
+  rest = [];
+  from = subst (λ (p : Point). is_grid_point p ≡ true) (sym from) refl;
+  within = within;
+  is = is ∙ sym (append-nil (points_key origin ps)) ∙ ap (λ (p : Point). points_key p ps ++ []) (sym from);
+}
+
+-- so many were read of the points that were there
+pub record Counting (all left : SpelledPoints) (count : ℕ) : Type 0 where
+  pub each : (ps : List Point) → HasPoints all ps → (qs : List Point) × HasPoints left qs × (count + length qs ≡ length ps)
+  pub few : count + length left.left ≤ length all.left

@@ -1,0 +1,2 @@
+pub mod PointLemmas
+pub mod CellLemmas

@@ -1,0 +1,6 @@
+pub mod KeyedLemmas
+pub mod PlaceLemmas
+pub mod RunLemmas
+pub mod FinishLemmas
+pub mod OrderLemmas
+pub mod ReadLemmas

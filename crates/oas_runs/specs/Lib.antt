@@ -1,0 +1,4 @@
+pub mod Keyed
+pub mod Counting
+pub mod Finishing
+pub mod Reading

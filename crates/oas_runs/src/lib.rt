@@ -1,0 +1,18 @@
+//! A layout as runs of keys: read from a source, in about the bytes that its distinct elements take.
+//!
+//! What this crate promises to the crates above it:
+//!
+//! - A [`CompactLayout`] is one layout (`IsKeyed`, specs/Keyed.antt): its cells by ascending names, and of each the run of its
+//!   elements' keys (oas_keys, oas_store), ascending, each beside its count.
+//! - [`read_compact`] gives the layout of what a source gives in this form, exactly where `read_layout` of oas_file gives it, and
+//!   refuses it as that does: `ReadsCompact` (specs/Reading.antt).
+//!
+//! Whether memory is there is outside every contract: what allocates may answer `Why::Memory`.
+#![tactic(auto)]
+
+mod finishing;
+mod layout;
+mod reading;
+
+pub use layout::CompactLayout;
+pub use reading::read_compact;
