@@ -1,3 +1,4 @@
+mod KeptLemmas
 mod RekeyLemmas
 mod HashingLemmas
 mod CellKeyLemmas

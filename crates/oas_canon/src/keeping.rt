@@ -1,0 +1,165 @@
+//! A source whose bytes are kept as they are taken.
+ghost use Rattle.std.specs.Prelude.{◌≡◌, ◌<◌, [], IfOk, IfErr, vec_len, vec_capacity};
+ghost use Rattle.oas_canon.specs.declared.keeping.Ending.TheVariants.{Open};
+ghost use Rattle.oas_canon.specs.Keeping.{IsKeeping, IsKeeping-prop, reason_by};
+ghost use Rattle.oas_canon.specs.Kept.{IsKept, RefusesKept};
+
+use oas_file::read_layout;
+use oas_layout::{Layout, Limits, Profile};
+use oas_num::{Refusal, Source, SourceFault, Why};
+use std::alloc::Global;
+use std::marker::{Brand, PhantomData};
+
+/// How many bytes there is room for before the first is read.
+const ROOM: usize = 1024;
+
+/// Which source it is whose bytes are kept, and where it stood before the first of them. Each use picks it.
+trait Start {
+    ghost use Rattle.oas_num.specs.Script.{Script};
+    ghost use base.Fml.{GName};
+
+    ghost script: { Script };
+
+    ghost name: { GName };
+}
+
+impl Start for Brand {
+    ghost use Rattle.std.specs.Prelude.{[]};
+    ghost use Rattle.oas_num.specs.Script.{slice_script};
+
+    ghost script = { slice_script [] 0 0 };
+
+    ghost name = { 0 };
+}
+
+/// How the bytes ended.
+#[derive(Clone, Copy, Debug, PartialEq, Eq)]
+enum Ending {
+    /// They have not ended.
+    Open,
+    /// The source had no byte more.
+    Ended,
+    /// The source's device failed.
+    Failed,
+    /// A byte stands after the source's limit.
+    TooLong,
+    /// No memory was there to keep a byte more.
+    NoRoom,
+}
+
+/// The bytes of a borrowed source, which are kept. Where one more can't be kept its device has failed.
+#[derive(Drop)]
+struct KeepingSource<'a, S: Source, K: Start> {
+    source: &'a mut S,
+    kept: Vec<u8>,
+    ending: Ending,
+    start: PhantomData<K>,
+    ghost keeps: { IsKeeping K.script K.name source.ghost_name (S.script source.now) kept.items ending } by { IsKeeping-prop K.script K.name source.ghost_name (S.script source.now) kept.items ending },
+    // As long as there may be a next byte there is room for it.
+    ghost room: { ending ≡ Open → vec_len kept < vec_capacity kept },
+}
+
+impl<'a, S: Source, K: Start> Source for KeepingSource<'a, S, K> {
+    ghost use Rattle.oas_canon.specs.KeptScripts.{kept_script};
+
+    ghost script = { λ k. kept_script (S.script k.source.now) k.ending };
+
+    fn next(&mut self) -> Result<Option<u8>, SourceFault> {
+        match self.ending {
+            Ending::Open => {}
+            Ending::Ended => return Ok(None),
+            Ending::Failed | Ending::NoRoom => return Err(SourceFault::Device),
+            Ending::TooLong => return Err(SourceFault::TooLong),
+        }
+        let next = self.source.next();
+        match next {
+            Ok(Some(byte)) => {
+                let _ = self.kept.push(byte);
+                if self.kept.reserve(1).is_err() {
+                    self.ending = Ending::NoRoom;
+                }
+            }
+            Ok(None) => self.ending = Ending::Ended,
+            Err(SourceFault::Device) => self.ending = Ending::Failed,
+            Err(SourceFault::TooLong) => self.ending = Ending::TooLong,
+        }
+        next
+    }
+
+    fn at(&self) -> u64 {
+        self.source.at()
+    }
+}
+
+/// Why a read was refused, in place of what the reader of such a source says: where a byte couldn't be kept it was for want
+/// of memory, and not by the device.
+fn reason(ending: Ending, why: Why) -> Why
+    ensures { result ≡ reason_by ending why }
+{
+    if ending == Ending::NoRoom && why == Why::Read {
+        Why::Memory
+    } else {
+        why
+    }
+}
+
+/// Reads all that a source gives, and answers the layout that it means and the bytes.
+pub(crate) fn read_kept<S: Source>(
+    alloc: Global,
+    source: &mut S,
+    limits: Limits,
+    profile: Profile,
+) -> Result<(Layout, Vec<u8>), Refusal>
+    ensures kept { IfOk result (λ read. IsKept limits profile (S.script source.old) read.0 read.1.items (S.script source.new)) }
+    ensures refused { IfErr result (λ refusal. RefusesKept limits (S.script source.old) refusal (S.script source.new)) }
+{
+    match Vec::with_capacity(alloc, ROOM) {
+        Ok(room) => {
+            let (read, _source) = read_named::<S, Brand>(alloc, source, room, limits, profile);
+            read
+        }
+        Err(_) => Err(Refusal {
+            at: source.at(),
+            why: Why::Memory,
+        }),
+    }
+}
+
+/// The same, of the source that is named. It hands the borrow back, so that its lender knows it for its own.
+fn read_named<'a, S: Source, K: Start>(
+    alloc: Global,
+    source: &'a mut S,
+    room: Vec<u8>,
+    limits: Limits,
+    profile: Profile,
+) -> (Result<(Layout, Vec<u8>), Refusal>, &'a mut S)
+    requires named { source.ghost_name ≡ K.name }
+    requires starts { S.script source.old ≡ K.script }
+    requires none { room.items ≡ [] }
+    requires room { vec_len room < vec_capacity room }
+    ensures same { result.1.ghost_name ≡ source.entry.ghost_name }
+    ensures kept { IfOk result.0 (λ read. IsKept limits profile (S.script source.old) read.0 read.1.items (S.script result.1.now)) }
+    ensures refused { IfErr result.0 (λ refusal. RefusesKept limits (S.script source.old) refusal (S.script result.1.now)) }
+{
+    let mut keeping: KeepingSource<'a, S, K> = KeepingSource {
+        source,
+        kept: room,
+        ending: Ending::Open,
+        start: PhantomData,
+    };
+    let outcome = read_layout(alloc, &mut keeping, limits, profile);
+    let KeepingSource {
+        source,
+        kept,
+        ending,
+        start: _,
+    } = keeping;
+    let read = match outcome {
+        Ok(layout) => Ok((layout, kept)),
+        Err(refusal) => Err(Refusal {
+            at: refusal.at,
+            why: reason(ending, refusal.why),
+        }),
+    };
+    (read, source)
+}
