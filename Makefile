@@ -3,7 +3,7 @@
 PREFIX ?= /usr/local
 JOBS ?= 2
 
-.PHONY: all lib install install-built install-lib dist test test-c test-large test-reference test-readings test-reading test-inflate test-command test-workflows test-klayout test-klayout-prepared bench clean
+.PHONY: all lib install install-built install-lib dist test test-c test-large test-reference test-readings test-reading test-inflate test-command test-workflows test-klayout test-klayout-prepared bench bench-klayout clean
 
 # The programs: proves every crate that they stand on, builds them, and leaves them as ./oascanon and ./oasprep.
 all:
@@ -83,18 +83,19 @@ test-workflows: all
 	command -v parallel >/dev/null || apt-get install -y parallel
 	tests/workflows/run ./oascanon
 
-# The way from KLayout's files into the profile, by the real KLayout: Debian's package, where it isn't there.
+# The ways from KLayout's files into the profile, by the real KLayout: Debian's package, where it isn't there.
 test-klayout: all
 	test -x /usr/lib/klayout/strm2oas || apt-get install -y klayout
 	tests/klayout/run ./oascanon
+	tests/klayout/prepared .
 
-# Files as KLayout writes them, through the second program, byte for byte. They have compressed blocks: while those aren't
-# prepared, this fails (docs/PREPARING.md).
+# Files as KLayout writes them, through the second program, byte for byte.
 test-klayout-prepared: all
 	test -x /usr/lib/klayout/strm2oas || apt-get install -y klayout
 	tests/klayout/prepared .
 
-# Speed and memory, beside a baseline in the same run.
+# Speed and memory, beside a baseline in the same run; and beside a program written for speed, where its folder is at hand.
+FAST ?= ../shared/bench
 bench: all
 	bench/run
 	cd crates/layout_bench && rt run --jobs $(JOBS) </dev/null >/dev/null
@@ -103,6 +104,14 @@ bench: all
 	bench/inflate
 	bench/canon ./oascanon
 	bench/questions ./oascanon
+	bench/growth ./oascanon
+	bench/orders ./oascanon
+	if [ -x $(FAST)/compare ]; then $(FAST)/compare ./oascanon --profile 2; fi
+
+# The same files through KLayout's reading and writing: Debian's package, where it isn't there.
+bench-klayout: all
+	test -x /usr/lib/klayout/strm2oas || apt-get install -y klayout
+	bench/klayout ./oascanon
 
 clean:
 	rm -rf crates/*/out oascanon oasprep lib

@@ -1,4 +1,4 @@
-"""The files of bench/canon and bench/questions: each from a seed, a record at a time, so that the script stays small itself."""
+"""The files of bench/canon, bench/questions, bench/growth, bench/orders and bench/klayout: each from a seed, a record at a time, so that the script stays small itself."""
 
 import itertools
 import random
@@ -48,10 +48,10 @@ def place(chance, bits=30):
     return signed(chance.randrange(-far, far)) + signed(chance.randrange(-far, far))
 
 
-def rectangles(chance):
-    """A million, anywhere, with all fields."""
+def rectangles(chance, count=MILLION):
+    """So many, anywhere, with all fields."""
     yield CELL
-    for _ in range(MILLION):
+    for _ in range(count):
         fields = (chance.randrange(64), chance.randrange(4), chance.randrange(1, 10_000), chance.randrange(1, 10_000))
         yield b"\x14\x7b" + b"".join(map(unsigned, fields)) + place(chance)
 

@@ -6,7 +6,6 @@ pub struct Point {
     pub y: i64,
 }
 
-#[derive(PartialEq, Eq, PartialOrd, Ord)]
 pub enum Element {
     Placement { cell: Vec<u8>, x: i64, y: i64, turns: u8, flip: bool },
     Text { string: Vec<u8>, textlayer: u64, texttype: u64, x: i64, y: i64 },

@@ -1,13 +1,15 @@
 //! The baseline of `bench/canon`: plain Rust that does what `oascanon canon` does, by profile two, from standard input to
-//! standard output.
+//! standard output, by the same design: elements are held as keys in ascending runs.
 //! A refusal is named by its number alone, without a place.
 
 mod element;
 mod input;
+mod keys;
 mod modal;
 mod output;
 mod reader;
 mod rings;
+mod runs;
 mod shapes;
 
 use input::{Input, Result, Why};
@@ -19,12 +21,10 @@ use std::process::ExitCode;
 const MAGIC: &[u8] = b"%SEMI-OASIS\r\n";
 const END_LENGTH: u64 = 256;
 
-/// How often each element is there.
-pub type Counts = BTreeMap<element::Element, u64>;
-
 pub struct Layout {
     pub unit: (u64, u64),
-    pub cells: BTreeMap<Vec<u8>, Counts>,
+    /// By its name what each cell has: the keys of its elements, ascending, and how often each is there.
+    pub cells: BTreeMap<Vec<u8>, runs::Run>,
 }
 
 fn gcd(a: u64, b: u64) -> u64 {
@@ -96,7 +96,7 @@ fn read_layout<R: io::Read>(input: &mut Input<R>) -> Result<Layout> {
 
 fn canon() -> Result<()> {
     let layout = read_layout(&mut Input::new(io::stdin().lock()))?;
-    Output::new(io::stdout().lock()).layout(&layout).map_err(|_| Why::Write)
+    Output::new(io::stdout().lock()).layout(layout).map_err(|_| Why::Write)
 }
 
 fn main() -> ExitCode {

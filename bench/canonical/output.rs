@@ -1,7 +1,7 @@
 //! The canonical bytes of a layout.
 
 use crate::element::{Element, Point};
-use crate::{Layout, MAGIC};
+use crate::{Layout, MAGIC, keys};
 use std::io::{BufWriter, Result, Write};
 
 pub struct Output<W: Write> {
@@ -13,17 +13,19 @@ impl<W: Write> Output<W> {
         Output { writer: BufWriter::new(writer) }
     }
 
-    pub fn layout(mut self, layout: &Layout) -> Result<()> {
+    pub fn layout(mut self, layout: Layout) -> Result<()> {
         self.bytes(MAGIC)?;
         self.bytes(b"\x01\x031.0")?;
         self.unit(layout.unit)?;
         self.bytes(&[0; 13])?;
-        for (name, elements) in &layout.cells {
+        let mut key = Vec::new();
+        for (name, mut elements) in layout.cells {
             self.bytes(&[14])?;
-            self.string(name)?;
-            for (element, &times) in elements {
+            self.string(&name)?;
+            while let Some(times) = elements.pop(&mut key) {
+                let element = keys::read(&key);
                 for _ in 0..times {
-                    self.element(element)?;
+                    self.element(&element)?;
                 }
             }
         }

@@ -1,9 +1,10 @@
 //! From records to cells, with names by number.
 
-use crate::Counts;
 use crate::element::{Element, Numbered};
 use crate::input::{Input, Real, Result, Why};
+use crate::keys;
 use crate::modal::{Drawn, Kind, Modal, Reference, field};
+use crate::runs::{Run, Store};
 use crate::shapes::{PointList, Repetition};
 use std::collections::BTreeMap;
 use std::io::Read;
@@ -13,7 +14,7 @@ const MOST_WEIGHT: u64 = 1 << 28;
 
 struct Cell {
     name: Reference,
-    elements: Counts,
+    elements: Store,
     numbered: BTreeMap<Numbered, u64>,
 }
 
@@ -51,6 +52,14 @@ pub struct Reader {
     open: Option<Cell>,
     count: u64,
     weight: u64,
+    key: Vec<u8>,
+}
+
+/// Adds an element, by its key, for which there is a buffer.
+fn add(elements: &mut Store, key: &mut Vec<u8>, element: &Element, times: u64) {
+    key.clear();
+    keys::put(key, element);
+    elements.add(key, times);
 }
 
 fn is_one(real: &Real) -> bool {
@@ -108,7 +117,7 @@ impl Reader {
             self.add_weight(1 + name.len() as u64)?;
         }
         self.modal = Modal::default();
-        self.done.extend(self.open.replace(Cell { name, elements: BTreeMap::new(), numbered: BTreeMap::new() }));
+        self.done.extend(self.open.replace(Cell { name, elements: Store::default(), numbered: BTreeMap::new() }));
         Ok(())
     }
 
@@ -220,7 +229,7 @@ impl Reader {
         for i in 0..number {
             let by = repetition.map_or((0, 0), |repetition| repetition.offset(i));
             match self.modal.copy(&kind, by).ok_or(Why::CoordinateRange)? {
-                Drawn::Element(element) => *cell.elements.entry(element).or_insert(0) += 1,
+                Drawn::Element(element) => add(&mut cell.elements, &mut self.key, &element, 1),
                 Drawn::Numbered(numbered) => *cell.numbered.entry(numbered).or_insert(0) += 1,
             }
         }
@@ -230,7 +239,7 @@ impl Reader {
     }
 
     /// The cells, with the strings behind numbers.
-    pub fn finish(mut self) -> Result<BTreeMap<Vec<u8>, Counts>> {
+    pub fn finish(mut self) -> Result<BTreeMap<Vec<u8>, Run>> {
         self.done.extend(self.open.take());
         if !self.done.iter().all(|cell| self.knows(cell)) {
             return Err(Why::UnknownReference);
@@ -266,7 +275,7 @@ impl Reader {
     }
 
     /// The elements of a cell, with those by number.
-    fn resolved(&mut self, mut elements: Counts, numbered: BTreeMap<Numbered, u64>) -> Result<Counts> {
+    fn resolved(&mut self, mut elements: Store, numbered: BTreeMap<Numbered, u64>) -> Result<Run> {
         for (one, times) in numbered {
             let (length, element) = match one {
                 Numbered::Placement { number, x, y, turns, flip } => {
@@ -279,8 +288,8 @@ impl Reader {
                 }
             };
             self.add_weight(times * length as u64)?;
-            *elements.entry(element).or_insert(0) += times;
+            add(&mut elements, &mut self.key, &element, times);
         }
-        Ok(elements)
+        Ok(elements.close())
     }
 }

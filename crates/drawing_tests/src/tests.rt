@@ -79,11 +79,11 @@ fn last_copy(
     kind: Kind,
     repeated: bool,
 ) -> Result<Drawn, Why> {
-    let number = modal.copies(kind, repeated, Limits::standard(), 0, 0)?;
+    let number = modal.copies(&kind, repeated, Limits::standard(), 0, 0)?;
     if number == 0 || number > 1000 {
         return Err(Why::TooManyElements);
     }
-    modal.copy(alloc, kind, repeated, number - 1)
+    modal.copy(alloc, &kind, repeated, number - 1)
 }
 
 /// Whether the rectangle that was drawn last is of layer 1, of this size, and there.
@@ -95,11 +95,11 @@ fn gives(alloc: Global, modal: &ModalVariables, width: u64, height: u64, x: i64,
 #[test]
 fn squares(rt: HostRuntime) {
     let mut modal = ModalVariables::new();
-    modal.draw_rectangle(full(10, 20, at(Some(0), Some(0))));
+    modal.draw_rectangle(&mut full(10, 20, at(Some(0), Some(0))));
     assert!(rt; gives(rt.alloc(), &modal, 10, 20, 0, 0));
-    modal.draw_rectangle(bare(true, at(Some(20), None)));
+    modal.draw_rectangle(&mut bare(true, at(Some(20), None)));
     assert!(rt; gives(rt.alloc(), &modal, 10, 10, 20, 0));
-    modal.draw_rectangle(bare(false, at(None, Some(30))));
+    modal.draw_rectangle(&mut bare(false, at(None, Some(30))));
     assert!(rt; gives(rt.alloc(), &modal, 10, 10, 20, 30));
 }
 
@@ -136,8 +136,8 @@ fn extensions(rt: HostRuntime) -> Result<(), Fail> {
         end: Extension::Explicit(-3),
     };
     let points = eastward(alloc)?;
-    modal.draw_path(path(Some(points), 5, Some(both), at(Some(0), Some(0))));
-    modal.draw_path(path(None, 9, None, at(None, Some(20))));
+    modal.draw_path(&mut path(Some(points), 5, Some(both), at(Some(0), Some(0))));
+    modal.draw_path(&mut path(None, 9, None, at(None, Some(20))));
     let wanted = line(alloc, 9, 5, -3, Point { x: 0, y: 20 })?;
     assert!(rt; last_copy(alloc, &modal, Kind::Path, false) == Ok(Drawn::Named(wanted)));
     Ok(())
@@ -152,7 +152,7 @@ fn paths_end_with_their_cell(rt: HostRuntime) -> Result<(), Fail> {
         end: Extension::Explicit(-3),
     };
     let points = eastward(alloc)?;
-    modal.draw_path(path(Some(points), 5, Some(both), at(None, None)));
+    modal.draw_path(&mut path(Some(points), 5, Some(both), at(None, None)));
     modal.begin_cell();
     assert!(rt; last_copy(alloc, &modal, Kind::Path, false) == Err(Why::ModalUndefined));
     Ok(())
@@ -167,7 +167,7 @@ fn flush_extensions(rt: HostRuntime) -> Result<(), Fail> {
         end: Extension::Flush,
     };
     let points = eastward(alloc)?;
-    modal.draw_path(path(Some(points), 9, Some(flush), at(None, None)));
+    modal.draw_path(&mut path(Some(points), 9, Some(flush), at(None, None)));
     let wanted = line(alloc, 9, 0, 0, Point { x: 0, y: 0 })?;
     assert!(rt; last_copy(alloc, &modal, Kind::Path, false) == Ok(Drawn::Named(wanted)));
     Ok(())
@@ -218,11 +218,11 @@ fn placed(turns: Turns) -> Drawn {
 #[test]
 fn relative_steps(rt: HostRuntime) {
     let mut modal = ModalVariables::new();
-    modal.draw_rectangle(full(10, 20, at(Some(7), Some(1))));
+    modal.draw_rectangle(&mut full(10, 20, at(Some(7), Some(1))));
     modal.set_relative(true);
-    modal.draw_rectangle(bare(false, at(Some(-10), None)));
+    modal.draw_rectangle(&mut bare(false, at(Some(-10), None)));
     assert!(rt; gives(rt.alloc(), &modal, 10, 20, -3, 1));
-    modal.place(seventh());
+    modal.place(&mut seventh());
     let copy = last_copy(rt.alloc(), &modal, turned(false, 0, 1), false);
     assert!(rt; copy == Ok(placed(Turns::T0)));
 }
@@ -232,7 +232,7 @@ fn turns(rt: HostRuntime) {
     let alloc = rt.alloc();
     let mut modal = ModalVariables::new();
     assert!(rt; last_copy(alloc, &modal, turned(false, 45, 2), false) == Err(Why::ModalUndefined));
-    modal.place(seventh());
+    modal.place(&mut seventh());
     assert!(rt; last_copy(alloc, &modal, turned(false, 45, 2), true) == Err(Why::ModalUndefined));
     assert!(rt; last_copy(alloc, &modal, turned(false, 45, 2), false) == Err(Why::Magnification));
     assert!(rt; last_copy(alloc, &modal, turned(false, 45, 1), false) == Err(Why::Angle));
@@ -245,7 +245,7 @@ fn turns(rt: HostRuntime) {
 fn copies(rt: HostRuntime) {
     let alloc = rt.alloc();
     let mut modal = ModalVariables::new();
-    modal.draw_circle(Circle {
+    modal.draw_circle(&mut Circle {
         layer: Some(1),
         datatype: Some(2),
         radius: Some(1 << 60),
@@ -266,19 +266,19 @@ fn copies(rt: HostRuntime) {
     assert!(rt; last_copy(alloc, &modal, Kind::Rectangle, true) == Err(Why::ModalUndefined));
     let limits = Limits::standard();
     assert_eq!(rt;
-        modal.copies(Kind::Circle, true, limits, (1 << 24) - 3, 0),
+        modal.copies(&Kind::Circle, true, limits, (1 << 24) - 3, 0),
         Ok(3)
     );
     assert_eq!(rt;
-        modal.copies(Kind::Circle, true, limits, (1 << 24) - 2, 0),
+        modal.copies(&Kind::Circle, true, limits, (1 << 24) - 2, 0),
         Err(Why::TooManyElements)
     );
     assert_eq!(rt;
-        modal.copies(Kind::Circle, true, limits, 0, (1 << 28) - 2),
+        modal.copies(&Kind::Circle, true, limits, 0, (1 << 28) - 2),
         Err(Why::TooHeavy)
     );
     assert_eq!(rt;
-        modal.copies(Kind::Circle, false, limits, 0, (1 << 28) - 2),
+        modal.copies(&Kind::Circle, false, limits, 0, (1 << 28) - 2),
         Ok(1)
     );
 }
@@ -287,7 +287,7 @@ fn copies(rt: HostRuntime) {
 fn far_corners(rt: HostRuntime) {
     let alloc = rt.alloc();
     let mut modal = ModalVariables::new();
-    modal.draw_rectangle(Rectangle {
+    modal.draw_rectangle(&mut Rectangle {
         square: true,
         layer: Some(1),
         datatype: Some(0),

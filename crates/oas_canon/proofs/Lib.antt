@@ -1,4 +1,3 @@
-mod KeptLemmas
 mod RekeyLemmas
 mod HashingLemmas
 mod CellKeyLemmas

@@ -1,11 +1,11 @@
 -- A whole run, from its parts.
-use Rattle.std.proofs.Common.{◌≡◌, ℕ, ◌⊎◌, inl, inr, Bool, true, false, List, ◌++◌, Option, Some, None, Result, Ok, Err, IfOk, IfErr, IsTrue, ◌↔◌, IsSome, refl, sym, ◌∙◌, ap, subst, arith}
-use Rattle.std.proofs.lemmas.List.{append-nil, append_cancel_right}
+use Rattle.std.proofs.Common.{◌≡◌, ℕ, ◌⊎◌, inl, inr, Bool, true, false, List, ◌++◌, Option, Some, None, Result, Ok, Err, IfOk, IfErr, IsTrue, ◌↔◌, refl, sym, ◌∙◌, ap, subst, arith}
+use Rattle.std.proofs.lemmas.List.{append-nil}
 use Rattle.sha2.specs.Sha256.{sha256}
 use Rattle.oas_num.specs.declared.refusals.Why.{Why}
 use Rattle.oas_num.specs.declared.refusals.Why.TheVariants.{Truncated, Read, InputTooLong, Write, Memory}
 use Rattle.oas_num.specs.declared.refusals.Refusal.{Refusal}
-use Rattle.oas_num.specs.Script.{Script, Rest, Gave, NoneLeft, Takes}
+use Rattle.oas_num.specs.Script.{Script, Rest, Gave, NoneLeft}
 use Rattle.oas_layout.specs.declared.limits.Limits.{Limits}
 use Rattle.oas_layout.specs.declared.profile.Profile.{Profile}
 use Rattle.oas_layout.specs.Meaning.{SameLayout}
@@ -16,8 +16,9 @@ use Rattle.oas_file.specs.Reading.{decides, IsRead, IsRefused}
 use Rattle.oas_form.specs.Bytes.{canonical_bytes}
 use Rattle.oas_form.specs.Canonical.{CanonicalForm, IsCanonicalOf}
 use Rattle.oas_num.specs.Written.{IsWritten, IsCutOff}
-use Rattle.oas_form.proofs.Held.{form_is_bytes}
 use Rattle.oas_form.proofs.Written.{canonical_form}
+use Rattle.oas_judge.specs.Judged.{IsJudged as IsJudgedBy}
+use Rattle.oas_judge.specs.Kept.{RefusesKept}
 use Rattle.oas_canon.specs.Run.{IsTaken, IsDone, IsCut, IsKeyed, IsJudged, IsCompared, IsDecided, IsWithinSource, Exactly}
 
 module _ {limits : Limits} {profile : Profile} {old new : Script} {l : Contents} (read : IsRead limits profile old l new) where
@@ -63,27 +64,10 @@ module _ {limits : Limits} {profile : Profile} {old new : Script} {l : Contents}
   pub keyed : (digest : List ℕ) → IsLayout l → digest ≡ sha256 (canonical_bytes (meaning_of l)) → IsKeyed limits profile old new digest
   keyed digest held is = record { bytes = read.bytes; taken = taken; canonical = canonical_bytes (meaning_of l); is = is_form held; hashed = is }
 
-  -- ---- one file against its canonical form
+-- ---- one file against its canonical form
 
-  -- what is kept of known bytes is what was taken
-  tie : (kept : List ℕ) (from to : Option Rest) → Gave from read.bytes to → Gave from kept to → IsSome from → kept ≡ read.bytes
-  tie kept None to g k known = absurd cc
-  tie kept (Some r) None g k known = absurd g
-  tie kept (Some r) (Some s) g k known = append_cancel_right kept read.bytes s.bytes (sym k.0 ∙ g.0)
-
-  is_spelled : (says : Bool) → IsLayout l → (IsTrue says ↔ (canonical_bytes (meaning_of l) ≡ read.bytes)) → IsTrue says ↔ CanonicalForm limits profile read.bytes
-  is_spelled says held h = (
-    λ t. subst (CanonicalForm limits profile) (h.0 t) (form held),
-    λ f. h.1 (sym (form_is_bytes limits read.bytes read.meaning l (subst (λ (p : Profile). CanonicalForm limits p read.bytes) (sym read.by) f) read.means held
-        (subst (λ (p : Profile). SameLayout p read.meaning (meaning_of l)) (sym read.by) read.same))),
-  )
-
-  pub judged : (kept : List ℕ) (says : Bool) → Takes old kept new → IsLayout l → (IsTrue says ↔ (canonical_bytes (meaning_of l) ≡ kept)) → IsJudged limits profile old new says
-  judged kept says keeps held h = record {
-    bytes = read.bytes;
-    taken = taken;
-    answer = λ known. is_spelled says held (subst (λ (b : List ℕ). IsTrue says ↔ (canonical_bytes (meaning_of l) ≡ b)) (tie kept old.rest new.rest read.takes.rest keeps.rest known) h);
-  }
+abbrev pub judged : {limits : Limits} {profile : Profile} {old new : Script} {yes : Bool} → IsJudgedBy limits profile old yes new → IsJudged limits profile old new yes
+judged j = record { bytes = j.bytes; taken = record { takes = j.takes; ended = j.ended; accepted = j.accepted }; answer = j.answer }
 
 -- ---- two files
 
@@ -176,3 +160,15 @@ pub exactly_written : {limits : Limits} {profile : Profile} {old new : Script} {
     (r : Result ℕ Refusal) → IsRead limits profile old l new → IfErr r (IsCutOff contents before (canonical_bytes (meaning_of l)) after) → Exactly limits old r new
 exactly_written contents before after (Ok n) read h = exactly_taken n (taken read)
 exactly_written {limits = limits} {old = old} {new = new} contents before after (Err refusal) read h = exactly_unwritten ℕ limits old new refusal h.reason
+
+-- ---- what a judge answers
+
+module _ (limits : Limits) (profile : Profile) (old new : Script) where
+  pub answers_judged : (answer : Result Bool Refusal) → IfOk answer (λ yes. IsJudgedBy limits profile old yes new) → IfOk answer (λ yes. IsJudged limits profile old new yes)
+  answers_judged (Ok says) j = judged j
+  answers_judged (Err refusal) j = tt
+
+  pub answers_exactly : (answer : Result Bool Refusal) → IfOk answer (λ yes. IsJudgedBy limits profile old yes new) → IfErr answer (λ refusal. RefusesKept limits old refusal new) →
+      Exactly limits old answer new
+  answers_exactly (Ok says) j refused = exactly_taken says (judged j).taken
+  answers_exactly (Err refusal) j refused = exactly_refused Bool refusal refused.0

@@ -1,5 +1,5 @@
 -- What re-keying does: the canonical form by profile one becomes that by profile two.
-use Rattle.std.specs.Prelude.{◌≡◌, ℕ, List, length, Option, None, Some, IsSome}
+use Rattle.std.specs.Prelude.{◌≡◌, ℕ, List, length, Option, None, Some}
 use Rattle.std.specs.Io.KnownBytes.{Appends}
 use Rattle.oas_num.specs.Script.{Script, Rest}
 use Rattle.oas_layout.specs.declared.limits.Limits.{Limits}
@@ -19,11 +19,11 @@ pub record IsRekeyedInPart (limits : Limits) (old new : Script) (before after : 
   pub cut : IsCut limits Two old new before after at
   pub own : CanonicalForm limits One cut.bytes
 
--- A file was taken that is no canonical form by profile one. This is said of a source whose bytes are known.
+-- a file was taken that is no canonical form by profile one
 pub record IsOther (limits : Limits) (old new : Script) : Type 0 where
   pub bytes : List ℕ
   pub taken : IsTaken limits old bytes new
-  pub other : IsSome old.rest → CanonicalForm limits One bytes → ⊥
+  pub other : CanonicalForm limits One bytes → ⊥
 
 abbrev pub Rekeys : Limits → Script → Script → Option (List ℕ) → Option (List ℕ) → Rekeyed → Type 0
 Rekeys limits old new before after (Done n) = IsRekeyed limits old new before after n

@@ -1,5 +1,5 @@
 -- What a run over sources and a writer does.
-use Rattle.std.specs.Prelude.{◌≡◌, ℕ, Bool, false, List, ◌++◌, length, Option, Some, None, Result, Ok, Err, IsSome, IsTrue, ◌⊎◌, ◌↔◌}
+use Rattle.std.specs.Prelude.{◌≡◌, ℕ, Bool, false, List, ◌++◌, length, Option, Some, None, Result, Ok, Err, IsTrue, ◌⊎◌, ◌↔◌}
 use Rattle.std.specs.Io.KnownBytes.{Appends}
 use Rattle.sha2.specs.Sha256.{sha256}
 use Rattle.oas_num.specs.declared.refusals.Refusal.{Refusal}
@@ -52,12 +52,11 @@ pub record IsKeyed (limits : Limits) (profile : Profile) (old new : Script) (dig
   pub is : IsCanonicalOf limits profile bytes canonical
   pub hashed : digest ≡ sha256 canonical
 
--- A file was taken, and the answer is whether it is a canonical form. This is said of a source whose bytes are known: of
--- another nothing but their number ties the bytes taken to what it gave.
+-- a file was taken, and the answer is whether it is a canonical form
 pub record IsJudged (limits : Limits) (profile : Profile) (old new : Script) (yes : Bool) : Type 0 where
   pub bytes : List ℕ
   pub taken : IsTaken limits old bytes new
-  pub answer : IsSome old.rest → IsTrue yes ↔ CanonicalForm limits profile bytes
+  pub answer : IsTrue yes ↔ CanonicalForm limits profile bytes
 
 -- two files were taken, and the answer is whether they mean the same layout
 pub record IsCompared (limits : Limits) (profile : Profile) (old new mid last : Script) (same : Bool) : Type 0 where

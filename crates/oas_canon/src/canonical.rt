@@ -5,11 +5,11 @@ ghost use Rattle.oas_file.specs.Deciding.{IsReasoned};
 ghost use Rattle.oas_file.specs.Reading.{IsRefused, IsPlaced};
 ghost use Rattle.oas_canon.specs.Run.{IsDone, IsCut, Exactly};
 
-use crate::profile::PROFILE;
-use oas_file::read_layout;
-use oas_form::write_canonical;
+use crate::profile::{ByProfile, PROFILE};
 use oas_layout::Limits;
 use oas_num::{Refusal, Source};
+use oas_run_form::write_compact;
+use oas_runs::read_compact;
 use std::alloc::Global;
 use std::io::Write;
 
@@ -33,6 +33,6 @@ pub fn canonicalize<S: Source, W: Write>(
     ensures cut { IfErr result (λ refusal. refusal.why ≡ NotWritten → IsCut limits PROFILE (S.script from.old) (S.script from.new) (W.contents to.old) (W.contents to.new) refusal.at) }
     ensures exactly { Exactly limits (S.script from.old) result (S.script from.new) }
 {
-    let layout = read_layout(alloc, from, limits, PROFILE)?;
-    write_canonical(&layout, to)
+    let layout = read_compact::<S, ByProfile>(alloc, from, limits)?;
+    write_compact(&layout, to)
 }

@@ -1,18 +1,19 @@
 //! The key of a file.
 ghost use Rattle.std.specs.Prelude.{◌≡◌, IfOk, IfErr};
 ghost use Rattle.sha2.specs.Sha256.{sha256};
-ghost use Rattle.oas_layout.specs.Contents.{meaning_of, IsLayout};
+ghost use Rattle.oas_layout.specs.Contents.{Contents, meaning_of};
 ghost use Rattle.oas_file.specs.Deciding.{IsReasoned};
 ghost use Rattle.oas_file.specs.Reading.{IsRefused, IsPlaced};
 ghost use Rattle.oas_form.specs.Bytes.{canonical_bytes};
+ghost use Rattle.oas_runs.specs.Keyed.{IsKeyed as IsHeld};
 ghost use Rattle.oas_canon.specs.Run.{IsKeyed, Exactly};
 
 use crate::hashing::Hasher;
-use crate::profile::PROFILE;
-use oas_file::read_layout;
-use oas_form::put_canonical;
-use oas_layout::{Layout, Limits};
+use crate::profile::{ByProfile, PROFILE};
+use oas_layout::Limits;
 use oas_num::{Refusal, Source};
+use oas_run_form::put_compact;
+use oas_runs::{CompactLayout, read_compact};
 use std::alloc::Global;
 
 /// The key of what a source gives: the SHA-256 of its canonical file, which isn't held or written anywhere.
@@ -25,16 +26,16 @@ pub fn key<S: Source>(alloc: Global, from: &mut S, limits: Limits) -> Result<[u8
     ensures decided { IfErr result (λ refusal. IsReasoned limits (S.script from.old) refusal (S.script from.new)) }
     ensures exactly { Exactly limits (S.script from.old) result (S.script from.new) }
 {
-    let layout = read_layout(alloc, from, limits, PROFILE)?;
+    let layout = read_compact::<S, ByProfile>(alloc, from, limits)?;
     Ok(digest(&layout))
 }
 
 /// The SHA-256 of a layout's canonical bytes.
-fn digest(layout: &Layout) -> [u8; 32]
-    ensures digest { result ≡ sha256 (canonical_bytes (meaning_of layout.now)) }
-    ensures layout { IsLayout layout.now }
+fn digest(layout: &CompactLayout) -> [u8; 32]
+    requires { (l : Contents) × IsHeld layout.now l }
+    ensures { (l : Contents) → IsHeld layout.now l → result ≡ sha256 (canonical_bytes (meaning_of l)) }
 {
     let mut hasher = Hasher::new();
-    let _ = put_canonical(layout, &mut hasher);
+    let _ = put_compact(layout, &mut hasher);
     hasher.finish()
 }

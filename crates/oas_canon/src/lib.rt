@@ -7,18 +7,18 @@
 //! - [`canonicalize`] writes the canonical file of what a source gives (`IsDone`), exactly where that file is accepted, and
 //!   writes nothing else: a refusal but `Why::Write` leaves the writer as it was, and after `Why::Write` the writer took the
 //!   first bytes of the canonical file, as many as the refusal's place says (`IsCut`).
-//! - [`is_canonical`] answers whether the bytes of an accepted file are its canonical form (`IsJudged`), which is said of a
-//!   source whose bytes are known; [`same_files`] whether two accepted files mean the same layout (`IsCompared`); [`key`]
-//!   the SHA-256 of an accepted file's canonical form (`IsKeyed`).
+//! - [`is_canonical`] answers whether the bytes of an accepted file are its canonical form (`IsJudged`), and keeps no element;
+//!   [`same_files`] whether two accepted files mean the same layout (`IsCompared`); [`key`] the SHA-256 of an accepted file's
+//!   canonical form (`IsKeyed`).
 //! - [`write_cell_keys`] writes the key of each cell of a layout: the SHA-256 of the canonical file that has the layout's
 //!   unit and that cell alone, and the cell's name (`cell_key_lines`, specs/CellKeys.antt).
 //! - [`rekey`] writes the canonical file by profile two of a file that is canonical by profile one (`IsRekeyed`,
-//!   specs/Rekeying.antt), and answers [`Rekeyed::NotProfile1`], with the writer as it was, of an accepted file that isn't,
-//!   which is said of a source whose bytes are known (`IsOther`). It keeps the bytes, as [`is_canonical`] does.
+//!   specs/Rekeying.antt), and answers [`Rekeyed::NotProfile1`], with the writer as it was, of an accepted file that isn't
+//!   (`IsOther`).
 //! - Each of them refuses as [`read_layout`] of `oas_file` does, whose words stand in the contracts: no accepted file goes
 //!   on from what was taken (`IsRefused`), the place (`IsPlaced`), and which bytes decide it, for which reason
 //!   (`IsReasoned`). A refusal of [`same_files`] names its file, and of the second nothing is read where the first is
-//!   refused. [`is_canonical`] keeps the bytes, and so may want memory at any byte.
+//!   refused. [`is_canonical`] and [`rekey`] may want memory at any byte.
 //! - Each of them says besides, of known bytes under the source's limit and over a device that has not failed, that it
 //!   answers exactly where the files are accepted, if not for the writer or the memory (`Exactly`, `ExactlyBoth`).
 //! - Limits are handed in; the profile, which says what is taken for the same element, is [`PROFILE`], but for re-keying.
@@ -37,7 +37,6 @@ mod canonical;
 mod cell_keys;
 mod checking;
 mod hashing;
-mod keeping;
 mod keys;
 pub mod laws;
 mod profile;
@@ -57,6 +56,6 @@ pub use oas_num::{
     SliceSource, Source, SourceFault, Spelled, Why,
 };
 pub use oas_ring::{Point, Points};
-pub use profile::PROFILE;
+pub use profile::{ByProfile, PROFILE};
 pub use rekeying::{Rekeyed, rekey};
 pub use sameness::{Which, same_files};

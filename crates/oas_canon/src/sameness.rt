@@ -4,10 +4,10 @@ ghost use Rattle.oas_file.specs.Reading.{Refuses};
 ghost use Rattle.oas_canon.specs.declared.sameness.Which.TheVariants.{First as OfFirst, Second as OfSecond};
 ghost use Rattle.oas_canon.specs.Run.{IsTaken, IsCompared, ExactlyBoth};
 
-use crate::profile::PROFILE;
-use oas_file::read_layout;
+use crate::profile::{ByProfile, PROFILE};
 use oas_layout::Limits;
 use oas_num::{Refusal, Source};
+use oas_runs::read_compact;
 use std::alloc::Global;
 
 /// One of two files.
@@ -32,11 +32,11 @@ pub fn same_files<S: Source, T: Source>(
     ensures second { IfErr result (λ e. e.0 ≡ OfSecond → ((bytes : List ℕ) × IsTaken limits (S.script a.old) bytes (S.script a.new)) × Refuses limits (T.script b.old) e.1 (T.script b.new)) }
     ensures exactly { ExactlyBoth limits (S.script a.old) (S.script a.new) (T.script b.old) (T.script b.new) result }
 {
-    let one = match read_layout(alloc, a, limits, PROFILE) {
+    let one = match read_compact::<S, ByProfile>(alloc, a, limits) {
         Ok(layout) => layout,
         Err(refusal) => return Err((Which::First, refusal)),
     };
-    let other = match read_layout(alloc, b, limits, PROFILE) {
+    let other = match read_compact::<T, ByProfile>(alloc, b, limits) {
         Ok(layout) => layout,
         Err(refusal) => return Err((Which::Second, refusal)),
     };

@@ -12,8 +12,6 @@
 //! - [`CompactCell::into_run`] places what waits by the names of the whole file, and answers the run of the keys of all that is
 //!   meant: of each kept form there are as many as there are elements (`MeansElements`, specs/Placing.antt).
 //! - By which profile elements are kept is a type ([`KeptBy`]): [`ByProfileOne`], [`ByProfileTwo`].
-//!
-//! Nothing uses this crate yet.
 #![tactic(auto)]
 
 mod accepting;

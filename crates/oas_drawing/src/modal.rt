@@ -113,57 +113,51 @@ impl ModalVariables {
         self.relative = relative;
     }
 
-    /// What a placement sets.
-    pub fn place(&mut self, placed: Placement)
+    /// What a placement sets. A name that it gives, and a repetition, are taken from it.
+    pub fn place(&mut self, placed: &mut Placement)
         requires { IsNear self.old.placement }
-        ensures { self.new ≡ stepped self.old (OneRecord.Placement placed) }
+        ensures { self.new ≡ stepped self.old (OneRecord.Placement placed.old) }
     {
-        let Placement { cell, spot, .. } = placed;
-        set(&mut self.cell, cell);
-        self.placement = self.placement.moved_by(self.relative, &spot);
-        set(&mut self.repetition, new_repetition(spot.repetition));
+        self.placement = self.placement.moved_by(self.relative, &placed.spot);
+        take_given(&mut self.cell, &mut placed.cell);
+        take_repetition(&mut self.repetition, &mut placed.spot.repetition);
     }
 
-    /// What a text sets.
-    pub fn write(&mut self, written: Text)
+    /// What a text sets. A string that it gives, and a repetition, are taken from it.
+    pub fn write(&mut self, written: &mut Text)
         requires { IsNear self.old.text }
-        ensures { self.new ≡ stepped self.old (OneRecord.Text written) }
+        ensures { self.new ≡ stepped self.old (OneRecord.Text written.old) }
     {
-        let Text {
-            string,
-            textlayer,
-            texttype,
-            spot,
-        } = written;
-        set(&mut self.string, string);
-        set(&mut self.textlayer, textlayer);
-        set(&mut self.texttype, texttype);
-        self.text = self.text.moved_by(self.relative, &spot);
-        set(&mut self.repetition, new_repetition(spot.repetition));
+        set(&mut self.textlayer, written.textlayer);
+        set(&mut self.texttype, written.texttype);
+        self.text = self.text.moved_by(self.relative, &written.spot);
+        take_given(&mut self.string, &mut written.string);
+        take_repetition(&mut self.repetition, &mut written.spot.repetition);
     }
 
-    /// What all kinds of geometry set.
-    fn draw(&mut self, layer: Option<u64>, datatype: Option<u64>, spot: Spot)
+    /// What all kinds of geometry set. A repetition is taken from the record.
+    fn draw(&mut self, layer: Option<u64>, datatype: Option<u64>, spot: &mut Spot)
         requires { IsNear self.old.geometry }
         ensures { self.new ≡ record self.old {
-          repetition = option_or (new_repetition spot.repetition) self.old.repetition;
+          repetition = option_or (new_repetition spot.old.repetition) self.old.repetition;
           layer = option_or layer self.old.layer;
           datatype = option_or datatype self.old.datatype;
-          geometry = moved_by self.old.relative self.old.geometry spot;
+          geometry = moved_by self.old.relative self.old.geometry spot.old;
         } }
     {
         set(&mut self.layer, layer);
         set(&mut self.datatype, datatype);
-        self.geometry = self.geometry.moved_by(self.relative, &spot);
-        set(&mut self.repetition, new_repetition(spot.repetition));
+        self.geometry = self.geometry.moved_by(self.relative, spot);
+        take_repetition(&mut self.repetition, &mut spot.repetition);
     }
 
-    /// What a rectangle sets. A square sets the height too, to its width, which may be the modal one.
-    pub fn draw_rectangle(&mut self, drawn: Rectangle)
+    /// What a rectangle sets. A square sets the height too, to its width, which may be the modal one. A repetition is taken
+    /// from it.
+    pub fn draw_rectangle(&mut self, drawn: &mut Rectangle)
         requires { IsNear self.old.geometry }
-        ensures { self.new ≡ stepped self.old (OneRecord.Rectangle drawn) }
+        ensures { self.new ≡ stepped self.old (OneRecord.Rectangle drawn.old) }
     {
-        self.draw(drawn.layer, drawn.datatype, drawn.spot);
+        self.draw(drawn.layer, drawn.datatype, &mut drawn.spot);
         set(&mut self.width, drawn.width);
         let height = if drawn.square {
             self.width
@@ -173,40 +167,41 @@ impl ModalVariables {
         set(&mut self.height, height);
     }
 
-    /// What a polygon sets.
-    pub fn draw_polygon(&mut self, drawn: Polygon)
+    /// What a polygon sets. Its points, where it gives any, and a repetition are taken from it.
+    pub fn draw_polygon(&mut self, drawn: &mut Polygon)
         requires { IsNear self.old.geometry }
-        ensures { self.new ≡ stepped self.old (OneRecord.Polygon drawn) }
+        ensures { self.new ≡ stepped self.old (OneRecord.Polygon drawn.old) }
     {
-        self.draw(drawn.layer, drawn.datatype, drawn.spot);
-        set(&mut self.polygon_points, drawn.points);
+        self.draw(drawn.layer, drawn.datatype, &mut drawn.spot);
+        take_given(&mut self.polygon_points, &mut drawn.points);
     }
 
-    /// What a path sets. Its extensions are those of its half-width, which may be the modal one.
-    pub fn draw_path(&mut self, drawn: Path)
+    /// What a path sets. Its extensions are those of its half-width, which may be the modal one. Its points, where it gives
+    /// any, and a repetition are taken from it.
+    pub fn draw_path(&mut self, drawn: &mut Path)
         requires { IsNear self.old.geometry }
-        ensures { self.new ≡ stepped self.old (OneRecord.Path drawn) }
+        ensures { self.new ≡ stepped self.old (OneRecord.Path drawn.old) }
     {
-        self.draw(drawn.layer, drawn.datatype, drawn.spot);
+        self.draw(drawn.layer, drawn.datatype, &mut drawn.spot);
         set(&mut self.half_width, drawn.half_width);
         let (start, end) = extension_numbers(self.half_width, drawn.extensions);
         set(&mut self.start, start);
         set(&mut self.end, end);
-        set(&mut self.path_points, drawn.points);
+        take_given(&mut self.path_points, &mut drawn.points);
     }
 
-    /// What a circle sets.
-    pub fn draw_circle(&mut self, drawn: Circle)
+    /// What a circle sets. A repetition is taken from it.
+    pub fn draw_circle(&mut self, drawn: &mut Circle)
         requires { IsNear self.old.geometry }
-        ensures { self.new ≡ stepped self.old (OneRecord.Circle drawn) }
+        ensures { self.new ≡ stepped self.old (OneRecord.Circle drawn.old) }
     {
-        self.draw(drawn.layer, drawn.datatype, drawn.spot);
+        self.draw(drawn.layer, drawn.datatype, &mut drawn.spot);
         set(&mut self.radius, drawn.radius);
     }
 }
 
 /// A field that is given sets its variable.
-fn set<T: Drop>(variable: &mut Option<T>, given: Option<T>)
+fn set<T: Copy + Drop>(variable: &mut Option<T>, given: Option<T>)
     ensures { variable.new ≡ option_or given variable.old }
 {
     if given.is_some() {
@@ -214,13 +209,24 @@ fn set<T: Drop>(variable: &mut Option<T>, given: Option<T>)
     }
 }
 
-/// The repetition that a record sets, if it does. Type 0 doesn't.
-fn new_repetition(field: Option<RepField>) -> Option<Repetition>
-    ensures { result ≡ new_repetition field }
+/// A field that is given and has memory of its own is taken, and sets its variable.
+fn take_given<T: Drop>(variable: &mut Option<T>, given: &mut Option<T>)
+    ensures { variable.new ≡ option_or given.old variable.old }
 {
-    match field {
-        Some(RepField::New(repetition)) => Some(repetition),
-        _ => None,
+    if given.is_some() {
+        *variable = given.take();
+    }
+}
+
+/// A repetition that is given is taken, and sets the variable. Type 0 doesn't.
+fn take_repetition(variable: &mut Option<Repetition>, given: &mut Option<RepField>)
+    ensures { variable.new ≡ option_or (new_repetition given.old) variable.old }
+{
+    if given.is_none() {
+        return;
+    }
+    if let Some(RepField::New(repetition)) = given.take() {
+        *variable = Some(repetition);
     }
 }
 

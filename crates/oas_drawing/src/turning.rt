@@ -58,27 +58,27 @@ pub(crate) fn turned(turn: Turn) -> Turns
 }
 
 /// Whether a placement's magnification isn't 1.
-pub(crate) fn is_magnified(kind: Kind) -> bool
-    ensures { result ≡ is_magnified kind }
+pub(crate) fn is_magnified(kind: &Kind) -> bool
+    ensures { result ≡ is_magnified kind.now }
 {
     match kind {
         Kind::Placement {
             turn: Turn::Degrees { magnification, .. },
             ..
-        } => !is_one(magnification),
+        } => !is_one(*magnification),
         _ => false,
     }
 }
 
 /// Whether a placement's angle is no whole multiple of 90 degrees.
-pub(crate) fn is_askew(kind: Kind) -> bool
-    ensures { result ≡ is_askew kind }
+pub(crate) fn is_askew(kind: &Kind) -> bool
+    ensures { result ≡ is_askew kind.now }
 {
     match kind {
         Kind::Placement {
             turn: Turn::Degrees { angle, .. },
             ..
-        } => !is_quarters(angle),
+        } => !is_quarters(*angle),
         _ => false,
     }
 }

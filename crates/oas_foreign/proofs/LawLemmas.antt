@@ -19,7 +19,7 @@ use Rattle.oas_foreign.specs.Laws.{joined, handed_all}
 
 -- ---- records of the profile
 
-tracked_plain : (s : Tracked) (r : Record) → s.is_mixed ≡ false → (tracked s r).is_mixed ≡ false
+pub tracked_plain : (s : Tracked) (r : Record) → s.is_mixed ≡ false → (tracked s r).is_mixed ≡ false
 tracked_plain s record_of.Pad h = h
 tracked_plain s record_of.End h = h
 tracked_plain s (record_of.CellName name number) h = h
@@ -34,7 +34,7 @@ tracked_plain s (record_of.Polygon p) h = h
 tracked_plain s (record_of.Path p) h = h
 tracked_plain s (record_of.Circle c) h = h
 
-given_plain : (s : Tracked) (r : Record) → s.is_mixed ≡ false → given s r ≡ Ok (r ∷ [])
+pub given_plain : (s : Tracked) (r : Record) → s.is_mixed ≡ false → given s r ≡ Ok (r ∷ [])
 given_plain s r h = ap (λ (b : Bool). if b then given_mixed s r else Ok (r ∷ [])) h
 
 pub all_plain : (s : Tracked) (rs : List Record) → s.is_mixed ≡ false → handed_all s (map (λ (r : Record). Profile r) rs) ≡ Ok rs

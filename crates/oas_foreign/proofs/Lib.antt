@@ -6,3 +6,4 @@ pub mod ModalLemmas
 pub mod DrawLemmas
 pub mod ReadLemmas
 pub mod ShapeLemmas
+pub mod ReasonLemmas

@@ -2,6 +2,7 @@
 use Rattle.std.specs.Prelude.{◌≡◌, false, cond, ◌&&◌, is_none, ℕ, List, [], ◌∷◌, ◌++◌, map, Option, Some, None, Result, Ok, Err}
 use Rattle.std.specs.Option.{option_or}
 use Rattle.oas_num.specs.declared.deltas.GDelta.{GDelta}
+use Rattle.oas_num.specs.declared.refusals.Why.TheVariants.{ModalUndefined, CoordinateRange, InfoByte}
 use Rattle.oas_ring.specs.declared.point.Point.{Point}
 use Rattle.oas_shape.specs.PointLists.{plain_line}
 use Rattle.oas_shape.specs.Polylines.{vertices_of}
@@ -12,6 +13,7 @@ use Rattle.oas_record.specs.declared.records.Record.TheVariants as record_of
 use Rattle.oas_wide.specs.declared.records.WideRecord.{WideRecord}
 use Rattle.oas_wide.specs.declared.records.WideRecord.TheVariants.{Profile}
 use Rattle.oas_wide.specs.declared.reasons.WideWhy.{WideWhy}
+use Rattle.oas_wide.specs.declared.reasons.WideWhy.TheVariants as wide_why
 use Rattle.oas_wide.specs.declared.extensions.ExtensionGeometry.{ExtensionGeometry}
 use Rattle.oas_wide.specs.declared.trapezoids.NamedTrapezoid.{NamedTrapezoid}
 use Rattle.oas_wide.specs.declared.trapezoids.Trapezoid.{Trapezoid}
@@ -50,6 +52,20 @@ CellBeginsAnew = (s : Tracked) (cell : CellRef) → (handed_by s (Profile (recor
 -- the vertices of a list of steps, from the first of some points on, are these points
 abbrev pub VerticesAreCorners : Type 0
 VerticesAreCorners = (p : Point) (ps : List Point) → vertices_of (plain_line (steps_of (p ∷ ps))) p ≡ p ∷ ps
+
+-- ---- the reasons
+
+-- one by which a record is refused
+pub data IsReason (why : WideWhy) : Type 0 where
+  Undefined : why ≡ wide_why.Profile ModalUndefined → IsReason why
+  OffGrid : why ≡ wide_why.Profile CoordinateRange → IsReason why
+  OtherSide : why ≡ wide_why.Profile InfoByte → IsReason why
+  NoKind : why ≡ wide_why.CtrapezoidType → IsReason why
+  NoShape : why ≡ wide_why.Trapezoid → IsReason why
+
+-- there is no other
+abbrev pub OnlyReasons : Type 0
+OnlyReasons = (s : Tracked) (w : WideRecord) (why : WideWhy) → handed_by s w ≡ Err why → IsReason why
 
 -- ---- the variables
 

@@ -1,5 +1,5 @@
 //! What follows from the rules: each function's contract is a law, and its body is empty.
-ghost use Rattle.oas_foreign.specs.Laws.{ProfileAsItIs, CellBeginsAnew, VerticesAreCorners, KeepsVariables, DrawnAsByTheStandard, StaysRead, ShapesAreKept, ShapesAreRead};
+ghost use Rattle.oas_foreign.specs.Laws.{ProfileAsItIs, CellBeginsAnew, OnlyReasons, VerticesAreCorners, KeepsVariables, DrawnAsByTheStandard, StaysRead, ShapesAreKept, ShapesAreRead};
 
 /// Records of the profile alone are handed out as they are.
 pub fn profile_alone()
@@ -9,6 +9,11 @@ pub fn profile_alone()
 /// A CELL is handed out, and behind it all is as at the beginning.
 pub fn cells()
     ensures { CellBeginsAnew }
+{}
+
+/// A record is refused by `ModalUndefined`, `CoordinateRange`, `InfoByte`, `CtrapezoidType` or `Trapezoid`, and by nothing else.
+pub fn reasons()
+    ensures { OnlyReasons }
 {}
 
 /// The list of a trapezoid's polygon has the trapezoid's corners as its vertices, where the polygon stands.

@@ -72,8 +72,8 @@ impl<'a, S: Source, K: Start> Source for KeepingSource<'a, S, K> {
         let next = self.source.next();
         match next {
             Ok(Some(byte)) => {
-                let _ = self.kept.push(byte);
-                if self.kept.reserve(1).is_err() {
+                self.kept.push_reserved(byte);
+                if self.kept.len() == self.kept.capacity() && self.kept.reserve(1).is_err() {
                     self.ending = Ending::NoRoom;
                 }
             }
@@ -101,13 +101,16 @@ fn reason(ending: Ending, why: Why) -> Why
     }
 }
 
-/// The same memory with nothing in it, and room for a byte.
+/// How many bytes there is room for at first: enough for END, and for most other records.
+const ROOM: usize = 512;
+
+/// The same memory with nothing in it, and room for the bytes of most records.
 fn emptied(mut room: Vec<u8>) -> Result<Vec<u8>, AllocError>
     ensures none { IfOk result (λ empty. empty.items ≡ []) }
     ensures room { IfOk result (λ empty. vec_len empty < vec_capacity empty) }
 {
     room.clear();
-    room.reserve(1)?;
+    room.reserve(ROOM)?;
     Ok(room)
 }
 

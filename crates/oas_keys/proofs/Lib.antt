@@ -4,3 +4,4 @@ pub mod PartLemmas
 pub mod PutLemmas
 pub mod ReadingLemmas
 pub mod PointLemmas
+pub mod ShortLemmas

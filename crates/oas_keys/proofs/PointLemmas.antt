@@ -1,5 +1,5 @@
 -- The points of a key, read one by one.
-use Rattle.std.proofs.Common.{◌≡◌, ℕ, ◌+◌, ◌<◌, ◌≤◌, true, List, [], ◌∷◌, ◌++◌, Option, None, Some, length, refl, sym, ap, ◌∙◌, subst, arith}
+use Rattle.std.proofs.Common.{◌≡◌, ℕ, ◌+◌, ◌≤◌, true, List, [], ◌++◌, length, refl, sym, ap, ◌∙◌, subst}
 use Rattle.std.proofs.lemmas.List.{append-nil}
 use Rattle.oas_ring.specs.declared.point.Point.{Point}
 use Rattle.oas_ring.specs.Points.{origin}
@@ -7,7 +7,7 @@ use Rattle.oas_layout.specs.Grid.{is_grid_point}
 use Rattle.oas_keys.specs.declared.points.SpelledPoints.{SpelledPoints}
 use Rattle.oas_keys.specs.Keys.{points_key}
 use Rattle.oas_keys.specs.Laws.FieldLaws.{AreWithin}
-use Rattle.oas_keys.specs.Reading.{HasPoints, GivesPoint, NextPoint}
+use Rattle.oas_keys.specs.Reading.{HasPoints}
 
 -- from the origin on, all points of a key
 pub has_points : (s : SpelledPoints) (ps : List Point) → AreWithin ps → s.left ≡ points_key origin ps → s.before ≡ origin → HasPoints s ps

@@ -1,6 +1,6 @@
 //! Numbers as bytes whose order is theirs.
 
-ghost use Rattle.std.specs.Prelude.{◌≡◌, ◌+◌, ◌%◌, ◌*◌, ◌^◌, ◌≤◌, ◌++◌, ◌∷◌, vec_len, vec_capacity};
+ghost use Rattle.std.specs.Prelude.{◌≡◌, ◌+◌, ◌%◌, ◌/◌, ◌*◌, ◌^◌, ◌<◌, ◌≤◌, ◌++◌, ◌∷◌, vec_len, vec_capacity};
 ghost use Rattle.oas_keys.specs.Numbers.{digits, unsigned_key, signed_key, place, IsStep};
 
 use crate::classes::{SIGNED, START, UNSIGNED, Written, written_in};
@@ -18,13 +18,50 @@ fn put_written(written: Written, out: &mut Vec<u8>)
     put_digits(written.digits, written.more, out);
 }
 
-/// Puts an unsigned number.
+/// Puts a number of two bytes, whose class begins with this byte.
+fn put_two(base: u64, number: u64, out: &mut Vec<u8>)
+    requires first { base + number / 2 ^ 8 < 256 }
+    requires room { vec_len out.old + 9 ≤ vec_capacity out.old }
+    ensures items { out.new.items ≡ out.old.items ++ (base + number / 2 ^ 8) ∷ digits 1 (number % 2 ^ 8) }
+    ensures len { vec_len out.new ≡ vec_len out.old + 2 }
+    ensures capacity { vec_capacity out.new ≡ vec_capacity out.old }
+{
+    out.push_reserved((base + number / 256) as u8);
+    out.push_reserved((number % 256) as u8);
+}
+
+/// Puts a number of three bytes, whose class begins with this byte.
+fn put_three(base: u64, number: u64, out: &mut Vec<u8>)
+    requires first { base + number / 2 ^ 16 < 256 }
+    requires room { vec_len out.old + 9 ≤ vec_capacity out.old }
+    ensures items { out.new.items ≡ out.old.items ++ (base + number / 2 ^ 16) ∷ digits 2 (number % 2 ^ 16) }
+    ensures len { vec_len out.new ≡ vec_len out.old + 3 }
+    ensures capacity { vec_capacity out.new ≡ vec_capacity out.old }
+{
+    out.push_reserved((base + number / 65536) as u8);
+    out.push_reserved((number / 256 % 256) as u8);
+    out.push_reserved((number % 256) as u8);
+}
+
+/// Puts an unsigned number. Those of one to three bytes, which most are, are put with no search for their class.
 pub(crate) fn put_unsigned(number: u64, out: &mut Vec<u8>)
     requires { vec_len out.old + 9 ≤ vec_capacity out.old }
     ensures items { out.new.items ≡ out.old.items ++ unsigned_key number }
     ensures len { vec_len out.new ≤ vec_len out.old + 9 }
     ensures capacity { vec_capacity out.new ≡ vec_capacity out.old }
 {
+    if number < 128 {
+        out.push_reserved((number + 1) as u8);
+        return;
+    }
+    if number < 16512 {
+        put_two(129, number - 128, out);
+        return;
+    }
+    if number < 2113664 {
+        put_three(193, number - 16512, out);
+        return;
+    }
     put_written(written_in(&UNSIGNED, number), out);
 }
 
@@ -36,8 +73,8 @@ fn place_of(number: i64) -> u64
     (number + START) as u64
 }
 
-/// Puts a signed number, of which none is farther from 0 than two coordinates are from each other.
-pub(crate) fn put_signed(number: i64, out: &mut Vec<u8>)
+/// Puts a signed number that is far from 0.
+fn put_far(number: i64, out: &mut Vec<u8>)
     requires step { IsStep number }
     requires room { vec_len out.old + 9 ≤ vec_capacity out.old }
     ensures items { out.new.items ≡ out.old.items ++ signed_key number }
@@ -46,6 +83,32 @@ pub(crate) fn put_signed(number: i64, out: &mut Vec<u8>)
 {
     let place = place_of(number);
     put_written(written_in(&SIGNED, place), out);
+}
+
+/// Puts a signed number, of which none is farther from 0 than two coordinates are from each other. Those of one
+/// to three bytes are put with no search for their class.
+pub(crate) fn put_signed(number: i64, out: &mut Vec<u8>)
+    requires step { IsStep number }
+    requires room { vec_len out.old + 9 ≤ vec_capacity out.old }
+    ensures items { out.new.items ≡ out.old.items ++ signed_key number }
+    ensures len { vec_len out.new ≤ vec_len out.old + 9 }
+    ensures capacity { vec_capacity out.new ≡ vec_capacity out.old }
+{
+    if number < -2107423 {
+        put_far(number, out);
+    } else if number < -10271 {
+        put_three(25, (number + 2107423) as u64, out);
+    } else if number < -31 {
+        put_two(57, (number + 10271) as u64, out);
+    } else if number < 32 {
+        out.push_reserved((number + 128) as u8);
+    } else if number < 10272 {
+        put_two(160, (number - 32) as u64, out);
+    } else if number < 2107424 {
+        put_three(200, (number - 10272) as u64, out);
+    } else {
+        put_far(number, out);
+    }
 }
 
 /// Puts two unsigned numbers.

@@ -9,7 +9,7 @@ ghost use Rattle.oas_listing.specs.Listing.{flip_count, element_fields, element_
 
 use crate::fields::{put_field, put_numbers, put_points, put_signed_numbers, put_start};
 use oas_layout::{Element, Turns};
-use oas_num::{Label, Name, Sink, SinkFault};
+use oas_num::{Sink, SinkFault};
 use oas_ring::Points;
 
 /// How many quarter turns.
@@ -31,10 +31,10 @@ fn flip_number(flip: bool) -> u64
     u64::from(flip)
 }
 
-/// Puts the fields of a placement.
-fn put_placement<K: Sink>(
+/// Puts the kind of a placement, and its fields.
+pub fn put_placement<K: Sink>(
     sink: &mut K,
-    cell: &Name,
+    cell: &[u8],
     x: i64,
     y: i64,
     turns: Turns,
@@ -44,15 +44,15 @@ fn put_placement<K: Sink>(
         (spaced (element_fields (Placement cell.now x y turns flip))) result sink.new }
 {
     sink.put_all(b"placement")?;
-    put_field(sink, cell.as_bytes())?;
+    put_field(sink, cell)?;
     put_signed_numbers(sink, &[x, y])?;
     put_numbers(sink, &[turn_number(turns), flip_number(flip)])
 }
 
-/// Puts the fields of a text.
-fn put_text<K: Sink>(
+/// Puts the kind of a text, and its fields.
+pub fn put_text<K: Sink>(
     sink: &mut K,
-    string: &Label,
+    string: &[u8],
     textlayer: u64,
     texttype: u64,
     x: i64,
@@ -62,7 +62,7 @@ fn put_text<K: Sink>(
         (spaced (element_fields (Text string.now textlayer texttype x y))) result sink.new }
 {
     put_start(sink, b"text", &[textlayer, texttype], &[x, y])?;
-    put_field(sink, string.as_bytes())
+    put_field(sink, string)
 }
 
 /// Puts the fields of a polygon.
@@ -107,14 +107,14 @@ fn put_fields<K: Sink>(sink: &mut K, element: &Element) -> Result<(), SinkFault>
             y,
             turns,
             flip,
-        } => put_placement(sink, cell, *x, *y, *turns, *flip),
+        } => put_placement(sink, cell.as_bytes(), *x, *y, *turns, *flip),
         Element::Text {
             string,
             textlayer,
             texttype,
             x,
             y,
-        } => put_text(sink, string, *textlayer, *texttype, *x, *y),
+        } => put_text(sink, string.as_bytes(), *textlayer, *texttype, *x, *y),
         Element::Rectangle {
             layer,
             datatype,

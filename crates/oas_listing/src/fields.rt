@@ -39,7 +39,7 @@ pub(crate) fn put_signed_numbers<K: Sink>(sink: &mut K, values: &[i64]) -> Resul
 }
 
 /// Puts the word with which a line begins, and numbers behind it, those without a sign first.
-pub(crate) fn put_start<K: Sink>(
+pub fn put_start<K: Sink>(
     sink: &mut K,
     word: &[u8],
     values: &[u64],
@@ -54,7 +54,7 @@ pub(crate) fn put_start<K: Sink>(
 }
 
 /// Puts a point behind a space.
-fn put_point<K: Sink>(sink: &mut K, point: &Point) -> Result<(), SinkFault>
+pub fn put_point<K: Sink>(sink: &mut K, point: &Point) -> Result<(), SinkFault>
     ensures { Writes K.given K.failures sink.old (32 ∷ pair point.now) result sink.new }
 {
     put_field(sink, Buffer::new().format(point.x).as_bytes())?;

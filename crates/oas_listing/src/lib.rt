@@ -20,7 +20,7 @@
 //! what the layout means, and [`write_listing`] answers how many they are (`IsWritten`, oas_num's specs/Written.antt); or it fails,
 //! by [`oas_num::Why::Write`], and then it took as many of the first of them as the refusal's place says (`IsCutOff`). No
 //! memory is taken. Layouts that are the same have one listing ([`laws`]). A line alone is put by [`put_unit`], [`put_name`] and
-//! [`put_element`].
+//! [`put_element`]; the fields of one that stands in bytes by [`put_placement`], [`put_text`], [`put_start`] and [`put_point`].
 #![tactic(auto)]
 
 mod cells;
@@ -30,5 +30,6 @@ pub mod laws;
 mod writing;
 
 pub use cells::{put_listing, put_name, put_unit};
-pub use elements::put_element;
+pub use elements::{put_element, put_placement, put_text};
+pub use fields::{put_point, put_start};
 pub use writing::write_listing;

@@ -29,17 +29,17 @@ pub(crate) fn hold_copies<S: CellStore>(
     alloc: Global,
     modal: &ModalVariables,
     held: &mut S,
-    kind: Kind,
+    kind: &Kind,
     repeated: bool,
 ) -> Result<u64, Why>
     requires small { number_if repeated modal.now.repetition ≤ 2 ^ 26 }
-    requires light { number_if repeated modal.now.repetition * weight_if (drawn_by modal.now kind still) ≤ 2 ^ 30 }
+    requires light { number_if repeated modal.now.repetition * weight_if (drawn_by modal.now kind.now still) ≤ 2 ^ 30 }
     requires room { S.store.count held.old ≤ 2 ^ 26 }
-    requires points { lacks_if (drawn_by modal.now kind still) ≡ false }
-    ensures weight { IfOk result (λ weight. weight ≡ number_if repeated modal.now.repetition * weight_if (drawn_by modal.now kind still)) }
-    ensures held { OnOk result (Draws S.store held.old (first_copies modal.now kind repeated (number_if repeated modal.now.repetition)) held.new) }
-    ensures fit { OnOk result ((i : ℕ) → i < number_if repeated modal.now.repetition → fault_of (drawn_by modal.now kind (offset_if repeated modal.now.repetition i)) ≡ None) }
-    ensures err { IfErr result (λ why. (why ≡ Memory) ⊎ ((i : ℕ) × (i < number_if repeated modal.now.repetition) × (fault_of (drawn_by modal.now kind (offset_if repeated modal.now.repetition i)) ≡ Some why))) }
+    requires points { lacks_if (drawn_by modal.now kind.now still) ≡ false }
+    ensures weight { IfOk result (λ weight. weight ≡ number_if repeated modal.now.repetition * weight_if (drawn_by modal.now kind.now still)) }
+    ensures held { OnOk result (Draws S.store held.old (first_copies modal.now kind.now repeated (number_if repeated modal.now.repetition)) held.new) }
+    ensures fit { OnOk result ((i : ℕ) → i < number_if repeated modal.now.repetition → fault_of (drawn_by modal.now kind.now (offset_if repeated modal.now.repetition i)) ≡ None) }
+    ensures err { IfErr result (λ why. (why ≡ Memory) ⊎ ((i : ℕ) × (i < number_if repeated modal.now.repetition) × (fault_of (drawn_by modal.now kind.now (offset_if repeated modal.now.repetition i)) ≡ Some why))) }
 {
     let places = modal.places(repeated);
     let mut weight = 0;

@@ -98,7 +98,8 @@ impl<S: CellStore> Reader<S> {
         if let Some(refusal) = self.failed {
             return Err(refusal);
         }
-        match accept(&mut self.parts, next) {
+        let mut next = next;
+        match accept(&mut self.parts, &mut next) {
             Ok(()) => Ok(()),
             Err(why) => {
                 let refusal = Refusal { at, why };

@@ -16,14 +16,15 @@ use crate::stores::CellStore;
 use oas_drawing::{Kind, ModalVariables, repeats};
 use oas_num::{Label, Name, Why};
 use oas_record::{CellRef, Record, Turn};
+use std::mem;
 
-/// Changes the modal variables by an element record.
-fn step(modal: &mut ModalVariables, next: Record)
-    requires element { kind_of next ≢ None }
+/// Changes the modal variables by an element record, from which is taken what has memory of its own.
+fn step(modal: &mut ModalVariables, next: &mut Record)
+    requires element { kind_of next.old ≢ None }
     requires placement { IsNear modal.old.placement }
     requires text { IsNear modal.old.text }
     requires geometry { IsNear modal.old.geometry }
-    ensures { modal.new ≡ stepped modal.old next }
+    ensures { modal.new ≡ stepped modal.old next.old }
 {
     match next {
         Record::Placement(placed) => modal.place(placed),
@@ -37,8 +38,8 @@ fn step(modal: &mut ModalVariables, next: Record)
 }
 
 /// The id of an element record.
-fn id_of_kind(kind: Kind) -> u64
-    ensures { (r : OneRecord) → kind_of r ≡ Some kind → id_of r ≡ result }
+fn id_of_kind(kind: &Kind) -> u64
+    ensures { (r : OneRecord) → kind_of r ≡ Some kind.now → id_of r ≡ result }
 {
     match kind {
         Kind::Placement { turn, .. } => match turn {
@@ -54,26 +55,25 @@ fn id_of_kind(kind: Kind) -> u64
 }
 
 /// Draws an element record in the open cell.
-fn draw<S: CellStore>(parts: &mut Parts<S>, kind: Kind, next: Record) -> Result<(), Why>
-    requires kind { kind_of next ≡ Some kind }
+fn draw<S: CellStore>(parts: &mut Parts<S>, kind: &Kind, next: &mut Record) -> Result<(), Why>
+    requires kind { kind_of next.old ≡ Some kind.now }
     requires sound { Sound S.store parts.old }
-    ensures reason { OnOk result (reason_of parts.old next ≡ None) }
-    ensures new { OnOk result (Took S.store parts.old next parts.new) }
+    ensures reason { OnOk result (reason_of parts.old next.old ≡ None) }
+    ensures new { OnOk result (Took S.store parts.old next.old parts.new) }
     ensures sound { OnOk result (Sound S.store parts.new) }
-    ensures err { IfErr result (λ why. ((why ≡ Memory) × MayWant (reason_of parts.old next)) ⊎ (reason_of parts.old next ≡ Some why)) }
+    ensures err { IfErr result (λ why. ((why ≡ Memory) × MayWant (reason_of parts.old next.old)) ⊎ (reason_of parts.old next.old ≡ Some why)) }
 {
-    let Some(mut held) = parts.cell.take() else {
+    let Some(held) = &mut parts.cell else {
         return Err(Why::OutOfPlace(id_of_kind(kind)));
     };
-    let repeated = repeats(&next);
+    let repeated = repeats(next);
     step(&mut parts.modal, next);
     let number = parts
         .modal
         .copies(kind, repeated, parts.limits, parts.count, parts.weight)?;
-    let weight = hold_copies(parts.alloc, &parts.modal, &mut held, kind, repeated)?;
+    let weight = hold_copies(parts.alloc, &parts.modal, held, kind, repeated)?;
     parts.count += number;
     parts.weight += weight;
-    parts.cell = Some(held);
     Ok(())
 }
 
@@ -183,16 +183,17 @@ fn take_other<S: CellStore>(parts: &mut Parts<S>, next: Record) -> Result<(), Wh
     }
 }
 
-/// Takes a record, where it isn't refused.
-pub(crate) fn accept<S: CellStore>(parts: &mut Parts<S>, next: Record) -> Result<(), Why>
+/// Takes a record, where it isn't refused. What has memory of its own is taken from it.
+#[inline(never)]
+pub(crate) fn accept<S: CellStore>(parts: &mut Parts<S>, next: &mut Record) -> Result<(), Why>
     requires { Sound S.store parts.old }
-    ensures reason { OnOk result (reason_of parts.old next ≡ None) }
-    ensures new { OnOk result (Took S.store parts.old next parts.new) }
+    ensures reason { OnOk result (reason_of parts.old next.old ≡ None) }
+    ensures new { OnOk result (Took S.store parts.old next.old parts.new) }
     ensures sound { OnOk result (Sound S.store parts.new) }
-    ensures err { IfErr result (λ why. ((why ≡ Memory) × MayWant (reason_of parts.old next)) ⊎ (reason_of parts.old next ≡ Some why)) }
+    ensures err { IfErr result (λ why. ((why ≡ Memory) × MayWant (reason_of parts.old next.old)) ⊎ (reason_of parts.old next.old ≡ Some why)) }
 {
-    match Kind::of(&next) {
-        Some(kind) => draw(parts, kind, next),
-        None => take_other(parts, next),
+    match Kind::of(next) {
+        Some(kind) => draw(parts, &kind, next),
+        None => take_other(parts, mem::replace(next, Record::Pad)),
     }
 }

@@ -10,9 +10,9 @@ use Rattle.oas_record.specs.declared.references.CellRef.{CellRef}
 use Rattle.oas_record.specs.declared.spots.Spot.{Spot}
 use Rattle.oas_wide.specs.Reals.{wide_of}
 use Rattle.oas_wide.specs.WideRecords.{inner_widened}
-use Rattle.oas_narrow.specs.declared.roles.Role.TheVariants as role
-use Rattle.oas_narrow.specs.Narrowing.{role_of}
-use Rattle.oas_narrow.specs.Placements.{magnification_of, angle_of}
+use Rattle.oas_wide.specs.declared.records.WideRecord.TheVariants as wide
+use Rattle.oas_narrow.specs.Placements.{magnification_of, angle_of, with_turns}
+use Rattle.oas_narrow.specs.Roles.{plain_role, role_of}
 
 magnification_same : (m : Option Real) → option_map magnification_of (option_map wide_of m) ≡ m
 magnification_same None = refl
@@ -23,10 +23,21 @@ angle_same None = refl
 angle_same (Some a) = refl
 
 placement_kept : (c : Option CellRef) (turn : Turn) (flip : Bool) (at : Spot) →
-    let r : Record = record_of.Placement (record { cell = c; turn = turn; flip = flip; spot = at }) in role_of (inner_widened r) ≡ role.Kept r
+    let r : Record = record_of.Placement (record { cell = c; turn = turn; flip = flip; spot = at }) in with_turns (inner_widened r) ≡ wide.Profile r
 placement_kept c (Quarters turns) flip at = refl
-placement_kept c (Degrees m a) flip at = λ i. role.Kept (record_of.Placement (record { cell = c; turn = Degrees (magnification_same m i) (angle_same a i); flip = flip; spot = at }))
+placement_kept c (Degrees m a) flip at = λ i. wide.Profile (record_of.Placement (record { cell = c; turn = Degrees (magnification_same m i) (angle_same a i); flip = flip; spot = at }))
 
-pub kept : (r : Record) → role_of (inner_widened r) ≡ role.Kept r
+pub kept : (r : Record) → with_turns (inner_widened r) ≡ wide.Profile r
 kept (record_of.Placement p) = placement_kept p.cell p.turn p.flip p.spot
 kept _ = refl
+
+-- ---- what a record of the profile is
+
+placement_role : (c : Option CellRef) (turn : Turn) (flip : Bool) (at : Spot) →
+    let r : Record = record_of.Placement (record { cell = c; turn = turn; flip = flip; spot = at }) in role_of (inner_widened r) ≡ plain_role r
+placement_role c (Quarters turns) flip at = refl
+placement_role c (Degrees m a) flip at = refl
+
+pub plain : (r : Record) → role_of (inner_widened r) ≡ plain_role r
+plain (record_of.Placement p) = placement_role p.cell p.turn p.flip p.spot
+plain _ = refl

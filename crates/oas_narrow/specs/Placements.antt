@@ -5,8 +5,11 @@ use Rattle.std.specs.Prelude.{◌≡◌, ℕ, ◌*◌, ◌/◌, ◌%◌, ◌^◌
 use Rattle.oas_num.specs.declared.reals.Real.{Real}
 use Rattle.oas_record.specs.declared.placements.Placement.{Placement}
 use Rattle.oas_record.specs.declared.placements.Turn.TheVariants.{Degrees}
+use Rattle.oas_record.specs.declared.records.Record.TheVariants as record_of
 use Rattle.oas_wide.specs.declared.placements.WidePlacement.{WidePlacement}
 use Rattle.oas_wide.specs.declared.reals.WideReal.{WideReal}
+use Rattle.oas_wide.specs.declared.records.WideRecord.{WideRecord}
+use Rattle.oas_wide.specs.declared.records.WideRecord.TheVariants as wide
 
 -- ---- what reals are
 
@@ -63,3 +66,8 @@ angle_of r = if is_plain r then plain_of r else record { negative = r.negative; 
 
 abbrev pub placement_of : WidePlacement → Placement
 placement_of p = record { cell = p.cell; turn = Degrees (option_map magnification_of p.magnification) (option_map angle_of p.angle); flip = p.flip; spot = p.spot }
+
+-- a record in whose place there is the placement of the profile, if it is a placement by reals
+abbrev pub with_turns : WideRecord → WideRecord
+with_turns (wide.Placement p) = wide.Profile (record_of.Placement (placement_of p))
+with_turns w = w

@@ -6,14 +6,13 @@ ghost use Rattle.oas_record.specs.declared.records.Record.{Record};
 ghost use Rattle.oas_drawing.specs.Turns.{is_one, is_quarters, turned, turns_by};
 ghost use Rattle.oas_wide.specs.declared.reals.WideReal.{WideReal};
 ghost use Rattle.oas_wide.specs.WideRecords.{inner_widened};
-ghost use Rattle.oas_narrow.specs.declared.roles.Role.TheVariants.{Kept};
-ghost use Rattle.oas_narrow.specs.Narrowing.{role_of};
-ghost use Rattle.oas_narrow.specs.Placements.{IsOne, IsQuarters, magnification_of, angle_of};
+ghost use Rattle.oas_wide.specs.declared.records.WideRecord.TheVariants.{Profile};
+ghost use Rattle.oas_narrow.specs.Placements.{IsOne, IsQuarters, magnification_of, angle_of, with_turns};
 
 /// A record of the profile stands for itself. A magnification is taken exactly where the real is 1, and an angle exactly where
 /// it is a whole number of quarter turns, which are those of the placement.
 pub fn placements()
-    ensures kept { (r : Record) → role_of (inner_widened r) ≡ Kept r }
+    ensures kept { (r : Record) → with_turns (inner_widened r) ≡ Profile r }
     ensures one { (r : WideReal) → IsTrue (is_one (Some (magnification_of r))) ↔ IsOne r }
     ensures multiple { (r : WideReal) → IsTrue (is_quarters (Some (angle_of r))) ↔ ((quarters : ℕ) × IsQuarters r quarters) }
     ensures turned { (r : WideReal) (quarters : ℕ) (m : Option Real) → IsQuarters r quarters → turned (Degrees m (Some (angle_of r))) ≡ turns_by r.negative quarters }

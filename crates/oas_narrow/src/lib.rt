@@ -3,11 +3,13 @@
 //!
 //! What this crate promises to the crates above it:
 //!
-//! - The definitions (specs/): which records of the profile a list of the standard's records stands for, why one more isn't
-//!   prepared after others, and what is counted (Narrowing.antt); what a file of the standard is (WideFiles.antt); which
-//!   files are prepared, and what they mean (Preparable.antt).
-//! - [`Role`] is what a record is to a file of the profile: it is kept, it is one that may be left out, or it isn't prepared.
-//!   Whether a cell is open behind it, and what stops it by what is named to be left out, are those of the definitions.
+//! - The definitions (specs/): what a record is to a file of the profile (Roles.antt); which records of the profile a list of
+//!   the standard's records stands for, by the rules of `oas_foreign`, why one more isn't prepared after others, and what is
+//!   counted (Narrowing.antt); what a file of the standard is (WideFiles.antt); which files are prepared, and what they mean
+//!   (Preparable.antt).
+//! - [`Role`] is what a record is to a file of the profile: whether a cell is open behind it, what stops it by what is named to
+//!   be left out, and whether it is counted.
+//! - [`with_turns`] puts the placement of the profile in the place of one by reals ([`laws::placements`]).
 //! - [`Report`] counts what was left out, as far as 64 bits count.
 //!
 //! A record is left out because it is named to be ([`Dropping`]): without its word it stops the file. A name record that is
@@ -24,3 +26,4 @@ mod turning;
 pub use dropping::{Dropping, Extra, Report};
 pub use places::{Place, Rejection};
 pub use roles::Role;
+pub use turning::with_turns;

@@ -1,49 +1,100 @@
 ghost use Rattle.std.specs.Prelude.{◌≡◌};
-ghost use Rattle.oas_narrow.specs.Narrowing.{role_of, element_id, opens, obstacle_by};
+ghost use Rattle.oas_record.specs.declared.records.Record.TheVariants.{Placement as PlacementRecord};
+ghost use Rattle.oas_narrow.specs.Roles.{plain_role, trapezoid_id, role_of, opens, outside, unnamed, obstacle_by, extra_of, counted_if};
 
-use crate::dropping::{Dropping, Extra};
-use crate::turning::placement_of;
-use oas_drawing::Kind;
+use crate::dropping::{Dropping, Extra, Report};
 use oas_num::Why;
-use oas_record::{Record, Turn};
-use oas_wide::{WideRecord, WideWhy};
+use oas_record::{Placement, Record, Turn};
+use oas_wide::{Trapezoid, WideRecord, WideWhy};
 
 /// What a record of the standard is to a file of the profile.
-#[derive(Debug, Drop)]
+#[derive(Clone, Copy, Debug, PartialEq, Eq)]
 pub enum Role {
-    /// A record of the profile, END left out.
-    Kept(Record),
-    /// A record that may be left out.
+    /// A CELL, which opens a cell.
+    Cell,
+    /// A name of the profile (CELLNAME, TEXTSTRING), behind which no cell is open.
+    Name,
+    /// An element of this id, which stands for records of the profile and wants an open cell.
+    Element(u64),
+    /// Another record of the profile.
+    Other,
+    /// A record that may be left out, and is no element.
     Extra(Extra),
-    /// A record of this id, which isn't prepared.
+    /// An element of an extension, of this id, which may be left out and wants an open cell.
+    Extension(u64),
+    /// A record of this id, which is none of a file's records: END, or a CBLOCK.
     Missing(u64),
 }
 
-/// The id of an element record; None of another.
-fn element_id(next: &Record) -> Option<u64>
-    ensures { result ≡ element_id next.now }
+/// The id of a placement: 17 by quarter turns, 18 by reals.
+fn placement_role(placed: &Placement) -> Role
+    ensures { result ≡ plain_role (PlacementRecord placed.now) }
+{
+    match placed.turn {
+        Turn::Quarters(_) => Role::Element(17),
+        Turn::Degrees { .. } => Role::Element(18),
+    }
+}
+
+/// What a record of the profile is.
+fn plain_role(next: &Record) -> Role
+    ensures { result ≡ plain_role next.now }
 {
     match next {
-        Record::Placement(placed) => match placed.turn {
-            Turn::Quarters(_) => Some(17),
-            Turn::Degrees { .. } => Some(18),
-        },
-        Record::Text(_) => Some(19),
-        Record::Rectangle(_) => Some(20),
-        Record::Polygon(_) => Some(21),
-        Record::Path(_) => Some(22),
-        Record::Circle(_) => Some(27),
-        _ => None,
+        Record::Pad | Record::End | Record::XyAbsolute | Record::XyRelative => Role::Other,
+        Record::CellName { .. } | Record::TextString { .. } => Role::Name,
+        Record::Cell(_) => Role::Cell,
+        Record::Placement(placed) => placement_role(placed),
+        Record::Text(_) => Role::Element(19),
+        Record::Rectangle(_) => Role::Element(20),
+        Record::Polygon(_) => Role::Element(21),
+        Record::Path(_) => Role::Element(22),
+        Record::Circle(_) => Role::Element(27),
+    }
+}
+
+/// The id of a TRAPEZOID, by the deltas that it has.
+fn trapezoid_id(next: &Trapezoid) -> u64
+    ensures { result ≡ trapezoid_id next.now }
+{
+    if next.delta_a.is_none() {
+        25
+    } else if next.delta_b.is_none() {
+        24
+    } else {
+        23
+    }
+}
+
+/// Why an element stops the file where no cell is open.
+fn outside(is_open: bool, id: u64) -> Option<WideWhy>
+    ensures { result ≡ outside is_open id }
+{
+    if is_open {
+        None
+    } else {
+        Some(WideWhy::Profile(Why::OutOfPlace(id)))
+    }
+}
+
+/// Why a record stops the file, if it isn't named to be left out.
+fn unnamed(is_named: bool, extra: Extra) -> Option<WideWhy>
+    ensures { result ≡ unnamed is_named extra }
+{
+    if is_named {
+        None
+    } else {
+        Some(extra.undropped())
     }
 }
 
 impl Role {
     /// That of a record.
-    pub fn of(next: WideRecord) -> Role
-        ensures { result ≡ role_of next }
+    pub fn of(next: &WideRecord) -> Role
+        ensures { result ≡ role_of next.now }
     {
         match next {
-            WideRecord::Profile(kept) => Role::Kept(kept),
+            WideRecord::Profile(kept) => plain_role(kept),
             WideRecord::End(_) => Role::Missing(2),
             WideRecord::PropertyName { .. } | WideRecord::PropertyString { .. } => {
                 Role::Extra(Extra::PropertyName)
@@ -53,43 +104,50 @@ impl Role {
                 Role::Extra(Extra::LayerName)
             }
             WideRecord::ExtensionName { .. } => Role::Extra(Extra::ExtensionName),
-            WideRecord::ExtensionElement { .. } => Role::Extra(Extra::ExtensionElement),
-            WideRecord::Placement(placed) => Role::Kept(Record::Placement(placement_of(placed))),
-            WideRecord::Trapezoid(_) => Role::Missing(23),
-            WideRecord::NamedTrapezoid(_) => Role::Missing(26),
-            WideRecord::ExtensionGeometry(_) => Role::Missing(33),
+            WideRecord::ExtensionElement { .. } => Role::Extension(32),
+            WideRecord::Placement(_) => Role::Element(18),
+            WideRecord::Trapezoid(trapezoid) => Role::Element(trapezoid_id(trapezoid)),
+            WideRecord::NamedTrapezoid(_) => Role::Element(26),
+            WideRecord::ExtensionGeometry(_) => Role::Extension(33),
             WideRecord::Block(_) => Role::Missing(34),
         }
     }
 
     /// Whether a cell is open behind it: a CELL opens one, and name records, also those that are left out, close it.
-    pub fn opens(&self, was_open: bool) -> bool
-        ensures { result ≡ opens was_open self.now }
+    pub fn opens(self, was_open: bool) -> bool
+        ensures { result ≡ opens was_open self }
     {
         match self {
-            Role::Kept(Record::Cell(_)) => true,
-            Role::Kept(Record::CellName { .. }) | Role::Kept(Record::TextString { .. }) => false,
+            Role::Cell => true,
+            Role::Name => false,
             Role::Extra(extra) => was_open && !extra.is_name(),
-            _ => was_open,
+            Role::Element(_) | Role::Other | Role::Extension(_) | Role::Missing(_) => was_open,
         }
     }
 
-    /// Why it isn't prepared, by what is named to be left out and whether a cell is open. What the profile says of a record
-    /// that is kept comes after this.
-    pub fn obstacle(&self, dropping: Dropping, is_open: bool) -> Option<WideWhy>
-        ensures { result ≡ obstacle_by dropping is_open self.now }
+    /// Why it isn't prepared, by what is named to be left out and whether a cell is open. What there is to say of the records
+    /// for which it stands comes after this.
+    pub fn obstacle(self, dropping: Dropping, is_open: bool) -> Option<WideWhy>
+        ensures { result ≡ obstacle_by dropping is_open self }
     {
         match self {
-            Role::Kept(record) => match element_id(record) {
-                Some(id) if !is_open => Some(WideWhy::Profile(Why::OutOfPlace(id))),
-                _ => None,
-            },
-            Role::Extra(extra) if !dropping.has(*extra) => Some(extra.undropped()),
-            Role::Extra(Extra::ExtensionElement) if !is_open => {
-                Some(WideWhy::Profile(Why::OutOfPlace(32)))
-            }
-            Role::Extra(_) => None,
-            Role::Missing(id) => Some(WideWhy::Profile(Why::RecordLeftOut(*id))),
+            Role::Element(id) => outside(is_open, id),
+            Role::Extra(extra) => unnamed(dropping.has(extra), extra),
+            Role::Extension(_) if !dropping.extensions => Some(WideWhy::Extensions),
+            Role::Extension(id) => outside(is_open, id),
+            Role::Missing(id) => Some(WideWhy::Profile(Why::RecordLeftOut(id))),
+            Role::Cell | Role::Name | Role::Other => None,
+        }
+    }
+
+    /// Counts it, if it is one that is left out.
+    pub fn count(self, report: &mut Report)
+        ensures { report.new ≡ counted_if report.old (extra_of self) }
+    {
+        match self {
+            Role::Extra(extra) => report.count(extra),
+            Role::Extension(_) => report.count(Extra::ExtensionElement),
+            Role::Cell | Role::Name | Role::Element(_) | Role::Other | Role::Missing(_) => {}
         }
     }
 }

@@ -1,10 +1,10 @@
 //! Placements by reals, as the profile has them.
 ghost use Rattle.std.specs.Prelude.{◌≡◌, ◌≢◌, ◌≤◌, ◌<◌, ◌*◌, ◌%◌, ◌^◌, ℕ, IfSome, IsNone};
-ghost use Rattle.oas_narrow.specs.Placements.{is_one, quarters_of, is_plain, plain_of, magnification_of, angle_of, placement_of};
+ghost use Rattle.oas_narrow.specs.Placements.{is_one, quarters_of, is_plain, plain_of, magnification_of, angle_of, placement_of, with_turns};
 
 use oas_num::Real;
-use oas_record::{Placement, Turn};
-use oas_wide::{WidePlacement, WideReal};
+use oas_record::{Placement, Record, Turn};
+use oas_wide::{WidePlacement, WideReal, WideRecord};
 
 /// A number that is halved so often. None where it can't be.
 fn halved(num: u64, times: u16) -> Option<u64>
@@ -126,7 +126,7 @@ fn angle_of(real: WideReal) -> Real
 }
 
 /// The placement of the profile for which one by reals stands.
-pub(crate) fn placement_of(placed: WidePlacement) -> Placement
+fn placement_of(placed: WidePlacement) -> Placement
     ensures { result ≡ placement_of placed }
 {
     let WidePlacement {
@@ -144,5 +144,17 @@ pub(crate) fn placement_of(placed: WidePlacement) -> Placement
         },
         flip,
         spot,
+    }
+}
+
+/// A record in whose place there is the placement of the profile for which it stands, if it is one by reals.
+pub fn with_turns(next: WideRecord) -> WideRecord
+    ensures { result ≡ with_turns next }
+{
+    match next {
+        WideRecord::Placement(placed) => {
+            WideRecord::Profile(Record::Placement(placement_of(placed)))
+        }
+        next => next,
     }
 }

@@ -1,51 +1,26 @@
 -- A block that was taken, by how its stream ends.
-use Rattle.std.proofs.Common.{◌≡◌, ◌≢◌, ℕ, ◌<◌, ◌≤◌, Bool, true, false, List, [], ◌∷◌, ◌++◌, length, take, drop, Option, None, Some, Result, Ok, Err, IsTrue, ◌⊎◌, inl, inr, refl, sym, ap, subst, ◌∙◌, append_assoc, arith}
-use Rattle.std.specs.Prelude.{nat_lt}
-use Rattle.std.proofs.lemmas.Bool.{le-ltb}
-use Rattle.std.proofs.lemmas.List.{append-nil, length-append, append_cancel_left, take_all}
-use Rattle.oas_num.specs.declared.refusals.Why.{Why}
+use Rattle.std.proofs.Common.{◌≡◌, ℕ, Bool, List, [], Option, None, Some, Result, Ok, Err, IsTrue, ◌⊎◌, inl, inr, refl, sym, ap, subst, arith}
 use Rattle.oas_num.specs.declared.refusals.Why.TheVariants as why_of
-use Rattle.oas_num.specs.Grammar.{IsEach}
-use Rattle.oas_num.specs.Reading.{ReadsValue}
-use Rattle.oas_num.specs.Script.{Script, Rest, Gave, Takes, IsAtEnd, HasFailed, IsTooLong, NoneLeft, slice_script}
-use Rattle.oas_num.proofs.ReadLemmas.{Takes-none, Takes-then}
-use Rattle.oas_num.proofs.PieceLemmas.{whole_piece}
-use Rattle.oas_record.specs.Found.{NoneStands}
+use Rattle.oas_num.specs.Script.{Script, Takes}
 use Rattle.oas_block.specs.declared.block.BlockEnd.{BlockEnd}
 use Rattle.oas_block.specs.declared.block.BlockEnd.TheVariants.{Whole, Unfinished, Other}
 use Rattle.oas_block.specs.declared.faults.BlockFault.{BlockFault}
 use Rattle.oas_block.specs.declared.faults.BlockFault.TheVariants as fault
-use Rattle.oas_block.specs.Blocks.{StandsFor}
 use Rattle.oas_block.specs.Reading.{Tells, TakesAll, EndsBlock, FailsBlock, IsUnfinished, IsOther}
 use Rattle.oas_block.proofs.StandsLemmas.{StandsForNothing, nothing_stands, longer_stands, told}
-use Rattle.oas_canon.proofs.Whole.{Cause, Bytes, End, Device, Limit, Writer, Room, cause_of}
-use Rattle.oas_file.proofs.Judged.{decides_format}
 use Rattle.oas_layout.specs.declared.limits.Limits.{Limits}
 use Rattle.oas_wide.specs.declared.blocks.BlockHead.{BlockHead}
-use Rattle.oas_wide.specs.declared.ends.WideEnd.{WideEnd}
 use Rattle.oas_wide.specs.declared.reasons.WideWhy.{WideWhy}
 use Rattle.oas_wide.specs.declared.reasons.WideWhy.TheVariants as wide
 use Rattle.oas_wide.specs.declared.records.WideRecord.{WideRecord}
-use Rattle.oas_wide.specs.Reasons.{plain_of}
-use Rattle.oas_wide.specs.WideRecords.{FailsWide}
 use Rattle.oas_narrow.specs.declared.dropping.Dropping.{Dropping}
-use Rattle.oas_narrow.specs.declared.places.Place.{Place}
-use Rattle.oas_narrow.specs.declared.places.Place.TheVariants.{File, Block}
+use Rattle.oas_narrow.specs.declared.places.Place.TheVariants.{Block}
 use Rattle.oas_narrow.specs.declared.places.Rejection.{Rejection}
-use Rattle.oas_narrow.specs.Preparable.{AllPrepared}
-use Rattle.oas_narrow.specs.WideFiles.{inner_in, end_in, head_in}
 use Rattle.oas_prepare.specs.declared.taking.Preparation.{Preparation}
 use Rattle.oas_prepare.specs.Deciding.{decides}
-use Rattle.oas_prepare.specs.Inside.{FailsInside, Unread, EndInside, BlockInside, HasInner, IsOfData, StopsInner, TakesData, fault_why, run_out_why, place_in, why_in, in_block, place_of_last, ended_by, HasTaken, IsAtBlock, NoData, StopsBlock, ForMemory, CutOff, ByBytes, InVain, AtInner, TakesBlock, IsLast}
-use Rattle.oas_prepare.specs.Places.{at_file, IsNext, StopsInData, EndsInData, IsVain}
-use Rattle.oas_prepare.specs.Taking.{Stands, SameRun, IsStop, obstacle_next}
+use Rattle.oas_prepare.specs.Inside.{IsOfData, StopsInner, TakesData, fault_why, run_out_why, place_in, why_in, in_block, place_of_last, ended_by, IsAtBlock, NoData, StopsBlock, ForMemory, CutOff, ByBytes, InVain, AtInner, TakesBlock}
+use Rattle.oas_prepare.specs.Places.{at_file, StopsInData, IsVain}
 use Rattle.oas_prepare.proofs.Packed.{vain_no_data}
-use Rattle.oas_prepare.proofs.Fronts.{allowed_last, allowed_more, push, not_both}
-use Rattle.oas_prepare.proofs.Items.{none_long, record_no_block, record_no_end}
-use Rattle.oas_prepare.proofs.Reasons.{obstacle_decides}
-use Rattle.oas_prepare.proofs.Refusing.{ended_cut}
-use Rattle.oas_prepare.proofs.Whole.{memory_is}
-use Rattle.oas_prepare.proofs.WideLaws.{OneFront-inner, wide_never}
 
 no_data : {head : BlockHead} {old new : Script} (t : Tells head (λ bytes. StandsForNothing head bytes) old new) → NoData head t.bytes
 no_data t = record { within = t.within; none = λ more plain s. (t.all more s.deflated).none plain s }

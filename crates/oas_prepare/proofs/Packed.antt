@@ -1,40 +1,21 @@
 -- The bytes of a block, and the records of its data.
-use Rattle.std.proofs.Common.{◌≡◌, ◌≢◌, ℕ, ◌+◌, ◌<◌, ◌≤◌, Bool, List, [], ◌∷◌, ◌++◌, length, drop, IsTrue, ◌⊎◌, inl, inr, refl, sym, ap, subst, ◌∙◌, append_assoc, arith}
-use Rattle.std.proofs.lemmas.List.{append-nil, length-append, append_cancel_left}
-use Rattle.oas_num.specs.declared.refusals.Why.{Why}
-use Rattle.oas_num.specs.declared.refusals.Why.TheVariants as why_of
+use Rattle.std.proofs.Common.{◌≡◌, ℕ, ◌<◌, ◌≤◌, Bool, List, [], ◌∷◌, ◌++◌, length, drop, inl, inr, refl, sym, ap, subst, ◌∙◌, append_assoc, arith}
+use Rattle.std.proofs.lemmas.List.{append-nil, length-append}
 use Rattle.oas_num.specs.Grammar.{IsEach}
 use Rattle.oas_num.specs.Laws.GrammarLaws.{after_same}
-use Rattle.oas_num.specs.Reading.{ReadsValue}
-use Rattle.oas_num.specs.Script.{Script, Takes, IsAtEnd}
-use Rattle.oas_num.proofs.ReadLemmas.{Takes-then}
-use Rattle.oas_record.specs.Found.{NoneStands}
 use Rattle.oas_block.specs.Blocks.{StandsFor}
 use Rattle.oas_block.proofs.OneLemmas.{one_block}
 use Rattle.oas_block.proofs.StandsLemmas.{StandsForNothing, unfinished_stands, other_stands}
 use Rattle.oas_layout.specs.declared.limits.Limits.{Limits}
 use Rattle.oas_wide.specs.declared.blocks.BlockHead.{BlockHead}
-use Rattle.oas_wide.specs.declared.ends.WideEnd.{WideEnd}
-use Rattle.oas_wide.specs.declared.heads.WideStart.{WideStart}
-use Rattle.oas_wide.specs.declared.reasons.WideWhy.{WideWhy}
-use Rattle.oas_wide.specs.declared.reasons.WideWhy.TheVariants as wide
 use Rattle.oas_wide.specs.declared.records.WideRecord.{WideRecord}
-use Rattle.oas_wide.specs.Reasons.{plain_of}
 use Rattle.oas_narrow.specs.declared.dropping.Dropping.{Dropping}
-use Rattle.oas_narrow.specs.declared.places.Place.{Place}
-use Rattle.oas_narrow.specs.declared.places.Place.TheVariants.{File, Block}
-use Rattle.oas_narrow.specs.declared.places.Rejection.{Rejection}
-use Rattle.oas_narrow.specs.Preparable.{AllPrepared, Formed, Preparable}
-use Rattle.oas_narrow.specs.WideFiles.{WideFrontOf, inner_in, end_in, head_in, block_in, is_block_of, item_in, AsRecord, AsBlock, records_of}
-use Rattle.oas_prepare.specs.declared.taking.Preparation.{Preparation}
-use Rattle.oas_prepare.specs.Deciding.{decides, is_cut}
-use Rattle.oas_prepare.specs.Gathering.{HasGathered}
-use Rattle.oas_prepare.specs.Inside.{HasTaken, IsAtBlock, IsCutBy, NoData, StopsBlock, ForMemory, CutOff, ByBytes, InVain, AtInner}
-use Rattle.oas_prepare.specs.Places.{at_file, ByRecord, StopsInData, EndsInData, IsVain, StopsInBytes, ByData, ByStream, AtBlock, StopsAt, StopsInFile, HasBlock, IsPlace, IsBefore, IsNext}
-use Rattle.oas_prepare.specs.Run.{IsStopped, IsPlaced, Stops}
-use Rattle.oas_prepare.proofs.Fronts.{Compared, Same, More, Less, compare, Fronts, fronts, Ended, ended, end_by, not_both, allowed_front, front_more, goes_on}
-use Rattle.oas_prepare.proofs.Items.{front_none, none_long, same_long, inner_some, OneFront-block_head, block_is, record_no_block, block_no_end}
-use Rattle.oas_prepare.proofs.Refusing.{Judges, ForMemory as Wanting, Decided, judged_stopped, memory_placed, there_at}
+use Rattle.oas_narrow.specs.Preparable.{AllPrepared}
+use Rattle.oas_narrow.specs.WideFiles.{inner_in, head_in, block_in}
+use Rattle.oas_prepare.specs.Inside.{NoData}
+use Rattle.oas_prepare.specs.Places.{StopsInData, IsVain}
+use Rattle.oas_prepare.proofs.Fronts.{Compared, Same, More, Less, compare, allowed_front}
+use Rattle.oas_prepare.proofs.Items.{front_none, none_long, same_long, inner_some, OneFront-block_head, block_is}
 use Rattle.oas_prepare.proofs.WideLaws.{OneFront-inner}
 
 -- ---- bytes

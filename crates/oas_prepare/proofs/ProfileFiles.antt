@@ -1,8 +1,8 @@
 -- Files of the profile are files of the standard, prepared with nothing left out.
 use Rattle.std.proofs.Common.{◌≡◌, ◌≢◌, ℕ, Bool, true, false, ◌+◌, List, [], ◌∷◌, ◌++◌, reverse, Option, None, Some, refl, sym, ap, subst, ◌∙◌, arith}
-use Rattle.std.proofs.lemmas.List.{reverse-append}
+use Rattle.std.proofs.lemmas.List.{reverse-append, reverse-reverse}
 use Rattle.std.specs.Option.{option_or}
-use Rattle.std.specs.Prelude.{cond}
+use Rattle.std.specs.Prelude.{cond, Result, Ok}
 use Rattle.oas_num.specs.declared.refusals.Why.{Why}
 use Rattle.oas_num.specs.Grammar.{IsEach, IsSuch}
 use Rattle.oas_num.specs.Style.{Any}
@@ -21,6 +21,9 @@ use Rattle.oas_modal.specs.Stands as stands
 use Rattle.oas_modal.specs.Stands.{is_in_cell, refused_after, records_mean, end_refusal}
 use Rattle.oas_file.specs.Acceptance.{Accepted, Means}
 use Rattle.oas_file.specs.Files.{FileOf}
+use Rattle.oas_foreign.specs.Steps.{handed_by, kept_after}
+use Rattle.oas_foreign.specs.Tracked.{tracked}
+use Rattle.oas_foreign.proofs.LawLemmas.{tracked_plain, given_plain}
 use Rattle.oas_form.specs.Laws.FormLaws.{form_is_accepted}
 use Rattle.oas_form.proofs.Forms.{one_canonical_form}
 use Rattle.oas_layout.proofs.LawProofs.{symmetric}
@@ -37,11 +40,12 @@ use Rattle.oas_narrow.specs.declared.dropping.Dropping.{Dropping}
 use Rattle.oas_narrow.specs.declared.dropping.Extra.{Extra}
 use Rattle.oas_narrow.specs.declared.dropping.Extra.TheVariants as extra
 use Rattle.oas_narrow.specs.Dropping.{nothing_left_out, capped}
-use Rattle.oas_narrow.specs.Narrowing.{opens, is_open, with_kept, narrowed, element_id, element_obstacle, outside, obstacle_by, kept_obstacle, refused_if, obstacle_after, ArePrepared, one_if, tally, report_of}
+use Rattle.oas_narrow.specs.Narrowing.{is_open, kept_of, handed_after, listed, stood_for, narrowed, handed_obstacle, refused_if, obstacle_after, ArePrepared, one_if, tally, report_of}
+use Rattle.oas_narrow.specs.Roles.{plain_role, role_of, opens, outside, obstacle_by, extra_of}
 use Rattle.oas_narrow.specs.declared.roles.Role.{Role}
 use Rattle.oas_narrow.specs.Preparable.{IsUnitOf, Formed, WideMeans}
 use Rattle.oas_narrow.specs.WideFiles.{WideFileOf, WideParts, inner_in, item_in, end_in}
-use Rattle.oas_narrow.proofs.KeptLemmas.{kept}
+use Rattle.oas_narrow.proofs.KeptLemmas.{kept, plain}
 use Rattle.oas_prepare.specs.Laws.{ProfileIsPrepared, ProfileAsCanonical, PreparedAgain}
 use Rattle.oas_prepare.proofs.Ending.{OneFront-file, same_all}
 use Rattle.oas_prepare.proofs.Items.{alone, records-alone, each_alone}
@@ -64,17 +68,65 @@ wide-reverse (r ∷ rs) =
     ap wide_all (reverse-append (r ∷ []) rs) ∙ wide-append (reverse rs) (r ∷ []) ∙ ap (λ (ws : List WideRecord). ws ++ inner_widened r ∷ []) (wide-reverse rs)
     ∙ sym (reverse-append (inner_widened r ∷ []) (wide_all rs))
 
+-- no trapezoid is among them
+plain-wide : (rs : List Record) → (kept_of (wide_all rs)).is_mixed ≡ false
+plain-wide [] = refl
+plain-wide (r ∷ rs) = ap (λ (w : WideRecord). (kept_after (kept_of (wide_all rs)) w).is_mixed) (kept r) ∙ tracked_plain (kept_of (wide_all rs)) r (plain-wide rs)
+
+-- newest first
+handed-wide : (rs : List Record) (r : Record) → handed_after (wide_all rs) (inner_widened r) ≡ Ok (r ∷ [])
+handed-wide rs r =
+    ap (handed_by (kept_of (wide_all rs))) (kept r)
+    ∙ given_plain (tracked (kept_of (wide_all rs)) r) r (tracked_plain (kept_of (wide_all rs)) r (plain-wide rs))
+
+stood-wide : (rs : List Record) → stood_for (wide_all rs) ≡ reverse rs
+stood-wide [] = refl
+stood-wide (r ∷ rs) =
+    ap (λ (h : Result (List Record) WideWhy). stood_for (wide_all rs) ++ listed h) (handed-wide rs r)
+    ∙ ap (λ (ss : List Record). ss ++ r ∷ []) (stood-wide rs) ∙ sym (reverse-append (r ∷ []) rs)
+
+-- oldest first
 narrowed-wide : (rs : List Record) → narrowed (wide_all rs) ≡ rs
-narrowed-wide [] = refl
-narrowed-wide (r ∷ rs) = ap (λ (q : Role). with_kept q (narrowed (wide_all rs))) (kept r) ∙ ap (λ (ss : List Record). r ∷ ss) (narrowed-wide rs)
+narrowed-wide rs = ap stood_for (sym (wide-reverse rs)) ∙ stood-wide (reverse rs) ∙ reverse-reverse rs
+
+-- what opens a cell and what closes it
+opens-plain : (was : Bool) (r : Record) → opens was (plain_role r) ≡ open_after was r
+opens-plain was record_of.Pad = refl
+opens-plain was record_of.End = refl
+opens-plain was (record_of.CellName name number) = refl
+opens-plain was (record_of.TextString label number) = refl
+opens-plain was (record_of.Cell cell) = refl
+opens-plain was record_of.XyAbsolute = refl
+opens-plain was record_of.XyRelative = refl
+opens-plain was (record_of.Placement p) = refl
+opens-plain was (record_of.Text t) = refl
+opens-plain was (record_of.Rectangle r) = refl
+opens-plain was (record_of.Polygon p) = refl
+opens-plain was (record_of.Path p) = refl
+opens-plain was (record_of.Circle c) = refl
 
 open-wide : (rs : List Record) → is_open (wide_all rs) ≡ is_in_cell rs
 open-wide [] = refl
-open-wide (r ∷ rs) = ap (λ (q : Role). opens (is_open (wide_all rs)) q) (kept r) ∙ ap (λ (was : Bool). open_after was r) (open-wide rs)
+open-wide (r ∷ rs) = ap (λ (q : Role). opens (is_open (wide_all rs)) q) (plain r) ∙ opens-plain (is_open (wide_all rs)) r ∙ ap (λ (was : Bool). open_after was r) (open-wide rs)
+
+not_extra : (r : Record) → extra_of (plain_role r) ≡ None
+not_extra record_of.Pad = refl
+not_extra record_of.End = refl
+not_extra (record_of.CellName name number) = refl
+not_extra (record_of.TextString label number) = refl
+not_extra (record_of.Cell cell) = refl
+not_extra record_of.XyAbsolute = refl
+not_extra record_of.XyRelative = refl
+not_extra (record_of.Placement p) = refl
+not_extra (record_of.Text t) = refl
+not_extra (record_of.Rectangle r) = refl
+not_extra (record_of.Polygon p) = refl
+not_extra (record_of.Path p) = refl
+not_extra (record_of.Circle c) = refl
 
 tally-wide : (e : Extra) (rs : List Record) → tally e (wide_all rs) ≡ 0
 tally-wide e [] = refl
-tally-wide e (r ∷ rs) = ap (λ (q : Role). tally e (wide_all rs) + one_if e q) (kept r) ∙ omega (arith, tally-wide e rs)
+tally-wide e (r ∷ rs) = ap (λ (q : Option Extra). tally e (wide_all rs) + one_if e q) (ap extra_of (plain r) ∙ not_extra r) ∙ omega (arith, tally-wide e rs)
 
 none_left_out : (rs : List Record) → report_of (wide_all rs) ≡ nothing_left_out
 none_left_out rs = λ i. record {
@@ -92,20 +144,33 @@ inside : (in_cell : Bool) (id : ℕ) (drawn : Option Why) (why : Why) → cond i
 inside true id drawn why e = refl
 inside false id drawn why e = absurd cc
 
-in_a_cell : (limits : Limits) (before : List Record) (r : Record) → refused_after limits before r ≡ None → element_obstacle (is_in_cell before) (element_id r) ≡ None
-in_a_cell limits before (record_of.Placement p) e = inside (is_in_cell before) _ _ _ e
-in_a_cell limits before (record_of.Text p) e = inside (is_in_cell before) _ _ _ e
-in_a_cell limits before (record_of.Rectangle p) e = inside (is_in_cell before) _ _ _ e
-in_a_cell limits before (record_of.Polygon p) e = inside (is_in_cell before) _ _ _ e
-in_a_cell limits before (record_of.Path p) e = inside (is_in_cell before) _ _ _ e
-in_a_cell limits before (record_of.Circle p) e = inside (is_in_cell before) _ _ _ e
-in_a_cell limits before _ e = refl
+in_a_cell : (limits : Limits) (dropping : Dropping) (before : List Record) (r : Record) → refused_after limits before r ≡ None → obstacle_by dropping (is_in_cell before) (plain_role r) ≡ None
+in_a_cell limits dropping before (record_of.Placement p) e = inside (is_in_cell before) _ _ _ e
+in_a_cell limits dropping before (record_of.Text p) e = inside (is_in_cell before) _ _ _ e
+in_a_cell limits dropping before (record_of.Rectangle p) e = inside (is_in_cell before) _ _ _ e
+in_a_cell limits dropping before (record_of.Polygon p) e = inside (is_in_cell before) _ _ _ e
+in_a_cell limits dropping before (record_of.Path p) e = inside (is_in_cell before) _ _ _ e
+in_a_cell limits dropping before (record_of.Circle p) e = inside (is_in_cell before) _ _ _ e
+in_a_cell limits dropping before record_of.Pad e = refl
+in_a_cell limits dropping before record_of.End e = refl
+in_a_cell limits dropping before (record_of.CellName name number) e = refl
+in_a_cell limits dropping before (record_of.TextString label number) e = refl
+in_a_cell limits dropping before (record_of.Cell cell) e = refl
+in_a_cell limits dropping before record_of.XyAbsolute e = refl
+in_a_cell limits dropping before record_of.XyRelative e = refl
+
+-- it stands for itself, after those before it
+allowed_one : (limits : Limits) (before : List Record) (r : Record) → refused_after limits before r ≡ None → handed_obstacle limits (stood_for (wide_all before)) (Ok (r ∷ [])) ≡ None
+allowed_one limits before r e =
+    ap (λ (rs : List Record). handed_obstacle limits rs (Ok (r ∷ []))) (stood-wide before)
+    ∙ ap (λ (rs : List Record). refused_if (option_or (refused_after limits rs r) None)) (reverse-reverse before)
+    ∙ ap (λ (o : Option Why). refused_if (option_or o None)) e
 
 no_obstacle : (limits : Limits) (dropping : Dropping) (before : List Record) (r : Record) → refused_after limits before r ≡ None → obstacle_after limits dropping (wide_all before) (inner_widened r) ≡ None
 no_obstacle limits dropping before r e =
-    ap (λ (q : Role). option_or (obstacle_by dropping (is_open (wide_all before)) q) (kept_obstacle limits (narrowed (wide_all before)) q)) (kept r)
-    ∙ ap (λ (o : Option WideWhy). option_or o (refused_if (refused_after limits (narrowed (wide_all before)) r))) (ap (λ (was : Bool). element_obstacle was (element_id r)) (open-wide before) ∙ in_a_cell limits before r e)
-    ∙ ap (λ (rs : List Record). refused_if (refused_after limits rs r)) (narrowed-wide before) ∙ ap refused_if e
+    ap (λ (o : Option WideWhy). option_or o (handed_obstacle limits (stood_for (wide_all before)) (handed_after (wide_all before) (inner_widened r))))
+    (ap (λ (was : Bool). obstacle_by dropping was (role_of (inner_widened r))) (open-wide before) ∙ ap (λ (q : Role). obstacle_by dropping (is_in_cell before) q) (plain r) ∙ in_a_cell limits dropping before r e)
+    ∙ ap (handed_obstacle limits (stood_for (wide_all before))) (handed-wide before r) ∙ allowed_one limits before r e
 
 prepared : (limits : Limits) (dropping : Dropping) (rs : List Record) → stands.Allowed limits rs → ArePrepared limits dropping (wide_all rs)
 prepared limits dropping [] a = tt

@@ -1,80 +1,81 @@
 -- One record more.
-use Rattle.std.proofs.Common.{◌≡◌, ℕ, Bool, List, [], ◌∷◌, ◌++◌, reverse, Option, None, Some, ◌⊎◌, inl, inr, sym, ap, subst, ◌∙◌}
+use Rattle.std.proofs.Common.{◌≡◌, ℕ, Bool, List, [], ◌∷◌, ◌++◌, reverse, Option, None, Some, ◌⊎◌, inl, inr, refl, sym, ap, subst, ◌∙◌}
 use Rattle.std.specs.Option.{option_or}
-use Rattle.std.proofs.lemmas.List.{append-nil}
+use Rattle.std.specs.Prelude.{Result, Ok, Err}
 use Rattle.oas_num.specs.declared.refusals.Why.TheVariants.{Memory}
 use Rattle.oas_num.specs.declared.refusals.Refusal.{Refusal}
 use Rattle.oas_record.specs.declared.records.Record.{Record}
-use Rattle.oas_layout.specs.declared.limits.Limits.{Limits}
-use Rattle.oas_modal.specs.Standing.{MayWant}
-use Rattle.oas_modal.specs.Stands.{StandsFor, ReaderState, refusal as refusal_of}
+use Rattle.oas_modal.specs.Stands.{StandsFor, ReaderState}
 use Rattle.oas_modal.specs.Held.{Held}
 use Rattle.oas_modal.specs.Stores.{held_store}
-use Rattle.oas_wide.specs.declared.records.WideRecord.{WideRecord}
-use Rattle.oas_narrow.specs.declared.dropping.Dropping.{Dropping}
-use Rattle.oas_narrow.specs.declared.dropping.Extra.{Extra}
-use Rattle.oas_narrow.specs.declared.dropping.Report.{Report}
 use Rattle.oas_wide.specs.declared.reasons.WideWhy.{WideWhy}
 use Rattle.oas_wide.specs.declared.reasons.WideWhy.TheVariants.{Profile}
+use Rattle.oas_wide.specs.declared.records.WideRecord.{WideRecord}
+use Rattle.oas_foreign.specs.Steps.{handed_by, kept_after}
+use Rattle.oas_foreign.specs.Tracked.{Tracked}
+use Rattle.oas_narrow.specs.declared.dropping.Report.{Report}
 use Rattle.oas_narrow.specs.declared.places.Place.TheVariants.{File}
 use Rattle.oas_narrow.specs.declared.places.Rejection.{Rejection}
 use Rattle.oas_narrow.specs.declared.roles.Role.{Role}
-use Rattle.oas_narrow.specs.declared.roles.Role.TheVariants as role
 use Rattle.oas_narrow.specs.Rejections.{refused}
-use Rattle.oas_narrow.specs.Dropping.{counted}
-use Rattle.oas_narrow.specs.Narrowing.{role_of, opens, is_open, with_kept, narrowed, refused_if, kept_obstacle, obstacle_by}
+use Rattle.oas_narrow.specs.Narrowing.{is_open, handed_after, listed, narrowed, refused_of, refused_if, handed_obstacle, report_of}
+use Rattle.oas_narrow.specs.Placements.{with_turns}
+use Rattle.oas_narrow.specs.Roles.{role_of, opens, obstacle_by, extra_of, counted_if}
 use Rattle.oas_prepare.specs.declared.taking.Preparation.{Preparation}
-use Rattle.oas_prepare.specs.Taking.{Stands, IsStop, obstacle_next}
-use Rattle.oas_prepare.proofs.Narrowed.{narrowed-reverse, narrowed-more, open-more, report-kept, report-extra}
+use Rattle.oas_prepare.specs.Places.{at_file}
+use Rattle.oas_prepare.specs.Taking.{Stands, IsStop, IsRefused, obstacle_next}
+use Rattle.oas_prepare.proofs.Narrowed.{narrowed-more, kept-more, open-more, report-more}
 
--- what isn't stopped by what is named, or outside of a cell, is for the profile
-next_is : (limits : Limits) (dropping : Dropping) (ws : List WideRecord) (w : WideRecord) (in_cell : Bool) → in_cell ≡ is_open (reverse ws) →
-    obstacle_by dropping in_cell (role_of w) ≡ None → obstacle_next limits dropping ws w ≡ kept_obstacle limits (reverse (narrowed ws)) (role_of w)
-next_is limits dropping ws w in_cell e none =
-    ap (λ (o : Option WideWhy). option_or o (kept_obstacle limits (narrowed (reverse ws)) (role_of w))) (ap (λ (b : Bool). obstacle_by dropping b (role_of w)) (sym e) ∙ none)
-    ∙ ap (λ (rs : List Record). kept_obstacle limits rs (role_of w)) (narrowed-reverse ws)
+module _ {p : Preparation} {ws : List WideRecord} (s : Stands p ws) (w : WideRecord) {r : Role} (of : r ≡ role_of w) where
+  by_role : obstacle_by p.dropping (is_open (reverse ws)) (role_of w) ≡ obstacle_by p.dropping p.in_cell r
+  by_role = ap (λ (b : Bool). obstacle_by p.dropping b (role_of w)) (sym s.in_cell) ∙ ap (λ (q : Role). obstacle_by p.dropping p.in_cell q) (sym of)
 
-module _ {p : Preparation} {ws : List WideRecord} (s : Stands p ws) (w : WideRecord) {r : Role} (of : r ≡ role_of w) (none : obstacle_by p.dropping p.in_cell r ≡ None) where
-  clear : obstacle_next p.reader.limits p.dropping ws w ≡ kept_obstacle p.reader.limits (reverse (narrowed ws)) r
-  clear =
-      next_is p.reader.limits p.dropping ws w p.in_cell s.in_cell (ap (λ (q : Role). obstacle_by p.dropping p.in_cell q) (sym of) ∙ none)
-      ∙ ap (λ (q : Role). kept_obstacle p.reader.limits (reverse (narrowed ws)) q) (sym of)
+  -- it is stopped by what is named, or outside of a cell
+  pub role_stops : (at : ℕ) (why : WideWhy) (rejection : Rejection) → obstacle_by p.dropping p.in_cell r ≡ Some why → rejection ≡ at_file at why →
+      IsStop at (obstacle_next p.reader.limits p.dropping ws w) rejection
+  role_stops at why rejection some is = subst (IsStop at (obstacle_next p.reader.limits p.dropping ws w)) (sym is) (record {
+    place = refl;
+    why = inr (ap (λ (o : Option WideWhy). option_or o (handed_obstacle p.reader.limits (narrowed ws) (handed_after (reverse ws) w))) (by_role ∙ some));
+  })
 
-  -- a record of the profile
-  module _ {kept : Record} (is : r ≡ role.Kept kept) where
-    clear_kept : obstacle_next p.reader.limits p.dropping ws w ≡ refused_if (refusal_of p.reader.limits (narrowed ws) kept)
-    clear_kept = clear ∙ ap (λ (q : Role). kept_obstacle p.reader.limits (reverse (narrowed ws)) q) is
+  -- it isn't
+  module _ (none : obstacle_by p.dropping p.in_cell r ≡ None) where
+    clear : {h : Result (List Record) WideWhy} → handed_by p.resolver (with_turns w) ≡ h →
+        (obstacle_next p.reader.limits p.dropping ws w ≡ handed_obstacle p.reader.limits (narrowed ws) h) × (handed_after (reverse ws) w ≡ h)
+    clear {h = h} e =
+        let same : handed_after (reverse ws) w ≡ h = ap (λ (t : Tracked). handed_by t (with_turns w)) (sym s.resolver) ∙ e in (
+          ap (λ (o : Option WideWhy). option_or o (handed_obstacle p.reader.limits (narrowed ws) (handed_after (reverse ws) w))) (by_role ∙ none)
+              ∙ ap (handed_obstacle p.reader.limits (narrowed ws)) same,
+          same,
+        )
 
-    pub kept_stops : (at : ℕ) (refusal : Refusal) (rejection : Rejection) → rejection ≡ refused refusal →
-        (refusal.at ≡ at) × (((refusal.why ≡ Memory) × MayWant (refusal_of p.reader.limits (narrowed ws) kept)) ⊎ (refusal_of p.reader.limits (narrowed ws) kept ≡ Some refusal.why))
-        → IsStop at (obstacle_next p.reader.limits p.dropping ws w) rejection
-    kept_stops at refusal rejection e h = subst (IsStop at (obstacle_next p.reader.limits p.dropping ws w)) (sym e) (record { place = ap File h.0; why = why h.1 }) where
-      why : ((refusal.why ≡ Memory) × MayWant (refusal_of p.reader.limits (narrowed ws) kept)) ⊎ (refusal_of p.reader.limits (narrowed ws) kept ≡ Some refusal.why) →
-          (Profile refusal.why ≡ Profile Memory) ⊎ (obstacle_next p.reader.limits p.dropping ws w ≡ Some (Profile refusal.why))
-      why (inl m) = inl (ap Profile m.0)
-      why (inr some) = inr (clear_kept ∙ ap refused_if some)
+    -- it stands for no records
+    pub unresolved : (at : ℕ) (why : WideWhy) (rejection : Rejection) → rejection ≡ at_file at why → (why ≡ Profile Memory) ⊎ (handed_by p.resolver (with_turns w) ≡ Err why) →
+        IsStop at (obstacle_next p.reader.limits p.dropping ws w) rejection
+    unresolved at why rejection is h = subst (IsStop at (obstacle_next p.reader.limits p.dropping ws w)) (sym is) (record { place = refl; why = reason h }) where
+      reason : (why ≡ Profile Memory) ⊎ (handed_by p.resolver (with_turns w) ≡ Err why) → (why ≡ Profile Memory) ⊎ (obstacle_next p.reader.limits p.dropping ws w ≡ Some why)
+      reason (inl m) = inl m
+      reason (inr e) = inr (clear e).0
 
-    pub kept_taken : (after : ReaderState Held) (in_cell : Bool) → in_cell ≡ opens p.in_cell r →
-        (refusal_of p.reader.limits (narrowed ws) kept ≡ None) × StandsFor held_store after (narrowed ws ++ kept ∷ [])
-        → (obstacle_next p.reader.limits p.dropping ws w ≡ None) × Stands (record { reader = after; in_cell = in_cell; dropping = p.dropping; report = p.report }) (ws ++ w ∷ [])
-    kept_taken after in_cell opened h = (
-      clear_kept ∙ ap refused_if h.0,
-      record {
-        reader = subst (StandsFor held_store after) (sym (narrowed-more ws w ∙ ap (λ (q : Role). narrowed ws ++ with_kept q []) (sym of ∙ is))) h.1;
-        in_cell = opened ∙ ap (λ (b : Bool). opens b r) s.in_cell ∙ ap (λ (q : Role). opens (is_open (reverse ws)) q) of ∙ sym (open-more ws w);
-        report = s.report ∙ sym (report-kept ws w kept (sym of ∙ is));
-      },
-    )
+    -- it stands for these
+    module _ {rs : List Record} (handed : handed_by p.resolver (with_turns w) ≡ Ok rs) where
+      pub resolved_stops : (at : ℕ) (refusal : Refusal) (rejection : Rejection) → rejection ≡ refused refusal → IsRefused at (refused_of p.reader.limits (narrowed ws) rs) refusal →
+          IsStop at (obstacle_next p.reader.limits p.dropping ws w) rejection
+      resolved_stops at refusal rejection is h = subst (IsStop at (obstacle_next p.reader.limits p.dropping ws w)) (sym is) (record { place = ap File h.place; why = reason h.why }) where
+        reason : (refusal.why ≡ Memory) ⊎ (refused_of p.reader.limits (narrowed ws) rs ≡ Some refusal.why) →
+            (Profile refusal.why ≡ Profile Memory) ⊎ (obstacle_next p.reader.limits p.dropping ws w ≡ Some (Profile refusal.why))
+        reason (inl m) = inl (ap Profile m)
+        reason (inr some) = inr ((clear handed).0 ∙ ap refused_if some)
 
-  -- a record that is left out
-  module _ {e : Extra} (is : r ≡ role.Extra e) where
-    pub extra_taken : (in_cell : Bool) (report : Report) → in_cell ≡ opens p.in_cell r → report ≡ counted p.report e →
-        (obstacle_next p.reader.limits p.dropping ws w ≡ None) × Stands (record { reader = p.reader; in_cell = in_cell; dropping = p.dropping; report = report }) (ws ++ w ∷ [])
-    extra_taken in_cell report opened more = (
-      clear ∙ ap (λ (q : Role). kept_obstacle p.reader.limits (reverse (narrowed ws)) q) is,
-      record {
-        reader = subst (StandsFor held_store p.reader) (sym (narrowed-more ws w ∙ ap (λ (q : Role). narrowed ws ++ with_kept q []) (sym of ∙ is) ∙ append-nil (narrowed ws))) s.reader;
-        in_cell = opened ∙ ap (λ (b : Bool). opens b r) s.in_cell ∙ ap (λ (q : Role). opens (is_open (reverse ws)) q) of ∙ sym (open-more ws w);
-        report = more ∙ ap (λ (q : Report). counted q e) s.report ∙ sym (report-extra ws w e (sym of ∙ is));
-      },
-    )
+      pub resolved_taken : (after : ReaderState Held) (kept : Tracked) (in_cell : Bool) (report : Report) → kept ≡ kept_after p.resolver (with_turns w) → in_cell ≡ opens p.in_cell r →
+          report ≡ counted_if p.report (extra_of r) → (refused_of p.reader.limits (narrowed ws) rs ≡ None) × StandsFor held_store after (narrowed ws ++ rs) →
+          (obstacle_next p.reader.limits p.dropping ws w ≡ None) × Stands (record { reader = after; resolver = kept; in_cell = in_cell; dropping = p.dropping; report = report }) (ws ++ w ∷ [])
+      resolved_taken after kept in_cell report is opened counts h = (
+        (clear handed).0 ∙ ap refused_if h.0,
+        record {
+          reader = subst (StandsFor held_store after) (sym (narrowed-more ws w ∙ ap (λ (x : Result (List Record) WideWhy). narrowed ws ++ listed x) (clear handed).1)) h.1;
+          resolver = is ∙ ap (λ (t : Tracked). kept_after t (with_turns w)) s.resolver ∙ sym (kept-more ws w);
+          in_cell = opened ∙ ap (λ (b : Bool). opens b r) s.in_cell ∙ ap (λ (q : Role). opens (is_open (reverse ws)) q) of ∙ sym (open-more ws w);
+          report = counts ∙ ap (λ (q : Report). counted_if q (extra_of r)) s.report ∙ ap (λ (q : Role). counted_if (report_of ws) (extra_of q)) of ∙ sym (report-more ws w);
+        },
+      )

@@ -4,16 +4,15 @@ use Rattle.std.specs.Prelude.{◌==◌, if◌then◌else◌}
 use Rattle.oas_num.specs.declared.refusals.Why.{Why}
 use Rattle.oas_num.specs.declared.refusals.Why.TheVariants as why_of
 use Rattle.oas_num.specs.Grammar.{OneFront, IsPair}
-use Rattle.oas_num.specs.Integers.{IsUnsigned}
 use Rattle.oas_num.specs.Laws.GrammarLaws.{OneFront-pair, OneFront-such, OneFront-image}
 use Rattle.oas_num.specs.Laws.CombinatorLaws.{OneFront-exactly}
-use Rattle.oas_record.specs.FoundParts.{found_unsigned}
 use Rattle.oas_record.specs.Heads.{magic, IsMagic}
 use Rattle.oas_wide.specs.declared.ends.WideEnd.{WideEnd}
 use Rattle.oas_wide.specs.declared.reasons.WideWhy.{WideWhy}
 use Rattle.oas_wide.specs.declared.records.WideRecord.{WideRecord}
 use Rattle.oas_wide.specs.declared.records.WideRecord.TheVariants.{End}
 use Rattle.oas_wide.specs.Heads.{SpellsWideStart, wide_start}
+use Rattle.oas_wide.specs.Long.{IsLong, OneFront-long}
 use Rattle.oas_wide.specs.Reasons.{named, plain_of}
 use Rattle.oas_wide.specs.WideRecords.{fields, fields_in, wide_record_in, WideIdTook, WideRecordTook}
 use Rattle.oas_narrow.specs.WideFiles.{wide_head, after_magic, IsInner, inner_in, end_in}
@@ -21,7 +20,7 @@ use Rattle.oas_narrow.specs.WideFiles.{wide_head, after_magic, IsInner, inner_in
 pub OneFront-wide : (in_end : Bool) → OneFront (wide_record_in in_end)
 OneFront-wide in_end = record {
   one = λ v w a b x y p q e.
-      let both = (OneFront-pair IsUnsigned (fields_in in_end) found_unsigned.one (λ id. (fields in_end id).found.one)).one (p.id, v) (q.id, w) a b x y p.parts q.parts e in
+      let both = (OneFront-pair IsLong (fields_in in_end) OneFront-long (λ id. (fields in_end id).found.one)).one (p.id, v) (q.id, w) a b x y p.parts q.parts e in
       (both.0, ap (λ (s : ℕ × WideRecord). s.1) both.1);
 }
 

@@ -1,5 +1,7 @@
 -- Where the records of a file stand, one after another.
 use Rattle.std.specs.Prelude.{◌≡◌, ℕ, Option, Some, List, reverse, ◌⊎◌}
+use Rattle.oas_num.specs.declared.refusals.Refusal.{Refusal}
+use Rattle.oas_num.specs.declared.refusals.Why.{Why}
 use Rattle.oas_num.specs.declared.refusals.Why.TheVariants.{Memory}
 use Rattle.oas_layout.specs.declared.limits.Limits.{Limits}
 use Rattle.oas_modal.specs.Stands.{StandsFor}
@@ -10,12 +12,13 @@ use Rattle.oas_wide.specs.declared.reasons.WideWhy.TheVariants.{Profile}
 use Rattle.oas_narrow.specs.declared.places.Place.TheVariants.{File}
 use Rattle.oas_narrow.specs.declared.places.Rejection.{Rejection}
 use Rattle.oas_wide.specs.declared.records.WideRecord.{WideRecord}
-use Rattle.oas_narrow.specs.Narrowing.{narrowed, is_open, report_of, obstacle_after}
+use Rattle.oas_narrow.specs.Narrowing.{narrowed, kept_of, is_open, report_of, obstacle_after}
 use Rattle.oas_prepare.specs.declared.taking.Preparation.{Preparation}
 
 -- it is made of these records, oldest first
 pub record Stands (p : Preparation) (ws : List WideRecord) : Type 0 where
   pub reader : StandsFor held_store p.reader (narrowed ws)
+  pub resolver : p.resolver ≡ kept_of (reverse ws)
   pub in_cell : p.in_cell ≡ is_open (reverse ws)
   pub report : p.report ≡ report_of ws
 
@@ -34,3 +37,8 @@ obstacle_next limits dropping ws w = obstacle_after limits dropping (reverse ws)
 pub record IsStop (at : ℕ) (reason : Option WideWhy) (rejection : Rejection) : Type 0 where
   pub place : rejection.place ≡ File at
   pub why : (rejection.why ≡ Profile Memory) ⊎ (reason ≡ Some rejection.why)
+
+-- records at that offset are refused, for that reason or for want of memory
+pub record IsRefused (at : ℕ) (reason : Option Why) (refusal : Refusal) : Type 0 where
+  pub place : refusal.at ≡ at
+  pub why : (refusal.why ≡ Memory) ⊎ (reason ≡ Some refusal.why)

@@ -56,7 +56,7 @@ fn take_records<S: Source>(
     'records: loop {
         match take_next(alloc, source, head.flag_in_end)? {
             Next::End(end) => return Ok((at, end)),
-            Next::Record(next) => preparation.take(at, next)?,
+            Next::Record(next) => preparation.take(alloc, at, next)?,
             Next::Block(block) => {
                 take_block(alloc, source, at, block, head.flag_in_end, preparation)?
             }

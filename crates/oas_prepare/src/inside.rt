@@ -15,8 +15,8 @@ use std::alloc::Global;
 /// How many bytes of data a block may have at most, since they are held in memory: 2^30 (own rule).
 const DATA_MAX: usize = 1_073_741_824;
 
-/// A rejection at an offset in a block's data.
-fn stopped(at: u64, why: WideWhy) -> Rejection
+/// A rejection at an offset in a file, or in a block's data.
+pub(crate) fn stopped(at: u64, why: WideWhy) -> Rejection
     ensures { result ≡ at_file at why }
 {
     Rejection {
@@ -59,7 +59,7 @@ fn take_data(
             return Ok(last);
         }
         let next = read_inside(alloc, &mut source, flag_in_end)?;
-        preparation.take(within, next)?;
+        preparation.take(alloc, within, next)?;
         last = Some(within);
     }
 }

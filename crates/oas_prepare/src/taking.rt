@@ -1,20 +1,30 @@
 //! Where the records of a file stand, one after another.
 ghost use Rattle.std.specs.Prelude.{◌≡◌, ◌++◌, ◌∷◌, [], List, None, OnOk, IfErr};
 ghost use Rattle.oas_wide.specs.declared.records.WideRecord.{WideRecord as OneRecord};
-ghost use Rattle.oas_prepare.specs.Taking.{Stands, SameRun, IsStop, obstacle_next};
+ghost use Rattle.oas_foreign.specs.Tracked.{handed};
+ghost use Rattle.oas_modal.specs.Stands.{StandsFor};
+ghost use Rattle.oas_modal.specs.Stores.{held_store};
+ghost use Rattle.oas_narrow.specs.Narrowing.{refused_of};
+ghost use Rattle.oas_record.specs.declared.records.Record.{Record as PlainRecord};
+ghost use Rattle.oas_prepare.specs.Taking.{Stands, SameRun, IsStop, IsRefused, obstacle_next};
 
+use crate::inside::stopped;
+use oas_foreign::{Resolved, Resolver};
 use oas_layout::{Limits, Profile};
 use oas_modal::Reader;
-use oas_narrow::{Dropping, Place, Rejection, Report, Role};
-use oas_num::Fraction;
+use oas_narrow::{Dropping, Rejection, Report, Role, with_turns};
+use oas_num::{Fraction, Refusal};
+use oas_record::Record;
 use oas_wide::WideRecord;
 use std::alloc::Global;
 
 /// What is made of the records so far.
 #[derive(Drop)]
 pub(crate) struct Preparation {
-    /// The reader of those of the profile.
+    /// The reader of those of the profile for which they stand.
     pub(crate) reader: Reader,
+    /// What tells which these are.
+    pub(crate) resolver: Resolver,
     /// Whether a cell is open behind them.
     pub(crate) in_cell: bool,
     /// What is named to be left out.
@@ -40,6 +50,7 @@ impl Preparation {
     {
         Preparation {
             reader: Reader::new(alloc, unit, limits, profile),
+            resolver: Resolver::new(),
             in_cell: false,
             dropping,
             report: Report::new(),
@@ -47,24 +58,42 @@ impl Preparation {
     }
 
     /// Takes one record more, which starts at byte `at`.
-    pub(crate) fn take(&mut self, at: u64, next: WideRecord) -> Result<(), Rejection>
+    pub(crate) fn take(&mut self, alloc: Global, at: u64, next: WideRecord) -> Result<(), Rejection>
         ensures taken { (ws : List OneRecord) → Stands self.old ws → OnOk result ((obstacle_next self.old.reader.limits self.old.dropping ws next ≡ None) × Stands self.new (ws ++ next ∷ [])) }
         ensures stopped { (ws : List OneRecord) → Stands self.old ws → IfErr result (IsStop at (obstacle_next self.old.reader.limits self.old.dropping ws next)) }
         ensures same { OnOk result (SameRun self.old self.new) }
     {
-        let role = Role::of(next);
+        let role = Role::of(&next);
         if let Some(why) = role.obstacle(self.dropping, self.in_cell) {
-            return Err(Rejection {
-                place: Place::File(at),
-                why,
-            });
+            return Err(stopped(at, why));
         }
         self.in_cell = role.opens(self.in_cell);
-        match role {
-            Role::Kept(kept) => self.reader.take(at, kept)?,
-            Role::Extra(extra) => self.report.count(extra),
-            Role::Missing(_) => {}
+        role.count(&mut self.report);
+        match self.resolver.resolve(alloc, with_turns(next)) {
+            Ok(resolved) => {
+                take_resolved(&mut self.reader, at, resolved)?;
+                Ok(())
+            }
+            Err(why) => Err(stopped(at, why)),
         }
-        Ok(())
+    }
+}
+
+/// Hands the reader the records of the profile for which a record that starts at byte `at` stands.
+fn take_resolved(reader: &mut Reader, at: u64, resolved: Resolved) -> Result<(), Refusal>
+    ensures taken { (rs : List PlainRecord) → StandsFor held_store reader.old rs → OnOk result ((refused_of reader.old.limits rs (handed resolved) ≡ None) × StandsFor held_store reader.new (rs ++ handed resolved)) }
+    ensures refused { (rs : List PlainRecord) → StandsFor held_store reader.old rs → IfErr result (IsRefused at (refused_of reader.old.limits rs (handed resolved))) }
+    ensures unit { OnOk result (reader.new.unit ≡ reader.old.unit) }
+    ensures limits { OnOk result (reader.new.limits ≡ reader.old.limits) }
+    ensures profile { OnOk result (reader.new.profile ≡ reader.old.profile) }
+{
+    match resolved {
+        Resolved::Nothing => Ok(()),
+        Resolved::One(record) => reader.take(at, record),
+        Resolved::Absolute(record) => {
+            reader.take(at, Record::XyAbsolute)?;
+            reader.take(at, record)?;
+            reader.take(at, Record::XyRelative)
+        }
     }
 }

@@ -1,49 +1,25 @@
 -- Putting what stands in runs.
-use Rattle.std.proofs.Common.{◌≡◌, ℕ, ◌+◌, ◌*◌, ◌-◌, ◌<◌, ◌≤◌, ◌^◌, List, [], ◌∷◌, ◌++◌, length, replicate, refl, sym, ap, ◌∙◌, subst, arith}
+use Rattle.std.proofs.Common.{◌≡◌, ℕ, ◌+◌, ◌*◌, ◌-◌, ◌≤◌, ◌^◌, List, [], ◌∷◌, ◌++◌, length, replicate, sym, ap, ◌∙◌, subst, arith}
 use Rattle.std.specs.Prelude.{sum_by}
 use Rattle.std.specs.List.{AllByRecursion}
 use Rattle.std.specs.BTreeMap.{BTreeMap}
 use Rattle.oas_num.specs.Writing.{PutsFront}
-use Rattle.oas_layout.specs.declared.profile.Profile.{Profile}
 use Rattle.oas_layout.specs.declared.element.Element.{Element}
 use Rattle.oas_layout.specs.Bag.{items}
-use Rattle.oas_layout.specs.Contents.{Cell, Contents, expanded, AllSound, IsCell, IsLayout}
+use Rattle.oas_layout.specs.Contents.{Cell, Contents, expanded, IsCell}
 use Rattle.oas_layout.specs.Meaning.{cells_weight}
-use Rattle.oas_layout.specs.Sound.{IsSound}
 use Rattle.oas_layout.specs.Weight.{weight_of}
-use Rattle.oas_keys.specs.Keys.{key_of}
 use Rattle.oas_store.specs.Entries.{Entry}
-use Rattle.oas_form.specs.Bytes.{element_bytes, elements_bytes, cell_bytes, cells_bytes}
+use Rattle.oas_form.specs.Bytes.{elements_bytes, cell_bytes, cells_bytes}
 use Rattle.oas_form.specs.Putting.{PutsAll}
 use Rattle.oas_form.proofs.ElementPutting.{CopiesLeft, ElementsLeft, elements_short, cells_short, pair_sound, pair_light, pair_fails, pair_put, pair_within}
 use Rattle.oas_form.proofs.PuttingLemmas.{PutSoFar, begins, fails_at, part_fits, all_put, ◌▸◌}
 use Rattle.oas_runs.specs.declared.layout.CompactLayout.{CompactLayout}
 use Rattle.oas_runs.specs.Keyed.{keyed, keyed_cells, IsKeyed}
+use Rattle.oas_runs.proofs.FirstLemmas.{FirstEntry, first_entry, FirstCell, first_cell, no_entry, no_cell}
 use Rattle.oas_run_form.specs.Putting.{AreCopies, AreEntries, AreRuns}
 
 -- ---- entries
-
--- the first entry is that of the first element
-pub record FirstIs (es : List (Element × ℕ)) (k : List ℕ) (n : ℕ) (rest : List Entry) : Type 0 where
-  pub element : Element
-  pub others : List (Element × ℕ)
-  pub split : es ≡ (element, n) ∷ others
-  pub key : k ≡ key_of element
-  pub left : rest ≡ keyed others
-
--- equal lists have equal first items, and equal others
-cons_parts : {A : Type 0} (x y : A) (xs ys : List A) → x ∷ xs ≡ y ∷ ys → (x ≡ y) × (xs ≡ ys)
-cons_parts x y xs ys e =
-    let a : x ≡ y = cc in
-    let b : xs ≡ ys = cc in
-    (a, b)
-
-pub first_is : (es : List (Element × ℕ)) (k : List ℕ) (n : ℕ) (rest : List Entry) → keyed es ≡ (k, n) ∷ rest → FirstIs es k n rest
-first_is [] k n rest e = let no : ⊥ = cc in absurd no
-first_is (p ∷ ps) k n rest e =
-    let both = cons_parts (key_of p.0, p.1) (k, n) (keyed ps) rest e in
-    let times : p.1 ≡ n = ap (λ (q : Entry). q.1) both.0 in
-    record { element = p.0; others = ps; split = λ i. (p.0, times i) ∷ ps; key = sym (ap (λ (q : Entry). q.0) both.0); left = sym both.1 }
 
 module _ {K : Type 0} (given : K → List ℕ → K → Type 0) (failures : K → ℕ) where
   -- of these elements some were put, and the entries are those of the others
@@ -61,48 +37,33 @@ module _ {K : Type 0} (given : K → List ℕ → K → Type 0) (failures : K �
 
 module _ {K : Type 0} {given : K → List ℕ → K → Type 0} {failures : K → ℕ} {old mid : K} {n : ℕ} (es : List (Element × ℕ)) (entries rest : List Entry) (k : List ℕ) (times : ℕ)
     (next : entries ≡ (k, times) ∷ rest) (s : EntriesAfter given failures es entries old mid n) where
-  pub first_entry : FirstIs s.left k times rest
-  first_entry = first_is s.left k times rest (sym s.is ∙ next)
+  pub here : FirstEntry s.left k times rest
+  here = first_entry s.left k times rest (sym s.is ∙ next)
 
   abbrev pub this : Element
-  this = first_entry.element
+  this = here.element
 
   pub these_copies : AreCopies k times this
   these_copies = record {
-    sound = pair_sound es s.left first_entry.others this times first_entry.split s.put;
-    light = pair_light es s.left first_entry.others this times first_entry.split s.put;
-    is = first_entry.key;
+    sound = pair_sound es s.left here.others this times here.split s.put;
+    light = pair_light es s.left here.others this times here.split s.put;
+    is = here.key;
   }
 
   pub entry_fails : {new : K} → PutsFront given failures mid (elements_bytes (replicate times this)) new → PutsFront given failures old (elements_bytes (items es)) new
-  entry_fails q = pair_fails es s.left first_entry.others this times first_entry.split s.put q
+  entry_fails q = pair_fails es s.left here.others this times here.split s.put q
 
   pub entry_put : {new : K} {m : ℕ} → PutsAll given failures mid (elements_bytes (replicate times this)) m new → EntriesAfter given failures es rest old new (n + m)
-  entry_put q = record { left = first_entry.others; is = first_entry.left; put = pair_put es s.left first_entry.others this times first_entry.split s.put q }
+  entry_put q = record { left = here.others; is = here.left; put = pair_put es s.left here.others this times here.split s.put q }
 
   pub entry_within : {m : ℕ} → m ≡ length (elements_bytes (replicate times this)) → n + m ≤ length (elements_bytes (items es))
-  entry_within same = pair_within es s.left first_entry.others this times first_entry.split s.put same
+  entry_within same = pair_within es s.left here.others this times here.split s.put same
 
 -- all of them together
 pub entries_short : (name : List ℕ) (ks : List Entry) (es : List (Element × ℕ)) → AreEntries name ks es → length (elements_bytes (items es)) ≤ 64 * 2 ^ 30
 entries_short name ks es h = omega (arith, h.light, elements_short es h.sound)
 
 -- ---- cells
-
--- the first run is that of the first cell
-pub record FirstCell (cs : List Cell) (name : List ℕ) (run : List Entry) (rest : List (List ℕ × List Entry)) : Type 0 where
-  pub elements : List (Element × ℕ)
-  pub others : List Cell
-  pub split : cs ≡ (name, elements) ∷ others
-  pub keys : run ≡ keyed elements
-  pub left : rest ≡ keyed_cells others
-
-pub first_cell : (cs : List Cell) (name : List ℕ) (run : List Entry) (rest : List (List ℕ × List Entry)) → keyed_cells cs ≡ (name, run) ∷ rest → FirstCell cs name run rest
-first_cell [] name run rest e = let no : ⊥ = cc in absurd no
-first_cell (c ∷ cs) name run rest e =
-    let both = cons_parts (c.0, keyed c.1) (name, run) (keyed_cells cs) rest e in
-    let called : c.0 ≡ name = ap (λ (q : List ℕ × List Entry). q.0) both.0 in
-    record { elements = c.1; others = cs; split = λ i. (called i, c.1) ∷ cs; keys = sym (ap (λ (q : List ℕ × List Entry). q.1) both.0); left = sym both.1 }
 
 module _ {K : Type 0} (given : K → List ℕ → K → Type 0) (failures : K → ℕ) where
   -- of these cells some were put, and the runs are those of the others
@@ -185,18 +146,12 @@ name_short name ks es h = omega (arith, h.light)
 pub entries_end : {K : Type 0} {given : K → List ℕ → K → Type 0} {failures : K → ℕ} {old new : K} {n : ℕ} (es : List (Element × ℕ)) (entries : List Entry) → entries ≡ []
     → EntriesAfter given failures es entries old new n → PutsAll given failures old (elements_bytes (items es)) n new
 entries_end {given = given} {failures = failures} {old = old} {new = new} {n = n} es entries over s =
-    all_put (subst (λ (fs : List (Element × ℕ)). PutSoFar given failures (elements_bytes (items es)) (elements_bytes (items fs)) old new n) (none s.left (sym s.is ∙ over)) s.put.so_far) where
-      none : (fs : List (Element × ℕ)) → keyed fs ≡ [] → fs ≡ []
-      none [] e = refl
-      none (f ∷ fs) e = let no : ⊥ = cc in absurd no
+    all_put (subst (λ (fs : List (Element × ℕ)). PutSoFar given failures (elements_bytes (items es)) (elements_bytes (items fs)) old new n) (no_entry s.left (sym s.is ∙ over)) s.put.so_far)
 
 pub runs_end : {K : Type 0} {given : K → List ℕ → K → Type 0} {failures : K → ℕ} {old new : K} {n : ℕ} (l : Contents) (runs : List (List ℕ × List Entry)) → runs ≡ []
     → RunsAfter given failures l runs old new n → PutsAll given failures old (cells_bytes (expanded l.cells)) n new
 runs_end {given = given} {failures = failures} {old = old} {new = new} {n = n} l runs over s =
-    all_put (subst (λ (cs : List Cell). PutSoFar given failures (cells_bytes (expanded l.cells)) (cells_bytes (expanded cs)) old new n) (none s.left (sym s.is ∙ over)) s.so_far) where
-      none : (cs : List Cell) → keyed_cells cs ≡ [] → cs ≡ []
-      none [] e = refl
-      none (c ∷ cs) e = let no : ⊥ = cc in absurd no
+    all_put (subst (λ (cs : List Cell). PutSoFar given failures (cells_bytes (expanded l.cells)) (cells_bytes (expanded cs)) old new n) (no_cell s.left (sym s.is ∙ over)) s.so_far)
 
 -- the runs of a layout
 pub runs_of : (k : CompactLayout) (cells : BTreeMap (List ℕ) (List Entry)) (l : Contents) → cells ≡ k.cells → IsKeyed k l → AreRuns cells.entries l

@@ -4,3 +4,5 @@ pub mod RunLemmas
 pub mod FinishLemmas
 pub mod OrderLemmas
 pub mod ReadLemmas
+pub mod FirstLemmas
+mod SamenessLemmas

@@ -13,6 +13,7 @@
 mod finishing;
 mod layout;
 mod reading;
+mod sameness;
 
 pub use layout::CompactLayout;
 pub use reading::read_compact;

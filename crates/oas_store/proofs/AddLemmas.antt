@@ -16,7 +16,7 @@ use Rattle.oas_store.specs.Parts.{joined, contents, AreParts, AreRuns, CountsFit
 use Rattle.oas_store.proofs.PartLemmas.{split_last, found_last, total_contents}
 
 module _ {K : Type 0} where
-  positive_append : (xs ys : List (K × ℕ)) → Positive xs → Positive ys → Positive (xs ++ ys)
+  pub positive_append : (xs ys : List (K × ℕ)) → Positive xs → Positive ys → Positive (xs ++ ys)
   positive_append [] ys h k = k
   positive_append (x ∷ xs) ys h k = (h.0, positive_append xs ys h.1 k)
 
@@ -25,7 +25,7 @@ module _ {K : Type 0} where
   positive_joined R (r ∷ rs) h = positive_append r (joined rs) h.0.positive (positive_joined R rs h.1)
 
   pub positive_contents : (R : K → K → Ordering) (r l : List (K × ℕ)) (rs : List (List (K × ℕ))) → AreParts R r l rs → Positive (contents r l rs)
-  positive_contents R r l rs h = positive_append (r ++ l) (joined rs) (positive_append r l h.ascends.positive h.waits.positive) (positive_joined R rs h.runs)
+  positive_contents R r l rs h = positive_append (r ++ l) (joined rs) (positive_append r l h.ascends.positive h.waits) (positive_joined R rs h.runs)
 
   -- counts still fit
   pub fits_more : {R : K → K → Ordering} → IsTotalOrder R → CmpEqualImpliesEq R → (es fs : List (K × ℕ)) (k : K) (n : ℕ) → SameTotals fs ((k, n) ∷ es)
@@ -56,7 +56,7 @@ module _ {K : Type 0} where
       record { ascends = run; waits = p.waits; runs = p.runs; fits = fits_more o exact (contents r l rs) (contents r' l rs) k n (more_rising r r' l rs k n h) p.fits room }
 
   pub parts_loose : {R : K → K → Ordering} → IsTotalOrder R → CmpEqualImpliesEq R → (r l l' : List (K × ℕ)) (rs : List (List (K × ℕ))) (k : K) (n : ℕ)
-      → AreParts R r l rs → IsRun R l' → More l l' k n → copies R k (contents r l rs) + n < 2 ^ 64 → AreParts R r l' rs
+      → AreParts R r l rs → Positive l' → More l l' k n → copies R k (contents r l rs) + n < 2 ^ 64 → AreParts R r l' rs
   parts_loose o exact r l l' rs k n p run h room =
       record { ascends = p.ascends; waits = run; runs = p.runs; fits = fits_more o exact (contents r l rs) (contents r l' rs) k n (more_loose r l l' rs k n h) p.fits room }
 
@@ -114,17 +114,8 @@ module _ {K : Type 0} where
 
   -- ---- what waits loose
 
-  pub loose_fits : {R : K → K → Ordering} → IsTotalOrder R → (r l : List (K × ℕ)) (rs : List (List (K × ℕ))) (k : K) (n : ℕ) → IsRun R l
-      → copies R k (contents r l rs) + n < 2 ^ 64 → count_at R l k + n < 2 ^ 64
-  loose_fits {R} o r l rs k n s room = omega (arith, room, total_contents (λ x. cond (is_eq (R k x)) 1 0) r l rs, count_at-is o k l s.ascending)
-
-  pub run_loose : {R : K → K → Ordering} → IsTotalOrder R → (es fs : List (K × ℕ)) (k : K) (n : ℕ) → 0 < n → fs ≡ insert_entry R es k (count_at R es k + n)
-      → IsRun R es → IsRun R fs
-  run_loose {R} o es fs k n h e s = subst (IsRun R) (sym (e ∙ insert_entry-count o es k n s.ascending)) (IsRun-put_more o es k n h s)
-
-  pub more_entry : {R : K → K → Ordering} → IsTotalOrder R → CmpEqualImpliesEq R → (es fs : List (K × ℕ)) (k : K) (n : ℕ)
-      → fs ≡ insert_entry R es k (count_at R es k + n) → IsRun R es → More es fs k n
-  more_entry o exact es fs k n e s g = ap (total g) (e ∙ insert_entry-count o es k n s.ascending) ∙ total-put_more exact g es k n
+  pub positive_push : (es fs : List (K × ℕ)) (k : K) (n : ℕ) → 0 < n → fs ≡ es ++ (k, n) ∷ [] → Positive es → Positive fs
+  positive_push es fs k n h e p = subst Positive (sym e) (positive_append es ((k, n) ∷ []) p (h, tt))
 
   -- ---- the whole
 

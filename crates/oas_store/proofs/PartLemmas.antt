@@ -4,7 +4,7 @@ use Rattle.std.proofs.Math.Seq.{get_or-append_seam}
 use Rattle.std.specs.Ordering.{is_eq}
 use Rattle.std.specs.List.Sorted.{IsStrictlySortedBy}
 use Rattle.std.specs.declared.cmp.Ordering.{Ordering}
-use Rattle.oas_store.specs.Tally.{total, copies, IsRun, SameTotals}
+use Rattle.oas_store.specs.Tally.{total, copies, Positive, IsRun, SameTotals}
 use Rattle.oas_store.specs.Laws.TallyLaws.{total-append}
 use Rattle.oas_store.specs.Merging.{IsMerging}
 use Rattle.oas_store.proofs.MergeLemmas.{ends}
@@ -132,7 +132,7 @@ module _ {K : Type 0} where
       → SameTotals (r' ++ joined rs') (r ++ joined rs) → AreParts R r' l rs'
   rising_parts R r l r' rs rs' p run runs h = record { ascends = run; waits = p.waits; runs = runs; fits = fit_same R (contents r l rs) (contents r' l rs') (rising_same r l r' rs rs' h) p.fits }
 
-  pub loose_parts : (R : K → K → Ordering) (r l l' : List (K × ℕ)) (rs rs' : List (List (K × ℕ))) → AreParts R r l rs → IsRun R l' → AreRuns R rs'
+  pub loose_parts : (R : K → K → Ordering) (r l l' : List (K × ℕ)) (rs rs' : List (List (K × ℕ))) → AreParts R r l rs → Positive l' → AreRuns R rs'
       → SameTotals (l' ++ joined rs') (l ++ joined rs) → AreParts R r l' rs'
   loose_parts R r l l' rs rs' p run runs h = record { ascends = p.ascends; waits = run; runs = runs; fits = fit_same R (contents r l rs) (contents r l' rs') (loose_same r l l' rs rs' h) p.fits }
 
@@ -149,7 +149,7 @@ module _ {K : Type 0} where
   both_same r l r' l' rs rs' rs'' h k g = loose_same r' l l' rs' rs'' k g ∙ rising_same r l r' rs rs' h g
 
   pub both_parts : (R : K → K → Ordering) (r l r' l' : List (K × ℕ)) (rs rs' rs'' : List (List (K × ℕ))) → AreParts R r l rs → IsRun R r' → AreRuns R rs'
-      → SameTotals (r' ++ joined rs') (r ++ joined rs) → IsRun R l' → AreRuns R rs'' → SameTotals (l' ++ joined rs'') (l ++ joined rs') → AreParts R r' l' rs''
+      → SameTotals (r' ++ joined rs') (r ++ joined rs) → Positive l' → AreRuns R rs'' → SameTotals (l' ++ joined rs'') (l ++ joined rs') → AreParts R r' l' rs''
   both_parts R r l r' l' rs rs' rs'' p a b h d e k = loose_parts R r' l l' rs' rs'' (rising_parts R r l r' rs rs' p a b h) d e k
 
   pub then_loose_fit : (R : K → K → Ordering) (r l r' : List (K × ℕ)) (rs rs' : List (List (K × ℕ))) → AreParts R r l rs → IsRun R r' → AreRuns R rs'

@@ -1,17 +1,26 @@
 -- The parts of a store, and the list as which it is seen.
-use Rattle.std.proofs.Common.{◌≡◌, ℕ, ◌<◌, List, [], ◌∷◌, ◌++◌, cond, length, refl, ap, arith}
+use Rattle.std.proofs.Common.{◌≡◌, ℕ, ◌<◌, List, [], ◌∷◌, ◌++◌, cond, length, refl, sym, ap, arith, subst}
 use Rattle.std.specs.Cmp.{IsTotalOrder}
 use Rattle.std.specs.Ordering.{is_eq}
 use Rattle.std.specs.declared.cmp.Ordering.{Ordering}
 use Rattle.std.proofs.lemmas.Map.Lookups.{CmpEqualImpliesEq}
 use Rattle.oas_layout.specs.Bag.{put_more}
-use Rattle.oas_store.specs.Tally.{total, tally, IsRun, SameTotals}
+use Rattle.oas_store.specs.Tally.{total, tally, Positive, IsRun, SameTotals}
 use Rattle.oas_store.specs.Laws.TallyLaws.{same_tally, run_is_tally}
 use Rattle.oas_store.specs.Parts.{joined, contents, AreParts, AreRuns, CountsFit}
-use Rattle.oas_store.proofs.PartLemmas.{total_contents, total_runs}
+use Rattle.oas_store.proofs.PartLemmas.{total_contents, total_runs, IsRun-empty}
 use Rattle.oas_store.proofs.AddLemmas.{positive_contents, view_added}
 
 module _ {K : Type 0} where
+  -- no parts
+  pub no_parts : (R : K → K → Ordering) (r l : List (K × ℕ)) (rs : List (List (K × ℕ))) → r ≡ [] → l ≡ [] → rs ≡ [] → AreParts R r l rs
+  no_parts R r l rs a b c = record {
+    ascends = IsRun-empty R r a;
+    waits = subst (λ (es : List (K × ℕ)). Positive es) (sym b) tt;
+    runs = subst (λ (xs : List (List (K × ℕ))). AreRuns R xs) (sym c) tt;
+    fits = λ k. let g : K → ℕ = λ x. cond (is_eq (R k x)) 1 0 in omega (arith, total_contents g r l rs, ap (total g) a, ap (total g) b, ap (λ (xs : List (List (K × ℕ))). total g (joined xs)) c);
+  }
+
   -- parts that weigh the same are seen as the same
   pub same_view : {R : K → K → Ordering} → IsTotalOrder R → CmpEqualImpliesEq R → (r l r' l' : List (K × ℕ)) (rs rs' : List (List (K × ℕ))) → AreParts R r l rs
       → AreParts R r' l' rs' → SameTotals (contents r' l' rs') (contents r l rs) → tally R (contents r' l' rs') ≡ tally R (contents r l rs)

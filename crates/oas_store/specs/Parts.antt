@@ -3,7 +3,7 @@ use Rattle.std.specs.Prelude.{◌≡◌, ℕ, ◌<◌, ◌^◌, List, [], ◌∷
 use Rattle.std.specs.List.{AllByRecursion}
 use Rattle.std.specs.declared.cmp.Ordering.{Ordering}
 use Rattle.std.specs.declared.cmp.Ordering.TheVariants.{Less, Equal}
-use Rattle.oas_store.specs.Tally.{copies, IsRun}
+use Rattle.oas_store.specs.Tally.{copies, Positive, IsRun}
 
 -- one list after another
 abbrev pub joined : {X : Type 0} → List (List X) → List X
@@ -31,10 +31,10 @@ module _ {K : Type 0} where
   abbrev pub CountsFit : (K → K → Ordering) → List (K × ℕ) → Type 0
   CountsFit R es = (k : K) → copies R k es < 2 ^ 64
 
-  -- the parts are runs, and all counts fit, also once they are summed
+  -- the parts are runs, but for what waits in any order, and all counts fit, also once they are summed
   pub record AreParts (R : K → K → Ordering) (rising loose : List (K × ℕ)) (rs : List (List (K × ℕ))) : Type 0 where
     pub ascends : IsRun R rising
-    pub waits : IsRun R loose
+    pub waits : Positive loose
     pub runs : AreRuns R rs
     pub fits : CountsFit R (contents rising loose rs)
 

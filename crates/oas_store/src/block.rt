@@ -51,6 +51,19 @@ impl Block {
         Ok(Block { bytes, start: 0 })
     }
 
+    /// How many bytes there are.
+    pub(crate) fn size(&self) -> usize {
+        self.bytes.len()
+    }
+
+    /// Takes all entries out, and keeps the memory.
+    pub(crate) fn clear(&mut self)
+        ensures { self.new ≡ [] }
+    {
+        self.bytes.clear();
+        self.start = 0;
+    }
+
     /// Whether no entry is left.
     pub(crate) fn is_empty(&self) -> bool
         ensures over { IsTrue result → self.now ≡ [] }

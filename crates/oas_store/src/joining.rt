@@ -46,7 +46,7 @@ fn is_close(runs: &[Run]) -> bool {
 }
 
 /// Joins runs as far as their sizes ask for it and memory is there.
-fn join_close(alloc: Global, runs: &mut Vec<Run>)
+pub(crate) fn join_close(alloc: Global, runs: &mut Vec<Run>)
     requires runs { AreRuns (slice_cmp nat_cmp) runs.old.items }
     requires fits { CountsFit (slice_cmp nat_cmp) (joined runs.old.items) }
     ensures runs { AreRuns (slice_cmp nat_cmp) runs.new.items }

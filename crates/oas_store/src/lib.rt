@@ -6,7 +6,7 @@
 //!   [`KeyStore::add`] leaves it as it was. [`KeyStore::close`] answers a [`Run`] of just that list, or, for want of memory, the
 //!   store as it was.
 //! - A [`Run`] is seen as the list of its entries that are left. Its first entry can be looked at and taken; a block that is used
-//!   up is given back. [`Run::entries`] goes over all that are left.
+//!   up is given back. [`Run::entries`] goes over all that are left, and `==` compares them.
 //! - A [`Growing`] run is written entry by entry into blocks of bytes; a refused growth leaves it as it was. It becomes a
 //!   [`Run`] of the same entries, for which no memory is wanted.
 //! - [`merge_all`] moves two runs to the end of an empty one, the counts of a key that both have summed: what comes out is a
@@ -15,20 +15,21 @@
 //! - The bytes of an entry and a block's are in specs/Entries.antt; no bytes stand for two lists of entries (specs/Laws).
 //!
 //! How a store is made: a key above all of the rising run is put at its end, and one that is its last counts it up, so keys that
-//! ascend are written once and never compared again. Any other waits loose, in a map of at most 4096. When the map is full,
-//! the rising run and the map become runs, one after the other, and the last two runs are merged as long as the last has grown
-//! to half of the one before it. So each run is less than half of the one before, there are few of them, and a key is moved some
-//! log n times in whatever order keys come. A merge gives back each block that it has read. No contract speaks of time or of
-//! bytes; oas_compact uses this crate, and no command does yet.
+//! ascend are written once and never compared again. Any other waits loose, as it came, among at most 256 KiB of such keys. When
+//! these are full they are sorted and equal ones are joined, the rising run and they become runs, one after the other, and the last
+//! two runs are merged as long as the last has grown to half of the one before it. So each run is less than half of the one before,
+//! there are few of them, and a key is moved some log n times in whatever order keys come. A merge gives back each block that it
+//! has read. No contract speaks of time or of bytes.
 #![tactic(auto)]
 
 mod adding;
 mod block;
+mod comparing;
 mod entries;
 mod entry;
 mod growing;
 mod joining;
-mod key;
+mod loose;
 mod merge;
 mod rising;
 mod run;

@@ -1,29 +1,19 @@
 //! What rises and what waits loose become runs.
 
-ghost use Rattle.std.specs.Prelude.{◌≡◌, [], ◌++◌, IfOk, OnOk};
+ghost use Rattle.std.specs.Prelude.{◌≡◌, [], ◌∷◌, ◌++◌, IfOk, OnOk};
 ghost use Rattle.std.specs.Cmp.Lexicographic.{slice_cmp};
 ghost use Rattle.std.specs.Ordering.{nat_cmp};
-ghost use Rattle.oas_store.specs.Tally.{IsRun, SameTotals};
+ghost use Rattle.oas_store.specs.Tally.{Positive, IsRun, SameTotals};
+ghost use Rattle.oas_store.specs.Loose.{entries_of};
 ghost use Rattle.oas_store.specs.Parts.{joined, contents, AreRuns, AreParts, CountsFit};
 
-use crate::growing::Growing;
-use crate::joining::add_run;
-use crate::key::Key;
+use crate::block::Block;
+use crate::joining::{add_run, join_close};
+use crate::loose::{Loose, in_order};
 use crate::rising::Rising;
 use crate::run::Run;
 use std::alloc::{AllocError, Global};
-use std::collections::BTreeMap;
-
-/// What waits loose, as a run.
-fn run_of(alloc: Global, loose: &BTreeMap<Key, u64>) -> Result<Run, AllocError>
-    ensures { IfOk result (λ run. run ≡ loose.now.entries) }
-{
-    let mut run = Growing::new(alloc);
-    for (key, times) in loose {
-        run.append(alloc, key.as_bytes(), *times)?;
-    }
-    Ok(run.into_run())
-}
+use std::cmp::Ordering;
 
 /// Closes the run that rises, so that another begins; or leaves all.
 fn settle_rising(alloc: Global, rising: &mut Rising, runs: &mut Vec<Run>) -> Result<(), AllocError>
@@ -41,24 +31,74 @@ fn settle_rising(alloc: Global, rising: &mut Rising, runs: &mut Vec<Run>) -> Res
     Ok(())
 }
 
-/// Makes a run of what waits loose; or leaves all.
-fn settle_loose(
+/// Puts a key to the run that rises; where that has come above it, another run begins.
+fn put_next(
     alloc: Global,
-    loose: &mut BTreeMap<Key, u64>,
+    rising: &mut Rising,
     runs: &mut Vec<Run>,
+    key: &[u8],
+    times: u64,
 ) -> Result<(), AllocError>
-    requires run { IsRun (slice_cmp nat_cmp) loose.old.entries }
+    requires run { IsRun (slice_cmp nat_cmp) rising.old }
     requires runs { AreRuns (slice_cmp nat_cmp) runs.old.items }
-    requires fits { CountsFit (slice_cmp nat_cmp) (loose.old.entries ++ joined runs.old.items) }
-    ensures run { IsRun (slice_cmp nat_cmp) loose.new.entries }
-    ensures runs { AreRuns (slice_cmp nat_cmp) runs.new.items }
-    ensures same { SameTotals (loose.new.entries ++ joined runs.new.items) (loose.old.entries ++ joined runs.old.items) }
-    ensures ok { OnOk result (loose.new.entries ≡ []) }
+    requires fits { CountsFit (slice_cmp nat_cmp) ((key.now, times) ∷ (rising.old ++ joined runs.old.items)) }
+    ensures run { OnOk result (IsRun (slice_cmp nat_cmp) rising.new) }
+    ensures runs { OnOk result (AreRuns (slice_cmp nat_cmp) runs.new.items) }
+    ensures same { OnOk result (SameTotals (rising.new ++ joined runs.new.items) ((key.now, times) ∷ (rising.old ++ joined runs.old.items))) }
 {
-    runs.reserve(1)?;
-    let run = run_of(alloc, loose)?;
+    if times == 0 {
+        return Ok(());
+    }
+    match rising.order_of_last(key) {
+        Ordering::Less => rising.push(alloc, key, times)?,
+        Ordering::Equal => rising.count_last(times),
+        Ordering::Greater => {
+            settle_rising(alloc, rising, runs)?;
+            rising.push(alloc, key, times)?;
+        }
+    }
+    Ok(())
+}
+
+/// Entries as runs: one, where their keys ascend.
+fn runs_of(alloc: Global, sorted: &[Loose<'_>]) -> Result<Vec<Run>, AllocError>
+    requires { CountsFit (slice_cmp nat_cmp) (entries_of sorted.now) }
+    ensures runs { IfOk result (λ runs. AreRuns (slice_cmp nat_cmp) runs.items) }
+    ensures same { IfOk result (λ runs. SameTotals (joined runs.items) (entries_of sorted.now)) }
+{
+    let mut rising = Rising::new(alloc);
+    let mut runs = Vec::new(alloc);
+    for entry in sorted {
+        put_next(alloc, &mut rising, &mut runs, entry.key, entry.times)?;
+    }
+    settle_rising(alloc, &mut rising, &mut runs)?;
+    Ok(runs)
+}
+
+/// What waits loose, as runs.
+fn settled(alloc: Global, loose: &Block) -> Result<Vec<Run>, AllocError>
+    requires { CountsFit (slice_cmp nat_cmp) loose.now }
+    ensures runs { IfOk result (λ runs. AreRuns (slice_cmp nat_cmp) runs.items) }
+    ensures same { IfOk result (λ runs. SameTotals (joined runs.items) loose.now) }
+{
+    let sorted = in_order(alloc, loose)?;
+    runs_of(alloc, &sorted)
+}
+
+/// Makes runs of what waits loose; or leaves all.
+fn settle_loose(alloc: Global, loose: &mut Block, runs: &mut Vec<Run>) -> Result<(), AllocError>
+    requires waits { Positive loose.old }
+    requires runs { AreRuns (slice_cmp nat_cmp) runs.old.items }
+    requires fits { CountsFit (slice_cmp nat_cmp) (loose.old ++ joined runs.old.items) }
+    ensures waits { Positive loose.new }
+    ensures runs { AreRuns (slice_cmp nat_cmp) runs.new.items }
+    ensures same { SameTotals (loose.new ++ joined runs.new.items) (loose.old ++ joined runs.old.items) }
+    ensures ok { OnOk result (loose.new ≡ []) }
+{
+    let mut more = settled(alloc, loose)?;
+    runs.append(&mut more)?;
     loose.clear();
-    add_run(alloc, runs, run);
+    join_close(alloc, runs);
     Ok(())
 }
 
@@ -66,14 +106,14 @@ fn settle_loose(
 pub(crate) fn settle(
     alloc: Global,
     rising: &mut Rising,
-    loose: &mut BTreeMap<Key, u64>,
+    loose: &mut Block,
     runs: &mut Vec<Run>,
 ) -> Result<(), AllocError>
-    requires { AreParts (slice_cmp nat_cmp) rising.old loose.old.entries runs.old.items }
-    ensures parts { AreParts (slice_cmp nat_cmp) rising.new loose.new.entries runs.new.items }
-    ensures same { SameTotals (contents rising.new loose.new.entries runs.new.items) (contents rising.old loose.old.entries runs.old.items) }
+    requires { AreParts (slice_cmp nat_cmp) rising.old loose.old runs.old.items }
+    ensures parts { AreParts (slice_cmp nat_cmp) rising.new loose.new runs.new.items }
+    ensures same { SameTotals (contents rising.new loose.new runs.new.items) (contents rising.old loose.old runs.old.items) }
     ensures rising { OnOk result (rising.new ≡ []) }
-    ensures loose { OnOk result (loose.new.entries ≡ []) }
+    ensures loose { OnOk result (loose.new ≡ []) }
 {
     settle_rising(alloc, rising, runs)?;
     settle_loose(alloc, loose, runs)?;

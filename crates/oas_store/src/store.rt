@@ -7,14 +7,13 @@ ghost use Rattle.oas_layout.specs.Bag.{put_more};
 ghost use Rattle.oas_store.specs.Tally.{count_at, IsRun};
 
 use crate::adding::add_key;
+use crate::block::Block;
 use crate::growing::Growing;
 use crate::joining::join_all;
-use crate::key::Key;
 use crate::rising::Rising;
 use crate::run::Run;
 use crate::settling::settle;
 use std::alloc::{AllocError, Global};
-use std::collections::BTreeMap;
 use std::marker::Model;
 
 /// Keys with their counts, seen as the list of both, the keys ascending.
@@ -22,7 +21,7 @@ use std::marker::Model;
 pub struct KeyStore {
     alloc: Global,
     rising: Rising,
-    loose: BTreeMap<Key, u64>,
+    loose: Block,
     runs: Vec<Run>,
 }
 
@@ -36,9 +35,9 @@ impl Model for KeyStore {
 
     ghost Value = { List Entry };
 
-    ghost view = { λ a. tally (slice_cmp nat_cmp) (contents a.rising a.loose.entries a.runs.items) };
+    ghost view = { λ a. tally (slice_cmp nat_cmp) (contents a.rising a.loose a.runs.items) };
 
-    ghost invariant = { λ a. AreParts (slice_cmp nat_cmp) a.rising a.loose.entries a.runs.items };
+    ghost invariant = { λ a. AreParts (slice_cmp nat_cmp) a.rising a.loose a.runs.items };
 }
 
 impl KeyStore {
@@ -49,7 +48,7 @@ impl KeyStore {
         KeyStore {
             alloc,
             rising: Rising::new(alloc),
-            loose: BTreeMap::new(alloc),
+            loose: Block::new(alloc),
             runs: Vec::new(alloc),
         }
     }

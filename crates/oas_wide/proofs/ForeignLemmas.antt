@@ -1,5 +1,5 @@
 -- Reading what follows an id that the profile leaves out, and END's.
-use Rattle.std.proofs.Common.{◌≡◌, ℕ, ◌+◌, ◌≤◌, Bool, true, false, not, List, [], Option, inl, inr, refl, sym, subst, arith, ◌⊎◌}
+use Rattle.std.proofs.Common.{◌≡◌, ℕ, ◌+◌, ◌≤◌, Bool, false, not, List, [], Option, inl, inr, refl, sym, subst, arith, ◌⊎◌}
 use Rattle.std.specs.Prelude.{◌==◌, Result}
 use Rattle.std.proofs.lemmas.Bool.{cases_lt}
 use Rattle.oas_num.specs.declared.refusals.Why.{Why}
@@ -7,13 +7,11 @@ use Rattle.oas_num.specs.declared.padding.Padding.{Padding}
 use Rattle.oas_num.specs.Script.{Script}
 use Rattle.oas_num.specs.Grammar.{IsImage}
 use Rattle.oas_num.specs.Combinators.{IsEither}
-use Rattle.oas_num.specs.Style.{Any}
 use Rattle.oas_num.specs.Reading.{ReadsValue, FailsPiece, ReadsPiece}
 use Rattle.oas_num.proofs.ReadLemmas.{Takes-none}
 use Rattle.oas_num.proofs.MidwayLemmas.{image_fails}
-use Rattle.oas_record.specs.declared.records.Record.{Record}
-use Rattle.oas_record.specs.Records.{after, after_id}
-use Rattle.oas_record.specs.Refusals.{AfterTook}
+use Rattle.oas_long.specs.AnyLength.{IsAnyLength, AnyLengthTook, first_of}
+use Rattle.oas_record.specs.Records.{after}
 use Rattle.oas_wide.specs.declared.records.WideRecord.{WideRecord}
 use Rattle.oas_wide.specs.declared.trapezoids.Trapezoid.{Trapezoid}
 use Rattle.oas_wide.specs.LayerNames.{SpellsLayerName, LayerNameTook}
@@ -88,14 +86,8 @@ module _ {old new : Script} (in_end : Bool) (id : ℕ) where
   pub element_read : (v : ℕ × (Padding × Option ℕ)) → id ≡ 32 → ReadsValue (SpellsAttributed (id == 31)) old v new → ForeignRead in_end id old (extension_element v) new
   element_read v e f = subst (λ k. ReadsValue (SpellsAttributed (k == 31)) old v new → ForeignRead in_end k old (extension_element v) new) (sym e) (λ g. kind_read extension_element g) f
 
--- ---- as in the profile, or not
-
-module _ {old new : Script} (in_end : Bool) (id : ℕ) where
-  pub profile_fails : {why : Why} → is_profile_id id ≡ true → FailsPiece (after_id Any in_end id) (AfterTook in_end id) old why new → FailsPiece (fields in_end id).any (fields in_end id).took old why new
-  profile_fails {why} e f = subst (λ t. FailsPiece (IsEither t (IsImage profile (after in_end id).any) (foreign in_end id).any) (IsEither t (after in_end id).took (foreign in_end id).took) old why new) (sym e) (image_fails profile f)
-
-  pub profile_read : (v : Record) → is_profile_id id ≡ true → ReadsValue (after_id Any in_end id) old v new → ReadsValue (fields in_end id).any old (profile v) new
-  profile_read v e f = subst (λ t. ReadsValue (IsEither t (IsImage profile (after in_end id).any) (foreign in_end id).any) old (profile v) new) (sym e) (kind_read profile f)
+-- ---- not as in the profile
 
 pub foreign_done : (in_end : Bool) (id : ℕ) (old new : Script) (r : Result WideRecord Why) → is_profile_id id ≡ false → ReadsPiece (foreign in_end id).any (foreign in_end id).took old r new → ReadsPiece (fields in_end id).any (fields in_end id).took old r new
-foreign_done in_end id old new r e f = subst (λ t. ReadsPiece (IsEither t (IsImage profile (after in_end id).any) (foreign in_end id).any) (IsEither t (after in_end id).took (foreign in_end id).took) old r new) (sym e) f
+foreign_done in_end id old new r e f =
+    subst (λ t. ReadsPiece (IsEither t (IsImage profile (IsAnyLength (first_of id) (after in_end id).any)) (foreign in_end id).any) (IsEither t (AnyLengthTook (first_of id) (after in_end id).any (after in_end id).took) (foreign in_end id).took) old r new) (sym e) f

@@ -1,3 +1,4 @@
+pub mod AnyLengthLemmas
 pub mod ReadingLemmas
 pub mod LongLemmas
 pub mod WideLemmas

@@ -6,14 +6,14 @@ use Rattle.oas_num.specs.declared.refusals.Why.TheVariants as why
 use Rattle.oas_num.specs.Combinators.{IsEither}
 use Rattle.oas_num.specs.Grammar.{OneFront, IsPair}
 use Rattle.oas_num.specs.Laws.GrammarLaws.{OneFront-pair, after_same}
-use Rattle.oas_num.specs.Integers.{IsUnsigned}
-use Rattle.oas_num.specs.Laws.IntegerLaws.{OneFront-IsUnsigned}
-use Rattle.oas_num.specs.Reading.{is_format, ReadsValue, FailsPiece, IntegerMay}
+use Rattle.oas_num.specs.Reading.{is_format, ReadsValue, FailsPiece}
 use Rattle.oas_num.specs.Script.{Script}
 use Rattle.oas_num.proofs.HalfwayLemmas.{by_format}
 use Rattle.oas_num.proofs.MidwayLemmas.{uncut, image_fails}
 use Rattle.oas_num.proofs.PieceLemmas.{fails_behind}
 use Rattle.oas_num.proofs.ReadLemmas.{Takes-none, Takes-then, Wants}
+use Rattle.oas_long.specs.AnyLength.{first_of}
+use Rattle.oas_shortened.specs.Places.{shortened}
 use Rattle.oas_record.specs.Refusals.{IsKnown}
 use Rattle.oas_record.proofs.IdLemmas.{either_id, id_after, known_id}
 use Rattle.oas_wide.specs.declared.reasons.WideWhy.{WideWhy}
@@ -21,6 +21,7 @@ use Rattle.oas_wide.specs.declared.reasons.WideWhy.TheVariants as wide
 use Rattle.oas_wide.specs.declared.records.WideRecord.{WideRecord}
 use Rattle.oas_wide.specs.declared.ends.WideEnd.{WideEnd}
 use Rattle.oas_wide.specs.Ends.{SpellsWideEnd, WideEndTook}
+use Rattle.oas_wide.specs.Long.{IsLong, LongMay, OneFront-long}
 use Rattle.oas_wide.proofs.ForeignLemmas.{kind_read}
 use Rattle.oas_wide.specs.Reasons.{named, plain_of}
 use Rattle.oas_wide.specs.WideRecords.{end, foreign, fields, fields_in, is_profile_id, wide_record_in, IsWideId, IsRefusedWideId, RefusesWideId, WideRecordTook, FailsWide}
@@ -82,22 +83,22 @@ either_split false A B v q h = inr h
 -- what is spelled behind an id has one that may stand there
 fields_wide : (in_end : Bool) (id : ℕ) (v : WideRecord) (q : List ℕ) → fields_in in_end id v q → IsWideId id
 fields_wide in_end id v q h = elim (either_split (is_profile_id id) _ _ v q h) [
-  | inl p ↦ known_wide id (subst IsKnown (id_after in_end id p.from q p.spelled) (known_id p.from))
+  | inl p ↦ known_wide id (subst IsKnown (id_after in_end id p.from (shortened (first_of id) q) p.spelled.spelled) (known_id p.from))
   | inr p ↦ foreign_wide in_end id v q p
 ]
 
 -- ---- the id
 
-id_joined : (in_end : Bool) (n : ℕ) (v : WideRecord) (p r rest : List ℕ) (b : IsPair IsUnsigned (fields_in in_end) (n, v) p) → p ++ r ≡ rest → b.front ++ (b.back ++ r) ≡ rest
+id_joined : (in_end : Bool) (n : ℕ) (v : WideRecord) (p r rest : List ℕ) (b : IsPair IsLong (fields_in in_end) (n, v) p) → p ++ r ≡ rest → b.front ++ (b.back ++ r) ≡ rest
 id_joined in_end n v p r rest b e = sym (append_assoc b.front b.back r) ∙ ap (λ (c : List ℕ). c ++ r) (sym b.joined) ∙ e
 
 -- a record begins with its id
-record_wants : (in_end : Bool) → Wants (wide_record_in in_end) [] IsUnsigned
+record_wants : (in_end : Bool) → Wants (wide_record_in in_end) [] IsLong
 record_wants in_end = record { wants = λ v p r rest s e. let b = s.parts in (s.id, b.front, b.back ++ r, b.first, id_joined in_end s.id v p r rest b e) }
 
-pub id_fails : {old new : Script} {reason : Why} (in_end : Bool) → FailsPiece IsUnsigned IntegerMay old reason new → FailsWide in_end old (wide.Profile reason) new
+pub id_fails : {old new : Script} {reason : Why} (in_end : Bool) → FailsPiece IsLong LongMay old reason new → FailsWide in_end old (wide.Profile reason) new
 id_fails {old = old} {reason = reason} in_end f =
-    fails_behind (wide_record_in in_end) IsUnsigned {took = λ _. WideRecordTook in_end (wide.Profile reason)} [] (λ bytes h. inl (reason, refl, inl h)) (Takes-none old) (record_wants in_end) f
+    fails_behind (wide_record_in in_end) IsLong {took = λ _. WideRecordTook in_end (wide.Profile reason)} [] (λ bytes h. inl (reason, refl, inl h)) (Takes-none old) (record_wants in_end) f
 
 -- no record has an id that is refused
 refused_unknown : (id : ℕ) (reason : Why) → IsRefusedWideId id reason → (¬ IsWideId id) × IsTrue (is_format reason)
@@ -105,7 +106,7 @@ refused_unknown id (why.OutOfPlace n) h = (λ known. known.0 h.1, refl)
 refused_unknown id (why.UnknownRecord n) h = (λ known. omega (arith, known.1, h.1), refl)
 refused_unknown id _ h = absurd h
 
-pub refused_by_id : {old new : Script} {id : ℕ} {reason : Why} (in_end : Bool) → RefusesWideId id (Some reason) → ReadsValue IsUnsigned old id new
+pub refused_by_id : {old new : Script} {id : ℕ} {reason : Why} (in_end : Bool) → RefusesWideId id (Some reason) → ReadsValue IsLong old id new
     → FailsWide in_end old (wide.Profile reason) new
 refused_by_id {id = id} {reason = reason} in_end h read =
     let isnt = refused_unknown id reason h in
@@ -116,7 +117,7 @@ refused_by_id {id = id} {reason = reason} in_end h read =
       format = λ _. record {
         none = λ v p r more s e.
             let b = s.parts in
-            let one = OneFront-IsUnsigned.one s.id id b.front read.bytes (b.back ++ r) more b.first read.spelled (id_joined in_end s.id v p r (read.bytes ++ more) b e) in
+            let one = OneFront-long.one s.id id b.front read.bytes (b.back ++ r) more b.first read.spelled (id_joined in_end s.id v p r (read.bytes ++ more) b e) in
             isnt.0 (subst IsWideId one.1 (fields_wide in_end s.id v b.back b.second));
       };
       cut = λ is. absurd (uncut reason (by_format why.Truncated isnt.1 (λ g. cc)) (by_format why.Read isnt.1 (λ g. cc)) (by_format why.InputTooLong isnt.1 (λ g. cc)) is);
@@ -127,17 +128,17 @@ refused_by_id {id = id} {reason = reason} in_end h read =
 
 -- ---- what follows the id
 
-fields_wants : {old mid : Script} {id : ℕ} (in_end : Bool) → (read : ReadsValue IsUnsigned old id mid) → Wants (wide_record_in in_end) read.bytes (fields_in in_end id)
+fields_wants : {old mid : Script} {id : ℕ} (in_end : Bool) → (read : ReadsValue IsLong old id mid) → Wants (wide_record_in in_end) read.bytes (fields_in in_end id)
 fields_wants {id = id} in_end read = record {
   wants = λ v p r rest s e.
       let b = s.parts in
       let joined = id_joined in_end s.id v p r (read.bytes ++ rest) b e in
-      let one = OneFront-IsUnsigned.one s.id id b.front read.bytes (b.back ++ r) rest b.first read.spelled joined in
+      let one = OneFront-long.one s.id id b.front read.bytes (b.back ++ r) rest b.first read.spelled joined in
       (v, b.back, r, subst (λ k. fields_in in_end k v b.back) one.1 b.second, after_same b.front read.bytes (b.back ++ r) rest one.0 joined);
 }
 
 -- it goes wrong
-pub fields_fail : {old mid new : Script} {id : ℕ} {reason : Why} (in_end : Bool) → ReadsValue IsUnsigned old id mid
+pub fields_fail : {old mid new : Script} {id : ℕ} {reason : Why} (in_end : Bool) → ReadsValue IsLong old id mid
     → FailsPiece (fields_in in_end id) (fields in_end id).took mid reason new → FailsWide in_end old (named id reason) new
 fields_fail {old = old} {new = new} {id = id} {reason = reason} in_end read f =
     subst (λ (k : Why). FailsPiece (wide_record_in in_end) (λ _. WideRecordTook in_end (named id reason)) old k new) (sym (plain_named id reason))
@@ -146,28 +147,28 @@ fields_fail {old = old} {new = new} {id = id} {reason = reason} in_end read f =
     read.takes (fields_wants in_end read) f)
 
 -- it is read
-parts_read : {old mid new : Script} {id : ℕ} {v : WideRecord} (in_end : Bool) → ReadsValue IsUnsigned old id mid → ReadsValue (fields_in in_end id) mid v new
-    → ReadsValue (IsPair IsUnsigned (fields_in in_end)) old (id, v) new
+parts_read : {old mid new : Script} {id : ℕ} {v : WideRecord} (in_end : Bool) → ReadsValue IsLong old id mid → ReadsValue (fields_in in_end id) mid v new
+    → ReadsValue (IsPair IsLong (fields_in in_end)) old (id, v) new
 parts_read {old = old} {mid = mid} {new = new} in_end read rest = record {
   bytes = read.bytes ++ rest.bytes;
   spelled = record { front = read.bytes; back = rest.bytes; first = read.spelled; second = rest.spelled; joined = refl };
   takes = Takes-then old mid new read.bytes rest.bytes read.takes rest.takes;
 }
 
-record_read : {old mid new : Script} {id : ℕ} {v : WideRecord} (in_end : Bool) → (id ≡ 2 → new.given ≡ old.given + 256) → ReadsValue IsUnsigned old id mid
+record_read : {old mid new : Script} {id : ℕ} {v : WideRecord} (in_end : Bool) → (id ≡ 2 → new.given ≡ old.given + 256) → ReadsValue IsLong old id mid
     → ReadsValue (fields_in in_end id) mid v new → ReadsValue (wide_record_in in_end) old v new
 record_read {id = id} in_end right read rest =
     let p = parts_read in_end read rest in
     record { bytes = p.bytes; spelled = record { id = id; whole = λ e. omega (arith, right e, p.takes.given); parts = p.spelled }; takes = p.takes }
 
-pub inner_read : {old mid new : Script} {id : ℕ} {v : WideRecord} (in_end : Bool) → id ≢ 2 → ReadsValue IsUnsigned old id mid
+pub inner_read : {old mid new : Script} {id : ℕ} {v : WideRecord} (in_end : Bool) → id ≢ 2 → ReadsValue IsLong old id mid
     → ReadsValue (fields_in in_end id) mid v new → ReadsValue (wide_record_in in_end) old v new
 inner_read in_end isnt read rest = record_read in_end (λ e. absurd (isnt e)) read rest
 
 -- ---- END
 
-OneFront-parts : (in_end : Bool) → OneFront (IsPair IsUnsigned (fields_in in_end))
-OneFront-parts in_end = OneFront-pair IsUnsigned (fields_in in_end) OneFront-IsUnsigned (λ id. (fields in_end id).found.one)
+OneFront-parts : (in_end : Bool) → OneFront (IsPair IsLong (fields_in in_end))
+OneFront-parts in_end = OneFront-pair IsLong (fields_in in_end) OneFront-long (λ id. (fields in_end id).found.one)
 
 pub OneFront-wide_record : (in_end : Bool) → OneFront (wide_record_in in_end)
 OneFront-wide_record in_end = record {
@@ -186,18 +187,18 @@ named_end why.InfoByte = refl
 named_end why.RealType = refl
 named_end _ = refl
 
-pub end_fails : {old mid new : Script} {id : ℕ} {reason : Why} (in_end : Bool) → id ≡ 2 → ReadsValue IsUnsigned old id mid
+pub end_fails : {old mid new : Script} {id : ℕ} {reason : Why} (in_end : Bool) → id ≡ 2 → ReadsValue IsLong old id mid
     → FailsPiece (SpellsWideEnd in_end) (WideEndTook in_end) mid reason new → FailsWide in_end old (wide.Profile reason) new
 end_fails {old = old} {mid = mid} {new = new} {reason = reason} in_end is read f =
     subst (λ (w : WideWhy). FailsWide in_end old w new) (ap (λ (k : ℕ). named k reason) is ∙ named_end reason)
     (fields_fail in_end read (subst (λ (k : ℕ). FailsPiece (fields_in in_end k) (fields in_end k).took mid reason new) (sym is) (image_fails end f)))
 
-pub end_read : {old mid new : Script} {id : ℕ} {v : WideEnd} (in_end : Bool) → new.given ≡ old.given + 256 → id ≡ 2 → ReadsValue IsUnsigned old id mid
+pub end_read : {old mid new : Script} {id : ℕ} {v : WideEnd} (in_end : Bool) → new.given ≡ old.given + 256 → id ≡ 2 → ReadsValue IsLong old id mid
     → ReadsValue (SpellsWideEnd in_end) mid v new → ReadsValue (wide_record_in in_end) old (end v) new
 end_read in_end right is read rest = record_read in_end (λ _. right) read (end_fields in_end is rest)
 
 -- END in all its parts, but not of 256 bytes
-pub end_refused : {old mid new : Script} {id : ℕ} {v : WideEnd} (in_end : Bool) → new.given ≢ old.given + 256 → id ≡ 2 → ReadsValue IsUnsigned old id mid
+pub end_refused : {old mid new : Script} {id : ℕ} {v : WideEnd} (in_end : Bool) → new.given ≢ old.given + 256 → id ≡ 2 → ReadsValue IsLong old id mid
     → ReadsValue (SpellsWideEnd in_end) mid v new → FailsWide in_end old (wide.Profile why.EndLength) new
 end_refused {old = old} {id = id} {v = v} in_end wrong is read fields_read =
     let rest = end_fields in_end is fields_read in
@@ -211,7 +212,7 @@ end_refused {old = old} {id = id} {v = v} in_end wrong is read fields_read =
         last = p.bytes;
         joined = refl;
         begun = refl;
-        holds = inr (inr (refl, record { value = end v; parts = subst (λ (k : ℕ). IsPair IsUnsigned (fields_in in_end) (k, end v) p.bytes) is p.spelled; wrong = long }));
+        holds = inr (inr (refl, record { value = end v; parts = subst (λ (k : ℕ). IsPair IsLong (fields_in in_end) (k, end v) p.bytes) is p.spelled; wrong = long }));
       };
       format = λ _. record {
         none = λ w q r more s same.

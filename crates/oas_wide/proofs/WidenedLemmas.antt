@@ -4,7 +4,7 @@ use Rattle.std.specs.Option.{option_map}
 use Rattle.std.specs.Prelude.{◌==◌}
 use Rattle.std.proofs.lemmas.List.{append-nil}
 use Rattle.oas_num.specs.Combinators.{IsEither}
-use Rattle.oas_num.specs.Grammar.{IsImage}
+use Rattle.oas_num.specs.Grammar.{IsPair, IsImage}
 use Rattle.oas_num.specs.Integers.{IsUnsigned}
 use Rattle.oas_num.specs.Style.{Any}
 use Rattle.oas_record.specs.declared.placements.Placement.{Placement}
@@ -18,7 +18,7 @@ use Rattle.oas_record.specs.declared.spots.Spot.{Spot}
 use Rattle.oas_record.specs.Ends.{end_in}
 use Rattle.oas_record.specs.Info.{has}
 use Rattle.oas_record.specs.Placements.{degrees_in}
-use Rattle.oas_record.specs.Records.{id_of, after, after_id, record_in}
+use Rattle.oas_record.specs.Records.{id_of, after_id, record_in}
 use Rattle.oas_record.proofs.IdLemmas.{either_id, id_after}
 use Rattle.oas_wide.specs.declared.ends.Validation.TheVariants.{Unvalidated}
 use Rattle.oas_wide.specs.declared.placements.WidePlacement.{WidePlacement}
@@ -26,14 +26,17 @@ use Rattle.oas_wide.specs.declared.records.WideRecord.{WideRecord}
 use Rattle.oas_num.specs.declared.padding.Padding.{Padding}
 use Rattle.oas_num.specs.Texts.{SpellsPadding}
 use Rattle.oas_wide.specs.Ends.{SpellsWideEnd, SpellsValidation}
-use Rattle.oas_wide.specs.Long.{long_padding}
+use Rattle.oas_wide.specs.Long.{IsLong, long_padding}
 use Rattle.oas_wide.specs.Placements.{SpellsPlacement, as_wide}
 use Rattle.oas_wide.specs.Reals.{wide_of}
 use Rattle.oas_wide.specs.WideRecords.{profile, end, property_name, property_string, layers_named, textlayers_named, a_placement, a_trapezoid, a_named_trapezoid, a_property, last_property, extension_name, extension_element, a_geometry, a_block}
+use Rattle.oas_long.specs.AnyLength.{IsAnyLength, first_of}
+use Rattle.oas_shortened.specs.Places.{shortened}
+use Rattle.oas_wide.proofs.AnyLengthLemmas.{short_spelled}
 use Rattle.oas_wide.proofs.LongLemmas.{long_unsigned}
 use Rattle.oas_wide.proofs.RealLemmas.{real_if_widened}
 use Rattle.oas_wide.proofs.WideLemmas.{either_split}
-use Rattle.oas_wide.specs.WideRecords.{foreign, fields_in, is_profile_id, wide_record_in, inner_widened, widened}
+use Rattle.oas_wide.specs.WideRecords.{foreign, fields_in, is_profile_id, wide_record_in, inner_widened, widened, AnyLengthAfter}
 
 -- ---- a record of the profile is one of the standard
 
@@ -84,8 +87,8 @@ inner in_end r bytes is p =
       parts = record {
         front = b.front;
         back = b.back;
-        first = b.first;
-        second = subst (λ (t : Bool). IsEither t (IsImage profile (after in_end (id_of r)).any) (foreign in_end (id_of r)).any (profile r) b.back) (sym is) (record { from = r; is = refl; spelled = b.second });
+        first = long_unsigned _ b.front b.first;
+        second = short_spelled in_end (id_of r) is r b.back b.second;
         joined = b.joined;
       };
     }
@@ -148,7 +151,7 @@ placed in_end c (Degrees magnification angle) flip at bytes p =
       parts = record {
         front = b.front;
         back = b.back;
-        first = b.first;
+        first = long_unsigned _ b.front b.first;
         second = record {
           from = as_wide v magnification angle;
           is = refl;
@@ -167,7 +170,7 @@ widen in_end record_of.End bytes p =
       parts = record {
         front = b.front;
         back = b.back;
-        first = b.first;
+        first = long_unsigned _ b.front b.first;
         second = record { from = (record { validation = Unvalidated }); is = refl; spelled = end_widened in_end b.second.from b.back b.second.spelled };
         joined = b.joined;
       };
@@ -219,24 +222,21 @@ not_foreign in_end id r q =
     (by_kind id 34 _ _ (profile r) q (no_image a_block (λ u e. cc)) (λ h. h)))))))))))))))))))
 
 -- it is what follows its own id
-fields_narrowed : (in_end : Bool) (id : ℕ) (r : Record) (q : List ℕ) → fields_in in_end id (profile r) q → after_id Any in_end id r q
+fields_narrowed : (in_end : Bool) (id : ℕ) (r : Record) (q : List ℕ) → fields_in in_end id (profile r) q → IsAnyLength (first_of id) (after_id Any in_end id) r q
 fields_narrowed in_end id r q h = elim (either_split (is_profile_id id) _ _ (profile r) q h) [
-  | inl p ↦ (let is : profile p.from ≡ profile r = p.is in let same : p.from ≡ r = cc in subst (λ (v : Record). after_id Any in_end id v q) same p.spelled)
+  | inl p ↦ (let is : profile p.from ≡ profile r = p.is in let same : p.from ≡ r = cc in subst (λ (v : Record). IsAnyLength (first_of id) (after_id Any in_end id) v q) same p.spelled)
   | inr p ↦ absurd (not_foreign in_end id r q p)
 ]
 
-pub narrowed : (in_end : Bool) (r : Record) (bytes : List ℕ) → wide_record_in in_end (profile r) bytes → record_in Any in_end r bytes
+pub narrowed : (in_end : Bool) (r : Record) (bytes : List ℕ) → wide_record_in in_end (profile r) bytes → IsPair IsLong (AnyLengthAfter in_end) (id_of r, r) bytes
 narrowed in_end r bytes p =
     let b = p.parts in
     let spelled = fields_narrowed in_end p.id r b.back b.second in
-    let is : id_of r ≡ p.id = id_after in_end p.id r b.back spelled in
+    let is : id_of r ≡ p.id = id_after in_end p.id r (shortened (first_of p.id) b.back) spelled.spelled in
     record {
-      whole = λ e. p.whole (sym is ∙ ap id_of e);
-      parts = record {
-        front = b.front;
-        back = b.back;
-        first = subst (λ (k : ℕ). IsUnsigned k b.front) (sym is) b.first;
-        second = subst (λ (k : ℕ). after_id Any in_end k r b.back) (sym is) spelled;
-        joined = b.joined;
-      };
+      front = b.front;
+      back = b.back;
+      first = subst (λ (k : ℕ). IsLong k b.front) (sym is) b.first;
+      second = subst (λ (k : ℕ). AnyLengthAfter in_end k r b.back) (sym is) spelled;
+      joined = b.joined;
     }

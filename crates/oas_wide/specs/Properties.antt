@@ -24,7 +24,8 @@ use Rattle.oas_wide.specs.declared.properties.PropertyName.TheVariants as names
 use Rattle.oas_wide.specs.declared.properties.PropertyValue.{PropertyValue}
 use Rattle.oas_wide.specs.declared.properties.PropertyValue.TheVariants as kinds
 use Rattle.oas_wide.specs.declared.reals.WideReal.{WideReal}
-use Rattle.oas_wide.specs.Reals.{real_after}
+use Rattle.oas_wide.specs.Little.{four, eight}
+use Rattle.oas_wide.specs.Reals.{fraction}
 
 -- ---- values
 
@@ -40,6 +41,12 @@ value_type = such number IsValueType (Unless IsValueType RealType) value_test
 
 abbrev pub real_value : WideReal → PropertyValue
 real_value real = kinds.Real real
+
+abbrev pub single_value : ℕ → PropertyValue
+single_value bits = kinds.Single bits
+
+abbrev pub double_value : ℕ → PropertyValue
+double_value bits = kinds.Double bits
 
 abbrev pub unsigned_value : ℕ → PropertyValue
 unsigned_value n = kinds.Unsigned n
@@ -75,10 +82,17 @@ signed_number = record {
   never = record { none = λ bytes h. h };
 }
 
+-- what follows the type of a real: the bits of a float are passed over whatever they say (own rule)
+abbrev pub real_value_after : ℕ → Kind PropertyValue
+real_value_after type =
+    either (type == 6) (image_any single_value four)
+    (either (type == 7) (image_any double_value eight)
+    (image_any real_value (fraction type)))
+
 -- what follows a type
 abbrev pub value_after : ℕ → Kind PropertyValue
 value_after type =
-    either (ltb type 8) (image_any real_value (real_after type))
+    either (ltb type 8) (real_value_after type)
     (either (type == 8) (image_any unsigned_value number)
     (either (type == 9) (image_any signed_value signed_number)
     (either (ltb type 13) (image_any string_value padding)

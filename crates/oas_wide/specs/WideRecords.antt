@@ -9,10 +9,10 @@ use Rattle.oas_num.specs.Combinators.{IsNever}
 use Rattle.oas_num.specs.Laws.CombinatorLaws.{OneSpelling-never, OneSpelling-either, IsWithin-either}
 use Rattle.oas_num.specs.Grammar.{IsPair, IsImage}
 use Rattle.oas_num.specs.Combinators.{IsEither}
-use Rattle.oas_num.specs.Integers.{IsUnsigned}
 use Rattle.oas_num.specs.Pieces.{IsBehind}
-use Rattle.oas_num.specs.Reading.{ReadsValue, FailsPiece, IntegerMay}
+use Rattle.oas_num.specs.Reading.{ReadsValue, FailsPiece}
 use Rattle.oas_num.specs.Script.{Script}
+use Rattle.oas_long.specs.AnyLength.{IsAnyLength, any_length, first_of, settled_first}
 use Rattle.oas_record.specs.declared.placements.Turn.TheVariants.{Quarters, Degrees}
 use Rattle.oas_record.specs.declared.records.Record.{Record}
 use Rattle.oas_record.specs.declared.records.Record.TheVariants as profile_of
@@ -37,6 +37,7 @@ use Rattle.oas_wide.specs.Blocks.{block_head}
 use Rattle.oas_wide.specs.Ends.{wide_end}
 use Rattle.oas_wide.specs.Extensions.{extension_geometry}
 use Rattle.oas_wide.specs.LayerNames.{layer_name}
+use Rattle.oas_wide.specs.Long.{IsLong, LongMay}
 use Rattle.oas_wide.specs.Placements.{wide_placement, as_wide}
 use Rattle.oas_wide.specs.Properties.{property}
 use Rattle.oas_wide.specs.Reasons.{named, plain_of}
@@ -146,19 +147,24 @@ either_choice test A B = record {
   never = either_never test A.took B.took A.never B.never;
 }
 
--- what follows an id: as in the profile, or as above
+-- what follows an id: as in the profile, with integers in any number of bytes, or as above
 abbrev pub fields : Bool → ℕ → Choice WideRecord
-fields in_end id = either_choice (is_profile_id id) (image_choice profile (after in_end id)) (foreign in_end id)
+fields in_end id = either_choice (is_profile_id id) (image_choice profile (any_length (first_of id) (settled_first id) (after in_end id))) (foreign in_end id)
+
+-- what follows the id of a record of the profile
+abbrev pub AnyLengthAfter : Bool → ℕ → Record → List ℕ → Type 0
+AnyLengthAfter in_end id = IsAnyLength (first_of id) (after in_end id).any
 
 abbrev pub fields_in : Bool → ℕ → WideRecord → List ℕ → Type 0
 fields_in in_end id = (fields in_end id).any
 
--- The bytes spell the record, in a file whose START says where the table-offsets stand: an id, and what follows it. END, its
+-- The bytes spell the record, in a file whose START says where the table-offsets stand: an id in any number of bytes, and what
+-- follows it. END, its
 -- id and its signature included, is 256 bytes.
 pub record wide_record_in (in_end : Bool) (r : WideRecord) (bytes : List ℕ) : Type 0 where
   pub id : ℕ
   pub whole : id ≡ 2 → length bytes ≡ 256
-  pub parts : IsPair IsUnsigned (fields_in in_end) (id, r) bytes
+  pub parts : IsPair IsLong (fields_in in_end) (id, r) bytes
 
 -- ---- ids
 
@@ -187,7 +193,7 @@ RefusesWideId id (Some why) = IsRefusedWideId id why
 
 -- in the id
 abbrev pub WideIdTook : Why → List ℕ → Type 0
-WideIdTook why bytes = IntegerMay why bytes ⊎ ((id : ℕ) × IsUnsigned id bytes × IsRefusedWideId id why)
+WideIdTook why bytes = LongMay why bytes ⊎ ((id : ℕ) × IsLong id bytes × IsRefusedWideId id why)
 
 -- in what follows an id, and the reason is named after it
 abbrev pub FieldsTook : Bool → WideWhy → ℕ → List ℕ → Type 0
@@ -196,14 +202,14 @@ FieldsTook in_end wide id bytes = (why : Why) × (fields in_end id).took why byt
 -- END in all its parts, but not of 256 bytes
 pub record IsWrongWideEnd (in_end : Bool) (bytes : List ℕ) : Type 0 where
   pub value : WideRecord
-  pub parts : IsPair IsUnsigned (fields_in in_end) (2, value) bytes
+  pub parts : IsPair IsLong (fields_in in_end) (2, value) bytes
   pub wrong : length bytes ≢ 256
 
 -- where in it a read of a record may fail: in its id, or in what follows that id; or it is END, whole, and not of 256 bytes
 abbrev pub WideRecordTook : Bool → WideWhy → List ℕ → Type 0
 WideRecordTook in_end wide bytes =
     ((why : Why) × (wide ≡ Profile why) × WideIdTook why bytes) ⊎
-    (IsBehind IsUnsigned (FieldsTook in_end wide) bytes ⊎
+    (IsBehind IsLong (FieldsTook in_end wide) bytes ⊎
     ((wide ≡ Profile EndLength) × IsWrongWideEnd in_end bytes))
 
 -- ---- reading

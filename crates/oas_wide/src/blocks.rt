@@ -1,7 +1,8 @@
 ghost use Rattle.oas_num.specs.Reading.{ReadsPiece};
 ghost use Rattle.oas_wide.specs.Blocks.{SpellsBlockHead, BlockHeadTook};
 
-use oas_num::{Source, Why, read_unsigned};
+use crate::long::read_long;
+use oas_num::{Source, Why};
 
 /// What stands before the bytes of a compressed block (SEMI P39, CBLOCK record), id 34. Which kinds there are, and whether
 /// the lengths are those of the bytes, is for the caller to see.
@@ -16,13 +17,13 @@ pub struct BlockHead {
 }
 
 impl BlockHead {
-    /// What follows the id.
+    /// What follows the id, in any number of bytes.
     pub fn read<S: Source>(source: &mut S) -> Result<BlockHead, Why>
         ensures { ReadsPiece SpellsBlockHead BlockHeadTook (S.script source.old) result (S.script source.new) }
     {
-        let kind = read_unsigned(source)?;
-        let inflated = read_unsigned(source)?;
-        let deflated = read_unsigned(source)?;
+        let kind = read_long(source)?;
+        let inflated = read_long(source)?;
+        let deflated = read_long(source)?;
         Ok(BlockHead {
             kind,
             inflated,

@@ -1,20 +1,21 @@
 //! The laws of the grammar: the function's contract is them, and its body is empty.
 ghost use Rattle.std.specs.Prelude.{Bool, List, ℕ};
 ghost use Rattle.oas_num.specs.Begun.{HasSome};
-ghost use Rattle.oas_num.specs.Grammar.{OneFront};
+ghost use Rattle.oas_num.specs.Grammar.{IsPair, OneFront};
 ghost use Rattle.oas_num.specs.Style.{Any};
-ghost use Rattle.oas_record.specs.Records.{record_in};
+ghost use Rattle.oas_record.specs.Records.{id_of, record_in};
 ghost use Rattle.oas_record.specs.declared.records.Record.{Record};
 ghost use Rattle.oas_wide.specs.Blocks.{SpellsBlockHead};
 ghost use Rattle.oas_wide.specs.Ends.{SpellsWideEnd};
 ghost use Rattle.oas_wide.specs.Extensions.{SpellsGeometry};
 ghost use Rattle.oas_wide.specs.Heads.{SpellsWideStart};
 ghost use Rattle.oas_wide.specs.LayerNames.{SpellsLayerName};
+ghost use Rattle.oas_wide.specs.Long.{IsLong};
 ghost use Rattle.oas_wide.specs.Placements.{SpellsPlacement};
 ghost use Rattle.oas_wide.specs.Properties.{SpellsProperty, SpellsValue};
 ghost use Rattle.oas_wide.specs.Strings.{SpellsString, SpellsAttributed};
 ghost use Rattle.oas_wide.specs.Trapezoids.{SpellsTrapezoid, SpellsNamedTrapezoid};
-ghost use Rattle.oas_wide.specs.WideRecords.{profile, wide_record_in, widened};
+ghost use Rattle.oas_wide.specs.WideRecords.{AnyLengthAfter, profile, wide_record_in, widened};
 
 /// Of what follows an id, and of START, no spelling begins another, and none spells two values.
 pub fn fronts()
@@ -49,10 +50,10 @@ pub fn some()
 {}
 
 /// Records: no spelling begins another, and none spells two. A record of the profile is spelled here as it is there: END
-/// without a signature, a placement by reals with these among those of all types, and each other one as itself, which nothing
-/// else spells.
+/// without a signature, a placement by reals with these among those of all types, and each other one as itself. Nothing else
+/// spells that one but its integers in more bytes.
 pub fn records()
     ensures front { (in_end : Bool) → OneFront (wide_record_in in_end) }
     ensures within { (in_end : Bool) (r : Record) (bytes : List ℕ) → record_in Any in_end r bytes → wide_record_in in_end (widened r) bytes }
-    ensures back { (in_end : Bool) (r : Record) (bytes : List ℕ) → wide_record_in in_end (profile r) bytes → record_in Any in_end r bytes }
+    ensures back { (in_end : Bool) (r : Record) (bytes : List ℕ) → wide_record_in in_end (profile r) bytes → IsPair IsLong (AnyLengthAfter in_end) (id_of r, r) bytes }
 {}

@@ -7,8 +7,8 @@
 //!   spelling is a front of the bytes that stand there, however they go on. The contract is `ReadsPiece` of `oas_num`.
 //! - [`WideRecord::read`] reads any record but START, those of the profile too: `Ok` exactly where a spelling of it stands there
 //!   (`wide_record_in`, specs/WideRecords.antt), and its refusals have the record's place and a [`WideWhy`], which names what
-//!   the profile has no reason for. A record of the profile is read as there, but END, whose signature it has, and placements
-//!   by reals, whose reals are of all types ([`laws::records`]).
+//!   the profile has no reason for. A record of the profile is read as there, with integers in any number of bytes, but END,
+//!   whose signature it has, and placements by reals, whose reals are of all types ([`laws::records`]).
 //! - What is read is one tree a kind of record (`Kind` of `oas_record`, in the file of the same name in specs/): from it come
 //!   the spellings, the table of what goes wrong where (`took`), and that no spelling begins another ([`laws::fronts`]).
 //!

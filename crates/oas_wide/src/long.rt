@@ -35,7 +35,7 @@ fn with_group(value: u64, group: u8, place: u64) -> Option<u64>
 
 /// Reads a number without a sign, in any number of bytes: behind the tenth its groups are zero. It is refused at the byte
 /// that decides.
-fn read_long<S: Source>(source: &mut S) -> Result<u64, Why>
+pub(crate) fn read_long<S: Source>(source: &mut S) -> Result<u64, Why>
     ensures { ReadsPiece IsLong LongMay (S.script source.old) result (S.script source.new) }
 {
     let start = source.at();

@@ -1,9 +1,10 @@
 ghost use Rattle.std.specs.Prelude.{◌↔◌, IsTrue};
 ghost use Rattle.oas_num.specs.Reading.{ReadsPiece};
 ghost use Rattle.oas_record.specs.Trees.{there};
-ghost use Rattle.oas_wide.specs.Properties.{IsPropertyInfo, property_name, value_after, value_count, value_list, values};
+ghost use Rattle.oas_wide.specs.Properties.{IsPropertyInfo, property_name, real_value_after, value_after, value_count, value_list, values};
 
-use crate::reals::{WideReal, read_real_after};
+use crate::little::{read_eight, read_four};
+use crate::reals::{WideReal, read_fraction};
 use oas_num::{Padding, Signed, Source, Spelled, Why, next_byte, read_unsigned};
 use std::alloc::Global;
 
@@ -11,8 +12,12 @@ use std::alloc::Global;
 /// isn't looked at (own rule).
 #[derive(Clone, Copy, Debug, PartialEq, Eq)]
 pub enum PropertyValue {
-    /// Types 0 to 7: a real of that type.
+    /// Types 0 to 5: a fraction of that type.
     Real(WideReal),
+    /// Type 6: a float of single precision, by its bits. It may be infinite, or no number (own rule).
+    Single(u32),
+    /// Type 7: a float of double precision, by its bits. It may be infinite, or no number (own rule).
+    Double(u64),
     /// Type 8.
     Unsigned(u64),
     /// Type 9.
@@ -21,6 +26,22 @@ pub enum PropertyValue {
     Text(Padding),
     /// Types 13 to 15: such a string, by the number of its PROPSTRING.
     Reference(u64),
+}
+
+/// What follows the type of a real, which is below 8.
+fn read_real_value<S: Source>(kind: u64, source: &mut S) -> Result<PropertyValue, Why>
+    ensures { ReadsPiece (real_value_after kind).any (real_value_after kind).took (S.script source.old) result (S.script source.new) }
+{
+    if kind == 6 {
+        let single = read_four(source)?;
+        return Ok(PropertyValue::Single(single));
+    }
+    if kind == 7 {
+        let double = read_eight(source)?;
+        return Ok(PropertyValue::Double(double));
+    }
+    let real = read_fraction(kind, source)?;
+    Ok(PropertyValue::Real(real))
 }
 
 /// What follows the type of a value, which is below 16.
@@ -32,8 +53,7 @@ fn read_value_after<S: Source>(
     ensures { ReadsPiece (value_after kind).any (value_after kind).took (S.script source.old) result (S.script source.new) }
 {
     if kind < 8 {
-        let real = read_real_after(kind, source)?;
-        return Ok(PropertyValue::Real(real));
+        return read_real_value(kind, source);
     }
     if kind == 8 {
         let number = read_unsigned(source)?;

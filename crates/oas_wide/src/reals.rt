@@ -74,7 +74,7 @@ fn read_double<S: Source>(source: &mut S) -> Result<WideReal, Why>
 }
 
 /// The parts of a fraction, of a type below 6.
-fn read_fraction<S: Source>(kind: u64, source: &mut S) -> Result<WideReal, Why>
+pub(crate) fn read_fraction<S: Source>(kind: u64, source: &mut S) -> Result<WideReal, Why>
     ensures { ReadsPiece (fraction kind).any (fraction kind).took (S.script source.old) result (S.script source.new) }
 {
     let num = read_unsigned_if(kind / 2 != 1, source)?;
@@ -96,7 +96,7 @@ fn part_or_one(part: Option<u64>) -> u64
 }
 
 /// What follows a type.
-pub(crate) fn read_real_after<S: Source>(kind: u64, source: &mut S) -> Result<WideReal, Why>
+fn read_real_after<S: Source>(kind: u64, source: &mut S) -> Result<WideReal, Why>
     ensures { ReadsPiece (real_after kind).any (real_after kind).took (S.script source.old) result (S.script source.new) }
 {
     if kind == 6 {

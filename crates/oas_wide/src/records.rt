@@ -1,17 +1,19 @@
-ghost use Rattle.std.specs.Prelude.{◌≡◌, ◌≢◌, ◌<◌, ◌≤◌, Bool, true, false};
+ghost use Rattle.std.specs.Prelude.{◌≡◌, ◌≢◌, ◌≤◌, Bool, true};
 ghost use Rattle.oas_num.specs.Reading.{ReadsPiece};
-ghost use Rattle.oas_wide.specs.WideRecords.{foreign, fields, is_profile_id, IsWideId, IsForeignId, RefusesWideId, ReadsWide, ReadsWideAt};
+ghost use Rattle.oas_wide.specs.WideRecords.{foreign, is_profile_id, IsWideId, IsForeignId, RefusesWideId, ReadsWide, ReadsWideAt};
 
 use crate::blocks::BlockHead;
 use crate::ends::WideEnd;
 use crate::extensions::ExtensionGeometry;
 use crate::layer_names::LayerName;
+use crate::long::read_long;
 use crate::placements::WidePlacement;
 use crate::properties::Property;
 use crate::reasons::{WideRefusal, WideWhy, named};
 use crate::strings::{read_attributed, read_string};
 use crate::trapezoids::{NamedTrapezoid, Trapezoid};
-use oas_num::{Padding, Source, Why, read_unsigned};
+use oas_long::read_after;
+use oas_num::{Padding, Source, Why};
 use oas_record::Record;
 use std::alloc::Global;
 
@@ -81,7 +83,8 @@ fn refused_id(id: u64) -> Option<Why>
 
 /// Whether what follows that id is as the profile has it, whose END has no signature, and whose placements have no floats.
 fn is_profile_id(id: u64) -> bool
-    ensures { result ≡ is_profile_id id }
+    ensures is { result ≡ is_profile_id id }
+    ensures inner { result ≡ true → (id ≢ 2) × (id ≢ 18) }
 {
     id != 2 && id != 18 && (id <= 6 || (id >= 13 && id <= 22) || id == 27)
 }
@@ -173,25 +176,12 @@ fn read_foreign<S: Source>(alloc: Global, id: u64, source: &mut S) -> Result<Wid
     Ok(WideRecord::Block(head))
 }
 
-/// What follows an id of the standard, but START's and END's.
-fn read_fields<S: Source>(alloc: Global, id: u64, source: &mut S) -> Result<WideRecord, Why>
-    requires known { IsWideId id }
-    requires inner { id ≢ 2 }
-    ensures { (in_end : Bool) → ReadsPiece (fields in_end id).any (fields in_end id).took (S.script source.old) result (S.script source.new) }
-{
-    if is_profile_id(id) {
-        let record = Record::read_after(alloc, id, source)?;
-        return Ok(WideRecord::Profile(record));
-    }
-    read_foreign(alloc, id, source)
-}
-
-/// A record: an id, and what follows it. END has to be 256 bytes, its id and its signature included.
+/// A record: an id in any number of bytes, and what follows it. END has to be 256 bytes, its id and its signature included.
 fn read_whole<S: Source>(alloc: Global, in_end: bool, source: &mut S) -> Result<WideRecord, WideWhy>
     ensures { ReadsWide in_end (S.script source.old) result (S.script source.new) }
 {
     let start = source.at();
-    let id = read_unsigned(source)?;
+    let id = read_long(source)?;
     if let Some(why) = refused_id(id) {
         return Err(WideWhy::Profile(why));
     }
@@ -203,7 +193,13 @@ fn read_whole<S: Source>(alloc: Global, in_end: bool, source: &mut S) -> Result<
         }
         return Ok(WideRecord::End(end));
     }
-    match read_fields(alloc, id, source) {
+    if is_profile_id(id) {
+        return match read_after(alloc, id, source) {
+            Ok(record) => Ok(WideRecord::Profile(record)),
+            Err(why) => Err(named(id, why)),
+        };
+    }
+    match read_foreign(alloc, id, source) {
         Ok(record) => Ok(record),
         Err(why) => Err(named(id, why)),
     }

@@ -154,6 +154,7 @@ xgeometry 0 8 1b 07 01 02 0141 0204 ff\n\
 xgeometry 0 4 00 07 0141 ff\n\
 xgeometry 14 1 20\n\
 cblock 0 4 00 8002 03 ff\n\
+cblock 0 23 80*10 00 82 80*9 00 03 ff\n\
 cblock 2 2 00 80\n\
 trapezoid 0 9 7b 01 02 64 32 0a 05 02 04 ff\n\
 trapezoid 0 3 80 0a 05 ff\n\
@@ -176,6 +177,13 @@ record 0 256 02 f801 00*248 02 78563412 ff\n\
 record 28 255 02 fb01 00*251 00\n\
 record 0 4 08 0141 05 ff\n\
 record 0 4 8700 0141 ff\n\
+record 0 16 94 80*9 00 63 01 02 64 32 ff\n\
+record 3 11 94 80*9 01\n\
+record 0 23 14 63 81 80*10 00 02 e4 80*5 00 32 ff\n\
+record 0 15 0e 81 80*11 00 41 ff\n\
+record 3 13 14 7b 80*9 80 01\n\
+record 0 2 14 80*10 80 01\n\
+record 2 300 14 7b 80*298\n\
 record 112 4 0c 0141 05\n\
 record 0 4 12 04 00 01 ff\n\
 record 0 15 12 86 0141 01 00 07 0000000000805640 ff\n\

@@ -67,7 +67,7 @@ fn writers_that_fail(rt: HostRuntime) -> Result<(), Fail> {
 #[test]
 fn each_growth(rt: HostRuntime) -> Result<(), Fail> {
     let alloc = rt.alloc();
-    expect_growths(&rt, alloc, &Run::of_rekey(alloc, BOX, RECTANGLE)?)
+    expect_growths(&rt, alloc, &[Run::of_rekey(alloc, BOX, RECTANGLE)?])
 }
 
 /// Runs `canon` on a box within these limits of elements, weight and input, and asserts the status and the output's length.

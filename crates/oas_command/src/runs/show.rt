@@ -8,9 +8,10 @@ ghost use Rattle.oas_listing.specs.Listing.{listing};
 ghost use Rattle.oas_command.specs.Runs.{status_of, Delivers, said, Ends, AppendsFront};
 
 use super::ends::{DONE, conclude, refuse};
-use oas_canon::{Limits, PROFILE, read_layout};
-use oas_listing::write_listing;
+use oas_canon::{ByProfile, Limits, PROFILE};
 use oas_num::{Outlet, Sink, Source};
+use oas_run_listing::write_compact_listing;
+use oas_runs::read_compact;
 use std::alloc::Global;
 use std::io::Write;
 
@@ -50,9 +51,9 @@ pub fn show_telling<S: Source, W: Write, K: Sink>(
         × Delivers W.contents (λ l. listing (meaning_of l)) out.old found answer out.new
         × Ends K.given K.failures name.now told.old answer told.new }
 {
-    match read_layout(alloc, from, limits, PROFILE) {
+    match read_compact::<S, ByProfile>(alloc, from, limits) {
         Ok(layout) => {
-            let written = write_listing(&layout, out);
+            let written = write_compact_listing(&layout, out);
             conclude(name, written, DONE, told)
         }
         Err(refusal) => refuse(name, refusal, told),

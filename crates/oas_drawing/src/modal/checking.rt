@@ -79,8 +79,8 @@ impl ModalVariables {
 
     /// What an element of the kind weighs, as long as numbers have no names. None where a variable that it needs is
     /// undefined.
-    fn weight_of_one(&self, kind: Kind) -> Option<u128>
-        ensures weight { (at : OnePoint) → option_map weight_so_far (kind_at self.now kind at) ≡ result }
+    fn weight_of_one(&self, kind: &Kind) -> Option<u128>
+        ensures weight { (at : OnePoint) → option_map weight_so_far (kind_at self.now kind.now at) ≡ result }
         ensures near { IfSome result (λ weight. weight ≤ 2 ^ 64) }
     {
         match kind {
@@ -115,8 +115,8 @@ impl ModalVariables {
     }
 
     /// Whether a polygon has fewer than three points.
-    fn lacks_points(&self, kind: Kind) -> bool
-        ensures { (at : OnePoint) → lacks_if (kind_at self.now kind at) ≡ result }
+    fn lacks_points(&self, kind: &Kind) -> bool
+        ensures { (at : OnePoint) → lacks_if (kind_at self.now kind.now at) ≡ result }
     {
         match (kind, self.layer, self.datatype, &self.polygon_points) {
             (Kind::Polygon, Some(_), Some(_), Some(points)) => points.len() < 3,
@@ -125,8 +125,8 @@ impl ModalVariables {
     }
 
     /// The position of the class of a kind.
-    fn place_of(&self, kind: Kind) -> Position
-        ensures { result ≡ place_of self.now kind }
+    fn place_of(&self, kind: &Kind) -> Position
+        ensures { result ≡ place_of self.now kind.now }
     {
         match kind {
             Kind::Placement { .. } => self.placement,
@@ -142,7 +142,7 @@ impl ModalVariables {
     /// `CoordinateRange`, in this order. Its position is then within the limits.
     pub fn copies(
         &self,
-        kind: Kind,
+        kind: &Kind,
         repeated: bool,
         limits: Limits,
         count: u64,
@@ -150,9 +150,9 @@ impl ModalVariables {
     ) -> Result<u64, Why>
         requires few { count ≤ limits.elements }
         requires light { weight ≤ limits.weight }
-        ensures ok { IfOk result (λ number. (kind_reason limits count weight self.now kind repeated ≡ None) × (number ≡ number_if repeated self.now.repetition)) }
-        ensures near { OnOk result (IsNear (place_of self.now kind)) }
-        ensures err { IfErr result (λ why. kind_reason limits count weight self.now kind repeated ≡ Some why) }
+        ensures ok { IfOk result (λ number. (kind_reason limits count weight self.now kind.now repeated ≡ None) × (number ≡ number_if repeated self.now.repetition)) }
+        ensures near { OnOk result (IsNear (place_of self.now kind.now)) }
+        ensures err { IfErr result (λ why. kind_reason limits count weight self.now kind.now repeated ≡ Some why) }
     {
         let Some(one) = self.weight_of_one(kind) else {
             return Err(Why::ModalUndefined);

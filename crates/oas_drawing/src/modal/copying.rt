@@ -63,13 +63,13 @@ impl ModalVariables {
     /// by `Memory`: a placement or a text only where it isn't refused otherwise, a polygon or a path as soon as its variables
     /// are defined, since its vertices are looked at as they are made.
     #[tactic(auto, using(crate::proofs::Grids::never_memory))]
-    pub fn copy(&self, alloc: Global, kind: Kind, repeated: bool, i: u64) -> Result<Drawn, Why>
+    pub fn copy(&self, alloc: Global, kind: &Kind, repeated: bool, i: u64) -> Result<Drawn, Why>
         requires below { i < number_if repeated self.now.repetition }
         requires small { i < 2 ^ 32 }
-        ensures ok { IfOk result (λ d. drawn_by self.now kind (offset_if repeated self.now.repetition i) ≡ Some d) }
-        ensures fits { IfOk result (λ d. fault_of (drawn_by self.now kind (offset_if repeated self.now.repetition i)) ≡ None) }
-        ensures err { IfErr result (λ why. (why ≡ Memory) ⊎ (fault_of (drawn_by self.now kind (offset_if repeated self.now.repetition i)) ≡ Some why)) }
-        ensures memory { IfErr result (λ why. why ≡ Memory → MayWant kind (drawn_by self.now kind (offset_if repeated self.now.repetition i))) }
+        ensures ok { IfOk result (λ d. drawn_by self.now kind.now (offset_if repeated self.now.repetition i) ≡ Some d) }
+        ensures fits { IfOk result (λ d. fault_of (drawn_by self.now kind.now (offset_if repeated self.now.repetition i)) ≡ None) }
+        ensures err { IfErr result (λ why. (why ≡ Memory) ⊎ (fault_of (drawn_by self.now kind.now (offset_if repeated self.now.repetition i)) ≡ Some why)) }
+        ensures memory { IfErr result (λ why. why ≡ Memory → MayWant kind.now (drawn_by self.now kind.now (offset_if repeated self.now.repetition i))) }
     {
         let drawn = self.drawn_by(alloc, kind, self.offset(repeated, i))?;
         if fits(&drawn) {

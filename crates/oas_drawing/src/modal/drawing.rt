@@ -235,12 +235,17 @@ impl ModalVariables {
     }
 
     /// The element of a kind, moved by an offset, in the grid or not.
-    pub(super) fn drawn_by(&self, alloc: Global, kind: Kind, by: (i128, i128)) -> Result<Drawn, Why>
-        ensures ok { IfOk result (λ d. drawn_by self.now kind (step by.0 by.1) ≡ Some d) }
-        ensures err { IfErr result (λ why. ((why ≡ Memory) × MayWant kind (drawn_by self.now kind (step by.0 by.1))) ⊎ (fault_of (drawn_by self.now kind (step by.0 by.1)) ≡ Some why)) }
+    pub(super) fn drawn_by(
+        &self,
+        alloc: Global,
+        kind: &Kind,
+        by: (i128, i128),
+    ) -> Result<Drawn, Why>
+        ensures ok { IfOk result (λ d. drawn_by self.now kind.now (step by.0 by.1) ≡ Some d) }
+        ensures err { IfErr result (λ why. ((why ≡ Memory) × MayWant kind.now (drawn_by self.now kind.now (step by.0 by.1))) ⊎ (fault_of (drawn_by self.now kind.now (step by.0 by.1)) ≡ Some why)) }
     {
         match kind {
-            Kind::Placement { turn, flip } => self.placement_by(alloc, turned(turn), flip, by),
+            Kind::Placement { turn, flip } => self.placement_by(alloc, turned(*turn), *flip, by),
             Kind::Text => self.text_by(alloc, by),
             Kind::Rectangle => self.rectangle_by(by),
             Kind::Polygon => self.polygon_by(alloc, by),

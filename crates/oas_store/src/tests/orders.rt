@@ -12,7 +12,7 @@ use std::process::Abort;
 use std::test::Fail;
 
 /// How many numbers come.
-const COUNT: u32 = 20_000;
+const COUNT: u32 = 100_000;
 
 /// An order in which numbers come.
 #[derive(Clone, Copy, Debug)]
@@ -31,7 +31,7 @@ impl Order {
         match self {
             Order::Ascending => before,
             Order::Descending => (COUNT - 1).saturating_sub(before),
-            Order::Sawtooth => before % 5000,
+            Order::Sawtooth => before % 25_000,
             Order::OrganPipe => before.min((COUNT - 1).saturating_sub(before)),
             Order::Scattered => before.wrapping_mul(7919) % COUNT,
             Order::Few => before.wrapping_mul(7) % 10,
@@ -96,11 +96,11 @@ fn assert_numbers(
 #[test]
 fn keys_come_in_any_order(rt: HostRuntime) -> Result<(), Fail> {
     let alloc = rt.alloc();
-    assert_numbers(&rt, alloc, Order::Ascending, 20_000, 1)?;
-    assert_numbers(&rt, alloc, Order::Descending, 20_000, 1)?;
-    assert_numbers(&rt, alloc, Order::Sawtooth, 5000, 4)?;
-    assert_numbers(&rt, alloc, Order::OrganPipe, 10_000, 2)?;
-    assert_numbers(&rt, alloc, Order::Scattered, 20_000, 1)?;
-    assert_numbers(&rt, alloc, Order::Few, 10, 2000)?;
+    assert_numbers(&rt, alloc, Order::Ascending, 100_000, 1)?;
+    assert_numbers(&rt, alloc, Order::Descending, 100_000, 1)?;
+    assert_numbers(&rt, alloc, Order::Sawtooth, 25_000, 4)?;
+    assert_numbers(&rt, alloc, Order::OrganPipe, 50_000, 2)?;
+    assert_numbers(&rt, alloc, Order::Scattered, 100_000, 1)?;
+    assert_numbers(&rt, alloc, Order::Few, 10, 10_000)?;
     Ok(())
 }

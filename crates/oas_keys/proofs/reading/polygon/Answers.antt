@@ -1,4 +1,4 @@
-use Rattle.std.proofs.Common.{[], sym, ◌∙◌}
+use Rattle.std.proofs.Common.{◌∙◌}
 use Rattle.oas_ring.specs.Points.{origin}
 use Rattle.oas_layout.specs.declared.element.Element.TheVariants.{Polygon}
 use Rattle.oas_keys.specs.Keys.{points_key}

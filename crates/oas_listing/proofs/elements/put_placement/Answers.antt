@@ -15,22 +15,19 @@ returns-in_err-put_all g c =
 pub returns-in_err-put_field : goal.returns-in_err-put_field
 returns-in_err-put_field g c =
     let p = err_from_is_err_and c.from_residual-in_err-put_field.result c.from_residual-in_err-put_field.ensures.1 in
-    let name : c.as_bytes.result.now ≡ c.args.cell.now = c.as_bytes.ensures.bytes in
-    rw (p.1, ← name) (fails_at _ (first _ c.in_ok-put_all.ensures) c.in_err-put_field.ensures)
+    rw p.1 (fails_at _ (first _ c.in_ok-put_all.ensures) c.in_err-put_field.ensures)
 
 pub returns-in_err-put_signed_numbers : goal.returns-in_err-put_signed_numbers
 returns-in_err-put_signed_numbers g c =
     let p = err_from_is_err_and c.from_residual-in_err-put_signed_numbers.result c.from_residual-in_err-put_signed_numbers.ensures.1 in
-    let name : c.as_bytes.result.now ≡ c.args.cell.now = c.as_bytes.ensures.bytes in
-    rw (p.1, placement_fields c.args.cell.now c.args.x c.args.y (turn_count c.args.turns) (flip_count c.args.flip), ← name)
+    rw (p.1, placement_fields c.args.cell.now c.args.x c.args.y (turn_count c.args.turns) (flip_count c.args.flip))
     (fails_at _ (first _ c.in_ok-put_all.ensures ▸ c.in_ok-put_field.ensures)
     (simp (to_z-of_z w64 c.args.x (search rules), to_z-of_z w64 c.args.y (search rules)) at c.in_err-put_signed_numbers.ensures))
 
 pub returns : goal.returns
 returns g c =
-    let name : c.as_bytes.result.now ≡ c.args.cell.now = c.as_bytes.ensures.bytes in
     let turns : c.turn_number.result ≡ turn_count c.args.turns = c.turn_number.ensures in
     let flip : c.flip_number.result ≡ flip_count c.args.flip = c.flip_number.ensures in
-    rw (placement_fields c.args.cell.now c.args.x c.args.y (turn_count c.args.turns) (flip_count c.args.flip), ← name, ← turns, ← flip)
+    rw (placement_fields c.args.cell.now c.args.x c.args.y (turn_count c.args.turns) (flip_count c.args.flip), ← turns, ← flip)
     (ends _ _ (first _ c.in_ok-put_all.ensures ▸ c.in_ok-put_field.ensures ▸ simp
     (to_z-of_z w64 c.args.x (search rules), to_z-of_z w64 c.args.y (search rules)) at c.in_ok-put_signed_numbers.ensures) c.put_numbers.ensures)

@@ -1,4 +1,4 @@
-use Rattle.std.proofs.Common.{◌≡◌, [], ◌∷◌, decimal, rules, w64}
+use Rattle.std.proofs.Common.{[], ◌∷◌, decimal, rules, w64}
 use Rattle.std.specs.Prelude.{codes}
 use Rattle.std.specs.Fmt.{signed_decimal}
 use Rattle.std.proofs.lemmas.Int.{to_z-of_z}
@@ -15,6 +15,5 @@ returns-in_err-put_start g c =
 
 pub returns : goal.returns
 returns g c =
-    let string : c.as_bytes.result.now ≡ c.args.string.now = c.as_bytes.ensures.bytes in
-    rw (last_field (codes "text") (decimal c.args.textlayer ∷ decimal c.args.texttype ∷ signed_decimal c.args.x ∷ signed_decimal c.args.y ∷ []) c.args.string.now, ← string)
+    rw (last_field (codes "text") (decimal c.args.textlayer ∷ decimal c.args.texttype ∷ signed_decimal c.args.x ∷ signed_decimal c.args.y ∷ []) c.args.string.now)
     (ends _ _ (first _ (simp (to_z-of_z w64 c.args.x (search rules), to_z-of_z w64 c.args.y (search rules)) at c.in_ok-put_start.ensures)) c.put_field.ensures)

@@ -1,4 +1,4 @@
-use Rattle.std.proofs.Common.{◌≡◌, ◌<◌, ap, arith}
+use Rattle.std.proofs.Common.{ap, arith}
 use Rattle.std.proofs.lemmas.Result.{err_from_is_err_and}
 use Rattle.oas_wide.specs.declared.records.WideRecord.TheVariants.{Block}
 use Rattle.oas_prepare.proofs.Blocks.{block_more, block_stops, prepared_by}

@@ -1,5 +1,3 @@
-use Rattle.std.proofs.Common.{◌≡◌, ℕ, List, Ok, Err, sym, subst}
-use Rattle.oas_prepare.specs.Inside.{TakesData}
 use Rattle.oas_prepare.proofs.BlockEnds.{fault_stops, data_taken, data_stops}
 use Rattle.oas_prepare.proofs.inside.take_block.Goals as goal
 

@@ -1,4 +1,4 @@
-use Rattle.std.proofs.Common.{◌≡◌, ℕ, None, sym, subst, ◌∙◌, arith}
+use Rattle.std.proofs.Common.{None, sym, subst, ◌∙◌, arith}
 use Rattle.std.proofs.lemmas.Result.{err_from_is_err_and}
 use Rattle.oas_num.specs.Script.{Script}
 use Rattle.oas_prepare.proofs.Inner.{HasSome, some_none, some_all, some_fails, some_stops, some_more}

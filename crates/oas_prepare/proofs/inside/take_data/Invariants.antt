@@ -1,4 +1,4 @@
-use Rattle.std.proofs.Common.{◌≡◌, ◌-◌, ◌^◌, List, length}
+use Rattle.std.proofs.Common.{◌-◌, ◌^◌, List}
 use Rattle.oas_wide.specs.declared.records.WideRecord.{WideRecord}
 use Rattle.oas_narrow.specs.Preparable.{AllPrepared}
 use Rattle.oas_prepare.specs.Taking.{Stands}

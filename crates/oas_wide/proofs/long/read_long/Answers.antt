@@ -1,6 +1,6 @@
 use Rattle.std.proofs.Common.{◌-◌, refl, arith}
 use Rattle.std.proofs.lemmas.Result.{err_from_is_err_and}
-use Rattle.oas_wide.proofs.LongLemmas.{starts, byte_fails, out_of_range, found, goes_on}
+use Rattle.oas_wide.proofs.LongLemmas.{byte_fails, out_of_range, found, goes_on}
 use Rattle.oas_wide.proofs.long.read_long.Goals as goal
 
 pub returns-in_err-byte : goal.returns-in_err-byte

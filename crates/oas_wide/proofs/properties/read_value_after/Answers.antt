@@ -2,22 +2,16 @@ use Rattle.std.proofs.lemmas.Bool.{lt-ltb, le-ltb}
 use Rattle.std.proofs.lemmas.Result.{err_from_is_err_and}
 use Rattle.oas_num.specs.Reading.{IntegerMay, PaddingTook}
 use Rattle.oas_num.proofs.HalfwayLemmas.{at_image, image_took, is_read}
-use Rattle.oas_wide.specs.Reals.{real_after}
-use Rattle.oas_wide.specs.Properties.{real_value, unsigned_value, signed_value, string_value, reference_value}
+use Rattle.oas_wide.specs.Properties.{unsigned_value, signed_value, string_value, reference_value}
 use Rattle.oas_wide.proofs.ReadingLemmas.{unequal}
 use Rattle.oas_wide.proofs.properties.read_value_after.Goals as goal
 
-pub returns-in_err-real : goal.returns-in_err-real
-returns-in_err-real g c =
-    let p = err_from_is_err_and c.from_residual.result c.from_residual.ensures.1 in
-    rw (p.1, p.2) (rw (lt-ltb _ _ c.if-kind-lt8.true) (image_took {f = real_value} c.in_err-real.ensures))
-
 pub returns-then-kind-lt8 : goal.returns-then-kind-lt8
-returns-then-kind-lt8 g c = rw (lt-ltb _ _ c.if-kind-lt8.true) (is_read (at_image {f = real_value} {took = (real_after c.args.kind).took} _) c.in_ok-real.ensures)
+returns-then-kind-lt8 g c = rw (lt-ltb _ _ c.if-kind-lt8.true) c.read_real_value.ensures
 
 pub returns-in_err-number : goal.returns-in_err-number
 returns-in_err-number g c =
-    let p = err_from_is_err_and c.from_residual-in_err-number.result c.from_residual-in_err-number.ensures.1 in
+    let p = err_from_is_err_and c.from_residual.result c.from_residual.ensures.1 in
     rw (p.1, p.2) (rw (c.if-kind-eq8.true) (image_took {f = unsigned_value} c.in_err-number.ensures))
 
 pub returns-then-kind-eq8 : goal.returns-then-kind-eq8

@@ -1,5 +1,7 @@
-use Rattle.std.proofs.Common.{arith}
+use Rattle.std.proofs.Common.{Ok, Err, sym, ◌∙◌, arith}
 use Rattle.std.proofs.lemmas.Result.{err_from_is_err_and}
+use Rattle.oas_wide.proofs.AnyLengthLemmas.{record_read, record_fails}
+use Rattle.oas_wide.proofs.ForeignLemmas.{foreign_done}
 use Rattle.oas_wide.proofs.WideLemmas.{id_fails, refused_by_id, fields_fail, inner_read, end_fails, end_refused, end_read}
 use Rattle.oas_wide.proofs.records.read_whole.Goals as goal
 
@@ -24,7 +26,13 @@ pub returns-then-id-eq2 : goal.returns-then-id-eq2
 returns-then-id-eq2 g c = end_read _ (omega (arith, c.if-length-ne-END_LENGTH.false, c.at-start.ensures, c.at.ensures)) c.if-id-eq2.true c.in_ok-id.ensures c.in_ok-end.ensures
 
 pub returns-in-Ok : goal.returns-in-Ok
-returns-in-Ok g c = inner_read _ c.if-id-eq2.false c.in_ok-id.ensures (c.in-Ok.ensures c.args.in_end)
+returns-in-Ok g c = record_read c.args.in_end (sym c.is_profile_id.ensures.is ∙ c.if-is_profile_id.true) c.in_ok-id.ensures (c.in-Ok.ensures.reads c.args.in_end)
 
 pub returns-in-Err : goal.returns-in-Err
-returns-in-Err g c = rw c.named.ensures (fields_fail _ c.in_ok-id.ensures (c.in-Err.ensures c.args.in_end))
+returns-in-Err g c = rw c.named.ensures (record_fails c.args.in_end (sym c.is_profile_id.ensures.is ∙ c.if-is_profile_id.true) c.in_ok-id.ensures (c.in-Err.ensures.reads c.args.in_end))
+
+pub returns-in-Ok-read_foreign : goal.returns-in-Ok-read_foreign
+returns-in-Ok-read_foreign g c = inner_read _ c.if-id-eq2.false c.in_ok-id.ensures (foreign_done c.args.in_end c.in_ok-id.id _ _ (Ok _) (sym c.is_profile_id.ensures.is ∙ c.if-is_profile_id.false) (c.in-Ok-read_foreign.ensures c.args.in_end))
+
+pub returns-in-Err-read_foreign : goal.returns-in-Err-read_foreign
+returns-in-Err-read_foreign g c = rw c.named-in-Err-read_foreign.ensures (fields_fail _ c.in_ok-id.ensures (foreign_done c.args.in_end c.in_ok-id.id _ _ (Err _) (sym c.is_profile_id.ensures.is ∙ c.if-is_profile_id.false) (c.in-Err-read_foreign.ensures c.args.in_end)))

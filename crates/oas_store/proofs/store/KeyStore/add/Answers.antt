@@ -14,18 +14,18 @@ use Rattle.oas_store.proofs.store.KeyStore.add.Goals as goal
 
 pub add_key-requires-clause-room : goal.add_key-requires-clause-room
 add_key-requires-clause-room c =
-    room_in nat_list_cmp_total exact_bytes (contents c.self.inside.rising c.self.inside.loose.entries c.self.inside.runs.items) c.args.key.now c.args.times
+    room_in nat_list_cmp_total exact_bytes (contents c.self.inside.rising c.self.inside.loose c.self.inside.runs.items) c.args.key.now c.args.times
     (positive_contents (slice_cmp nat_cmp) _ _ _ c.self.invariant)
     (subst (λ (es : List Entry). count_at (slice_cmp nat_cmp) es c.args.key.now + c.args.times < 2 ^ 64) (sym c.self.view_is) c.requires.room)
 
 pub returns-in_err-add_key-clause-err : goal.returns-in_err-add_key-clause-err
 returns-in_err-add_key-clause-err c =
     let p = err_from_is_err_and c.from_residual.result c.from_residual.ensures.1 in
-    rw p.1 (same_view nat_list_cmp_total exact_bytes c.self.inside.rising c.self.inside.loose.entries c.add_key.new.rising c.add_key.new.loose.entries
+    rw p.1 (same_view nat_list_cmp_total exact_bytes c.self.inside.rising c.self.inside.loose c.add_key.new.rising c.add_key.new.loose
     c.self.inside.runs.items c.add_key.new.runs.items c.self.invariant c.in_err-add_key.ensures.parts c.in_err-add_key.ensures.err ∙ c.self.view_is)
 
 pub returns-clause-ok : goal.returns-clause-ok
 returns-clause-ok c =
-    more_view nat_list_cmp_total exact_bytes c.self.inside.rising c.self.inside.loose.entries c.add_key.new.rising c.add_key.new.loose.entries
+    more_view nat_list_cmp_total exact_bytes c.self.inside.rising c.self.inside.loose c.add_key.new.rising c.add_key.new.loose
     c.self.inside.runs.items c.add_key.new.runs.items c.args.key.now c.args.times c.requires.some c.self.invariant c.in_ok-add_key.ensures.parts
     c.in_ok-add_key.ensures.ok ∙ ap (λ (es : List Entry). put_more (slice_cmp nat_cmp) es c.args.key.now c.args.times) c.self.view_is

@@ -1,0 +1,4 @@
+pub mod TameLemmas
+pub mod TameFields
+pub mod TameRecords
+pub mod LongLemmas

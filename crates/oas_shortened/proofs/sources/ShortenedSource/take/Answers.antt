@@ -1,0 +1,13 @@
+use Rattle.std.proofs.Common.{refl, arith}
+use Rattle.oas_shortened.proofs.SourceLemmas.{stands_more}
+use Rattle.oas_shortened.proofs.sources.ShortenedSource.take.Goals as goal
+
+pub invariant_of-self-then-is_none : goal.invariant_of-self-then-is_none
+invariant_of-self-then-is_none g c = record {
+  shortened = stands_more c.in-Ok-Some.byte _ _ 1 _ c.in-Ok-Some.field-0-is c.args.self.now.shortened c.in-Ok-Some.ensures c.moved-self.ensures (omega arith) refl;
+}
+
+pub invariant_of-self-else-is_none : goal.invariant_of-self-else-is_none
+invariant_of-self-else-is_none g c = record {
+  shortened = stands_more c.in-Ok-Some.byte _ _ 0 _ c.in-Ok-Some.field-0-is c.args.self.now.shortened c.in-Ok-Some.ensures c.moved-self.ensures (omega arith) (omega arith);
+}

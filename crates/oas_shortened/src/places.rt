@@ -1,0 +1,50 @@
+ghost use Rattle.std.specs.Prelude.{◌≡◌};
+ghost use Rattle.oas_shortened.specs.Places.{joined, given_by, moved};
+
+/// Where in an integer the next byte stands.
+#[derive(Clone, Copy, Debug, PartialEq, Eq)]
+pub enum Place {
+    /// In none: it is given as it stands.
+    Free,
+    /// Behind so many groups, at most nine.
+    Groups(u8),
+    /// Behind its tenth group, which is held back.
+    Tenth(u8),
+}
+
+/// A tenth group and one behind it: where that isn't zero, a group by which the integer is 2^64 or above.
+fn joined(group: u8, byte: u8) -> u8
+    ensures { result ≡ joined group byte }
+{
+    if byte % 128 == 0 { group } else { 127 }
+}
+
+impl Place {
+    /// What is given of a byte there.
+    pub(crate) fn given_by(self, byte: u8) -> Option<u8>
+        ensures { result ≡ given_by self byte }
+    {
+        match self {
+            Place::Free => Some(byte),
+            Place::Groups(_) if byte < 128 => Some(byte),
+            Place::Groups(count) if count < 9 => Some(byte),
+            Place::Groups(_) => None,
+            Place::Tenth(group) if byte < 128 => Some(joined(group, byte)),
+            Place::Tenth(_) => None,
+        }
+    }
+
+    /// Where the byte behind it stands.
+    pub(crate) fn moved(self, byte: u8) -> Place
+        ensures { result ≡ moved self byte }
+    {
+        match self {
+            Place::Free => Place::Groups(0),
+            Place::Groups(_) if byte < 128 => Place::Groups(0),
+            Place::Groups(count) if count < 9 => Place::Groups(count + 1),
+            Place::Groups(_) => Place::Tenth(byte % 128),
+            Place::Tenth(_) if byte < 128 => Place::Groups(0),
+            Place::Tenth(group) => Place::Tenth(joined(group, byte)),
+        }
+    }
+}

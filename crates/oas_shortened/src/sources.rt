@@ -1,0 +1,132 @@
+ghost use Rattle.std.specs.Prelude.{◌≡◌};
+ghost use Rattle.oas_bytes.specs.declared.readers.Ending.TheVariants.{Open};
+ghost use Rattle.oas_shortened.specs.Shortening.{ending_by, IsShortened, IsShortened-prop};
+
+use crate::places::Place;
+use oas_bytes::{Ending, Source, SourceFault};
+use std::marker::{Brand, PhantomData};
+
+/// Which source it is whose integers are shortened, where it stood before the first byte, and where in an integer that byte
+/// stands. Each use picks it.
+pub trait Start {
+    ghost use Rattle.oas_bytes.specs.Script.{Script};
+    ghost use Rattle.oas_shortened.specs.declared.places.Place.{Place};
+    ghost use base.Fml.{GName};
+
+    ghost script: { Script };
+
+    ghost name: { GName };
+
+    ghost first: { Place };
+}
+
+impl Start for Brand {
+    ghost use Rattle.std.specs.Prelude.{[]};
+    ghost use Rattle.oas_bytes.specs.Script.{slice_script};
+    ghost use Rattle.oas_shortened.specs.declared.places.Place.TheVariants.{Free};
+
+    ghost script = { slice_script [] 0 0 };
+
+    ghost name = { 0 };
+
+    ghost first = { Free };
+}
+
+/// How a source ended that answered that.
+fn ending_of(fault: SourceFault) -> Ending
+    ensures { result ≡ ending_by fault }
+{
+    match fault {
+        SourceFault::Device => Ending::Failed,
+        SourceFault::TooLong => Ending::TooLong,
+    }
+}
+
+/// The bytes of a borrowed source, but of an integer no group behind its tenth.
+///
+/// A fault of the source beneath is answered as one of the device. Which it was is kept.
+#[derive(Drop)]
+pub struct ShortenedSource<'a, S: Source, K: Start> {
+    /// The source.
+    pub source: &'a mut S,
+    /// Where in an integer the next byte stands.
+    pub place: Place,
+    /// How many bytes were kept back.
+    pub kept: u64,
+    /// How the source ended, if it did.
+    pub ending: Ending,
+    /// Where the source stood before the first byte.
+    pub start: PhantomData<K>,
+    ghost shortened: { IsShortened K.script K.name K.first source.ghost_name (S.script source.now) place kept ending } by { IsShortened-prop K.script K.name K.first source.ghost_name (S.script source.now) place kept ending },
+}
+
+impl<'a, S: Source, K: Start> ShortenedSource<'a, S, K> {
+    ghost use Rattle.oas_shortened.specs.Shortening.{short_script, Steps, Counts};
+
+    /// All bytes that the source is still to give, none of which was taken.
+    pub fn new(source: &'a mut S, first: Place) -> Self
+        requires named { source.ghost_name ≡ K.name }
+        requires starts { S.script source.old ≡ K.script }
+        requires first { first ≡ K.first }
+        ensures same { result.source.ghost_name ≡ source.entry.ghost_name }
+        ensures now { result.source.now ≡ source.old }
+        ensures place { result.place ≡ first }
+        ensures none_kept { result.kept ≡ 0 }
+        ensures open { result.ending ≡ Open }
+    {
+        ShortenedSource {
+            source,
+            place: first,
+            kept: 0,
+            ending: Ending::Open,
+            start: PhantomData,
+        }
+    }
+
+    /// Takes a byte of the source: what is given of it, if there is one.
+    fn take(&mut self) -> Result<Option<Option<u8>>, SourceFault>
+        ensures steps { Steps (short_script (S.script self.old.source.now) self.old.place self.old.kept self.old.ending) result (short_script (S.script self.new.source.now) self.new.place self.new.kept self.new.ending) }
+        ensures counts { Counts self.old.kept result self.new.kept }
+    {
+        match self.source.next() {
+            Err(fault) => {
+                self.ending = ending_of(fault);
+                Err(SourceFault::Device)
+            }
+            Ok(None) => {
+                self.ending = Ending::Ended;
+                Ok(None)
+            }
+            Ok(Some(byte)) => {
+                let given = self.place.given_by(byte);
+                self.place = self.place.moved(byte);
+                if given.is_none() {
+                    // The sum is at most how many bytes were given, which the proof knows to fit once it is read.
+                    let _given = self.source.at();
+                    self.kept += 1;
+                }
+                Ok(Some(given))
+            }
+        }
+    }
+}
+
+impl<'a, S: Source, K: Start> Source for ShortenedSource<'a, S, K> {
+    ghost use Rattle.oas_shortened.specs.Shortening.{short_script};
+
+    ghost script = { λ s. short_script (S.script s.source.now) s.place s.kept s.ending };
+
+    fn next(&mut self) -> Result<Option<u8>, SourceFault> {
+        loop {
+            match self.take()? {
+                None => return Ok(None),
+                Some(Some(byte)) => return Ok(Some(byte)),
+                Some(None) => {}
+            }
+        }
+    }
+
+    fn at(&self) -> u64 {
+        self.source.at() - self.kept
+    }
+}

@@ -1,0 +1,142 @@
+-- What waits loose, put into order and made into runs.
+use Rattle.std.proofs.Common.{◌≡◌, ℕ, suc, ◌+◌, ◌*◌, ◌<◌, ◌^◌, true, List, [], ◌∷◌, ◌++◌, cond, length, get_or, drop, map, drop-cons, refl, sym, ◌∙◌, ap, arith, subst, append_assoc, append-nil}
+use Rattle.std.specs.Cmp.{IsTotalOrder, tied_itself}
+use Rattle.std.specs.Ordering.{is_eq}
+use Rattle.std.specs.List.{sum_by}
+use Rattle.std.specs.List.Sorted.{IsPermutation}
+use Rattle.std.specs.declared.cmp.Ordering.{Ordering}
+use Rattle.std.specs.declared.cmp.Ordering.TheVariants.{Equal}
+use Rattle.std.proofs.lemmas.List.{map-append}
+use Rattle.std.proofs.lemmas.List.Sorted.{sum_by-IsPermutation}
+use Rattle.std.proofs.lemmas.List.Sums.{sum_by-cons}
+use Rattle.std.proofs.lemmas.Map.Lookups.{CmpEqualImpliesEq}
+use Rattle.oas_store.specs.declared.loose.Loose.{Loose}
+use Rattle.oas_store.specs.Entries.{Entry}
+use Rattle.oas_store.specs.Loose.{entry_of, entries_of}
+use Rattle.oas_store.specs.Tally.{total, copies, IsRun, SameTotals}
+use Rattle.oas_store.specs.Laws.TallyLaws.{total-append}
+use Rattle.oas_store.specs.Parts.{joined, contents, AreRuns, CountsFit, IsBelow}
+use Rattle.oas_store.proofs.PartLemmas.{total_contents}
+use Rattle.oas_store.proofs.AddLemmas.{More}
+
+-- ---- out of the bytes
+
+-- one more was found
+pub one_found : (all alls : List Loose) (a : Loose) (left rest whole : List Entry) → alls ≡ all ++ a ∷ [] → left ≡ entry_of a ∷ rest → entries_of all ++ left ≡ whole
+    → entries_of alls ++ rest ≡ whole
+one_found all alls a left rest whole e f w =
+    ap (λ (xs : List Loose). entries_of xs ++ rest) e
+    ∙ ap (λ (xs : List Entry). xs ++ rest) (map-append entry_of all (a ∷ []))
+    ∙ append_assoc (entries_of all) (entry_of a ∷ []) rest
+    ∙ ap (λ (xs : List Entry). entries_of all ++ xs) (sym f) ∙ w
+
+-- and none is left
+pub all_found : (all : List Loose) (left whole : List Entry) → left ≡ [] → entries_of all ++ left ≡ whole → entries_of all ≡ whole
+all_found all left whole e w = sym (append-nil (entries_of all)) ∙ ap (λ (xs : List Entry). entries_of all ++ xs) (sym e) ∙ w
+
+-- ---- in order
+
+abbrev weight : (List ℕ → ℕ) → Loose → ℕ
+weight g a = a.times * g a.key.now
+
+total-entries : (g : List ℕ → ℕ) (all : List Loose) → total g (entries_of all) ≡ sum_by (weight g) all
+total-entries g [] = refl
+total-entries g (a ∷ all) = ap (λ (n : ℕ). weight g a + n) (total-entries g all) ∙ sym (sum_by-cons (weight g) a all)
+
+-- in another order they weigh the same
+pub in_order_same : (all sorted : List Loose) (whole : List Entry) → IsPermutation all sorted → entries_of all ≡ whole → SameTotals (entries_of sorted) whole
+in_order_same all sorted whole p e g =
+    total-entries g sorted ∙ sum_by-IsPermutation (weight g) all sorted p ∙ sym (total-entries g all) ∙ ap (total g) e
+
+-- ---- put one after another
+
+module _ {K : Type 0} where
+  -- how often the next may still come
+  pub next_room : {R : K → K → Ordering} → IsTotalOrder R → (es : List (K × ℕ)) (rs : List (List (K × ℕ))) (k : K) (n : ℕ) → CountsFit R ((k, n) ∷ (es ++ joined rs))
+      → copies R k (contents es [] rs) + n < 2 ^ 64
+  next_room {R} o es rs k n h =
+      let g : K → ℕ = λ x. cond (is_eq (R k x)) 1 0 in
+      let yes : is_eq (R k k) ≡ true = ap is_eq (tied_itself o k) in
+      let one : n * cond (is_eq (R k k)) 1 0 ≡ n = rw yes (omega arith) in
+      omega (arith, h k, one, total_contents g es [] rs, total-append g es (joined rs))
+
+  pub next_same : (es fs : List (K × ℕ)) (rs : List (List (K × ℕ))) (k : K) (n : ℕ) → More es fs k n → SameTotals (fs ++ joined rs) ((k, n) ∷ (es ++ joined rs))
+  next_same es fs rs k n h g = omega (arith, h g, total-append g es (joined rs), total-append g fs (joined rs))
+
+  -- after the run that rose became one of the others
+  pub next_begun : (es ms fs : List (K × ℕ)) (rs rs' : List (List (K × ℕ))) (k : K) (n : ℕ) → SameTotals (ms ++ joined rs') (es ++ joined rs) → More ms fs k n
+      → SameTotals (fs ++ joined rs') ((k, n) ∷ (es ++ joined rs))
+  next_begun es ms fs rs rs' k n h m g = omega (arith, h g, m g, total-append g ms (joined rs'), total-append g fs (joined rs'))
+
+  none_above : (ps : List (K × ℕ)) (p : K × ℕ) → [] ≡ ps ++ p ∷ [] → ⊥
+  none_above [] p e = let l = ap length e in omega (arith, l)
+  none_above (x ∷ xs) p e = let l = ap length e in omega (arith, l)
+
+  pub below_none : (R : K → K → Ordering) (es : List (K × ℕ)) (k : K) → es ≡ [] → IsBelow R es k
+  below_none R es k e ps p is = absurd (none_above ps p (sym e ∙ is))
+
+  -- nothing counted is too much of what is left
+  pub apart_fit : (R : K → K → Ordering) (ls es : List (K × ℕ)) → CountsFit R (ls ++ es) → CountsFit R ls
+  apart_fit R ls es h k = omega (arith, h k, total-append (λ x. cond (is_eq (R k x)) 1 0) ls es)
+
+  -- ---- runs put to others
+
+  pub runs_with : (R : K → K → Ordering) (rs ss : List (List (K × ℕ))) → AreRuns R rs → AreRuns R ss → AreRuns R (rs ++ ss)
+  runs_with R [] ss h k = k
+  runs_with R (r ∷ rs) ss h k = (h.0, runs_with R rs ss h.1 k)
+
+  pub total-with : (g : K → ℕ) (rs ss : List (List (K × ℕ))) → total g (joined (rs ++ ss)) ≡ total g (joined rs) + total g (joined ss)
+  total-with g [] ss = omega arith
+  total-with g (r ∷ rs) ss = omega (arith, total-with g rs ss, total-append g r (joined (rs ++ ss)), total-append g r (joined rs))
+
+  -- what waited is settled
+  pub put_to_runs : (olds mids settled : List (List (K × ℕ))) (loose : List (K × ℕ)) → mids ≡ olds ++ settled → SameTotals (joined settled) loose
+      → SameTotals (joined mids) (loose ++ joined olds)
+  put_to_runs olds mids settled loose e h g =
+      omega (arith, h g, ap (λ (rs : List (List (K × ℕ))). total g (joined rs)) e, total-with g olds settled, total-append g loose (joined olds))
+
+  pub same_fit : (R : K → K → Ordering) (es fs : List (K × ℕ)) → SameTotals fs es → CountsFit R es → CountsFit R fs
+  same_fit R es fs h c k = omega (arith, h (λ x. cond (is_eq (R k x)) 1 0), c k)
+
+  pub all_settled : (loose now : List (K × ℕ)) (olds mids news : List (List (K × ℕ))) → now ≡ [] → SameTotals (joined mids) (loose ++ joined olds)
+      → SameTotals (joined news) (joined mids) → SameTotals (now ++ joined news) (loose ++ joined olds)
+  all_settled loose now olds mids news e h k g = omega (arith, h g, k g, ap (total g) e, total-append g now (joined news))
+
+-- ---- the loop
+
+-- nothing was put
+pub begun_same : (r es : List Entry) (rs : List (List Entry)) → r ≡ [] → rs ≡ [] → SameTotals ((r ++ joined rs) ++ es) es
+begun_same r es rs a b g =
+    omega (arith, ap (total g) a, ap (λ (xs : List (List Entry)). total g (joined xs)) b, total-append g (r ++ joined rs) es, total-append g r (joined rs))
+
+pub no_runs : (R : List ℕ → List ℕ → Ordering) (rs : List (List Entry)) → rs ≡ [] → AreRuns R rs
+no_runs R rs e = subst (λ (xs : List (List Entry)). AreRuns R xs) (sym e) tt
+
+-- none
+abbrev pub nothing : Loose
+nothing = record { front = 0; key = record { ref_ptr = (0, 0); now = [] }; times = 0 }
+
+-- the entry whose turn it is
+pub next_is : (all : List Loose) (i : ℕ) (d : Loose) → i < length all → entries_of (drop i all) ≡ entry_of (get_or all i d) ∷ entries_of (drop (i + 1) all)
+next_is all i d h =
+    let more : suc i ≡ i + 1 = omega arith in
+    ap entries_of (drop-cons all i d h) ∙ ap (λ (n : ℕ). entry_of (get_or all i d) ∷ entries_of (drop n all)) more
+
+pub turn_fits : (R : List ℕ → List ℕ → Ordering) (done left rest whole : List Entry) (p : Entry) → left ≡ p ∷ rest → SameTotals (done ++ left) whole → CountsFit R whole
+    → CountsFit R (p ∷ done)
+turn_fits R done left rest whole p e h c k =
+    let g : List ℕ → ℕ = λ x. cond (is_eq (R k x)) 1 0 in
+    omega (arith, c k, h g, total-append g done left, ap (total g) e)
+
+pub turn_same : (done dones left rest whole : List Entry) (p : Entry) → left ≡ p ∷ rest → SameTotals dones (p ∷ done) → SameTotals (done ++ left) whole
+    → SameTotals (dones ++ rest) whole
+turn_same done dones left rest whole p e h w g =
+    omega (arith, w g, h g, total-append g done left, total-append g dones rest, ap (total g) e)
+
+pub turns_fit : (R : List ℕ → List ℕ → Ordering) (done left whole : List Entry) → SameTotals (done ++ left) whole → CountsFit R whole → CountsFit R done
+turns_fit R done left whole h c k =
+    let g : List ℕ → ℕ = λ x. cond (is_eq (R k x)) 1 0 in
+    omega (arith, c k, h g, total-append g done left)
+
+pub turns_same : (done left news whole : List Entry) → SameTotals (done ++ left) whole → left ≡ [] → SameTotals news done → SameTotals news whole
+turns_same done left news whole h e k g = omega (arith, h g, k g, total-append g done left, ap (total g) e)

@@ -1,0 +1,37 @@
+use Rattle.std.proofs.Common.{ℕ, ◌+◌, ◌++◌, List, drop, get_or}
+use Rattle.std.specs.Cmp.Lexicographic.{slice_cmp}
+use Rattle.std.specs.Ordering.{nat_cmp}
+use Rattle.oas_store.specs.Parts.{joined}
+use Rattle.oas_store.specs.Loose.{entry_of, entries_of}
+use Rattle.oas_store.proofs.PartLemmas.{IsRun-empty}
+use Rattle.oas_store.proofs.LooseLemmas.{nothing, next_is, begun_same, no_runs, turn_fits, turn_same, turns_fit}
+use Rattle.oas_store.proofs.settling.runs_of.Goals as goal
+
+pub loop-entry-init : goal.loop-entry-init
+loop-entry-init c = record {
+  run = IsRun-empty (slice_cmp nat_cmp) c.new-rising.result c.new-rising.ensures;
+  are = no_runs (slice_cmp nat_cmp) c.new-runs.result.items c.new-runs.ensures.items;
+  same = begun_same c.new-rising.result (entries_of c.args.sorted.now) c.new-runs.result.items c.new-rising.ensures c.new-runs.ensures.items;
+}
+
+pub put_next-requires-clause-fits : goal.put_next-requires-clause-fits
+put_next-requires-clause-fits c =
+    turn_fits (slice_cmp nat_cmp) (c.loop-entry.rising ++ joined c.loop-entry.runs.items) (entries_of (drop c.loop-entry.entry-index c.args.sorted.now))
+    (entries_of (drop (c.loop-entry.entry-index + 1) c.args.sorted.now)) (entries_of c.args.sorted.now)
+    (entry_of (get_or c.args.sorted.now c.loop-entry.entry-index nothing))
+    (next_is c.args.sorted.now c.loop-entry.entry-index nothing c.loop-entry-test.true) c.loop-entry.invariant.same c.requires
+
+pub loop-entry-preserved : goal.loop-entry-preserved
+loop-entry-preserved c = record {
+  run = c.in_ok-put_next.ensures.run;
+  are = c.in_ok-put_next.ensures.runs;
+  same = turn_same (c.loop-entry.rising ++ joined c.loop-entry.runs.items) (c.put_next.new.rising ++ joined c.put_next.new.runs.items)
+      (entries_of (drop c.loop-entry.entry-index c.args.sorted.now)) (entries_of (drop (c.loop-entry.entry-index + 1) c.args.sorted.now))
+      (entries_of c.args.sorted.now) (entry_of (get_or c.args.sorted.now c.loop-entry.entry-index nothing))
+      (next_is c.args.sorted.now c.loop-entry.entry-index nothing c.loop-entry-test.true) c.in_ok-put_next.ensures.same c.loop-entry.invariant.same;
+}
+
+pub settle_rising-requires-clause-fits : goal.settle_rising-requires-clause-fits
+settle_rising-requires-clause-fits c =
+    turns_fit (slice_cmp nat_cmp) (c.loop-entry.rising ++ joined c.loop-entry.runs.items) (entries_of (drop c.loop-entry.entry-index c.args.sorted.now))
+    (entries_of c.args.sorted.now) c.loop-entry.invariant.same c.requires
