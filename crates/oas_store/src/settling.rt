@@ -15,7 +15,7 @@ use crate::run::Run;
 use std::alloc::{AllocError, Global};
 use std::cmp::Ordering;
 
-/// Closes the run that rises, so that another begins; or leaves all.
+/// Closes the run that rises, if it has begun, so that another begins; or leaves all.
 fn settle_rising(alloc: Global, rising: &mut Rising, runs: &mut Vec<Run>) -> Result<(), AllocError>
     requires run { IsRun (slice_cmp nat_cmp) rising.old }
     requires runs { AreRuns (slice_cmp nat_cmp) runs.old.items }
@@ -25,6 +25,9 @@ fn settle_rising(alloc: Global, rising: &mut Rising, runs: &mut Vec<Run>) -> Res
     ensures same { SameTotals (rising.new ++ joined runs.new.items) (rising.old ++ joined runs.old.items) }
     ensures ok { OnOk result (rising.new ≡ []) }
 {
+    if rising.is_empty() {
+        return Ok(());
+    }
     runs.reserve(1)?;
     let run = rising.close(alloc)?;
     add_run(alloc, runs, run);
