@@ -1,4 +1,5 @@
 pub mod DigitLemmas
+pub mod FirstLemmas
 pub mod KindLemmas
 pub mod PartLemmas
 pub mod PutLemmas

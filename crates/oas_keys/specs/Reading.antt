@@ -1,5 +1,5 @@
 -- What bytes stand for, read from the front.
-use Rattle.std.specs.Prelude.{◌≡◌, ℕ, ◌+◌, ◌-◌, ◌*◌, ◌^◌, nat_lt, nat_eq, cond, true, List, [], ◌∷◌, ◌++◌, Option, None, Some}
+use Rattle.std.specs.Prelude.{◌≡◌, ℕ, ◌+◌, ◌-◌, ◌*◌, ◌^◌, ◌<◌, nat_lt, nat_eq, cond, true, List, [], ◌∷◌, ◌++◌, Option, None, Some}
 use Rattle.oas_ring.specs.declared.point.Point.{Point}
 use Rattle.oas_layout.specs.declared.element.Element.{Element}
 use Rattle.oas_layout.specs.declared.element.Element.TheVariants.{Placement, Text, Rectangle, Polygon, Path, Circle}
@@ -10,6 +10,7 @@ use Rattle.oas_keys.specs.declared.spelled.SpelledElement.{SpelledElement}
 use Rattle.oas_keys.specs.declared.spelled.SpelledElement.TheVariants as spelled
 use Rattle.oas_keys.specs.Keys.{points_key, fields_key}
 use Rattle.oas_keys.specs.declared.classes.Class.{Class}
+use Rattle.oas_keys.specs.Numbers.{number_in}
 use Rattle.oas_keys.specs.Laws.FieldLaws.{AreWithin}
 
 -- the number of more digits, to base 256
@@ -26,6 +27,10 @@ least_with (c ∷ cs) base first = cond (nat_lt first (base + c.firsts)) ((first
 abbrev pub more_with : List Class → ℕ → ℕ → ℕ
 more_with [] base first = 8
 more_with (c ∷ cs) base first = cond (nat_lt first (base + c.firsts)) c.more (more_with cs (base + c.firsts) first)
+
+-- a first byte, and behind it what makes it a number of these classes
+abbrev pub Stand : List Class → ℕ → List ℕ → Type 0
+Stand cs first bytes = (n : ℕ) × (rest : List ℕ) × (n < 2 ^ 64) × (first ∷ bytes ≡ number_in cs 1 n ++ rest)
 
 -- where the first 0 stands
 abbrev pub text_len : List ℕ → ℕ

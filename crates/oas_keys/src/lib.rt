@@ -30,6 +30,7 @@ mod points;
 mod putting;
 mod reading;
 mod spelled;
+mod starts;
 
 pub use points::SpelledPoints;
 pub use putting::put_key;
