@@ -76,13 +76,8 @@ impl Block {
     pub(crate) fn has_room(&self, key_len: usize) -> bool
         ensures { IsFalse result → self.now ≡ [] → ⊥ }
     {
-        self.is_empty()
-            || self
-                .bytes
-                .len()
-                .saturating_add(key_len)
-                .saturating_add(MARGIN)
-                <= BLOCK
+        let size = self.bytes.len().saturating_add(key_len);
+        size.saturating_add(MARGIN) <= BLOCK || self.is_empty()
     }
 
     /// Puts an entry at the end.

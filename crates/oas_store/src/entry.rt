@@ -8,6 +8,9 @@ use std::alloc::AllocError;
 /// What a byte says before a number of eight bytes. Numbers below it are one byte.
 const LONG: u8 = 255;
 
+/// How many bytes of an entry are not its key, where both numbers are one byte.
+const SHORT_HEAD: usize = 2;
+
 /// Puts a number at the end, or a part of it.
 fn push_number(bytes: &mut Vec<u8>, number: u64) -> Result<(), AllocError>
     ensures ok { OnOk result (bytes.new.items ≡ bytes.old.items ++ number_bytes number) }
@@ -36,7 +39,7 @@ fn push_parts(bytes: &mut Vec<u8>, key: &[u8], times: u64) -> Result<(), AllocEr
 }
 
 /// Puts an entry at the end, or nothing.
-pub(crate) fn push_entry(bytes: &mut Vec<u8>, key: &[u8], times: u64) -> Result<(), AllocError>
+fn push_long(bytes: &mut Vec<u8>, key: &[u8], times: u64) -> Result<(), AllocError>
     ensures ok { OnOk result (bytes.new.items ≡ bytes.old.items ++ entry_bytes (key.now, times)) }
     ensures err { OnErr result (bytes.new.items ≡ bytes.old.items) }
 {
@@ -48,6 +51,28 @@ pub(crate) fn push_entry(bytes: &mut Vec<u8>, key: &[u8], times: u64) -> Result<
     pushed
 }
 
+/// Puts two numbers of a byte each and a key at the end, or nothing.
+fn push_short(bytes: &mut Vec<u8>, len: u8, times: u8, key: &[u8]) -> Result<(), AllocError>
+    ensures ok { OnOk result (bytes.new.items ≡ bytes.old.items ++ len ∷ times ∷ key.now) }
+    ensures err { OnErr result (bytes.new.items ≡ bytes.old.items) }
+{
+    bytes.reserve(key.len() + SHORT_HEAD)?;
+    bytes.push_reserved(len);
+    bytes.push_reserved(times);
+    bytes.extend_from_slice(key)
+}
+
+/// Puts an entry at the end, or nothing. One whose numbers are a byte each, as nearly all are, asks for room once.
+pub(crate) fn push_entry(bytes: &mut Vec<u8>, key: &[u8], times: u64) -> Result<(), AllocError>
+    ensures ok { OnOk result (bytes.new.items ≡ bytes.old.items ++ entry_bytes (key.now, times)) }
+    ensures err { OnErr result (bytes.new.items ≡ bytes.old.items) }
+{
+    if key.len() < usize::from(LONG) && times < u64::from(LONG) {
+        return push_short(bytes, key.len() as u8, times as u8, key);
+    }
+    push_long(bytes, key, times)
+}
+
 /// A number that was read, and how many bytes it takes.
 #[derive(Drop)]
 struct Number {
@@ -56,6 +81,7 @@ struct Number {
 }
 
 /// Reads the number that stands first.
+#[inline(always)]
 fn read_number(bytes: &[u8]) -> Number
     requires some { 0 < length bytes.now }
     requires long { slice_index bytes.now 0 ≡ 255 → 9 ≤ length bytes.now }

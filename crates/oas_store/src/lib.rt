@@ -31,6 +31,7 @@ mod growing;
 mod joining;
 mod loose;
 mod merge;
+mod ordering;
 mod rising;
 mod run;
 mod settling;

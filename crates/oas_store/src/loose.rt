@@ -9,6 +9,7 @@ ghost use Rattle.oas_store.specs.Loose.{entries_of};
 
 use crate::block::Block;
 use crate::entry::{after, read_entry};
+use crate::ordering::order_of;
 use std::alloc::{AllocError, Global};
 use std::cmp::Ordering;
 
@@ -35,7 +36,7 @@ fn front_of(key: &[u8]) -> u64 {
 /// Which of two keys is lower.
 fn order(one: &Loose<'_>, other: &Loose<'_>) -> Ordering {
     match one.front.cmp(&other.front) {
-        Ordering::Equal => one.key.cmp(other.key),
+        Ordering::Equal => order_of(one.key, other.key),
         apart => apart,
     }
 }

@@ -8,6 +8,7 @@ ghost use Rattle.oas_store.specs.Tally.{copies, IsRun};
 ghost use Rattle.oas_store.specs.Merging.{IsMerging, Precedes, Ties};
 
 use crate::growing::Growing;
+use crate::ordering::order_of;
 use crate::run::Run;
 use std::alloc::{AllocError, Global};
 use std::cmp::Ordering;
@@ -57,7 +58,7 @@ fn order_of_heads(left: &Run, right: &Run) -> Option<Ordering>
     ensures equal { IfSome result (λ order. order ≡ Equal → Ties (slice_cmp nat_cmp) left.now right.now) }
 {
     match (left.first(), right.first()) {
-        (Some(one), Some(other)) => Some(one.key.cmp(other.key)),
+        (Some(one), Some(other)) => Some(order_of(one.key, other.key)),
         (Some(_), None) => Some(Ordering::Less),
         (None, Some(_)) => Some(Ordering::Greater),
         (None, None) => None,

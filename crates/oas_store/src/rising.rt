@@ -8,6 +8,7 @@ ghost use Rattle.std.specs.Vec.{vec_capacity};
 ghost use Rattle.oas_store.specs.Parts.{IsBelow, EndsWith};
 
 use crate::growing::Growing;
+use crate::ordering::order_of;
 use crate::run::Run;
 use std::alloc::{AllocError, Global};
 use std::cmp::Ordering;
@@ -61,7 +62,7 @@ impl Rising {
         if self.times == 0 {
             return Ordering::Less;
         }
-        self.last.as_slice().cmp(key)
+        order_of(&self.last, key)
     }
 
     /// Puts an entry at the end, or nothing.
