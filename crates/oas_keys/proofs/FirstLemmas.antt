@@ -5,7 +5,38 @@ use Rattle.oas_keys.specs.declared.classes.Class.{Class}
 use Rattle.oas_keys.specs.Numbers.{number_in, AreClasses, unsigned_classes, signed_classes, full, single}
 use Rattle.oas_keys.specs.Reading.{joined_digits, least_with, more_with}
 use Rattle.oas_keys.proofs.ReadingLemmas.{Reads, reads}
-use Rattle.oas_keys.proofs.ShortLemmas.{twos, threes, fours, farthest, below_fours, below_threes, below_twos, ones, above_twos, above_threes}
+
+-- the unsigned classes from that of two bytes on, and from those of three and four
+abbrev pub twos : List Class
+twos = full 64 1 ∷ full 32 2 ∷ full 16 3 ∷ full 13 4 ∷ []
+
+abbrev pub threes : List Class
+threes = full 32 2 ∷ full 16 3 ∷ full 13 4 ∷ []
+
+abbrev pub fours : List Class
+fours = full 16 3 ∷ full 13 4 ∷ []
+
+-- the signed ones from that of three bytes above 0 on, and from those before it
+abbrev pub above_threes : List Class
+above_threes = full 32 2 ∷ full 16 3 ∷ full 7 4 ∷ []
+
+abbrev pub above_twos : List Class
+above_twos = full 40 1 ∷ above_threes
+
+abbrev pub ones : List Class
+ones = single 63 ∷ above_twos
+
+abbrev pub below_twos : List Class
+below_twos = full 40 1 ∷ ones
+
+abbrev pub below_threes : List Class
+below_threes = full 32 2 ∷ below_twos
+
+abbrev pub below_fours : List Class
+below_fours = full 16 3 ∷ below_threes
+
+abbrev pub farthest : Class
+farthest = record { size = 2 ^ 62; firsts = 1; more = 8 }
 
 -- the least number of these classes that begins with a byte, and how many bytes stand behind it
 pub record Begin (cs : List Class) (base first least more : ℕ) : Type 0 where

@@ -5,4 +5,3 @@ pub mod PartLemmas
 pub mod PutLemmas
 pub mod ReadingLemmas
 pub mod PointLemmas
-pub mod ShortLemmas

@@ -85,7 +85,10 @@ impl<'a> Cursor<'a> {
         found.least + joined_digits(self.part(found.more as usize))
     }
 
-    /// Takes what stands behind a number's first byte, by its classes.
+    /// Takes what stands behind a number's first byte, by its classes. It stands by itself, so that numbers of few bytes need no
+    /// room for what it keeps.
+    #[inline(never)]
+    #[cold]
     fn number(&mut self, classes: &[Class], first: u64) -> u64
         requires classes { AreClasses classes.now }
         requires firsts { firsts_of classes.now ≤ 254 }

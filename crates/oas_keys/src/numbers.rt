@@ -1,10 +1,16 @@
 //! Numbers as bytes whose order is theirs.
 
 ghost use Rattle.std.specs.Prelude.{◌≡◌, ◌+◌, ◌%◌, ◌/◌, ◌*◌, ◌^◌, ◌<◌, ◌≤◌, ◌++◌, ◌∷◌, vec_len, vec_capacity};
-ghost use Rattle.oas_keys.specs.Numbers.{digits, unsigned_key, signed_key, place, IsStep};
+ghost use Rattle.oas_keys.specs.Numbers.{number_in, digits, unsigned_key, signed_key, signed_classes, signed_start, place, AreClasses, firsts_of, IsStep};
 
-use crate::classes::{SIGNED, START, UNSIGNED, Written, written_in};
+use crate::classes::{Class, SIGNED, START, UNSIGNED, Written, written_in};
 use crate::digits::put_digits;
+use crate::starts::{
+    ABOVE_FIVE, ABOVE_FOUR, ABOVE_FOUR_BYTE, ABOVE_THREE, ABOVE_THREE_BYTE, ABOVE_TWO,
+    ABOVE_TWO_BYTE, BELOW_FOUR, BELOW_FOUR_BYTE, BELOW_THREE, BELOW_THREE_BYTE, BELOW_TWO,
+    BELOW_TWO_BYTE, FIVE, FOUR, FOUR_BYTE, FOUR_EACH, ONE, ONE_BYTE, THREE, THREE_BYTE, THREE_EACH,
+    TWO, TWO_BYTE, TWO_EACH,
+};
 
 /// Puts the first byte and the digits.
 fn put_written(written: Written, out: &mut Vec<u8>)
@@ -26,8 +32,8 @@ fn put_two(base: u64, number: u64, out: &mut Vec<u8>)
     ensures len { vec_len out.new ≡ vec_len out.old + 2 }
     ensures capacity { vec_capacity out.new ≡ vec_capacity out.old }
 {
-    out.push_reserved((base + number / 256) as u8);
-    out.push_reserved((number % 256) as u8);
+    out.push_reserved((base + number / TWO_EACH) as u8);
+    out.push_reserved((number % TWO_EACH) as u8);
 }
 
 /// Puts a number of three bytes, whose class begins with this byte.
@@ -38,31 +44,58 @@ fn put_three(base: u64, number: u64, out: &mut Vec<u8>)
     ensures len { vec_len out.new ≡ vec_len out.old + 3 }
     ensures capacity { vec_capacity out.new ≡ vec_capacity out.old }
 {
-    out.push_reserved((base + number / 65536) as u8);
-    out.push_reserved((number / 256 % 256) as u8);
-    out.push_reserved((number % 256) as u8);
+    out.push_reserved((base + number / THREE_EACH) as u8);
+    out.push_reserved((number / TWO_EACH % TWO_EACH) as u8);
+    out.push_reserved((number % TWO_EACH) as u8);
 }
 
-/// Puts an unsigned number. Those of one to three bytes, which most are, are put with no search for their class.
+/// Puts a number of four bytes, whose class begins with this byte.
+fn put_four(base: u64, number: u64, out: &mut Vec<u8>)
+    requires first { base + number / 2 ^ 24 < 256 }
+    requires room { vec_len out.old + 9 ≤ vec_capacity out.old }
+    ensures items { out.new.items ≡ out.old.items ++ (base + number / 2 ^ 24) ∷ digits 3 (number % 2 ^ 24) }
+    ensures len { vec_len out.new ≡ vec_len out.old + 4 }
+    ensures capacity { vec_capacity out.new ≡ vec_capacity out.old }
+{
+    out.push_reserved((base + number / FOUR_EACH) as u8);
+    out.push_reserved((number / THREE_EACH % TWO_EACH) as u8);
+    out.push_reserved((number / TWO_EACH % TWO_EACH) as u8);
+    out.push_reserved((number % TWO_EACH) as u8);
+}
+
+/// Puts the number at a place in the classes. It stands by itself, so that numbers of few bytes need no room for what it keeps.
+#[inline(never)]
+#[cold]
+fn put_long(classes: &[Class], place: u64, out: &mut Vec<u8>)
+    requires classes { AreClasses classes.now }
+    requires firsts { firsts_of classes.now ≤ 254 }
+    requires room { vec_len out.old + 9 ≤ vec_capacity out.old }
+    ensures items { out.new.items ≡ out.old.items ++ number_in classes.now 1 place }
+    ensures len { vec_len out.new ≤ vec_len out.old + 9 }
+    ensures capacity { vec_capacity out.new ≡ vec_capacity out.old }
+{
+    put_written(written_in(classes, place), out);
+}
+
+/// Puts an unsigned number. Those of one to four bytes, which most are, are put with no search for their class.
+#[tactic(auto, unfolding(crate::specs::Numbers::unsigned_key))]
 pub(crate) fn put_unsigned(number: u64, out: &mut Vec<u8>)
     requires { vec_len out.old + 9 ≤ vec_capacity out.old }
     ensures items { out.new.items ≡ out.old.items ++ unsigned_key number }
     ensures len { vec_len out.new ≤ vec_len out.old + 9 }
     ensures capacity { vec_capacity out.new ≡ vec_capacity out.old }
 {
-    if number < 128 {
+    if number < TWO {
         out.push_reserved((number + 1) as u8);
-        return;
+    } else if number < THREE {
+        put_two(TWO_BYTE, number - TWO, out);
+    } else if number < FOUR {
+        put_three(THREE_BYTE, number - THREE, out);
+    } else if number < FIVE {
+        put_four(FOUR_BYTE, number - FOUR, out);
+    } else {
+        put_long(&UNSIGNED, number, out);
     }
-    if number < 16512 {
-        put_two(129, number - 128, out);
-        return;
-    }
-    if number < 2113664 {
-        put_three(193, number - 16512, out);
-        return;
-    }
-    put_written(written_in(&UNSIGNED, number), out);
 }
 
 /// Where a number stands among those that have a class.
@@ -73,20 +106,61 @@ fn place_of(number: i64) -> u64
     (number + START) as u64
 }
 
-/// Puts a signed number that is far from 0.
-fn put_far(number: i64, out: &mut Vec<u8>)
-    requires step { IsStep number }
+/// Puts the signed number at a place that is below those of one byte.
+fn put_below(place: u64, out: &mut Vec<u8>)
+    requires below { place + 31 < signed_start }
     requires room { vec_len out.old + 9 ≤ vec_capacity out.old }
-    ensures items { out.new.items ≡ out.old.items ++ signed_key number }
+    ensures items { out.new.items ≡ out.old.items ++ number_in signed_classes 1 place }
     ensures len { vec_len out.new ≤ vec_len out.old + 9 }
     ensures capacity { vec_capacity out.new ≡ vec_capacity out.old }
 {
-    let place = place_of(number);
-    put_written(written_in(&SIGNED, place), out);
+    if place >= BELOW_TWO {
+        put_two(BELOW_TWO_BYTE, place - BELOW_TWO, out);
+    } else if place >= BELOW_THREE {
+        put_three(BELOW_THREE_BYTE, place - BELOW_THREE, out);
+    } else if place >= BELOW_FOUR {
+        put_four(BELOW_FOUR_BYTE, place - BELOW_FOUR, out);
+    } else {
+        put_long(&SIGNED, place, out);
+    }
 }
 
-/// Puts a signed number, of which none is farther from 0 than two coordinates are from each other. Those of one
-/// to three bytes are put with no search for their class.
+/// Puts the signed number at a place that is above those of one byte.
+fn put_above(place: u64, out: &mut Vec<u8>)
+    requires above { signed_start + 32 ≤ place }
+    requires room { vec_len out.old + 9 ≤ vec_capacity out.old }
+    ensures items { out.new.items ≡ out.old.items ++ number_in signed_classes 1 place }
+    ensures len { vec_len out.new ≤ vec_len out.old + 9 }
+    ensures capacity { vec_capacity out.new ≡ vec_capacity out.old }
+{
+    if place < ABOVE_THREE {
+        put_two(ABOVE_TWO_BYTE, place - ABOVE_TWO, out);
+    } else if place < ABOVE_FOUR {
+        put_three(ABOVE_THREE_BYTE, place - ABOVE_THREE, out);
+    } else if place < ABOVE_FIVE {
+        put_four(ABOVE_FOUR_BYTE, place - ABOVE_FOUR, out);
+    } else {
+        put_long(&SIGNED, place, out);
+    }
+}
+
+/// Puts the signed number at a place. Those of one to four bytes are put with no search for their class.
+fn put_place(place: u64, out: &mut Vec<u8>)
+    requires room { vec_len out.old + 9 ≤ vec_capacity out.old }
+    ensures items { out.new.items ≡ out.old.items ++ number_in signed_classes 1 place }
+    ensures len { vec_len out.new ≤ vec_len out.old + 9 }
+    ensures capacity { vec_capacity out.new ≡ vec_capacity out.old }
+{
+    if place < ONE {
+        put_below(place, out);
+    } else if place < ABOVE_TWO {
+        out.push_reserved((ONE_BYTE + (place - ONE)) as u8);
+    } else {
+        put_above(place, out);
+    }
+}
+
+/// Puts a signed number, of which none is farther from 0 than two coordinates are from each other.
 pub(crate) fn put_signed(number: i64, out: &mut Vec<u8>)
     requires step { IsStep number }
     requires room { vec_len out.old + 9 ≤ vec_capacity out.old }
@@ -94,21 +168,7 @@ pub(crate) fn put_signed(number: i64, out: &mut Vec<u8>)
     ensures len { vec_len out.new ≤ vec_len out.old + 9 }
     ensures capacity { vec_capacity out.new ≡ vec_capacity out.old }
 {
-    if number < -2107423 {
-        put_far(number, out);
-    } else if number < -10271 {
-        put_three(25, (number + 2107423) as u64, out);
-    } else if number < -31 {
-        put_two(57, (number + 10271) as u64, out);
-    } else if number < 32 {
-        out.push_reserved((number + 128) as u8);
-    } else if number < 10272 {
-        put_two(160, (number - 32) as u64, out);
-    } else if number < 2107424 {
-        put_three(200, (number - 10272) as u64, out);
-    } else {
-        put_far(number, out);
-    }
+    put_place(place_of(number), out);
 }
 
 /// Puts two unsigned numbers.

@@ -13,6 +13,8 @@ pub(crate) const TWO: u64 = 128;
 pub(crate) const THREE: u64 = TWO + 64 * TWO_EACH;
 /// The least of four bytes.
 pub(crate) const FOUR: u64 = THREE + 32 * THREE_EACH;
+/// The least of five bytes.
+pub(crate) const FIVE: u64 = FOUR + 16 * FOUR_EACH;
 
 /// The first byte of the least unsigned number of two bytes.
 pub(crate) const TWO_BYTE: u64 = 1 + 128;
@@ -37,6 +39,8 @@ pub(crate) const ABOVE_TWO: u64 = ONE + 63;
 pub(crate) const ABOVE_THREE: u64 = ABOVE_TWO + 40 * TWO_EACH;
 /// The place of the least above 0 that has four.
 pub(crate) const ABOVE_FOUR: u64 = ABOVE_THREE + 32 * THREE_EACH;
+/// The place of the least above 0 that has five.
+pub(crate) const ABOVE_FIVE: u64 = ABOVE_FOUR + 16 * FOUR_EACH;
 
 /// The first byte of the least signed number of four bytes.
 pub(crate) const BELOW_FOUR_BYTE: u64 = 1 + 1 + 7;
