@@ -6,9 +6,10 @@ use Rattle.oas_record.specs.declared.spots.Spot.{Spot}
 use Rattle.oas_record.specs.Fields.{Layers, layers, spot}
 use Rattle.oas_record.specs.FoundParts.{settled_below}
 use Rattle.oas_record.specs.Info.{has}
-use Rattle.oas_record.specs.Kinds.{Kind, number, padding}
+use Rattle.oas_record.specs.Kinds.{Kind, padding}
 use Rattle.oas_record.specs.Trees.{pair, image_any, info_byte}
 use Rattle.oas_wide.specs.declared.extensions.ExtensionGeometry.{ExtensionGeometry}
+use Rattle.oas_wide.specs.Long.{long_number}
 
 -- bits 7 to 5 are 0
 abbrev pub IsGeometryInfo : ℕ → Type 0
@@ -17,10 +18,10 @@ IsGeometryInfo info = info < 32
 abbrev pub GeometryFields : Type 0
 GeometryFields = ℕ × (Layers × (Padding × Spot))
 
--- 000XYRDL
+-- 000XYRDL, the attribute in any number of bytes
 abbrev pub geometry_parts : ℕ → Kind GeometryFields
 geometry_parts info =
-    pair number (λ _.
+    pair long_number (λ _.
     pair (layers info) (λ _.
     pair padding (λ _.
     spot (has info 16) (has info 8) (has info 4))))

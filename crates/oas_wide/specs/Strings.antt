@@ -5,6 +5,7 @@ use Rattle.oas_num.specs.declared.refusals.Why.{Why}
 use Rattle.oas_num.specs.declared.padding.Padding.{Padding}
 use Rattle.oas_record.specs.Kinds.{Kind, number, padding}
 use Rattle.oas_record.specs.Trees.{pair, there}
+use Rattle.oas_wide.specs.Long.{long_number}
 
 -- a string, and its number where it is there
 abbrev pub string_kind : Bool → Kind (Padding × Option ℕ)
@@ -16,9 +17,9 @@ SpellsString numbered = (string_kind numbered).any
 abbrev pub StringTook : Bool → Why → List ℕ → Type 0
 StringTook numbered = (string_kind numbered).took
 
--- an attribute, and the same
+-- an attribute in any number of bytes, and the same
 abbrev pub attributed : Bool → Kind (ℕ × (Padding × Option ℕ))
-attributed numbered = pair number (λ _. string_kind numbered)
+attributed numbered = pair long_number (λ _. string_kind numbered)
 
 abbrev pub SpellsAttributed : Bool → ℕ × (Padding × Option ℕ) → List ℕ → Type 0
 SpellsAttributed numbered = (attributed numbered).any

@@ -1,7 +1,8 @@
 ghost use Rattle.oas_num.specs.Reading.{ReadsPiece};
 ghost use Rattle.oas_wide.specs.Extensions.{SpellsGeometry, GeometryTook};
 
-use oas_num::{Padding, Source, Spelled, Why, next_byte, read_unsigned};
+use crate::long::read_long;
+use oas_num::{Padding, Source, Spelled, Why, next_byte};
 use oas_record::{Spot, read_layers, read_spot};
 use std::alloc::Global;
 
@@ -26,7 +27,7 @@ impl ExtensionGeometry {
         if info >= 32 {
             return Err(Why::InfoByte);
         }
-        let attribute = read_unsigned(source)?;
+        let attribute = read_long(source)?;
         let layers = read_layers(info, source)?;
         let string = Padding::read(alloc, source)?;
         let spot = read_spot(alloc, info & 16 != 0, info & 8 != 0, info & 4 != 0, source)?;

@@ -150,8 +150,11 @@ layername 0 6 0141 0205 0305 ff\n\
 layername 14 3 0141 05\n\
 xname 0 3 07 0141 ff\n\
 xname-31 0 4 07 0141 09 ff\n\
+xname 0 14 87 80*10 00 0141 ff\n\
+xname 3 11 87 80*9 01\n\
 xgeometry 0 8 1b 07 01 02 0141 0204 ff\n\
 xgeometry 0 4 00 07 0141 ff\n\
+xgeometry 0 15 00 87 80*10 00 0141 ff\n\
 xgeometry 14 1 20\n\
 cblock 0 4 00 8002 03 ff\n\
 cblock 0 23 80*10 00 82 80*9 00 03 ff\n\
