@@ -11,7 +11,9 @@ use Rattle.oas_record.specs.declared.heads.Head.{Head}
 use Rattle.oas_record.specs.Heads.{head_in, IsUnit}
 use Rattle.oas_wide.specs.declared.heads.WideStart.{WideStart}
 use Rattle.oas_wide.specs.Heads.{IsPositive}
+use Rattle.oas_wide.specs.Long.{long_unsigned}
 use Rattle.oas_wide.specs.Reals.{wide_of}
+use Rattle.oas_wide.proofs.HeadLemmas.{version_widened, offsets_widened}
 use Rattle.oas_wide.proofs.RealLemmas.{real_widened}
 use Rattle.oas_narrow.specs.Preparable.{IsUnitOf}
 use Rattle.oas_narrow.specs.WideFiles.{wide_head}
@@ -90,16 +92,22 @@ head_widened head bytes h =
             spelled = record {
               front = s.front;
               back = s.back;
-              first = s.first;
+              first = record { holds = s.first.holds; spelled = long_unsigned start.from.0 s.front s.first.spelled };
               second = record {
                 front = version.front;
                 back = version.back;
-                first = version.first;
+                first = version_widened tt version.front version.first;
                 second = record {
                   front = unit.front;
                   back = unit.back;
                   first = record { holds = positive r start.from.1.1.0 unit.first.is_unit; spelled = real_widened r unit.front unit.first.spelled };
-                  second = record { front = flag.front; back = flag.back; first = flag.first; second = flag.second; joined = flag.joined };
+                  second = record {
+                    front = flag.front;
+                    back = flag.back;
+                    first = record { holds = flag.first.holds; spelled = long_unsigned start.from.1.1.1.0 flag.front flag.first.spelled };
+                    second = offsets_widened (start.from.1.1.1.0 == 0) tt flag.back flag.second;
+                    joined = flag.joined;
+                  };
                   joined = unit.joined;
                 };
                 joined = version.joined;

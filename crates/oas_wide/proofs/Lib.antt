@@ -1,7 +1,9 @@
 pub mod AnyLengthLemmas
 pub mod ReadingLemmas
 pub mod LongLemmas
+pub mod VersionLemmas
 pub mod WideLemmas
 pub mod ForeignLemmas
 pub mod RealLemmas
+pub mod HeadLemmas
 pub mod WidenedLemmas

@@ -7,16 +7,12 @@ use Rattle.oas_num.specs.declared.refusals.Why.{Why}
 use Rattle.oas_num.specs.declared.refusals.Why.TheVariants.{Truncated, IntegerRange, Read, InputTooLong}
 use Rattle.oas_num.specs.Begun.{Decides}
 use Rattle.oas_num.specs.Grammar.{IsByte}
-use Rattle.oas_num.specs.Integers.{IsOpen, IsClosed, IsUnsigned, value_of}
+use Rattle.oas_num.specs.Integers.{IsOpen, IsClosed, value_of}
 use Rattle.oas_num.specs.Laws.IntegerLaws.{open_front}
 use Rattle.oas_num.specs.Reading.{ReadsValue, FailsPiece, ByteMay}
 use Rattle.oas_num.specs.Script.{Script, Takes}
 use Rattle.oas_num.proofs.ReadLemmas.{Takes-none, Takes-then, Wants, NoneFits-after, NoneWithin-after}
 use Rattle.oas_wide.specs.Long.{IsLong, LongMay}
-
--- what the profile takes as a number
-pub long_unsigned : (n : ℕ) (bytes : List ℕ) → IsUnsigned n bytes → IsLong n bytes
-long_unsigned n bytes s = record { closed = s.closed; value = s.value; fits = s.fits }
 
 -- ---- groups
 

@@ -26,14 +26,14 @@ use Rattle.oas_wide.specs.declared.records.WideRecord.{WideRecord}
 use Rattle.oas_num.specs.declared.padding.Padding.{Padding}
 use Rattle.oas_num.specs.Texts.{SpellsPadding}
 use Rattle.oas_wide.specs.Ends.{SpellsWideEnd, SpellsValidation}
-use Rattle.oas_wide.specs.Long.{IsLong, long_padding}
+use Rattle.oas_wide.specs.Long.{IsLong, long_padding, long_unsigned}
 use Rattle.oas_wide.specs.Placements.{SpellsPlacement, as_wide}
 use Rattle.oas_wide.specs.Reals.{wide_of}
 use Rattle.oas_wide.specs.WideRecords.{profile, end, property_name, property_string, layers_named, textlayers_named, a_placement, a_trapezoid, a_named_trapezoid, a_property, last_property, extension_name, extension_element, a_geometry, a_block}
 use Rattle.oas_long.specs.AnyLength.{IsAnyLength, first_of}
 use Rattle.oas_shortened.specs.Places.{shortened}
 use Rattle.oas_wide.proofs.AnyLengthLemmas.{short_spelled}
-use Rattle.oas_wide.proofs.LongLemmas.{long_unsigned}
+use Rattle.oas_wide.proofs.HeadLemmas.{offsets_widened}
 use Rattle.oas_wide.proofs.RealLemmas.{real_if_widened}
 use Rattle.oas_wide.proofs.WideLemmas.{either_split}
 use Rattle.oas_wide.specs.WideRecords.{foreign, fields_in, is_profile_id, wide_record_in, inner_widened, widened, AnyLengthAfter}
@@ -48,7 +48,7 @@ unvalidated n bytes is s = record {
   spelled = record {
     front = bytes;
     back = [];
-    first = record { holds = omega arith; spelled = subst (λ (k : ℕ). IsUnsigned k bytes) is s };
+    first = record { holds = omega arith; spelled = subst (λ (k : ℕ). IsLong k bytes) is (long_unsigned n bytes s) };
     second = refl;
     joined = sym (append-nil bytes);
   };
@@ -72,7 +72,7 @@ end_widened in_end v bytes p =
       spelled = record {
         front = s.front;
         back = s.back;
-        first = s.first;
+        first = offsets_widened in_end p.from.0 s.front s.first;
         second = record { front = t.front; back = t.back; first = padded p.from.1.0 t.front t.first; second = unvalidated p.from.1.1 t.back t.second.holds t.second.spelled; joined = t.joined };
         joined = s.joined;
       };

@@ -5,25 +5,25 @@ use Rattle.oas_num.specs.declared.refusals.Why.{Why}
 use Rattle.oas_num.specs.declared.refusals.Why.TheVariants.{ValidationScheme}
 use Rattle.oas_num.specs.declared.padding.Padding.{Padding}
 use Rattle.oas_num.specs.Pieces.{Unless}
-use Rattle.oas_record.specs.Ends.{offsets_part}
 use Rattle.oas_record.specs.FoundParts.{settled_below}
-use Rattle.oas_record.specs.Kinds.{Kind, number}
-use Rattle.oas_record.specs.Trees.{IsTest, pair, there, such, image_any, number_test}
+use Rattle.oas_record.specs.Kinds.{Kind}
+use Rattle.oas_record.specs.Trees.{IsTest, pair, there, such, image_any}
 use Rattle.oas_wide.specs.declared.ends.WideEnd.{WideEnd}
 use Rattle.oas_wide.specs.declared.ends.Validation.{Validation}
 use Rattle.oas_wide.specs.declared.ends.Validation.TheVariants.{Unvalidated, Crc32, Checksum32}
 use Rattle.oas_wide.specs.Little.{four}
-use Rattle.oas_wide.specs.Long.{long_padding}
+use Rattle.oas_wide.specs.Long.{IsLong, long_number, long_padding, long_test}
+use Rattle.oas_wide.specs.Offsets.{long_offsets_part}
 
 -- the schemes that there are: none, CRC32, CHECKSUM32
 abbrev pub IsScheme : ℕ → Type 0
 IsScheme scheme = scheme < 3
 
-pub scheme_test : IsTest number.any IsScheme (Unless IsScheme ValidationScheme)
-scheme_test = number_test IsScheme ValidationScheme (λ scheme. settled_below scheme 3) (omega arith) (λ e. cc)
+pub scheme_test : IsTest IsLong IsScheme (Unless IsScheme ValidationScheme)
+scheme_test = long_test IsScheme ValidationScheme (λ scheme. settled_below scheme 3) (omega arith) (λ e. cc)
 
 abbrev pub scheme : Kind ℕ
-scheme = such number IsScheme (Unless IsScheme ValidationScheme) scheme_test
+scheme = such long_number IsScheme (Unless IsScheme ValidationScheme) scheme_test
 
 -- a signature, where the scheme has one
 abbrev pub signature : ℕ → Kind (Option ℕ)
@@ -51,9 +51,9 @@ WideEndParts = Unit {0} × (Padding × Validation)
 abbrev pub wide_end_of : WideEndParts → WideEnd
 wide_end_of p = record { validation = p.1.1 }
 
--- table-offsets where START says so, padding with a length in any number of bytes, and the validation
+-- table-offsets where START says so, padding, and the validation, with integers in any number of bytes
 abbrev pub wide_end : Bool → Kind WideEnd
-wide_end in_end = image_any wide_end_of (pair (offsets_part in_end) (λ _. pair long_padding (λ _. validation)))
+wide_end in_end = image_any wide_end_of (pair (long_offsets_part in_end) (λ _. pair long_padding (λ _. validation)))
 
 abbrev pub SpellsWideEnd : Bool → WideEnd → List ℕ → Type 0
 SpellsWideEnd in_end = (wide_end in_end).any

@@ -1,91 +1,37 @@
 -- How START is spelled, with a unit of any type (SEMI P39, START record).
-use Rattle.std.proofs.Common.{◌≡◌, ℕ, ◌<◌, Bool, true, false, Some, None, List, [], ◌∷◌, ◌++◌, ◌⊎◌, inl, inr, refl, subst, arith}
+use Rattle.std.proofs.Common.{◌≡◌, ℕ, ◌<◌, Bool, true, false, Some, None, List, [], ◌∷◌, inl, inr, refl, arith}
 use Rattle.std.specs.Prelude.{◌==◌}
 use Rattle.oas_num.specs.declared.refusals.Why.{Why}
-use Rattle.oas_num.specs.declared.refusals.Why.TheVariants.{Unit as UnitIsRefused, Write, Version, OffsetFlag, OutOfPlace}
-use Rattle.oas_num.specs.Begun.{HasSome}
-use Rattle.oas_num.specs.Combinators.{IsNever}
-use Rattle.oas_num.specs.Laws.CombinatorLaws.{OneSpelling-never}
-use Rattle.oas_num.specs.Integers.{IsUnsigned}
-use Rattle.oas_num.specs.Laws.IntegerLaws.{zero_spelled}
+use Rattle.oas_num.specs.declared.refusals.Why.TheVariants.{Unit as UnitIsRefused, Write, OffsetFlag, OutOfPlace}
 use Rattle.oas_num.specs.Laws.BegunLaws.{HasSome-such}
 use Rattle.oas_num.specs.Pieces.{Unless}
-use Rattle.oas_num.specs.Style.{Any}
-use Rattle.oas_num.specs.Texts.{label_in}
-use Rattle.oas_num.specs.Laws.TextLaws.{label_spelled, IsWithin-label}
-use Rattle.oas_num.specs.Writing.{shortest}
-use Rattle.oas_record.specs.Ends.{IsNumber, offsets_part}
-use Rattle.oas_record.specs.Found.{Settled, IsFound, Stands, NoneStands, only, settled_number, settled_both}
-use Rattle.oas_record.specs.FoundParts.{settled_below, found_label}
-use Rattle.oas_record.specs.Heads.{IsFlag, IsOtherId, version, version_in, VersionTook}
-use Rattle.oas_record.specs.Laws.HeadLaws.{OneFront-version}
-use Rattle.oas_record.specs.Kinds.{Kind, number, pair_never}
-use Rattle.oas_record.specs.Trees.{IsTest, pair, such, image_any, number_test, such_never}
+use Rattle.oas_record.specs.Ends.{IsNumber}
+use Rattle.oas_record.specs.Found.{Settled, settled_number, settled_both}
+use Rattle.oas_record.specs.FoundParts.{settled_below}
+use Rattle.oas_record.specs.Heads.{IsFlag, IsOtherId}
+use Rattle.oas_record.specs.Kinds.{Kind}
+use Rattle.oas_record.specs.Trees.{IsTest, pair, such, image_any}
 use Rattle.oas_wide.specs.declared.heads.WideStart.{WideStart}
 use Rattle.oas_wide.specs.declared.reals.WideReal.{WideReal}
+use Rattle.oas_wide.specs.Long.{IsLong, long_number, long_test, zero_long}
+use Rattle.oas_wide.specs.Offsets.{long_offsets_part}
 use Rattle.oas_wide.specs.Reals.{wide_real}
+use Rattle.oas_wide.specs.Versions.{long_version}
 
 -- ---- the id
 
-one_spelled : IsUnsigned 1 (1 ∷ [])
-one_spelled = record { closed = inl (omega arith, refl); short = omega arith; value = omega arith; fits = omega arith }
+one_spelled : IsLong 1 (1 ∷ [])
+one_spelled = record { closed = inl (omega arith, refl); value = omega arith; fits = omega arith }
 
-pub id_test : IsTest number.any (IsNumber 1) IsOtherId
+pub id_test : IsTest IsLong (IsNumber 1) IsOtherId
 id_test = record {
   settled = λ id. settled_number id 1;
-  some = HasSome-such (IsNumber 1) IsUnsigned 1 (1 ∷ []) one_spelled refl;
+  some = HasSome-such (IsNumber 1) IsLong 1 (1 ∷ []) one_spelled refl;
   never = λ id h. let e : Write ≡ OutOfPlace id = h.0 in cc;
 }
 
 abbrev pub start_id : Kind ℕ
-start_id = such number (IsNumber 1) IsOtherId id_test
-
--- ---- the version
-
-settled_list : (xs ys : List ℕ) → Settled (xs ≡ ys)
-settled_list [] [] = inl refl
-settled_list [] (y ∷ ys) = inr (λ e. cc)
-settled_list (x ∷ xs) [] = inr (λ e. cc)
-settled_list (x ∷ xs) (y ∷ ys) = elim (settled_both (settled_number x y) (settled_list xs ys)) [
-  | inl both ↦ inl (λ i. both.0 i ∷ both.1 i)
-  | inr not ↦ inr (λ e. let head : x ≡ y = cc in let tail : xs ≡ ys = cc in not (head, tail))
-]
-
-pub found_version : IsFound (version_in Any)
-found_version = record { one = OneFront-version Any; find = find } where
-  here : (left : List ℕ) (s : Stands (label_in Any) left) → Settled (s.value ≡ version) → Stands (version_in Any) left ⊎ NoneStands (version_in Any) left
-  here left s (inl is) = inl (record { value = tt; front = s.front; rest = s.rest; spelled = subst (λ (t : List ℕ). label_in Any t s.front) is s.spelled; joined = s.joined })
-  here left s (inr not) = inr (record { none = λ v front rest p e. not (only found_label.one s version front rest p e).value })
-
-  find : (left : List ℕ) → Stands (version_in Any) left ⊎ NoneStands (version_in Any) left
-  find left = elim (found_label.find left) [
-    | inl s ↦ here left s (settled_list s.value version)
-    | inr lacks ↦ inr (record { none = λ v front rest p e. lacks.none version front rest p e })
-  ]
-
-pub some_version : HasSome (version_in Any)
-some_version = record {
-  value = tt;
-  bytes = shortest 3 ++ version;
-  spelled = IsWithin-label.within version (shortest 3 ++ version)
-      (label_spelled version (record { fits = omega arith; class = ((omega arith, omega arith), ((omega arith, omega arith), ((omega arith, omega arith), tt))) }));
-}
-
-pub no_fault : Write ≡ Version → ⊥
-no_fault e = cc
-
--- the version, 1.0
-abbrev pub version_kind : Kind (Unit {0})
-version_kind = record {
-  any = version_in Any;
-  shortest = IsNever;
-  took = VersionTook;
-  found = found_version;
-  one = OneSpelling-never;
-  within = record { within = λ v bytes p. absurd p };
-  some = some_version;
-  never = such_never (λ v h. no_fault h.0) (pair_never (record { none = λ bytes h. h }) (λ n. record { none = λ bytes b. b.holds.1 }));
-}
+start_id = such long_number (IsNumber 1) IsOtherId id_test
 
 -- ---- the unit
 
@@ -108,7 +54,7 @@ one_real_spelled = record {
   spelled = record {
     front = 0 ∷ [];
     back = 1 ∷ [];
-    first = record { holds = omega arith; spelled = zero_spelled };
+    first = record { holds = omega arith; spelled = zero_long };
     second = record { from = (Some 1, None); is = refl; spelled = record { front = 1 ∷ []; back = []; first = one_spelled; second = refl; joined = refl } };
     joined = refl;
   };
@@ -132,12 +78,12 @@ UnitTook = unit_kind.took
 
 -- ---- START
 
-pub flag_test : IsTest number.any IsFlag (Unless IsFlag OffsetFlag)
-flag_test = number_test IsFlag OffsetFlag (λ flag. settled_below flag 2) (omega arith) (λ e. cc)
+pub flag_test : IsTest IsLong IsFlag (Unless IsFlag OffsetFlag)
+flag_test = long_test IsFlag OffsetFlag (λ flag. settled_below flag 2) (omega arith) (λ e. cc)
 
 -- the offset-flag: 0 or 1
 abbrev pub flag_kind : Kind ℕ
-flag_kind = such number IsFlag (Unless IsFlag OffsetFlag) flag_test
+flag_kind = such long_number IsFlag (Unless IsFlag OffsetFlag) flag_test
 
 abbrev pub WideStartParts : Type 0
 WideStartParts = ℕ × (Unit {0} × (WideReal × (ℕ × Unit {0})))
@@ -145,15 +91,15 @@ WideStartParts = ℕ × (Unit {0} × (WideReal × (ℕ × Unit {0})))
 abbrev pub wide_start_of : WideStartParts → WideStart
 wide_start_of p = record { unit = p.1.1.0; flag_in_end = p.1.1.1.0 == 1 }
 
--- id, version, unit, flag, and table-offsets where the flag is 0
+-- id, version, unit, flag, and table-offsets where the flag is 0, with integers in any number of bytes
 abbrev pub wide_start : Kind WideStart
 wide_start =
     image_any wide_start_of
     (pair start_id (λ _.
-    pair version_kind (λ _.
+    pair long_version (λ _.
     pair unit_kind (λ _.
     pair flag_kind (λ flag.
-    offsets_part (flag == 0))))))
+    long_offsets_part (flag == 0))))))
 
 abbrev pub SpellsWideStart : WideStart → List ℕ → Type 0
 SpellsWideStart = wide_start.any

@@ -1,6 +1,8 @@
 pub mod Little
 pub mod Long
 pub mod Reals
+pub mod Offsets
+pub mod Versions
 pub mod Heads
 pub mod Ends
 pub mod Strings

@@ -2,18 +2,20 @@
 use Rattle.std.proofs.Common.{◌≡◌, ℕ, ◌<◌, ◌≤◌, ◌^◌, List, [], ◌∷◌, ◌++◌, ◌⊎◌, inl, inr, refl, sym, ap, subst, ◌∙◌, arith}
 use Rattle.std.proofs.lemmas.Bool.{cases_lt}
 use Rattle.oas_num.specs.declared.refusals.Why.{Why}
-use Rattle.oas_num.specs.declared.refusals.Why.TheVariants.{Truncated, IntegerRange, Read, InputTooLong}
+use Rattle.oas_num.specs.declared.refusals.Why.TheVariants.{Truncated, IntegerRange, Read, InputTooLong, Write}
 use Rattle.oas_num.specs.declared.padding.Padding.{Padding}
 use Rattle.oas_num.specs.Combinators.{IsNever}
 use Rattle.oas_num.specs.Grammar.{OneFront}
-use Rattle.oas_num.specs.Integers.{IsOpen, IsClosed, value_of}
+use Rattle.oas_num.specs.Integers.{IsOpen, IsClosed, IsUnsigned, value_of}
+use Rattle.oas_num.specs.Laws.BegunLaws.{HasSome-such}
 use Rattle.oas_num.specs.Laws.CombinatorLaws.{OneSpelling-never}
 use Rattle.oas_num.specs.Laws.IntegerLaws.{closed_same}
+use Rattle.oas_num.specs.Pieces.{Unless}
 use Rattle.oas_num.specs.Texts.{padding_of}
 use Rattle.oas_record.specs.Found.{IsFound, Stands, NoneStands, Settled}
 use Rattle.oas_record.specs.FoundParts.{settled_below}
 use Rattle.oas_record.specs.Kinds.{Kind, byte}
-use Rattle.oas_record.specs.Trees.{pair, items, image_any}
+use Rattle.oas_record.specs.Trees.{IsTest, pair, items, image_any}
 
 -- the bytes are a spelling of n: any number of groups, of which those above its 64 bits are zero
 pub record IsLong (n : ℕ) (bytes : List ℕ) : Type 0 where
@@ -38,6 +40,10 @@ LongMay IntegerRange last = IsPast last
 LongMay _ last = ⊥
 
 -- ---- its laws
+
+-- what the profile takes as a number
+pub long_unsigned : (n : ℕ) (bytes : List ℕ) → IsUnsigned n bytes → IsLong n bytes
+long_unsigned n bytes s = record { closed = s.closed; value = s.value; fits = s.fits }
 
 pub OneFront-long : OneFront IsLong
 OneFront-long = record {
@@ -99,6 +105,9 @@ found_long = record { one = OneFront-long; find = find } where
     | inr lacks ↦ inr (record { none = λ v front rest p e. lacks.none tt front rest p.closed e })
   ]
 
+pub zero_long : IsLong 0 (0 ∷ [])
+zero_long = record { closed = inl (omega arith, refl); value = refl; fits = omega arith }
+
 -- no canonical file has one so
 abbrev pub long_number : Kind ℕ
 long_number = record {
@@ -108,9 +117,13 @@ long_number = record {
   found = found_long;
   one = OneSpelling-never;
   within = record { within = λ v bytes p. absurd p };
-  some = record { value = 0; bytes = 0 ∷ []; spelled = record { closed = inl (omega arith, refl); value = refl; fits = omega arith } };
+  some = record { value = 0; bytes = 0 ∷ []; spelled = zero_long };
   never = record { none = λ bytes h. h };
 }
+
+-- such a number of which that holds, as it does of 0
+pub long_test : (P : ℕ → Type 0) (reason : Why) → ((n : ℕ) → Settled (P n)) → P 0 → (Write ≡ reason → ⊥) → IsTest IsLong P (Unless P reason)
+long_test P reason settled holds other = record { settled = settled; some = HasSome-such P IsLong 0 (0 ∷ []) zero_long holds; never = λ v h. other h.0 }
 
 -- ---- strings that are passed over
 

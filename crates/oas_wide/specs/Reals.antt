@@ -9,10 +9,11 @@ use Rattle.oas_num.specs.Grammar.{IsSuch}
 use Rattle.oas_num.specs.Pieces.{Unless}
 use Rattle.oas_num.specs.Reals.{has_num, has_den, part_of, Parts}
 use Rattle.oas_record.specs.FoundParts.{settled_below}
-use Rattle.oas_record.specs.Kinds.{Kind, number}
-use Rattle.oas_record.specs.Trees.{IsTest, pair, there, either, such, image_any, number_test}
+use Rattle.oas_record.specs.Kinds.{Kind}
+use Rattle.oas_record.specs.Trees.{IsTest, pair, there, either, such, image_any}
 use Rattle.oas_wide.specs.declared.reals.WideReal.{WideReal}
 use Rattle.oas_wide.specs.Little.{four, eight, four_zeros, zero_four, zero_eight}
+use Rattle.oas_wide.specs.Long.{IsLong, long_number, long_test}
 
 -- ---- floats
 
@@ -87,27 +88,27 @@ double = image_any double_of double_bits
 abbrev pub IsRealType : ℕ → Type 0
 IsRealType type = type < 8
 
--- a fraction of a type below 6: odd types are negative
+-- a fraction of a type below 6: odd types are negative, and its parts are in any number of bytes
 abbrev pub fraction_of : ℕ → Parts → WideReal
 fraction_of type parts = record { negative = type % 2 == 1; num = part_of parts.0; den = part_of parts.1; doubled = 0; halved = 0 }
 
 abbrev pub fraction : ℕ → Kind WideReal
-fraction type = image_any (fraction_of type) (pair (there (has_num type) number) (λ _. there (has_den type) number))
+fraction type = image_any (fraction_of type) (pair (there (has_num type) long_number) (λ _. there (has_den type) long_number))
 
 -- what follows a type
 abbrev pub real_after : ℕ → Kind WideReal
 real_after type = either (type == 6) single (either (type == 7) double (fraction type))
 
-pub real_type_test : IsTest number.any IsRealType (Unless IsRealType RealType)
-real_type_test = number_test IsRealType RealType (λ type. settled_below type 8) (omega arith) (λ e. cc)
+pub real_type_test : IsTest IsLong IsRealType (Unless IsRealType RealType)
+real_type_test = long_test IsRealType RealType (λ type. settled_below type 8) (omega arith) (λ e. cc)
 
 abbrev pub real_type : Kind ℕ
-real_type = such number IsRealType (Unless IsRealType RealType) real_type_test
+real_type = such long_number IsRealType (Unless IsRealType RealType) real_type_test
 
 abbrev pub without_type : ℕ × WideReal → WideReal
 without_type p = p.1
 
--- a type, and what follows it
+-- a type in any number of bytes, and what follows it
 abbrev pub wide_real : Kind WideReal
 wide_real = image_any without_type (pair real_type real_after)
 

@@ -5,9 +5,9 @@ ghost use Rattle.oas_wide.specs.Little.{four};
 ghost use Rattle.oas_wide.specs.Ends.{validation_of, SpellsValidation, ValidationTook, SpellsWideEnd, WideEndTook};
 
 use crate::little::read_four;
-use crate::long::read_long_padding;
-use oas_num::{Source, Why, read_unsigned};
-use oas_record::pass_offsets_if;
+use crate::long::{read_long, read_long_padding};
+use crate::offsets::pass_offsets_if;
+use oas_num::{Source, Why};
 
 /// How a file says that it came whole (SEMI P39, END record, validation-scheme).
 #[derive(Clone, Copy, Debug, PartialEq, Eq)]
@@ -47,7 +47,7 @@ impl Validation {
     fn read<S: Source>(source: &mut S) -> Result<Validation, Why>
         ensures { ReadsPiece SpellsValidation ValidationTook (S.script source.old) result (S.script source.new) }
     {
-        let scheme = read_unsigned(source)?;
+        let scheme = read_long(source)?;
         if scheme > 2 {
             return Err(Why::ValidationScheme);
         }
@@ -64,8 +64,8 @@ pub struct WideEnd {
 }
 
 impl WideEnd {
-    /// What follows END's id: table-offsets where START says so, padding, the validation-scheme and its signature. That END
-    /// is 256 bytes, its id and its signature included, is for the caller to see.
+    /// What follows END's id: table-offsets where START says so, padding, the validation-scheme and its signature, with
+    /// integers in any number of bytes. That END is 256 bytes, its id and its signature included, is for the caller to see.
     pub fn read<S: Source>(in_end: bool, source: &mut S) -> Result<WideEnd, Why>
         ensures { ReadsPiece (SpellsWideEnd in_end) (WideEndTook in_end) (S.script source.old) result (S.script source.new) }
     {

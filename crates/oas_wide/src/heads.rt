@@ -2,9 +2,11 @@ ghost use Rattle.std.specs.Prelude.{◌↔◌, IsTrue};
 ghost use Rattle.oas_num.specs.Reading.{ReadsPiece};
 ghost use Rattle.oas_wide.specs.Heads.{IsPositive, SpellsUnit, UnitTook, SpellsWideStart, WideStartTook};
 
+use crate::long::read_long;
+use crate::offsets::pass_offsets_if;
 use crate::reals::WideReal;
-use oas_num::{Source, Spelled, Why, read_unsigned};
-use oas_record::{pass_offsets_if, read_version};
+use crate::versions::read_version;
+use oas_num::{Source, Spelled, Why};
 use std::alloc::Global;
 
 /// What START says (SEMI P39, START record), where the unit may be a float.
@@ -35,18 +37,18 @@ fn read_unit<S: Source>(alloc: Global, source: &mut S) -> Result<WideReal, Why>
 }
 
 impl WideStart {
-    /// START: its id, the version, the unit, the offset-flag, and table-offsets where the flag is 0. The magic stands before
-    /// it ([`oas_record::read_magic`]).
+    /// START: its id, the version, the unit, the offset-flag, and table-offsets where the flag is 0, with integers in any
+    /// number of bytes. The magic stands before it ([`oas_record::read_magic`]).
     pub fn read<S: Source>(alloc: Global, source: &mut S) -> Result<WideStart, Why>
         ensures { ReadsPiece SpellsWideStart WideStartTook (S.script source.old) result (S.script source.new) }
     {
-        let id = read_unsigned(source)?;
+        let id = read_long(source)?;
         if id != 1 {
             return Err(Why::OutOfPlace(id));
         }
         read_version(source)?;
         let unit = read_unit(alloc, source)?;
-        let flag = read_unsigned(source)?;
+        let flag = read_long(source)?;
         if flag > 1 {
             return Err(Why::OffsetFlag);
         }

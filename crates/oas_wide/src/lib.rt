@@ -48,6 +48,7 @@ pub mod laws;
 mod layer_names;
 mod little;
 mod long;
+mod offsets;
 mod placements;
 mod properties;
 mod reals;
@@ -55,6 +56,7 @@ mod reasons;
 mod records;
 mod strings;
 mod trapezoids;
+mod versions;
 
 pub use blocks::BlockHead;
 pub use ends::{Validation, WideEnd};

@@ -3,7 +3,8 @@ ghost use Rattle.oas_num.specs.Grammar.{IsByte};
 ghost use Rattle.oas_num.specs.Pieces.{CountTook};
 ghost use Rattle.oas_num.specs.Reading.{ReadsPiece, ByteMay};
 ghost use Rattle.oas_num.specs.Texts.{IsPassed};
-ghost use Rattle.oas_wide.specs.Long.{IsLong, LongMay, long_padding};
+ghost use Rattle.oas_record.specs.Trees.{there};
+ghost use Rattle.oas_wide.specs.Long.{IsLong, LongMay, long_number, long_padding};
 
 use oas_num::{Padding, Source, Why, next_byte};
 
@@ -50,6 +51,17 @@ pub(crate) fn read_long<S: Source>(source: &mut S) -> Result<u64, Why>
         if byte < 128 {
             return Ok(value);
         }
+    }
+}
+
+/// The same, where there is one.
+pub(crate) fn read_long_if<S: Source>(is_given: bool, source: &mut S) -> Result<Option<u64>, Why>
+    ensures { ReadsPiece (there is_given long_number).any (there is_given long_number).took (S.script source.old) result (S.script source.new) }
+{
+    if is_given {
+        Ok(Some(read_long(source)?))
+    } else {
+        Ok(None)
     }
 }
 

@@ -4,7 +4,8 @@ ghost use Rattle.oas_num.specs.Reals.{part_of};
 ghost use Rattle.oas_wide.specs.Reals.{float_of, single, double, fraction, real_after};
 
 use crate::little::{read_eight, read_four};
-use oas_num::{Source, Spelled, Why, read_unsigned, read_unsigned_if};
+use crate::long::{read_long, read_long_if};
+use oas_num::{Source, Spelled, Why};
 use std::alloc::Global;
 
 /// A real as it stands in a file (SEMI P39, Reals, types 0 to 7): `num / den`, times two as often as `doubled`, halved as
@@ -73,12 +74,12 @@ fn read_double<S: Source>(source: &mut S) -> Result<WideReal, Why>
     Ok(float_of(0x10_0000_0000_0000, 2048, 1075, bits))
 }
 
-/// The parts of a fraction, of a type below 6.
+/// The parts of a fraction, of a type below 6, each in any number of bytes.
 pub(crate) fn read_fraction<S: Source>(kind: u64, source: &mut S) -> Result<WideReal, Why>
     ensures { ReadsPiece (fraction kind).any (fraction kind).took (S.script source.old) result (S.script source.new) }
 {
-    let num = read_unsigned_if(kind / 2 != 1, source)?;
-    let den = read_unsigned_if(kind / 2 != 0, source)?;
+    let num = read_long_if(kind / 2 != 1, source)?;
+    let den = read_long_if(kind / 2 != 0, source)?;
     Ok(WideReal {
         negative: kind % 2 == 1,
         num: part_or_one(num),
@@ -122,7 +123,7 @@ impl Spelled for WideReal {
     fn read<S: Source>(_alloc: Global, source: &mut S) -> Result<WideReal, Why>
         ensures { ReadsPiece SpellsWideReal WideRealTook (S.script source.old) result (S.script source.new) }
     {
-        let kind = read_unsigned(source)?;
+        let kind = read_long(source)?;
         if kind >= 8 {
             return Err(Why::RealType);
         }

@@ -1,8 +1,8 @@
 use Rattle.std.proofs.lemmas.Result.{err_from_is_err_and}
-use Rattle.oas_record.proofs.FieldLemmas.{OneFront-offsets_if}
 use Rattle.oas_num.proofs.HalfwayLemmas.{◌▸◌, at_image, fails_at, fails_last, is_read}
 use Rattle.oas_wide.specs.Ends.{WideEndTook}
 use Rattle.oas_wide.specs.Long.{long_padding}
+use Rattle.oas_wide.specs.Offsets.{long_offsets_part}
 use Rattle.oas_wide.proofs.ends.WideEnd.read.Goals as goal
 
 pub returns-in_err-pass_offsets_if : goal.returns-in_err-pass_offsets_if
@@ -13,13 +13,13 @@ returns-in_err-pass_offsets_if g c =
 pub returns-in_err-read_long_padding : goal.returns-in_err-read_long_padding
 returns-in_err-read_long_padding g c =
     let p = err_from_is_err_and c.from_residual-in_err-read_long_padding.result c.from_residual-in_err-read_long_padding.ensures.1 in
-    rw (p.1, p.2) (fails_at (at_image {took = WideEndTook c.args.in_end} _ ▸ (OneFront-offsets_if _, c.in_ok-pass_offsets_if.ensures)) c.in_err-read_long_padding.ensures)
+    rw (p.1, p.2) (fails_at (at_image {took = WideEndTook c.args.in_end} _ ▸ ((long_offsets_part _).found.one, c.in_ok-pass_offsets_if.ensures)) c.in_err-read_long_padding.ensures)
 
 pub returns-in_err-validation : goal.returns-in_err-validation
 returns-in_err-validation g c =
     let p = err_from_is_err_and c.from_residual-in_err-validation.result c.from_residual-in_err-validation.ensures.1 in
-    rw (p.1, p.2) (fails_last (at_image {took = WideEndTook c.args.in_end} _ ▸ (OneFront-offsets_if _, c.in_ok-pass_offsets_if.ensures) ▸
+    rw (p.1, p.2) (fails_last (at_image {took = WideEndTook c.args.in_end} _ ▸ ((long_offsets_part _).found.one, c.in_ok-pass_offsets_if.ensures) ▸
     (long_padding.found.one, c.in_ok-read_long_padding.ensures)) c.in_err-validation.ensures)
 
 pub returns : goal.returns
-returns g c = is_read (at_image {took = WideEndTook c.args.in_end} _ ▸ (OneFront-offsets_if _, c.in_ok-pass_offsets_if.ensures) ▸ (long_padding.found.one, c.in_ok-read_long_padding.ensures)) c.in_ok-validation.ensures
+returns g c = is_read (at_image {took = WideEndTook c.args.in_end} _ ▸ ((long_offsets_part _).found.one, c.in_ok-pass_offsets_if.ensures) ▸ (long_padding.found.one, c.in_ok-read_long_padding.ensures)) c.in_ok-validation.ensures

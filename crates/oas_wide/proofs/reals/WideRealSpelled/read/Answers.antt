@@ -1,9 +1,8 @@
 use Rattle.std.proofs.Common.{refl, arith}
 use Rattle.std.proofs.lemmas.Result.{err_from_is_err_and}
-use Rattle.oas_num.specs.Laws.IntegerLaws.{OneFront-IsUnsigned}
-use Rattle.oas_num.specs.Integers.{IsUnsigned}
 use Rattle.oas_num.proofs.GrammarLemmas.{such_read}
 use Rattle.oas_num.proofs.HalfwayLemmas.{◌▸◌, at_image, fails_at, fails_last, is_read, such_took, such_refused}
+use Rattle.oas_wide.specs.Long.{IsLong, OneFront-long}
 use Rattle.oas_wide.specs.Reals.{IsRealType, real_type, WideRealTook}
 use Rattle.oas_wide.proofs.reals.WideRealSpelled.read.Goals as goal
 
@@ -14,13 +13,13 @@ returns-in_err-kind g c =
 
 pub returns-then-kind-ge8 : goal.returns-then-kind-ge8
 returns-then-kind-ge8 g c = fails_at (at_image {took = WideRealTook} _)
-    (such_refused OneFront-IsUnsigned refl (λ lt. omega (arith, lt, c.if-kind-ge8.true)) (refl, λ lt. omega (arith, lt, c.if-kind-ge8.true)) c.in_ok-kind.ensures)
+    (such_refused OneFront-long refl (λ lt. omega (arith, lt, c.if-kind-ge8.true)) (refl, λ lt. omega (arith, lt, c.if-kind-ge8.true)) c.in_ok-kind.ensures)
 
 pub returns-in_err-real : goal.returns-in_err-real
 returns-in_err-real g c =
     let p = err_from_is_err_and c.from_residual-in_err-real.result c.from_residual-in_err-real.ensures.1 in
     rw (p.1, p.2) (fails_last (at_image {took = WideRealTook} _ ▸
-    (real_type.found.one, such_read IsRealType IsUnsigned _ _ _ (omega (arith, c.if-kind-ge8.false)) c.in_ok-kind.ensures)) c.in_err-real.ensures)
+    (real_type.found.one, such_read IsRealType IsLong _ _ _ (omega (arith, c.if-kind-ge8.false)) c.in_ok-kind.ensures)) c.in_err-real.ensures)
 
 pub returns : goal.returns
-returns g c = is_read (at_image {took = WideRealTook} _ ▸ (real_type.found.one, such_read IsRealType IsUnsigned _ _ _ (omega (arith, c.if-kind-ge8.false)) c.in_ok-kind.ensures)) c.in_ok-real.ensures
+returns g c = is_read (at_image {took = WideRealTook} _ ▸ (real_type.found.one, such_read IsRealType IsLong _ _ _ (omega (arith, c.if-kind-ge8.false)) c.in_ok-kind.ensures)) c.in_ok-real.ensures
