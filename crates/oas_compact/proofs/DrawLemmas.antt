@@ -31,7 +31,7 @@ use Rattle.oas_modal.specs.Finish.{IsFit}
 use Rattle.oas_modal.specs.Stores.{Draws, IsBegun}
 use Rattle.oas_modal.proofs.StoreLemmas.{draws_none}
 use Rattle.oas_modal.proofs.CountLemmas.{capped_more}
-use Rattle.oas_compact.specs.Compact.{Compact, is_named, by_key, by_number, IsKey, Waits, compact_store}
+use Rattle.oas_compact.specs.Compact.{Compact, is_named, by_key, by_number, IsKey, WaitsMore, compact_store}
 use Rattle.oas_compact.proofs.KeptLemmas.{normal_sound}
 
 -- ---- counted lists
@@ -77,7 +77,7 @@ pub keys_more : (g : List ℕ → ℕ) (ps : List Entry) (k : List ℕ) (n : ℕ
 keys_more g ps k n = total-put_more (slice_cmp nat_cmp) g ps k n (λ x h. ap g (sym (exact_bytes k x h)))
 
 -- so does more of what waits
-waiting_more : (g : Drawn → ℕ) (ps : List (Drawn × ℕ)) (d : Drawn) (n : ℕ) → total g (put_more drawn_cmp ps d n) ≡ total g ps + n * g d
+pub waiting_more : (g : Drawn → ℕ) (ps : List (Drawn × ℕ)) (d : Drawn) (n : ℕ) → total g (put_more drawn_cmp ps d n) ≡ total g ps + n * g d
 waiting_more g ps d n = total-put_more drawn_cmp g ps d n (λ x h. ap g (sym (exact_drawn d x h)))
 
 -- ---- what is held of a cell
@@ -124,25 +124,20 @@ module _ (profile : Profile) (n : ℕ) where
   weighs_one (TextBy number textlayer texttype x y) h = refl
 
   -- something waits
-  pub waits : (old new : Compact) (d : Drawn) → 0 < n → n < 2 ^ 64 → IsFit d → is_named d ≡ false → new
-      ≡ record { cell = old.cell; count = old.count + n; weight = capped (old.weight + n); keys = old.keys; waiting = put_more drawn_cmp old.waiting d n }
+  pub waits : (old new : Compact) (d : Drawn) (ws : List (Drawn × ℕ)) → 0 < n → n < 2 ^ 64 → IsFit d → is_named d ≡ false → WaitsMore old.waiting d n ws → new
+      ≡ record { cell = old.cell; count = old.count + n; weight = capped (old.weight + n); keys = old.keys; waiting = ws }
       → Draws (compact_store profile) old (replicate n d) new
-  waits old new d some small fit numbered is =
+  waits old new d ws some small fit numbered more is =
       let one : weight_so_far d * n ≡ n = ap (λ (k : ℕ). k * n) (weighs_one d numbered) ∙ omega arith in
       let same : n ≡ capped (weight_so_far d * n) = sym (ap capped one ∙ exact n small) in
       subst (Draws (compact_store profile) old (replicate n d)) (sym is) (record {
         cell = refl;
         count = omega (arith, length-replicate n d);
-        sound = λ s. record {
-          keys = s.keys;
-          waiting =
-              all-put_more Waits drawn_cmp old.waiting d n (λ p h. record { fit = h.fit; numbered = h.numbered; some = more p.1 h.some })
-              (record { fit = fit; numbered = numbered; some = some }) s.waiting;
-        };
+        sound = λ s. record { keys = s.keys; waiting = more.waits s.waiting (record { fit = fit; numbered = numbered; some = some }) };
         holds = λ before b. record {
           weight = weight_more d n old.weight _ before b.weight (ap (λ (k : ℕ). capped (old.weight + k)) same);
           keys = λ g. b.keys g ∙ sym (sum_more d n (by_key profile g) before ∙ ap (λ (k : ℕ). sum_by (by_key profile g) before + n * k) (by_key_none d numbered g) ∙ none (sum_by (by_key profile g) before));
-          waiting = λ g. waiting_more g old.waiting d n
+          waiting = λ g. more.sums g
               ∙ (ap (λ (k : ℕ). k + n * g d) (b.waiting g) ∙ sym (sum_more d n (by_number g) before ∙ ap (λ (k : ℕ). sum_by (by_number g) before + n * k) (by_number_all d numbered g)));
         };
       })
@@ -153,9 +148,6 @@ module _ (profile : Profile) (n : ℕ) where
       exact : (k : ℕ) → k < 2 ^ 64 → capped k ≡ k
       exact k h = grind arith
 
-      more : (k : ℕ) → 0 < k → 0 < k + n
-      more k h = omega arith
-
 -- the same of a cell whose parts are known
 module _ (profile : Profile) (n : ℕ) (old : Compact) (a : CellRef) (k v w : ℕ) (ks : List Entry) (ws : List (Drawn × ℕ))
     (view : ◌≡◌ {A = Compact} (record { cell = a; count = k; weight = v; keys = ks; waiting = ws }) old) where
@@ -165,11 +157,11 @@ module _ (profile : Profile) (n : ℕ) (old : Compact) (a : CellRef) (k v w : �
       subst (λ (o : Compact). Draws (compact_store profile) o (replicate n (Named e)) (record { cell = a; count = k + n; weight = w; keys = qs; waiting = ws })) view
       (kept profile n (record { cell = a; count = k; weight = v; keys = ks; waiting = ws }) _ e sound (λ i. record { cell = a; count = k + n; weight = weighs i; keys = is i; waiting = ws }))
 
-  pub waits_up : (d : Drawn) (xs : List (Drawn × ℕ)) → 0 < n → n < 2 ^ 64 → IsFit d → is_named d ≡ false → w ≡ capped (v + n) → xs ≡ put_more drawn_cmp ws d n
+  pub waits_up : (d : Drawn) (xs : List (Drawn × ℕ)) → 0 < n → n < 2 ^ 64 → IsFit d → is_named d ≡ false → w ≡ capped (v + n) → WaitsMore ws d n xs
       → Draws (compact_store profile) old (replicate n d) (record { cell = a; count = k + n; weight = w; keys = ks; waiting = xs })
-  waits_up d xs some small fit numbered weighs is =
+  waits_up d xs some small fit numbered weighs more =
       subst (λ (o : Compact). Draws (compact_store profile) o (replicate n d) (record { cell = a; count = k + n; weight = w; keys = ks; waiting = xs })) view
-      (waits profile n (record { cell = a; count = k; weight = v; keys = ks; waiting = ws }) _ d some small fit numbered (λ i. record { cell = a; count = k + n; weight = weighs i; keys = ks; waiting = is i }))
+      (waits profile n (record { cell = a; count = k; weight = v; keys = ks; waiting = ws }) _ d xs some small fit numbered more (λ i. record { cell = a; count = k + n; weight = weighs i; keys = ks; waiting = xs }))
 
 -- nothing changes
 pub unchanged : (profile : Profile) (old new : Compact) → new ≡ old → Draws (compact_store profile) old [] new

@@ -1,4 +1,5 @@
 pub mod KeptLemmas
 pub mod PlaceLemmas
 pub mod DrawLemmas
+pub mod WaitLemmas
 pub mod WeighLemmas

@@ -1,5 +1,5 @@
 -- What waits, placed by the names of the whole file.
-use Rattle.std.proofs.Common.{◌≡◌, ℕ, ◌+◌, ◌*◌, ◌<◌, ◌≤◌, ◌^◌, List, [], ◌∷◌, true, false, Option, None, Some, refl, sym, ◌∙◌, ap, subst, arith}
+use Rattle.std.proofs.Common.{◌≡◌, ℕ, ◌+◌, ◌*◌, ◌<◌, ◌≤◌, ◌^◌, List, [], ◌∷◌, ◌++◌, true, false, Option, None, Some, refl, sym, ◌∙◌, ap, subst, arith}
 use Rattle.std.specs.Prelude.{sum_by}
 use Rattle.std.specs.Option.{option_map}
 use Rattle.std.specs.Ordering.{nat_cmp}
@@ -28,6 +28,7 @@ use Rattle.oas_compact.specs.Compact.{Compact, by_key, by_number, Keeps, IsKey, 
 use Rattle.oas_compact.specs.Placing.{with_placed, placed, MeansElements}
 use Rattle.oas_compact.proofs.KeptLemmas.{normal_sound}
 use Rattle.oas_compact.proofs.DrawLemmas.{all-put_more, few_is, keys_more}
+use Rattle.oas_compact.proofs.WaitLemmas.{total-append, all_front, all_back}
 
 -- ---- an element that is meant
 
@@ -87,6 +88,16 @@ module _ (profile : Profile) (names strings : List (ℕ × List ℕ)) where
   few_placed None n ks = omega arith
   few_placed (Some e) n ks = omega (arith, few_is (slice_cmp nat_cmp) ks (key_of (normal profile e)) n)
 
+  pub few_all : (ps : List (Drawn × ℕ)) (ks : List Entry) → total (λ _. 1) (placed profile names strings ps ks) ≤ total (λ _. 1) ks + total (λ _. 1) ps
+  few_all [] ks = omega arith
+  few_all (p ∷ ps) ks =
+      omega (arith, few_all ps (with_placed profile (element_by names strings p.0) p.1 ks), few_placed (element_by names strings p.0) p.1 ks)
+
+  -- one list, and then another
+  pub in_turn : (ps qs : List (Drawn × ℕ)) (ks : List Entry) → placed profile names strings (ps ++ qs) ks ≡ placed profile names strings qs (placed profile names strings ps ks)
+  in_turn [] qs ks = refl
+  in_turn (p ∷ ps) qs ks = in_turn ps qs (with_placed profile (element_by names strings p.0) p.1 ks)
+
   by_both : (g : List ℕ → ℕ) (d : Drawn) → by_key profile g d + by_number (meant_key g) d ≡ meant_key g d
   by_both g (Named e) = omega arith
   by_both g (PlacementBy number x y turns flip) = omega arith
@@ -126,3 +137,44 @@ placing_more profile names strings first now new all rest p h is keys =
       waits = h.waits.1;
       room = omega arith;
     }
+
+-- a whole chunk
+pub placing_chunk : (profile : Profile) (names strings : List (ℕ × List ℕ)) (first now new : List Entry) (all ps rest : List (Drawn × ℕ))
+    → Placing profile names strings first now all (ps ++ rest) → new ≡ placed profile names strings ps now → AreKeys profile new → Placing profile names strings first new all rest
+placing_chunk profile names strings first now new all ps rest h is keys =
+    let few : total (λ _. 1) new ≤ total (λ _. 1) now + total (λ _. 1) ps = subst (λ (ks : List Entry). total (λ _. 1) ks ≤ total (λ _. 1) now + total (λ _. 1) ps) (sym is) (few_all profile names strings ps now) in
+    let room = h.room in
+    let both = total-append (λ _. 1) ps rest in
+    record {
+      same = h.same ∙ (in_turn profile names strings ps rest now ∙ ap (placed profile names strings rest) (sym is));
+      keys = keys;
+      waits = all_back ps rest h.waits;
+      room = omega arith;
+    }
+
+-- there is room for it
+pub room_next : (now : List Entry) (ps rest : List (Drawn × ℕ)) → total (λ _. 1) now + total (λ _. 1) (ps ++ rest) < 2 ^ 64 → total (λ _. 1) now + total (λ _. 1) ps < 2 ^ 64
+room_next now ps rest h = omega (arith, total-append (λ _. 1) ps rest, h)
+
+-- all that waits, in two parts
+module _ (ws ps qs : List (Drawn × ℕ)) (parts : ps ++ qs ≡ ws) where
+  pub first_waits : AllByRecursion Waits ws → AllByRecursion Waits ps
+  first_waits a = all_front ps qs (subst (AllByRecursion Waits) (sym parts) a)
+
+  pub then_waits : AllByRecursion Waits ws → AllByRecursion Waits qs
+  then_waits a = all_back ps qs (subst (AllByRecursion Waits) (sym parts) a)
+
+  pub first_room : (ks : List Entry) → total (λ _. 1) ks + total (λ _. 1) ws < 2 ^ 64 → total (λ _. 1) ks + total (λ _. 1) ps < 2 ^ 64
+  first_room ks h = room_next ks ps qs (subst (λ (xs : List (Drawn × ℕ)). total (λ _. 1) ks + total (λ _. 1) xs < 2 ^ 64) (sym parts) h)
+
+  module _ (profile : Profile) (names strings : List (ℕ × List ℕ)) (ks ls : List Entry) (is : ls ≡ placed profile names strings ps ks) where
+    pub then_room : total (λ _. 1) ks + total (λ _. 1) ws < 2 ^ 64 → total (λ _. 1) ls + total (λ _. 1) qs < 2 ^ 64
+    then_room h =
+        let whole : total (λ _. 1) ks + total (λ _. 1) (ps ++ qs) < 2 ^ 64 = subst (λ (xs : List (Drawn × ℕ)). total (λ _. 1) ks + total (λ _. 1) xs < 2 ^ 64) (sym parts) h in
+        let few : total (λ _. 1) ls ≤ total (λ _. 1) ks + total (λ _. 1) ps = subst (λ (xs : List Entry). total (λ _. 1) xs ≤ total (λ _. 1) ks + total (λ _. 1) ps) (sym is) (few_all profile names strings ps ks) in
+        let both = total-append (λ _. 1) ps qs in
+        omega arith
+
+    pub both_placed : (ms : List Entry) → ms ≡ placed profile names strings qs ls → ms ≡ placed profile names strings ws ks
+    both_placed ms e =
+        e ∙ (ap (placed profile names strings qs) is ∙ (sym (in_turn profile names strings ps qs ks) ∙ ap (λ (xs : List (Drawn × ℕ)). placed profile names strings xs ks) parts))

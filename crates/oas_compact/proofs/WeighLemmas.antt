@@ -1,6 +1,6 @@
 -- What is held as keys weighs what was drawn.
 use Rattle.std.proofs.Common.{◌≡◌, ℕ, zero, suc, ◌+◌, ◌*◌, ◌<◌, ◌≤◌, List, [], ◌∷◌, true, false, cond, Option, None, Some, length, unwrap_or, refl, sym, ◌∙◌, ap, arith}
-use Rattle.std.specs.Prelude.{sum_by, nat_lt, is_none, ◌^◌}
+use Rattle.std.specs.Prelude.{sum_by, nat_lt, is_none, ◌^◌, ◌-◌, ◌++◌, min}
 use Rattle.std.specs.Option.{option_map}
 use Rattle.std.specs.List.{AllByRecursion, list_any}
 use Rattle.std.specs.Map.{keys_of}
@@ -11,6 +11,7 @@ use Rattle.oas_layout.specs.declared.profile.Profile.{Profile}
 use Rattle.oas_layout.specs.Weight.{weight_of}
 use Rattle.oas_layout.specs.Meaning.{cells_weight}
 use Rattle.oas_layout.specs.Laws.BagLaws.{total}
+use Rattle.oas_store.specs.Parts as parts
 use Rattle.oas_num.specs.declared.refusals.Why.TheVariants.{UnknownReference, DuplicateCell, TooHeavy}
 use Rattle.oas_drawing.specs.declared.drawn.Drawn.{Drawn}
 use Rattle.oas_drawing.specs.declared.drawn.Drawn.TheVariants.{Named, PlacementBy, TextBy}
@@ -25,7 +26,7 @@ use Rattle.oas_modal.proofs.Alike.{any-sum, weighed, sum-meant}
 use Rattle.oas_modal.proofs.WeighLemmas.{known, some_lack, joined_known, joined_none, sum_two, cell_and, Adding}
 use Rattle.oas_modal.proofs.AcceptLemmas.{first_why, why_lacks, why_known, heavier, lighter}
 use Rattle.oas_compact.specs.Compact.{Compact, by_number, Keeps, Waits, IsCompact, compact_store}
-use Rattle.oas_compact.specs.Weighing.{behind, behind_times, waiting_weight, cell_weight, all_weight}
+use Rattle.oas_compact.specs.Weighing.{behind, behind_times, waiting_weight, full_weight, cell_weight, all_weight}
 
 -- names behind numbers, so many times
 one_known : (o : Option ℕ) (n : ℕ) → 0 < n → behind_times o n ≡ known (n * cond (is_none o) 1 0) (n * unwrap_or o 0)
@@ -124,11 +125,44 @@ waiting_begins names strings ps qs e = record { exact = refl; joins = by ps ∙ 
   by [] = refl
   by (p ∷ rs) = joined_none (behind_times (behind names strings p.0) p.1) (waiting_weight names strings rs)
 
+pub full_begins : (names strings : List (ℕ × List ℕ)) (cs ds : List (List (Drawn × ℕ))) → cs ≡ ds → Adding 0 (full_weight names strings cs) (full_weight names strings ds)
+full_begins names strings cs ds e = record { exact = refl; joins = by cs ∙ ap (full_weight names strings) e } where
+  by : (bs : List (List (Drawn × ℕ))) → joined (Some 0) (full_weight names strings bs) ≡ full_weight names strings bs
+  by [] = refl
+  by (b ∷ bs) = joined_none (waiting_weight names strings b) (full_weight names strings bs)
+
 pub cells_begin : (names strings : List (ℕ × List ℕ)) (cs ds : List Compact) → cs ≡ ds → Adding 0 (all_weight names strings cs) (all_weight names strings ds)
 cells_begin names strings cs ds e = record { exact = refl; joins = by cs ∙ ap (all_weight names strings) e } where
   by : (bs : List Compact) → joined (Some 0) (all_weight names strings bs) ≡ all_weight names strings bs
   by [] = refl
   by (b ∷ bs) = joined_none (cell_weight names strings b) (all_weight names strings bs)
+
+-- ---- one list and then another
+
+min_turned : (m a b c : ℕ) → min (a + min (b + c) m) m ≡ min (min (a + b) m + c) m
+min_turned m a b c = grind arith
+
+joined_turned : (a b c : Option ℕ) → joined a (joined b c) ≡ joined (joined a b) c
+joined_turned None b c = refl
+joined_turned (Some a) None c = refl
+joined_turned (Some a) (Some b) None = refl
+joined_turned (Some a) (Some b) (Some c) = ap Some (min_turned (2 ^ 64 - 1) a b c)
+
+module _ (names strings : List (ℕ × List ℕ)) where
+  pub two_weights : (ps qs : List (Drawn × ℕ)) → joined (waiting_weight names strings ps) (waiting_weight names strings qs) ≡ waiting_weight names strings (ps ++ qs)
+  two_weights [] qs = (waiting_begins names strings qs qs refl).joins
+  two_weights (p ∷ ps) qs =
+      sym (joined_turned (behind_times (behind names strings p.0) p.1) (waiting_weight names strings ps) (waiting_weight names strings qs))
+      ∙ ap (joined (behind_times (behind names strings p.0) p.1)) (two_weights ps qs)
+
+  full_weights : (cs : List (List (Drawn × ℕ))) → full_weight names strings cs ≡ waiting_weight names strings (parts.joined cs)
+  full_weights [] = refl
+  full_weights (c ∷ cs) = ap (joined (waiting_weight names strings c)) (full_weights cs) ∙ two_weights c (parts.joined cs)
+
+  -- full chunks and the last one
+  pub row_weights : (cs : List (List (Drawn × ℕ))) (ps : List (Drawn × ℕ)) →
+      joined (full_weight names strings cs) (waiting_weight names strings ps) ≡ waiting_weight names strings (parts.joined cs ++ ps)
+  row_weights cs ps = ap (λ o. joined o (waiting_weight names strings ps)) (full_weights cs) ∙ two_weights (parts.joined cs) ps
 
 -- ---- what END says of cells
 

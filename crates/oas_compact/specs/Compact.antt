@@ -1,5 +1,5 @@
 -- What is held of a CELL as keys.
-use Rattle.std.specs.Prelude.{◌≡◌, ℕ, ◌<◌, Bool, true, false, List, sum_by}
+use Rattle.std.specs.Prelude.{◌≡◌, ℕ, ◌+◌, ◌*◌, ◌<◌, Bool, true, false, List, sum_by}
 use Rattle.std.specs.List.{AllByRecursion}
 use Rattle.oas_record.specs.declared.references.CellRef.{CellRef}
 use Rattle.oas_layout.specs.declared.profile.Profile.{Profile}
@@ -17,7 +17,7 @@ use Rattle.oas_modal.specs.Counted.{capped}
 use Rattle.oas_modal.specs.Stores.{Store}
 
 -- its reference, how many elements its records draw, what they weigh as long as numbers have no names, the keys of those that
--- have their names, and those that wait for names; keys and those that wait ascend, each beside its count
+-- have their names, ascending, and those that wait for names, each beside its count
 pub record Compact : Type 0 where
   pub cell : CellRef
   pub count : ℕ
@@ -65,6 +65,11 @@ pub record Waits (p : Drawn × ℕ) : Type 0 where
   pub fit : IsFit p.0
   pub numbered : is_named p.0 ≡ false
   pub some : 0 < p.1
+
+-- something more waits, so many times: whatever each counts for, the sum is so much more
+pub record WaitsMore (old : List (Drawn × ℕ)) (d : Drawn) (n : ℕ) (new : List (Drawn × ℕ)) : Type 0 where
+  pub sums : (g : Drawn → ℕ) → total g new ≡ total g old + n * g d
+  pub waits : AllByRecursion Waits old → Waits (d, n) → AllByRecursion Waits new
 
 -- the keys are those of elements, and what waits does so by numbers
 pub record IsCompact (profile : Profile) (c : Compact) : Type 0 where

@@ -1,3 +1,4 @@
+pub mod Short
 pub mod Compact
 pub mod Weighing
 pub mod Placing

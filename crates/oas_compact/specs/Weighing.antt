@@ -24,6 +24,11 @@ abbrev pub waiting_weight : List (ℕ × List ℕ) → List (ℕ × List ℕ) �
 waiting_weight names strings [] = Some 0
 waiting_weight names strings (p ∷ ps) = joined (behind_times (behind names strings p.0) p.1) (waiting_weight names strings ps)
 
+-- all that waits in full chunks, one after another
+abbrev pub full_weight : List (ℕ × List ℕ) → List (ℕ × List ℕ) → List (List (Drawn × ℕ)) → Option ℕ
+full_weight names strings [] = Some 0
+full_weight names strings (c ∷ cs) = joined (waiting_weight names strings c) (full_weight names strings cs)
+
 -- a cell
 abbrev pub cell_weight : List (ℕ × List ℕ) → List (ℕ × List ℕ) → Compact → Option ℕ
 cell_weight names strings c = joined (head_weight (cell_by names c.cell)) (joined (Some c.weight) (waiting_weight names strings c.waiting))

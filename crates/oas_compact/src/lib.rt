@@ -16,9 +16,11 @@
 
 mod accepting;
 mod cells;
+mod chunks;
 mod elements;
 mod placing;
 mod profiles;
+mod short;
 mod waiting;
 mod weighing;
 

@@ -4,18 +4,23 @@ ghost use Rattle.std.specs.Prelude.{◌≡◌, ◌+◌, ◌<◌, ◌^◌, OnOk, 
 ghost use Rattle.std.specs.List.{AllByRecursion};
 ghost use Rattle.oas_num.specs.declared.refusals.Why.TheVariants.{Memory};
 ghost use Rattle.oas_layout.specs.Laws.BagLaws.{total};
+ghost use Rattle.oas_store.specs.Parts.{joined};
 ghost use Rattle.oas_modal.specs.Finish.{IsFit};
 ghost use Rattle.oas_modal.specs.Meaning.{element_by};
 ghost use Rattle.oas_compact.specs.Compact.{AreKeys, Waits};
+ghost use Rattle.oas_compact.specs.Short.{drawn_once};
 ghost use Rattle.oas_compact.specs.Placing.{with_placed, placed};
 
+use crate::chunks::Chunk;
 use crate::elements::KeptElements;
+use crate::short::Short;
 use crate::waiting::Waiting;
 use oas_drawing::Drawn;
 use oas_layout::Profile;
 use oas_modal::{NameTable, element_meant};
 use oas_num::{Label, Name, Why};
 use std::alloc::Global;
+use std::collections::BTreeMap;
 
 /// Places what was drawn so many times, if its number has a name.
 fn place_one(
@@ -44,6 +49,91 @@ fn place_one(
     }
 }
 
+/// Places what waits in few bytes, where its numbers have names.
+fn place_shorts(
+    alloc: Global,
+    profile: Profile,
+    kept: &mut KeptElements,
+    shorts: Vec<Short>,
+    names: &NameTable<Name>,
+    strings: &NameTable<Label>,
+) -> Result<(), Why>
+    requires waits { AllByRecursion Waits (drawn_once shorts.items) }
+    requires room { total (λ _. 1) kept.old + total (λ _. 1) (drawn_once shorts.items) < 2 ^ 64 }
+    requires keys { AreKeys profile kept.old }
+    ensures placed { OnOk result (kept.new ≡ placed profile names.now.named strings.now.named (drawn_once shorts.items) kept.old) }
+    ensures keys { OnOk result (AreKeys profile kept.new) }
+    ensures err { IfErr result (λ why. why ≡ Memory) }
+{
+    for short in shorts {
+        place_one(alloc, profile, kept, short.drawn(), 1, names, strings)?;
+    }
+    Ok(())
+}
+
+/// Places what waits in a chunk.
+fn place_chunk(
+    alloc: Global,
+    profile: Profile,
+    kept: &mut KeptElements,
+    chunk: Chunk,
+    names: &NameTable<Name>,
+    strings: &NameTable<Label>,
+) -> Result<(), Why>
+    requires waits { AllByRecursion Waits chunk }
+    requires room { total (λ _. 1) kept.old + total (λ _. 1) chunk < 2 ^ 64 }
+    requires keys { AreKeys profile kept.old }
+    ensures placed { OnOk result (kept.new ≡ placed profile names.now.named strings.now.named chunk kept.old) }
+    ensures keys { OnOk result (AreKeys profile kept.new) }
+    ensures err { IfErr result (λ why. why ≡ Memory) }
+{
+    place_shorts(alloc, profile, kept, chunk.shorts, names, strings)
+}
+
+/// Places what waits in chunks, each of which is given back once it is placed.
+fn place_chunks(
+    alloc: Global,
+    profile: Profile,
+    kept: &mut KeptElements,
+    chunks: Vec<Chunk>,
+    names: &NameTable<Name>,
+    strings: &NameTable<Label>,
+) -> Result<(), Why>
+    requires waits { AllByRecursion Waits (joined chunks.items) }
+    requires room { total (λ _. 1) kept.old + total (λ _. 1) (joined chunks.items) < 2 ^ 64 }
+    requires keys { AreKeys profile kept.old }
+    ensures placed { OnOk result (kept.new ≡ placed profile names.now.named strings.now.named (joined chunks.items) kept.old) }
+    ensures keys { OnOk result (AreKeys profile kept.new) }
+    ensures err { IfErr result (λ why. why ≡ Memory) }
+{
+    for chunk in chunks {
+        place_chunk(alloc, profile, kept, chunk, names, strings)?;
+    }
+    Ok(())
+}
+
+/// Places what waits with counts, where its numbers have names.
+fn place_counted(
+    alloc: Global,
+    profile: Profile,
+    kept: &mut KeptElements,
+    waiting: BTreeMap<Drawn, u64>,
+    names: &NameTable<Name>,
+    strings: &NameTable<Label>,
+) -> Result<(), Why>
+    requires waits { AllByRecursion Waits waiting.entries }
+    requires room { total (λ _. 1) kept.old + total (λ _. 1) waiting.entries < 2 ^ 64 }
+    requires keys { AreKeys profile kept.old }
+    ensures placed { OnOk result (kept.new ≡ placed profile names.now.named strings.now.named waiting.entries kept.old) }
+    ensures keys { OnOk result (AreKeys profile kept.new) }
+    ensures err { IfErr result (λ why. why ≡ Memory) }
+{
+    for (drawn, times) in waiting {
+        place_one(alloc, profile, kept, drawn, times, names, strings)?;
+    }
+    Ok(())
+}
+
 /// Places all that waits, where its numbers have names.
 pub(crate) fn place_all(
     alloc: Global,
@@ -60,8 +150,11 @@ pub(crate) fn place_all(
     ensures keys { OnOk result (AreKeys profile kept.new) }
     ensures err { IfErr result (λ why. why ≡ Memory) }
 {
-    for (drawn, times) in waiting.times {
-        place_one(alloc, profile, kept, drawn, times, names, strings)?;
-    }
+    let Waiting { chunks, others } = waiting;
+    let Ok(row) = chunks.into_row() else {
+        return Err(Why::Memory);
+    };
+    place_chunks(alloc, profile, kept, row, names, strings)?;
+    place_counted(alloc, profile, kept, others, names, strings)?;
     Ok(())
 }

@@ -1,13 +1,16 @@
 //! What is drawn by a number, whose name may come later.
 
-ghost use Rattle.std.specs.Prelude.{◌≡◌, ◌+◌, ◌<◌, ◌^◌, [], unwrap_or, OnOk, OnErr};
+ghost use Rattle.std.specs.Prelude.{◌≡◌, ◌+◌, ◌<◌, ◌^◌, [], unwrap_or, OnOk, OnErr, IfSome};
 ghost use Rattle.std.specs.BTreeMap.{get, insert_entry, IsOrdered, IsUnchanged};
 ghost use Rattle.oas_layout.specs.Laws.BagLaws.{total};
 ghost use Rattle.oas_drawing.specs.Laws.DrawnLaws.{derived_cmp};
-ghost use Rattle.oas_modal.specs.Held.{with_drawn};
+ghost use Rattle.oas_compact.specs.Compact.{WaitsMore};
+ghost use Rattle.oas_compact.specs.Short.{drawn_of};
 ghost use Rattle.oas_compact.specs.Weighing.{waiting_weight};
 
-use crate::weighing::waiting_weight;
+use crate::chunks::Chunks;
+use crate::short::Short;
+use crate::weighing::both_weights;
 use oas_drawing::Drawn;
 use oas_modal::NameTable;
 use oas_num::{Label, Name};
@@ -15,23 +18,24 @@ use std::alloc::{AllocError, Global};
 use std::collections::BTreeMap;
 use std::marker::Model;
 
-/// What waits for names, seen as the ascending list of it with counts. The map is ordered, so that no choice of numbers makes it
-/// slow.
+/// What waits for names, seen as the list of it with counts. Most of it stands in chunks, as it came. The map has what is drawn
+/// often, or doesn't fit there; it is ordered, so that no choice of numbers makes it slow.
 #[derive(Drop)]
 pub(crate) struct Waiting {
-    pub(crate) times: BTreeMap<Drawn, u64>,
+    pub(crate) chunks: Chunks,
+    pub(crate) others: BTreeMap<Drawn, u64>,
 }
 
 impl Model for Waiting {
-    ghost use Rattle.std.specs.Prelude.{List, ℕ};
+    ghost use Rattle.std.specs.Prelude.{List, ℕ, ◌++◌};
     ghost use Rattle.oas_drawing.specs.declared.drawn.Drawn.{Drawn};
     ghost use Rattle.oas_modal.specs.Held.{IsHeld};
 
     ghost Value = { List (Drawn × ℕ) };
 
-    ghost view = { λ a. a.times.entries };
+    ghost view = { λ a. a.chunks ++ a.others.entries };
 
-    ghost invariant = { λ a. IsHeld a.times.entries };
+    ghost invariant = { λ a. IsHeld a.others.entries };
 }
 
 impl Waiting {
@@ -40,7 +44,8 @@ impl Waiting {
         ensures { result ≡ [] }
     {
         Waiting {
-            times: BTreeMap::new(alloc),
+            chunks: Chunks::new(alloc),
+            others: BTreeMap::new(alloc),
         }
     }
 
@@ -52,19 +57,34 @@ impl Waiting {
     ) -> Option<u64>
         ensures { result ≡ waiting_weight names.now.named strings.now.named self.now }
     {
-        waiting_weight(&self.times, names, strings)
+        both_weights(&self.chunks, &self.others, names, strings)
     }
 
     /// Has something wait so many times more; or, for want of memory, nothing.
     pub(crate) fn add(&mut self, drawn: Drawn, times: u64) -> Result<(), AllocError>
         requires some { 0 < times }
         requires room { total (λ _. 1) self.old + times < 2 ^ 64 }
-        ensures ok { OnOk result (self.new ≡ with_drawn self.old drawn times) }
+        ensures ok { OnOk result (WaitsMore self.old drawn times self.new) }
         ensures err { OnErr result (self.new ≡ self.old) }
     {
-        count_up(&mut self.times, drawn, times)?;
+        let Some(short) = short_once(&drawn, times) else {
+            count_up(&mut self.others, drawn, times)?;
+            return Ok(());
+        };
+        self.chunks.push(short)?;
         Ok(())
     }
+}
+
+/// Something in few bytes, if it is drawn once and fits.
+fn short_once(drawn: &Drawn, times: u64) -> Option<Short>
+    ensures is { IfSome result (λ s. drawn_of s ≡ drawn.now) }
+    ensures once { IfSome result (λ s. times ≡ 1) }
+{
+    if times == 1 {
+        return Short::of(drawn);
+    }
+    None
 }
 
 /// Counts something up, in one search for its place, or leaves all.

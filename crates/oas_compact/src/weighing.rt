@@ -1,10 +1,13 @@
 //! What cells weigh with the names of the whole file.
 
 ghost use Rattle.std.specs.Prelude.{◌≡◌, length};
-ghost use Rattle.oas_modal.specs.Counted.{head_weight};
+ghost use Rattle.oas_modal.specs.Counted.{head_weight, joined};
 ghost use Rattle.oas_modal.specs.References.{cell_by};
-ghost use Rattle.oas_compact.specs.Weighing.{behind, waiting_weight};
+ghost use Rattle.oas_compact.specs.Short.{drawn_of, drawn_once};
+ghost use Rattle.oas_compact.specs.Weighing.{behind, behind_times, waiting_weight, full_weight};
 
+use crate::chunks::{Chunk, Chunks};
+use crate::short::Short;
 use oas_drawing::Drawn;
 use oas_modal::{NameTable, cell_meant};
 use oas_num::{Label, Name};
@@ -22,8 +25,86 @@ fn name_len(drawn: &Drawn, names: &NameTable<Name>, strings: &NameTable<Label>) 
     }
 }
 
-/// The bytes of the names behind all that waits, as far as 64 bits tell it; None where a number has no name.
-pub(crate) fn waiting_weight(
+/// So many times the bytes of the name behind a number, as far as 64 bits tell it; None where it has no name.
+fn name_weight(
+    drawn: &Drawn,
+    times: u64,
+    names: &NameTable<Name>,
+    strings: &NameTable<Label>,
+) -> Option<u64>
+    ensures { result ≡ behind_times (behind names.now.named strings.now.named drawn.now) times }
+{
+    let bytes = name_len(drawn, names, strings)?;
+    Some(times.saturating_mul(bytes))
+}
+
+/// The same of something in few bytes.
+fn short_weight(short: Short, names: &NameTable<Name>, strings: &NameTable<Label>) -> Option<u64>
+    ensures { result ≡ behind_times (behind names.now.named strings.now.named (drawn_of short)) 1 }
+{
+    name_weight(&short.drawn(), 1, names, strings)
+}
+
+/// The same of all that waits in few bytes.
+fn shorts_weight(
+    shorts: &[Short],
+    names: &NameTable<Name>,
+    strings: &NameTable<Label>,
+) -> Option<u64>
+    ensures { result ≡ waiting_weight names.now.named strings.now.named (drawn_once shorts.now) }
+{
+    let mut weight = 0u64;
+    for short in shorts {
+        weight = weight.saturating_add(short_weight(*short, names, strings)?);
+    }
+    Some(weight)
+}
+
+/// The same of what waits in a chunk.
+fn chunk_weight(chunk: &Chunk, names: &NameTable<Name>, strings: &NameTable<Label>) -> Option<u64>
+    ensures { result ≡ waiting_weight names.now.named strings.now.named chunk.now }
+{
+    shorts_weight(&chunk.shorts, names, strings)
+}
+
+/// The same of what waits in full chunks.
+fn full_weight(chunks: &[Chunk], names: &NameTable<Name>, strings: &NameTable<Label>) -> Option<u64>
+    ensures { result ≡ full_weight names.now.named strings.now.named chunks.now }
+{
+    let mut weight = 0u64;
+    for chunk in chunks {
+        weight = weight.saturating_add(chunk_weight(chunk, names, strings)?);
+    }
+    Some(weight)
+}
+
+/// The same of what waits in full chunks and the last one.
+fn row_weight(
+    full: &[Chunk],
+    last: &Chunk,
+    names: &NameTable<Name>,
+    strings: &NameTable<Label>,
+) -> Option<u64>
+    ensures { result ≡ joined (full_weight names.now.named strings.now.named full.now) (waiting_weight names.now.named strings.now.named last.now) }
+{
+    let others = full_weight(full, names, strings)?;
+    let weight = chunk_weight(last, names, strings)?;
+    Some(others.saturating_add(weight))
+}
+
+/// The same of all that waits in chunks.
+fn chunks_weight(
+    chunks: &Chunks,
+    names: &NameTable<Name>,
+    strings: &NameTable<Label>,
+) -> Option<u64>
+    ensures { result ≡ waiting_weight names.now.named strings.now.named chunks.now }
+{
+    row_weight(&chunks.full, &chunks.last, names, strings)
+}
+
+/// The same of all that waits with counts.
+fn counted_weight(
     waiting: &BTreeMap<Drawn, u64>,
     names: &NameTable<Name>,
     strings: &NameTable<Label>,
@@ -32,10 +113,23 @@ pub(crate) fn waiting_weight(
 {
     let mut weight = 0u64;
     for (drawn, times) in waiting {
-        let bytes = name_len(drawn, names, strings)?;
-        weight = weight.saturating_add(times.saturating_mul(bytes));
+        weight = weight.saturating_add(name_weight(drawn, *times, names, strings)?);
     }
     Some(weight)
+}
+
+/// The same of what waits in chunks and of what waits with counts.
+pub(crate) fn both_weights(
+    chunks: &Chunks,
+    others: &BTreeMap<Drawn, u64>,
+    names: &NameTable<Name>,
+    strings: &NameTable<Label>,
+) -> Option<u64>
+    ensures { result ≡ joined (waiting_weight names.now.named strings.now.named chunks.now) (waiting_weight names.now.named strings.now.named others.now.entries) }
+{
+    let short = chunks_weight(chunks, names, strings)?;
+    let counted = counted_weight(others, names, strings)?;
+    Some(short.saturating_add(counted))
 }
 
 /// What a cell weighs without its elements: one and the bytes of its name.

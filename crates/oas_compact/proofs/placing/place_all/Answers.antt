@@ -1,12 +1,33 @@
-use Rattle.std.proofs.Common.{rules, ◌≡◌, ℕ, List, ◌∷◌, subst}
+use Rattle.std.proofs.Common.{ℕ, List, ◌++◌, ◌∙◌, ap}
+use Rattle.oas_store.specs.Parts.{joined}
 use Rattle.oas_drawing.specs.declared.drawn.Drawn.{Drawn}
-use Rattle.oas_compact.proofs.PlaceLemmas.{Placing, placing_more}
+use Rattle.oas_compact.proofs.PlaceLemmas.{first_waits, then_waits, first_room, then_room, both_placed}
 use Rattle.oas_compact.proofs.placing.place_all.Goals as goal
 
-pub loop-drawn-preserved : goal.loop-drawn-preserved
-loop-drawn-preserved c =
-    let rest : c.loop-drawn.drawn-iterator ≡ (c.in-Some.drawn, c.in-Some.times) ∷ c.next.new.self = search rules in
-    placing_more c.args.profile c.args.names.now.named c.args.strings.now.named c.args.kept.now c.loop-drawn.kept c.place_one.new.kept c.args.waiting c.next.new.self
-    (c.in-Some.drawn, c.in-Some.times) (
-    subst (λ (ps : List (Drawn × ℕ)). Placing c.args.profile c.args.names.now.named c.args.strings.now.named c.args.kept.now c.loop-drawn.kept c.args.waiting ps) rest c.loop-drawn.invariant
-    ) c.in_ok-place_one.ensures.placed c.in_ok-place_one.ensures.keys
+pub place_chunks-requires-clause-waits : goal.place_chunks-requires-clause-waits
+place_chunks-requires-clause-waits c =
+    first_waits c.args.waiting (joined c.in-Ok.row.items) c.waiting.inside.others.entries
+    (ap (λ (ps : List (Drawn × ℕ)). ps ++ c.waiting.inside.others.entries) c.in-Ok.ensures ∙ c.waiting.view_is) c.requires.waits
+
+pub place_chunks-requires-clause-room : goal.place_chunks-requires-clause-room
+place_chunks-requires-clause-room c =
+    first_room c.args.waiting (joined c.in-Ok.row.items) c.waiting.inside.others.entries
+    (ap (λ (ps : List (Drawn × ℕ)). ps ++ c.waiting.inside.others.entries) c.in-Ok.ensures ∙ c.waiting.view_is) c.args.kept.now c.requires.room
+
+pub place_counted-requires-clause-waits : goal.place_counted-requires-clause-waits
+place_counted-requires-clause-waits c =
+    then_waits c.args.waiting (joined c.in-Ok.row.items) c.waiting.inside.others.entries
+    (ap (λ (ps : List (Drawn × ℕ)). ps ++ c.waiting.inside.others.entries) c.in-Ok.ensures ∙ c.waiting.view_is) c.requires.waits
+
+pub place_counted-requires-clause-room : goal.place_counted-requires-clause-room
+place_counted-requires-clause-room c =
+    then_room c.args.waiting (joined c.in-Ok.row.items) c.waiting.inside.others.entries
+    (ap (λ (ps : List (Drawn × ℕ)). ps ++ c.waiting.inside.others.entries) c.in-Ok.ensures ∙ c.waiting.view_is)
+    c.args.profile c.args.names.now.named c.args.strings.now.named c.args.kept.now c.place_chunks.new.kept c.in_ok-place_chunks.ensures.placed c.requires.room
+
+pub returns-clause-placed : goal.returns-clause-placed
+returns-clause-placed c =
+    both_placed c.args.waiting (joined c.in-Ok.row.items) c.waiting.inside.others.entries
+    (ap (λ (ps : List (Drawn × ℕ)). ps ++ c.waiting.inside.others.entries) c.in-Ok.ensures ∙ c.waiting.view_is)
+    c.args.profile c.args.names.now.named c.args.strings.now.named c.args.kept.now c.place_chunks.new.kept c.in_ok-place_chunks.ensures.placed c.place_counted.new.kept
+    c.in_ok-place_counted.ensures.placed

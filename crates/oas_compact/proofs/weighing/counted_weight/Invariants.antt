@@ -1,6 +1,6 @@
 use Rattle.oas_modal.proofs.WeighLemmas.{Adding}
 use Rattle.oas_compact.specs.Weighing.{waiting_weight}
-use Rattle.oas_compact.proofs.weighing.waiting_weight.Given as goal
+use Rattle.oas_compact.proofs.weighing.counted_weight.Given as goal
 
 abbrev pub invariant-loop-drawn : goal.invariant-loop-drawn
 invariant-loop-drawn l = Adding l.weight (waiting_weight l.names.named l.strings.named l.drawn-iterator) (waiting_weight l.names.named l.strings.named l.waiting.entries)

@@ -1,5 +1,5 @@
 use Rattle.oas_compact.proofs.WeighLemmas.{waiting_begins}
-use Rattle.oas_compact.proofs.weighing.waiting_weight.Goals as goal
+use Rattle.oas_compact.proofs.weighing.counted_weight.Goals as goal
 
 pub loop-drawn-init : goal.loop-drawn-init
 loop-drawn-init c =

@@ -1,0 +1,119 @@
+//! What waits in few bytes, in chunks.
+
+ghost use Rattle.std.specs.Prelude.{◌≡◌, [], ◌∷◌, ◌++◌, OnOk, OnErr, IfOk};
+ghost use Rattle.oas_store.specs.Parts.{joined};
+ghost use Rattle.oas_compact.specs.Short.{drawn_of};
+
+use crate::short::Short;
+use std::alloc::{AllocError, Global};
+use std::marker::Model;
+use std::mem;
+
+/// How many wait in a chunk, at most.
+const CHUNK: usize = 4096;
+
+/// So many of what waits, seen as the list of it, each drawn once.
+#[derive(Drop)]
+pub(crate) struct Chunk {
+    pub(crate) shorts: Vec<Short>,
+}
+
+impl Model for Chunk {
+    ghost use Rattle.std.specs.Prelude.{List, ℕ};
+    ghost use Rattle.oas_drawing.specs.declared.drawn.Drawn.{Drawn};
+    ghost use Rattle.oas_compact.specs.Short.{drawn_once};
+
+    ghost Value = { List (Drawn × ℕ) };
+
+    ghost view = { λ a. drawn_once a.shorts.items };
+}
+
+impl Chunk {
+    /// Nothing, and no memory.
+    fn new(alloc: Global) -> Chunk
+        ensures { result ≡ [] }
+    {
+        Chunk {
+            shorts: Vec::new(alloc),
+        }
+    }
+
+    /// Whether what comes belongs into another chunk.
+    fn is_full(&self) -> bool {
+        self.shorts.len() >= CHUNK
+    }
+
+    /// Puts one more at the end; or, for want of memory, nothing.
+    fn push(&mut self, short: Short) -> Result<(), AllocError>
+        ensures ok { OnOk result (self.new ≡ self.old ++ (drawn_of short, 1) ∷ []) }
+        ensures err { OnErr result (self.new ≡ self.old) }
+    {
+        self.shorts.reserve(1)?;
+        self.shorts.push_reserved(short);
+        Ok(())
+    }
+}
+
+/// What waits in few bytes, as it came, seen as the list of it. It stands in chunks, each of which can be given back by itself.
+#[derive(Drop)]
+pub(crate) struct Chunks {
+    alloc: Global,
+    pub(crate) full: Vec<Chunk>,
+    pub(crate) last: Chunk,
+}
+
+impl Model for Chunks {
+    ghost use Rattle.std.specs.Prelude.{List, ℕ, ◌++◌};
+    ghost use Rattle.oas_drawing.specs.declared.drawn.Drawn.{Drawn};
+    ghost use Rattle.oas_store.specs.Parts.{joined};
+
+    ghost Value = { List (Drawn × ℕ) };
+
+    ghost view = { λ a. joined a.full.items ++ a.last };
+}
+
+impl Chunks {
+    /// Nothing, and no memory.
+    pub(crate) fn new(alloc: Global) -> Chunks
+        ensures { result ≡ [] }
+    {
+        Chunks {
+            alloc,
+            full: Vec::new(alloc),
+            last: Chunk::new(alloc),
+        }
+    }
+
+    /// Puts one more at the end; or, for want of memory, nothing.
+    pub(crate) fn push(&mut self, short: Short) -> Result<(), AllocError>
+        ensures ok { OnOk result (self.new ≡ self.old ++ (drawn_of short, 1) ∷ []) }
+        ensures err { OnErr result (self.new ≡ self.old) }
+    {
+        set_aside(self.alloc, &mut self.full, &mut self.last)?;
+        self.last.push(short)?;
+        Ok(())
+    }
+
+    /// All chunks in a row.
+    pub(crate) fn into_row(self) -> Result<Vec<Chunk>, AllocError>
+        ensures { IfOk result (λ row. joined row.items ≡ self) }
+    {
+        let Chunks { mut full, last, .. } = self;
+        full.reserve(1)?;
+        full.push_reserved(last);
+        Ok(full)
+    }
+}
+
+/// Puts the last chunk to the full ones, where it is full; or leaves all.
+fn set_aside(alloc: Global, full: &mut Vec<Chunk>, last: &mut Chunk) -> Result<(), AllocError>
+    ensures { joined full.new.items ++ last.new ≡ joined full.old.items ++ last.old }
+{
+    if !last.is_full() {
+        return Ok(());
+    }
+    full.reserve(1)?;
+    let chunk = mem::replace(last, Chunk::new(alloc));
+    full.push_reserved(chunk);
+    Ok(())
+}
