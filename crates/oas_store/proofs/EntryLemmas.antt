@@ -1,9 +1,11 @@
 -- Reading the entry that stands first, in the words of the code.
-use Rattle.std.specs.Prelude.{◌≡◌, ℕ, ◌+◌, ◌≤◌, List, [], ◌∷◌, ◌++◌, length, take, drop, suc, zero, refl}
+use Rattle.std.specs.Prelude.{◌≡◌, ℕ, ◌+◌, ◌<◌, ◌≤◌, List, [], ◌∷◌, ◌++◌, length, take, drop, cond, nat_lt, slice_index, suc, zero, refl, true}
+use Rattle.std.specs.Int.{w64, from_le_bytes}
+use Rattle.std.proofs.lemmas.Bool.{lt-ltb}
 use Rattle.std.proofs.Common.{sym, ◌∙◌, ap, arith, subst}
 use Rattle.std.proofs.lemmas.List.{drop-append-le}
 use Rattle.oas_store.specs.Entries.{Entry, number_size, number_at, key_start, entry_end, entries, entry_bytes, Fits, IsBlock}
-use Rattle.oas_store.specs.Laws.EntryLaws.{Stands, IsMore, block-append}
+use Rattle.oas_store.specs.Laws.EntryLaws.{Stands, IsMore, block-append, stands}
 
 pub record Reads (bytes key : List ℕ) (times end : ℕ) : Type 0 where
   pub within : end ≤ length bytes
@@ -24,6 +26,21 @@ reads bytes others key size len count_size times s a b c d e f =
       some = s.read ∙ sym (λ i. (is_key i, is_count i) ∷ entries (drop (end i) bytes));
       rest = subst (λ (n : ℕ). IsBlock (drop n bytes)) (sym end) s.rest;
     }
+
+-- the numbers are a byte each
+pub reads_short : (bytes key : List ℕ) (len times : ℕ) → 0 < length bytes → IsBlock bytes → len ≡ slice_index bytes 0 → times ≡ slice_index bytes 1 → len < 255
+    → times < 255 → key ≡ take len (drop 2 bytes) → Reads bytes key times (2 + len)
+reads_short [] key len times h b l t m n k = absurd (omega (arith, h))
+reads_short (x ∷ xs) key len times h b l t m n k =
+    let size : nat_lt x 255 ≡ true = ap (λ (y : ℕ). nat_lt y 255) (sym l) ∙ lt-ltb len 255 m in
+    let count : nat_lt (slice_index xs 0) 255 ≡ true = ap (λ (y : ℕ). nat_lt y 255) (sym t) ∙ lt-ltb times 255 n in
+    reads (x ∷ xs) xs key 1 len 1 times (stands (x ∷ xs) h b)
+    (sym (ap (λ c. cond c 1 9) size))
+    (l ∙ sym (ap (λ c. cond c x (from_le_bytes w64 (take 8 xs))) size))
+    refl
+    (sym (ap (λ c. cond c 1 9) count))
+    (t ∙ sym (ap (λ c. cond c (slice_index xs 0) (from_le_bytes w64 (take 8 (drop 1 xs)))) count))
+    k
 
 drop-nil : (n : ℕ) → drop {A = ℕ} n [] ≡ []
 drop-nil zero = refl

@@ -81,7 +81,6 @@ struct Number {
 }
 
 /// Reads the number that stands first.
-#[inline(always)]
 fn read_number(bytes: &[u8]) -> Number
     requires some { 0 < length bytes.now }
     requires long { slice_index bytes.now 0 ≡ 255 → 9 ≤ length bytes.now }
@@ -102,6 +101,7 @@ fn read_number(bytes: &[u8]) -> Number
 }
 
 /// The bytes after so many.
+#[inline(always)]
 pub(crate) fn after(bytes: &[u8], skipped: usize) -> &[u8]
     requires { skipped ≤ length bytes.now }
     ensures { result.now ≡ drop skipped bytes.now }
@@ -110,6 +110,7 @@ pub(crate) fn after(bytes: &[u8], skipped: usize) -> &[u8]
 }
 
 /// So many bytes after so many.
+#[inline(always)]
 fn part(bytes: &[u8], skipped: usize, len: usize) -> &[u8]
     requires { skipped + len ≤ length bytes.now }
     ensures { result.now ≡ take len (drop skipped bytes.now) }
@@ -136,8 +137,8 @@ pub(crate) fn is_over(bytes: &[u8]) -> bool
     false
 }
 
-/// Reads the entry that stands first.
-pub(crate) fn read_entry(bytes: &[u8]) -> Option<Entry<'_>>
+/// Reads the entry that stands first, whatever its numbers are.
+fn read_long(bytes: &[u8]) -> Option<Entry<'_>>
     requires { IsBlock bytes.now }
     ensures none { IfNone result (entries bytes.now ≡ []) }
     ensures some { IfSome result (λ e. entries bytes.now ≡ (e.key.now, e.times) ∷ entries (drop e.end bytes.now)) }
@@ -156,5 +157,26 @@ pub(crate) fn read_entry(bytes: &[u8]) -> Option<Entry<'_>>
         key: part(bytes, start, len),
         times: times.value,
         end: start + len,
+    })
+}
+
+/// Reads the entry that stands first. One whose numbers are a byte each is read with no call.
+#[inline(always)]
+pub(crate) fn read_entry(bytes: &[u8]) -> Option<Entry<'_>>
+    requires { IsBlock bytes.now }
+    ensures none { IfNone result (entries bytes.now ≡ []) }
+    ensures some { IfSome result (λ e. entries bytes.now ≡ (e.key.now, e.times) ∷ entries (drop e.end bytes.now)) }
+    ensures rest { IfSome result (λ e. IsBlock (drop e.end bytes.now)) }
+    ensures within { IfSome result (λ e. e.end ≤ length bytes.now) }
+    ensures end { IfSome result (λ e. 0 < e.end) }
+{
+    if bytes.len() < SHORT_HEAD || bytes[0] == LONG || bytes[1] == LONG {
+        return read_long(bytes);
+    }
+    let len = usize::from(bytes[0]);
+    Some(Entry {
+        key: part(bytes, SHORT_HEAD, len),
+        times: u64::from(bytes[1]),
+        end: SHORT_HEAD + len,
     })
 }
