@@ -5,9 +5,11 @@ mod memory;
 mod table;
 
 use self::table::ROWS;
+use oas_compact::ByProfileTwo;
 use oas_judge::{is_canonical, read_judged};
 use oas_layout::{Limits, Profile};
-use oas_num::{INPUT_MAX, Refusal, SliceSource};
+use oas_num::{INPUT_MAX, SliceSource};
+use oas_runs::CompactLayout;
 use std::alloc::{AllocError, Global};
 use std::process::Abort;
 use std::test::Fail;
@@ -93,25 +95,39 @@ fn each_row(rt: HostRuntime) -> Result<(), Fail> {
     Ok(())
 }
 
-/// What is read of a file of at most so many bytes that is judged by profile one and kept by profile two: whether it is
-/// canonical, the profile that its layout is kept by, and how many elements that has.
-fn judged(alloc: Global, file: &[u8], most: u64) -> Result<(bool, Profile, u64), Refusal> {
-    let mut source = SliceSource::new(file, most);
-    let limits = Limits::standard();
-    let (layout, yes) = read_judged(alloc, &mut source, limits, Profile::One, Profile::Two)?;
-    Ok((yes, layout.profile(), layout.count()))
+/// The layout of a file, kept by profile two, and whether the file is canonical by profile one.
+fn judged(alloc: Global, pieces: &str) -> Result<(CompactLayout, bool), Fail> {
+    let file = bytes_of(alloc, pieces)?;
+    let mut source = SliceSource::new(&file, INPUT_MAX);
+    let read = read_judged::<_, ByProfileTwo>(alloc, &mut source, Limits::standard(), Profile::One);
+    Ok(read.ok().ok_or("the file is accepted")?)
 }
 
 #[test]
 fn layouts_that_are_judged(rt: HostRuntime) -> Result<(), Fail> {
     let alloc = rt.alloc();
-    let file = bytes_of(alloc, "HEAD CELL BOX BOX TAIL")?;
-    let found = judged(alloc, &file, INPUT_MAX);
-    assert!(rt; matches!(found, Ok((true, Profile::Two, 2))));
-    let padded = bytes_of(alloc, "HEAD CELL BOX 00 TAIL")?;
-    let found = judged(alloc, &padded, INPUT_MAX);
-    assert!(rt; matches!(found, Ok((false, Profile::Two, 1))));
-    let found = judged(alloc, &padded, 100);
+    let (boxes, yes) = judged(alloc, "HEAD CELL BOX BOX TAIL")?;
+    assert!(rt; yes);
+    let (rectangles, yes) = judged(alloc, "HEAD CELL RECT RECT TAIL")?;
+    assert!(rt; yes);
+    assert!(rt; boxes.same(&rectangles), "a box is its rectangle");
+    let (padded, yes) = judged(alloc, "HEAD CELL BOX 00 TAIL")?;
+    assert!(rt; !yes);
+    assert!(rt; !padded.same(&boxes), "one box is not two");
+    Ok(())
+}
+
+#[test]
+fn a_file_past_the_limit(rt: HostRuntime) -> Result<(), Fail> {
+    let alloc = rt.alloc();
+    let file = bytes_of(alloc, "HEAD CELL BOX TAIL")?;
+    let mut source = SliceSource::new(&file, 100);
+    let found = read_judged::<_, ByProfileTwo>(
+        alloc,
+        &mut source,
+        Limits::standard(),
+        Profile::One,
+    );
     assert!(rt; matches!(found, Err(refusal) if refusal.why.number() == 31));
     Ok(())
 }

@@ -7,10 +7,11 @@ ghost use Rattle.oas_canon.specs.declared.rekeying.Rekeyed.TheVariants.{NotProfi
 ghost use Rattle.oas_canon.specs.Rekeying.{Rekeys, IsRekeyedInPart, StaysSo};
 ghost use Rattle.oas_canon.specs.Run.{Exactly};
 
-use oas_form::write_canonical;
+use oas_compact::ByProfileTwo;
 use oas_judge::read_judged;
 use oas_layout::{Limits, Profile};
 use oas_num::{Refusal, Source};
+use oas_run_form::write_compact;
 use std::alloc::Global;
 use std::io::Write;
 
@@ -46,10 +47,10 @@ pub fn rekey<S: Source, W: Write>(
     ensures cut { IfErr result (λ refusal. refusal.why ≡ NotWritten → IsRekeyedInPart limits (S.script from.old) (S.script from.new) (W.contents to.old) (W.contents to.new) refusal.at) }
     ensures exactly { Exactly limits (S.script from.old) result (S.script from.new) }
 {
-    let (layout, own) = read_judged(alloc, from, limits, Profile::One, Profile::Two)?;
+    let (layout, own) = read_judged::<S, ByProfileTwo>(alloc, from, limits, Profile::One)?;
     if !own {
         return Ok(Rekeyed::NotProfile1);
     }
-    let count = write_canonical(&layout, to)?;
+    let count = write_compact(&layout, to)?;
     Ok(Rekeyed::Done(count))
 }

@@ -9,8 +9,9 @@ use Rattle.oas_num.proofs.ReadLemmas.{Takes-then}
 use Rattle.oas_record.specs.declared.heads.Head.{Head}
 use Rattle.oas_layout.specs.declared.limits.Limits.{Limits}
 use Rattle.oas_layout.specs.declared.profile.Profile.{Profile}
-use Rattle.oas_layout.specs.Contents.{Contents, meaning_of}
-use Rattle.oas_layout.specs.Meaning.{Meaning, SameLayout}
+use Rattle.oas_layout.specs.Contents.{meaning_of}
+use Rattle.oas_layout.specs.Meaning.{Meaning}
+use Rattle.oas_layout.proofs.LawProofs.{symmetric}
 use Rattle.oas_modal.specs.Stores.{Store}
 use Rattle.oas_modal.specs.Stands.{ReaderState, StandsFor, records_mean, end_refusal}
 use Rattle.oas_file.specs.Acceptance.{Allowed, Accepted}
@@ -20,7 +21,11 @@ use Rattle.oas_file.proofs.Ending.{file_all}
 use Rattle.oas_form.specs.Bytes.{end_bytes}
 use Rattle.oas_form.specs.Canonical.{CanonicalForm}
 use Rattle.oas_form.specs.Judging.{entry_records, entry_bytes, IsReadAs}
+use Rattle.oas_form.proofs.DrawnSound.{IsSoundMeaning, records_sound}
 use Rattle.oas_form.proofs.JudgeBytes.{bytes_judge}
+use Rattle.oas_runs.specs.declared.layout.CompactLayout.{CompactLayout}
+use Rattle.oas_runs.specs.Counting.{AreSound, IsInOrder}
+use Rattle.oas_runs.proofs.OrderLemmas.{layout_of, same_layout, is_keyed}
 use Rattle.oas_judge.specs.declared.judge.FileJudge.{FileJudge}
 use Rattle.oas_judge.specs.FileJudges.{holds, BeginsJudging}
 use Rattle.oas_judge.specs.Judged.{HasBegun, HasSeenAll, IsJudged, IsReadAndJudged}
@@ -64,7 +69,7 @@ module _ {C : Type 0} {t : Store C} {profile : Profile} {head : Head} {now mid :
     file : FileOf head (entry_records m.entries) ((b.begun.start ++ entry_bytes m.entries) ++ m.last)
     file = file_all (front_of m.entries b.begun.spelled m.each) m.end
 
-    accepted : Accepted limits ((b.begun.start ++ entry_bytes m.entries) ++ m.last)
+    abbrev accepted : Accepted limits ((b.begun.start ++ entry_bytes m.entries) ++ m.last)
     accepted = record {
       head = head;
       records = entry_records m.entries;
@@ -106,30 +111,28 @@ module _ {C : Type 0} {t : Store C} {profile : Profile} {head : Head} {now mid :
       pub judged : (answer : Bool) → IsTrue answer ↔ (IsTrue (holds k) × (end_bytes ≡ k.bytes.items)) → IsJudged limits profile b.origin answer new
       judged answer says = record { bytes = (b.begun.start ++ entry_bytes m.entries) ++ m.last; takes = all_taken; ended = ended; accepted = accepted; answer = told answer says }
 
-      same_back : (profile : Profile) (a c : Meaning) → SameLayout profile a c → SameLayout profile c a
-      same_back profile a c same = record { unit = sym same.unit; cells = λ name. sym (same.cells name); counts = λ name e. sym (same.counts name e) }
-
-      -- and its layout
-      pub read_judged : {kept_by : Profile} (l : Contents) (answer : Bool) → first.unit ≡ head.unit → first.profile ≡ kept_by →
-          SameLayout s.profile (meaning_of l) (records_mean s.unit (entry_records m.entries)) → l.limits ≡ s.limits → l.profile ≡ s.profile →
-          IsTrue answer ↔ (IsTrue (holds k) × (end_bytes ≡ k.bytes.items)) → IsReadAndJudged limits profile kept_by b.origin l answer new
-      read_judged {kept_by = kept_by} l answer unit by same limits_kept profile_kept says =
-          let kept = m.taken.same in
-          let there : SameLayout kept_by (meaning_of l) (records_mean s.unit (entry_records m.entries)) =
-          subst (λ (p : Profile). SameLayout p (meaning_of l) (records_mean s.unit (entry_records m.entries))) (kept.profile ∙ by) same in
-          let means : SameLayout kept_by (meaning_of l) (records_mean head.unit (entry_records m.entries)) =
-          subst (λ (u : Ratio). SameLayout kept_by (meaning_of l) (records_mean u (entry_records m.entries))) (kept.unit ∙ unit) there in
+      -- and its layout, which is held as keys
+      pub read_judged : {kept_by : Profile} (c : CompactLayout) (answer : Bool) → first.unit ≡ head.unit →
+          (AreSound (records_mean s.unit (entry_records m.entries)).cells → IsInOrder kept_by c (records_mean s.unit (entry_records m.entries))) →
+          IsTrue answer ↔ (IsTrue (holds k) × (end_bytes ≡ k.bytes.items)) → IsReadAndJudged limits profile kept_by b.origin c answer new
+      read_judged {kept_by = kept_by} c answer unit order says =
+          let meant : Meaning = records_mean head.unit (entry_records m.entries) in
+          let sound : IsSoundMeaning limits meant = records_sound limits ((b.begun.start ++ entry_bytes m.entries) ++ m.last) accepted in
+          let ordered : AreSound meant.cells → IsInOrder kept_by c meant =
+          subst (λ (u : Ratio). AreSound (records_mean u (entry_records m.entries)).cells → IsInOrder kept_by c (records_mean u (entry_records m.entries))) (m.taken.same.unit ∙ unit) order in
           record {
+            layout = layout_of kept_by limits meant;
+            keyed = is_keyed kept_by limits meant c sound (ordered sound.spellable.sound);
             read = record {
               bytes = (b.begun.start ++ entry_bytes m.entries) ++ m.last;
               takes = all_taken;
               ended = ended;
               accepted = accepted;
-              meaning = records_mean head.unit (entry_records m.entries);
+              meaning = meant;
               means = record { head = head; records = entry_records m.entries; file = file; is = refl };
-              same = same_back kept_by (meaning_of l) (records_mean head.unit (entry_records m.entries)) means;
-              within = limits_kept ∙ (kept.limits ∙ within);
-              by = profile_kept ∙ (kept.profile ∙ by);
+              same = symmetric kept_by (meaning_of (layout_of kept_by limits meant)) meant (same_layout kept_by limits meant);
+              within = refl;
+              by = refl;
             };
             answer = told answer says;
           }

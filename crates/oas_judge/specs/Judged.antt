@@ -17,6 +17,8 @@ use Rattle.oas_file.specs.Gathering.{inner_in, HasTaken}
 use Rattle.oas_file.specs.Reading.{IsRead}
 use Rattle.oas_form.specs.Canonical.{CanonicalForm}
 use Rattle.oas_form.specs.Judging.{Entry, entry_records, entry_bytes}
+use Rattle.oas_runs.specs.declared.layout.CompactLayout.{CompactLayout}
+use Rattle.oas_runs.specs.Keyed.{IsKeyed}
 use Rattle.oas_judge.specs.declared.judge.FileJudge.{FileJudge}
 use Rattle.oas_judge.specs.FileJudges.{holds, IsJudging, BeginsJudging}
 use Rattle.oas_judge.specs.Kept.{RefusesKept}
@@ -64,7 +66,9 @@ pub record IsJudged (limits : Limits) (profile : Profile) (old : Script) (yes : 
   pub accepted : Accepted limits bytes
   pub answer : IsTrue yes ↔ CanonicalForm limits profile bytes
 
--- its layout was read too
-pub record IsReadAndJudged (limits : Limits) (judged_by kept_by : Profile) (old : Script) (l : Contents) (yes : Bool) (new : Script) : Type 0 where
-  pub read : IsRead limits kept_by old l new
+-- its layout was read too, and is held as keys
+pub record IsReadAndJudged (limits : Limits) (judged_by kept_by : Profile) (old : Script) (k : CompactLayout) (yes : Bool) (new : Script) : Type 0 where
+  pub layout : Contents
+  pub keyed : IsKeyed k layout
+  pub read : IsRead limits kept_by old layout new
   pub answer : IsTrue yes ↔ CanonicalForm limits judged_by read.bytes

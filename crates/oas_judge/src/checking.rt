@@ -5,10 +5,12 @@ ghost use Rattle.oas_judge.specs.Kept.{RefusesKept};
 
 use crate::judge::FileJudge;
 use crate::records::judge_records;
+use oas_compact::{CompactCell, KeptBy};
 use oas_file::find_end_of_input;
-use oas_layout::{Layout, Limits, Profile};
-use oas_modal::{CountedCell, HeldCell, Reader};
+use oas_layout::{Limits, Profile};
+use oas_modal::{CountedCell, Reader};
 use oas_num::{Refusal, Source};
+use oas_runs::{CompactLayout, finish_compact};
 use std::alloc::Global;
 
 /// Whether what a source gives is an accepted file that is canonical by the profile.
@@ -33,25 +35,24 @@ pub fn is_canonical<S: Source>(
     Ok(judge.is_done())
 }
 
-/// Reads the layout of what a source gives, as the profile `kept_by` keeps it, and whether the file is canonical by the profile
-/// `judged_by`.
+/// Reads the layout of what a source gives, as keys of elements as the profile of `P` keeps them, and whether the file is
+/// canonical by the profile `judged_by`.
 ///
-/// The bytes are not kept. A file is refused as [`read_layout`](oas_file::read_layout) refuses it, but that memory may be
+/// The bytes are not kept. A file is refused as [`read_compact`](oas_runs::read_compact) refuses it, but that memory may be
 /// wanted at any byte.
-pub fn read_judged<S: Source>(
+pub fn read_judged<S: Source, P: KeptBy>(
     alloc: Global,
     source: &mut S,
     limits: Limits,
     judged_by: Profile,
-    kept_by: Profile,
-) -> Result<(Layout, bool), Refusal>
-    ensures read { IfOk result (λ read. IsReadAndJudged limits judged_by kept_by (S.script source.old) read.0 read.1 (S.script source.new)) }
+) -> Result<(CompactLayout, bool), Refusal>
+    ensures read { IfOk result (λ read. IsReadAndJudged limits judged_by P.profile (S.script source.old) read.0 read.1 (S.script source.new)) }
     ensures refused { IfErr result (λ refusal. RefusesKept limits (S.script source.old) refusal (S.script source.new)) }
 {
     let (head, mut judge) = FileJudge::begin(alloc, source, judged_by)?;
-    let mut reader: Reader<HeldCell> = Reader::new(alloc, head.unit, limits, kept_by);
+    let mut reader: Reader<CompactCell<P>> = Reader::new(alloc, head.unit, limits, P::profile());
     let end = judge_records(alloc, source, head, &mut reader, &mut judge)?;
     find_end_of_input(source)?;
-    let layout = reader.finish(end)?;
+    let layout = finish_compact(alloc, reader, end)?;
     Ok((layout, judge.is_done()))
 }

@@ -4,7 +4,8 @@
 //!
 //! - [`is_canonical`] answers whether an accepted file is a canonical form by the profile that it is handed, whatever the source
 //!   (`IsJudged`, specs/Judged.antt). It makes no layout, and keeps names, numbers and counts, and one record at a time.
-//! - [`read_judged`] answers that and, in the same pass, the layout as another profile keeps it (`IsReadAndJudged`).
+//! - [`read_judged`] answers that and, in the same pass, the layout as runs of keys (oas_runs), as another profile keeps it
+//!   (`IsReadAndJudged`).
 //! - Both refuse as `read_layout` of oas_file does, but that memory may be wanted at any byte (`RefusesKept`, specs/Kept.antt).
 //!
 //! A record in the shortest style gives all its fields, so what it draws is a function of the record alone (`own_drawn`,

@@ -61,8 +61,8 @@ fn runs_by_name<P: KeptBy>(
     Ok(runs)
 }
 
-/// The layout of what was taken; END starts at byte `at`.
-pub(crate) fn finish<P: KeptBy>(
+/// The layout, as keys, of what a reader took, or why END refuses it; END starts at byte `at`.
+pub fn finish_compact<P: KeptBy>(
     alloc: Global,
     reader: Reader<CompactCell<P>>,
     at: u64,

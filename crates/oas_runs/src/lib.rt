@@ -6,6 +6,8 @@
 //!   elements' keys (oas_keys, oas_store), ascending, each beside its count.
 //! - [`read_compact`] gives the layout of what a source gives in this form, exactly where `read_layout` of oas_file gives it, and
 //!   refuses it as that does: `ReadsCompact` (specs/Reading.antt).
+//! - [`finish_compact`] is its last step, for a reader that does more with each record: from what was taken to the layout
+//!   (`IsInOrder`, specs/Counting.antt), or to what END is refused for.
 //!
 //! Whether memory is there is outside every contract: what allocates may answer `Why::Memory`.
 #![tactic(auto)]
@@ -15,5 +17,6 @@ mod layout;
 mod reading;
 mod sameness;
 
+pub use finishing::finish_compact;
 pub use layout::CompactLayout;
 pub use reading::read_compact;

@@ -1,7 +1,7 @@
 //! From a source to a layout as keys.
 ghost use Rattle.oas_runs.specs.Reading.{ReadsCompact};
 
-use crate::finishing::finish;
+use crate::finishing::finish_compact;
 use crate::layout::CompactLayout;
 use oas_compact::{CompactCell, KeptBy};
 use oas_file::{find_end_of_input, take_records};
@@ -24,5 +24,5 @@ pub fn read_compact<S: Source, P: KeptBy>(
     let mut reader: Reader<CompactCell<P>> = Reader::new(alloc, head.unit, limits, P::profile());
     let end = take_records(alloc, source, head, &mut reader)?;
     find_end_of_input(source)?;
-    finish(alloc, reader, end)
+    finish_compact(alloc, reader, end)
 }

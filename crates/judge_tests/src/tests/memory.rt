@@ -4,6 +4,7 @@
 //! of addresses, nothing is refused, and the answer is the same.
 
 use super::bytes_of;
+use oas_compact::ByProfileTwo;
 use oas_judge::{is_canonical, read_judged};
 use oas_layout::{Limits, Profile};
 use oas_num::{INPUT_MAX, Refusal, SliceSource, Why};
@@ -17,7 +18,7 @@ fn judge(alloc: Global, file: &[u8], reads: bool) -> Result<bool, Refusal> {
     let mut source = SliceSource::new(file, INPUT_MAX);
     let limits = Limits::standard();
     if reads {
-        let (_, yes) = read_judged(alloc, &mut source, limits, Profile::One, Profile::Two)?;
+        let (_, yes) = read_judged::<_, ByProfileTwo>(alloc, &mut source, limits, Profile::One)?;
         Ok(yes)
     } else {
         is_canonical(alloc, &mut source, limits, Profile::One)

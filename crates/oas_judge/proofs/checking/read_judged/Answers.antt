@@ -1,6 +1,6 @@
 use Rattle.std.proofs.Common.{Err}
 use Rattle.std.proofs.lemmas.Result.{err_from_is_err_and}
-use Rattle.oas_file.proofs.Ending.{not_ended, finished}
+use Rattle.oas_file.proofs.Ending.{not_ended, accepted}
 use Rattle.oas_judge.proofs.RecordSteps.{as_kept}
 use Rattle.oas_judge.proofs.FileLemmas.{has_begun, kept_within, all_seen, read_judged}
 use Rattle.oas_judge.proofs.checking.read_judged.Goals as goal
@@ -24,8 +24,7 @@ returns-in_err-layout-clause-refused g c =
     let b = has_begun c.in_ok-head.ensures.begun c.new-reader.ensures.stands in
     let all = c.in_ok-end.ensures c.args.judged_by b in
     let ends = c.in_ok-find_end_of_input.ensures in
-    rw (p.1, p.2) (as_kept (finished (all_seen b all) ends.0 ends.1 (Err _) c.new-reader.ensures.unit c.new-reader.ensures.limits c.new-reader.ensures.profile tt tt tt tt
-    (c.in_err-layout.ensures.refused _ all.taken.stands)))
+    rw (p.1, p.2) (as_kept (accepted (all_seen b all) ends.0 ends.1 (Err _) c.new-reader.ensures.limits tt (c.in_err-layout.ensures.refused _ all.taken.stands)))
 
 pub returns-clause-read : goal.returns-clause-read
 returns-clause-read g c =
@@ -33,5 +32,5 @@ returns-clause-read g c =
     let all = c.in_ok-end.ensures c.args.judged_by b in
     let ends = c.in_ok-find_end_of_input.ensures in
     let f = c.in_ok-layout.ensures in
-    read_judged b all c.new-reader.ensures.limits (f.accepted _ all.taken.stands) ends.0 ends.1 c.in_ok-layout.layout c.is_done.result c.new-reader.ensures.unit c.new-reader.ensures.profile
-    (f.means _ all.taken.stands) f.limits f.profile c.is_done.ensures
+    read_judged b all c.new-reader.ensures.limits (f.accepted _ all.taken.stands) ends.0 ends.1 c.in_ok-layout.layout c.is_done.result c.new-reader.ensures.unit (f.ordered _ all.taken.stands)
+    c.is_done.ensures

@@ -25,7 +25,7 @@ pub returns : goal.returns
 returns g c =
     let all = c.in_ok-end.ensures (begun c.in_ok-head.ensures c.new-reader.ensures.stands) in
     let ends = c.in_ok-find_end_of_input.ensures in
-    let f = c.finish.ensures in
+    let f = c.finish_compact.ensures in
     let stands = all.taken.stands in
     read all ends.0 ends.1 c.new-reader.ensures.unit c.new-reader.ensures.limits (c.new-reader.ensures.profile ∙ c.profile.ensures)
-    c.finish.result (f.accepted all.records stands) (f.refused all.records stands) (f.ordered all.records stands)
+    c.finish_compact.result (f.accepted all.records stands) (f.refused all.records stands) (f.ordered all.records stands)

@@ -1,6 +1,6 @@
 use Rattle.std.proofs.Common.{refl}
 use Rattle.oas_runs.proofs.FinishLemmas.{holds, accepted, refused, ordered}
-use Rattle.oas_runs.proofs.finishing.finish.Goals as goal
+use Rattle.oas_runs.proofs.finishing.finish_compact.Goals as goal
 
 pub returns-in-Ok-clause-accepted : goal.returns-in-Ok-clause-accepted
 returns-in-Ok-clause-accepted g c = λ rs h.
