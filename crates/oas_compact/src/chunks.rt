@@ -1,6 +1,6 @@
 //! What waits in few bytes, in chunks.
 
-ghost use Rattle.std.specs.Prelude.{◌≡◌, [], ◌∷◌, ◌++◌, OnOk, OnErr, IfOk};
+ghost use Rattle.std.specs.Prelude.{◌≡◌, ◌<◌, [], ◌∷◌, ◌++◌, OnOk, OnErr, IfOk, vec_len, vec_capacity};
 ghost use Rattle.oas_store.specs.Parts.{joined};
 ghost use Rattle.oas_compact.specs.Short.{drawn_of};
 
@@ -11,6 +11,12 @@ use std::mem;
 
 /// How many wait in a chunk, at most.
 const CHUNK: usize = 4096;
+
+/// How many more a chunk takes room for at once, at least.
+const LEAST: usize = 4;
+
+/// Which part of what is there it takes room for at once: a quarter, so that little of it is idle.
+const PART: usize = 4;
 
 /// So many of what waits, seen as the list of it, each drawn once.
 #[derive(Drop)]
@@ -48,10 +54,22 @@ impl Chunk {
         ensures ok { OnOk result (self.new ≡ self.old ++ (drawn_of short, 1) ∷ []) }
         ensures err { OnErr result (self.new ≡ self.old) }
     {
-        self.shorts.reserve(1)?;
+        make_room(&mut self.shorts)?;
         self.shorts.push_reserved(short);
         Ok(())
     }
+}
+
+/// Sees that there is room for one more.
+fn make_room(shorts: &mut Vec<Short>) -> Result<(), AllocError>
+    ensures items { shorts.new.items ≡ shorts.old.items }
+    ensures ok { OnOk result (vec_len shorts.new < vec_capacity shorts.new) }
+{
+    if shorts.len() < shorts.capacity() {
+        return Ok(());
+    }
+    let part = shorts.len() / PART;
+    shorts.reserve_exact(part.max(LEAST))
 }
 
 /// What waits in few bytes, as it came, seen as the list of it. It stands in chunks, each of which can be given back by itself.

@@ -3,6 +3,7 @@
 ghost use Rattle.std.specs.Prelude.{◌≡◌, ◌≢◌, ◌+◌, ◌<◌, ◌≤◌, [], ◌∷◌, ◌++◌, OnOk, OnErr, IsTrue, IsFalse, IfSome, IfNone, length, take, drop, slice_index};
 ghost use Rattle.oas_store.specs.Entries.{number_bytes, entry_bytes, number_at, number_size, entry_at, entry_end, entries, IsBlock};
 
+use crate::room::reserve_more;
 use std::alloc::AllocError;
 
 /// What a byte says before a number of eight bytes. Numbers below it are one byte.
@@ -10,6 +11,9 @@ const LONG: u8 = 255;
 
 /// How many bytes of an entry are not its key, where both numbers are one byte.
 const SHORT_HEAD: usize = 2;
+
+/// The same where both numbers are long.
+const LONG_HEAD: usize = 18;
 
 /// Puts a number at the end, or a part of it.
 fn push_number(bytes: &mut Vec<u8>, number: u64) -> Result<(), AllocError>
@@ -43,6 +47,7 @@ fn push_long(bytes: &mut Vec<u8>, key: &[u8], times: u64) -> Result<(), AllocErr
     ensures ok { OnOk result (bytes.new.items ≡ bytes.old.items ++ entry_bytes (key.now, times)) }
     ensures err { OnErr result (bytes.new.items ≡ bytes.old.items) }
 {
+    reserve_more(bytes, key.len() + LONG_HEAD)?;
     let before = bytes.len();
     let pushed = push_parts(bytes, key, times);
     if pushed.is_err() {
@@ -56,7 +61,7 @@ fn push_short(bytes: &mut Vec<u8>, len: u8, times: u8, key: &[u8]) -> Result<(),
     ensures ok { OnOk result (bytes.new.items ≡ bytes.old.items ++ len ∷ times ∷ key.now) }
     ensures err { OnErr result (bytes.new.items ≡ bytes.old.items) }
 {
-    bytes.reserve(key.len() + SHORT_HEAD)?;
+    reserve_more(bytes, key.len() + SHORT_HEAD)?;
     bytes.push_reserved(len);
     bytes.push_reserved(times);
     bytes.extend_from_slice(key)

@@ -33,6 +33,7 @@ mod loose;
 mod merge;
 mod ordering;
 mod rising;
+mod room;
 mod run;
 mod settling;
 mod store;

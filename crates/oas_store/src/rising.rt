@@ -71,7 +71,7 @@ impl Rising {
         ensures ok { OnOk result (self.new ≡ self.old ++ (key.now, times) ∷ []) }
         ensures err { OnErr result (self.new ≡ self.old) }
     {
-        self.last.reserve(key.len())?;
+        make_room_for(&mut self.last, key)?;
         if self.times > 0 {
             self.done.append(alloc, &self.last, self.times)?;
         }
@@ -103,6 +103,14 @@ impl Rising {
         let done = mem::replace(&mut self.done, Growing::new(alloc));
         Ok(done.into_run())
     }
+}
+
+/// Sees that a key can stand in place of these bytes, with as little idle as may be.
+fn make_room_for(bytes: &mut Vec<u8>, key: &[u8]) -> Result<(), AllocError>
+    ensures items { bytes.new.items ≡ bytes.old.items }
+    ensures ok { OnOk result (length key.now ≤ vec_capacity bytes.new) }
+{
+    bytes.reserve_exact(key.len().saturating_sub(bytes.len()))
 }
 
 /// Puts a key in place of these bytes, which have room for it.

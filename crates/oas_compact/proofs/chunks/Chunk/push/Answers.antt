@@ -6,5 +6,5 @@ use Rattle.oas_compact.proofs.chunks.Chunk.push.Goals as goal
 
 pub returns-clause-ok : goal.returns-clause-ok
 returns-clause-ok c =
-    ap drawn_once (c.push_reserved.ensures.items ∙ ap (λ ss. ss ++ c.args.short ∷ []) c.reserve.ensures.items)
+    ap drawn_once (c.push_reserved.ensures.items ∙ ap (λ ss. ss ++ c.args.short ∷ []) c.make_room.ensures.items)
     ∙ (once_more c.self.inside.shorts.items c.args.short ∙ ap (λ (ps : List (Drawn × ℕ)). ps ++ (drawn_of c.args.short, 1) ∷ []) c.self.view_is)
