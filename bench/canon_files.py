@@ -134,14 +134,18 @@ def path(chance):
 
 
 def hierarchy(chance):
-    """A thousand cells of a hundred placements, texts and paths each, by numbers that are named at the end."""
+    """A thousand cells of a hundred placements, texts and paths each, by numbers that are named at the end.
+
+    A cell places those of higher numbers alone, and the last one none: KLayout takes no cell that holds itself.
+    """
     cells = list(range(1000))
     chance.shuffle(cells)
     for cell in cells:
         yield b"\x0d" + unsigned(cell)
         for _ in range(100):
             turned = 0xF0 + chance.randrange(8)
-            yield b"\x11" + bytes((turned,)) + unsigned(chance.randrange(1000)) + place(chance)
+            if cell < 999:
+                yield b"\x11" + bytes((turned,)) + unsigned(chance.randrange(cell + 1, 1000)) + place(chance)
             fields = unsigned(chance.randrange(5000)) + unsigned(chance.randrange(64)) + b"\x00"
             yield b"\x13\x7b" + fields + place(chance)
             yield path(chance)

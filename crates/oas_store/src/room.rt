@@ -7,8 +7,8 @@ use std::alloc::AllocError;
 /// Bytes are asked for in lots of so many, at least.
 const LEAST: usize = 64;
 
-/// Which part of the bytes that are there is asked for at once: a quarter. So all bytes are moved a few times each while they
-/// grow, and at most a fifth of them is idle.
+/// Which part of the bytes that are there is asked for at once: a quarter. So bytes are moved a few times each while they grow,
+/// and of many at most a fifth is idle.
 const PART: usize = 4;
 
 /// Makes room for so many bytes more.
