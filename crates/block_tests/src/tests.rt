@@ -1,7 +1,7 @@
 //! What no clause says: that a block is read where memory is there, and which fault is answered of the ways to go wrong. The
 //! streams were made by zlib 1.2.13, and what they stand for is what was given to it.
 
-use oas_block::{Block, BlockEnd, BlockFault, read_block};
+use oas_block::{Block, BlockEnd, BlockFault, InflatedSource, read_block};
 use oas_num::{ReaderSource, SliceSource, Source, Why};
 use oas_wide::BlockHead;
 use std::alloc::Global;
@@ -101,6 +101,25 @@ fn read_text(
     Ok(read_from(alloc, &mut source, limit))
 }
 
+/// The data of a block that was read, and how its stream ends.
+fn given_by(
+    alloc: Global,
+    found: Result<Block, BlockFault>,
+) -> Result<Result<(Vec<u8>, BlockEnd), BlockFault>, Fail> {
+    let block = match found {
+        Ok(block) => block,
+        Err(fault) => return Ok(Err(fault)),
+    };
+    let mut source = InflatedSource::new(&block.data);
+    let mut bytes = Vec::new(alloc);
+    for _ in 0..block.data.len() {
+        if let Ok(Some(byte)) = source.next() {
+            bytes.push(byte)?;
+        }
+    }
+    Ok(Ok((bytes, block.end)))
+}
+
 /// Gives its bytes, and then fails.
 #[derive(Drop)]
 struct Failing<'a> {
@@ -125,8 +144,7 @@ fn blocks_are_read(rt: HostRuntime) -> Result<(), Fail> {
     for (block, wanted) in GIVEN {
         let data = hex::decode(rt.alloc(), wanted)?;
         let found = read_text(rt.alloc(), block, 100, data.len())?;
-        let end = BlockEnd::Whole;
-        assert!(rt; found == Ok(Block { data, end }));
+        assert!(rt; given_by(rt.alloc(), found)? == Ok((data, BlockEnd::Whole)));
     }
     Ok(())
 }
@@ -136,7 +154,7 @@ fn what_a_stream_gave_is_kept(rt: HostRuntime) -> Result<(), Fail> {
     for (block, end, given) in WRONG {
         let data = hex::decode(rt.alloc(), given)?;
         let found = read_text(rt.alloc(), block, 100, 100)?;
-        assert!(rt; found == Ok(Block { data, end }));
+        assert!(rt; given_by(rt.alloc(), found)? == Ok((data, end)));
     }
     Ok(())
 }
@@ -145,7 +163,7 @@ fn what_a_stream_gave_is_kept(rt: HostRuntime) -> Result<(), Fail> {
 fn blocks_are_refused(rt: HostRuntime) -> Result<(), Fail> {
     for (block, fault) in REFUSED {
         let found = read_text(rt.alloc(), block, 100, 100)?;
-        assert!(rt; found == Err(fault));
+        assert!(rt; found.err() == Some(fault));
     }
     Ok(())
 }
@@ -153,9 +171,9 @@ fn blocks_are_refused(rt: HostRuntime) -> Result<(), Fail> {
 #[test]
 fn limits_are_kept(rt: HostRuntime) -> Result<(), Fail> {
     let full = read_text(rt.alloc(), "00110acb48cdc9c957c8409000", 100, 16)?;
-    assert!(rt; full == Err(BlockFault::Full));
+    assert!(rt; full.err() == Some(BlockFault::Full));
     let long = read_text(rt.alloc(), "00110acb48cdc9c957c8409000", 10, 17)?;
-    assert!(rt; long == Err(BlockFault::Why(Why::InputTooLong)));
+    assert!(rt; long.err() == Some(BlockFault::Why(Why::InputTooLong)));
     Ok(())
 }
 
@@ -165,6 +183,6 @@ fn a_reader_fails(rt: HostRuntime) -> Result<(), Fail> {
     let reader = Failing { rest: &bytes };
     let mut source = ReaderSource::new(rt.alloc(), reader, 100)?;
     let failed = read_from(rt.alloc(), &mut source, 100);
-    assert!(rt; failed == Err(BlockFault::Why(Why::Read)));
+    assert!(rt; failed.err() == Some(BlockFault::Why(Why::Read)));
     Ok(())
 }

@@ -3,8 +3,8 @@
 //! times, and prints the time of all of it on standard error, in microseconds.
 #![tactic(auto)]
 
-use oas_bytes::SliceSource;
-use oas_inflate::{Bits, Fault, inflate};
+use oas_bytes::{SliceSource, Source};
+use oas_inflate::{Bits, Fault, Inflated, InflatedSource, inflate};
 use std::alloc::Global;
 use std::env;
 use std::io::{self, Read};
@@ -14,18 +14,21 @@ use std::time::{Duration, Instant};
 const LIMIT: usize = 268_435_456;
 
 /// A digest of bytes: each times a prime, and the next one added, modulo 2^64.
-fn digest(bytes: &[u8]) -> u64 {
+fn digest(inflated: &Inflated) -> u64 {
+    let mut source = InflatedSource::new(inflated);
     let mut sum: u64 = 0;
-    for byte in bytes {
-        sum = sum
-            .wrapping_mul(1_099_511_628_211)
-            .wrapping_add(u64::from(*byte));
+    for _ in 0..inflated.len() {
+        if let Ok(Some(byte)) = source.next() {
+            sum = sum
+                .wrapping_mul(1_099_511_628_211)
+                .wrapping_add(u64::from(byte));
+        }
     }
     sum
 }
 
 /// What a packet stands for.
-fn inflate_packet(alloc: Global, packet: &[u8]) -> Result<Vec<u8>, Fault> {
+fn inflate_packet(alloc: Global, packet: &[u8]) -> Result<Inflated, Fault> {
     let mut bits = Bits::new(SliceSource::new(packet, u64::MAX));
     inflate(alloc, &mut bits, LIMIT).map_err(|stopped| stopped.fault)
 }
@@ -72,7 +75,7 @@ fn main(rt: HostRuntime) -> io::Result<()> {
         match found {
             Ok(bytes) => {
                 let count = bytes.len();
-                let digest = digest(bytes.as_slice());
+                let digest = digest(&bytes);
                 println!(rt; "{count} {digest}")?;
             }
             Err(fault) => println!(rt; "refused: {fault}")?,

@@ -1,7 +1,9 @@
+use oas_inflate::Inflated;
+
 /// A block's data, and how its stream ends.
-#[derive(Debug, PartialEq, Eq, Drop)]
+#[derive(Debug, Drop)]
 pub struct Block {
-    pub data: Vec<u8>,
+    pub data: Inflated,
     pub end: BlockEnd,
 }
 

@@ -1,4 +1,4 @@
-//! Reading a block into memory.
+//! Reading a block.
 ghost use Rattle.std.specs.Prelude.{◌≡◌, ◌≢◌, ◌<◌, min, List, ℕ};
 ghost use Rattle.oas_block.specs.Reading.{ReadsBlock};
 ghost use Rattle.oas_block.specs.Inflating.{PassesByte, Passes, Finishes, Judges, FaultOf, EndOf};
@@ -6,7 +6,7 @@ ghost use Rattle.oas_block.specs.Inflating.{PassesByte, Passes, Finishes, Judges
 use crate::block::{Block, BlockEnd};
 use crate::faults::BlockFault;
 use crate::fronts::{FrontSource, Start};
-use oas_inflate::{Bits, Fault, Stopped, inflate};
+use oas_inflate::{Bits, Fault, Inflated, Stopped, inflate};
 use oas_num::{Source, SourceFault, Why};
 use oas_wide::BlockHead;
 use std::alloc::Global;
@@ -27,7 +27,7 @@ pub fn read_block<S: Source>(
     }
     if head.deflated == 0 {
         return Ok(Block {
-            data: Vec::new(alloc),
+            data: Inflated::new(alloc),
             end: BlockEnd::Unfinished,
         });
     }
@@ -74,7 +74,7 @@ fn read_named<'a, S: Source, K: Start>(
 /// Takes what is left of a block behind its stream, and gives what that stands for.
 fn finish<'a, S: Source, K: Start>(
     front: &mut FrontSource<'a, S, K>,
-    plain: Vec<u8>,
+    plain: Inflated,
     head: BlockHead,
     idle: u8,
 ) -> Result<Block, BlockFault>
@@ -150,7 +150,7 @@ fn fault_of(fault: Fault, head: BlockHead, limit: usize) -> BlockFault
 
 /// The bytes that a stream stands for, and whether they are what a head says: as many as that, with no byte unread behind the
 /// stream, and fewer bits than eight.
-fn judged(plain: Vec<u8>, head: BlockHead, unread: u64, idle: u8) -> Block
+fn judged(plain: Inflated, head: BlockHead, unread: u64, idle: u8) -> Block
     ensures { Judges result.«data».items result.end plain.items head.inflated unread idle }
 {
     let end = if plain.len() as u64 == head.inflated && unread == 0 && idle < 8 {

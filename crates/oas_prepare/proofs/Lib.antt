@@ -14,5 +14,9 @@ pub mod Doubling
 pub mod WideMeanings
 pub mod ProfileHeads
 pub mod ProfileFiles
+pub mod Pads
+pub mod Runs
+pub mod Ends
 pub mod Inner
+pub mod InnerStops
 pub mod BlockEnds

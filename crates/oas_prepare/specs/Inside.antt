@@ -49,7 +49,7 @@ pub record HasInner (in_end : Bool) (first : Preparation) (records : List WideRe
   pub stands : Stands p (records ++ inner)
   pub same : SameRun first p
 
--- that is where the last of the data's records begins
+-- that is where the last of the data's records begins, of which a run of PADs is one
 abbrev pub IsLast : Limits → Dropping → Bool → List WideRecord → List ℕ → Option ℕ → Type 0
 IsLast limits dropping in_end records plain None = Unit {0}
 IsLast limits dropping in_end records plain (Some within) = EndsInData limits dropping in_end records plain within

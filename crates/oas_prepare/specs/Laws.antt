@@ -1,5 +1,5 @@
 -- What the laws of preparing say.
-use Rattle.std.specs.Prelude.{◌≡◌, ℕ, List}
+use Rattle.std.specs.Prelude.{◌≡◌, ℕ, Bool, List}
 use Rattle.oas_layout.specs.declared.limits.Limits.{Limits}
 use Rattle.oas_layout.specs.declared.profile.Profile.{Profile}
 use Rattle.oas_layout.specs.Meaning.{Meaning, SameLayout}
@@ -9,6 +9,8 @@ use Rattle.oas_narrow.specs.declared.dropping.Dropping.{Dropping}
 use Rattle.oas_narrow.specs.declared.dropping.Report.{Report}
 use Rattle.oas_narrow.specs.Dropping.{nothing_left_out}
 use Rattle.oas_narrow.specs.Preparable.{Preparable, WideMeans}
+use Rattle.oas_wide.specs.declared.records.WideRecord.{WideRecord}
+use Rattle.oas_prepare.specs.Places.{EndsInData}
 use Rattle.oas_prepare.specs.Run.{IsPreparedAs}
 
 -- a file of the standard means one layout
@@ -32,3 +34,8 @@ ProfileAsCanonical = (limits : Limits) (profile : Profile) (dropping : Dropping)
 -- what is prepared is prepared to itself
 abbrev pub PreparedAgain : Type 0
 PreparedAgain = (limits : Limits) (profile : Profile) (dropping : Dropping) (c d : List ℕ) (r : Report) → CanonicalForm limits profile c → IsPreparedAs limits profile dropping c d r → d ≡ c
+
+-- the last record of a block's data stands at one place, whatever is prepared before it, under which limits
+abbrev pub OneLastRecord : Type 0
+OneLastRecord = (limits lenient : Limits) (dropping further : Dropping) (in_end : Bool) (records more : List WideRecord) (plain : List ℕ) (at other : ℕ) → EndsInData limits dropping in_end records plain at →
+    EndsInData lenient further in_end more plain other → at ≡ other

@@ -1,5 +1,6 @@
 -- Where a file of the standard that isn't prepared stops.
-use Rattle.std.specs.Prelude.{◌≡◌, ◌≢◌, ℕ, ◌+◌, Bool, List, [], ◌∷◌, ◌++◌, length, None, ◌⊎◌}
+use Rattle.std.specs.Prelude.{◌≡◌, ◌≢◌, ℕ, ◌+◌, ◌%◌, ◌^◌, ◌<◌, ◌≤◌, Bool, List, [], ◌∷◌, ◌++◌, length, replicate, None, ◌⊎◌}
+use Rattle.oas_record.specs.declared.records.Record.TheVariants.{Pad}
 use Rattle.oas_record.specs.Found.{NoneStands}
 use Rattle.oas_record.specs.Heads.{magic}
 use Rattle.oas_num.specs.Grammar.{IsEach}
@@ -14,6 +15,7 @@ use Rattle.oas_block.specs.Reading.{IsUnfinished, IsOther}
 use Rattle.oas_layout.specs.declared.limits.Limits.{Limits}
 use Rattle.oas_modal.specs.Stands.{end_refusal}
 use Rattle.oas_wide.specs.declared.records.WideRecord.{WideRecord}
+use Rattle.oas_wide.specs.declared.records.WideRecord.TheVariants.{Profile}
 use Rattle.oas_narrow.specs.declared.dropping.Dropping.{Dropping}
 use Rattle.oas_wide.specs.declared.reasons.WideWhy.{WideWhy}
 use Rattle.oas_narrow.specs.declared.places.Rejection.{Rejection}
@@ -111,17 +113,39 @@ pub record StopsInData (limits : Limits) (dropping : Dropping) (in_end : Bool) (
   pub prepared : AllPrepared limits dropping (records ++ inner)
   pub no_record : NoneStands (IsNext limits dropping in_end (records ++ inner)) left
 
--- in data that are records that are prepared: at the last of them
+-- ---- the last record of a block's data
+
+-- so many PADs
+abbrev pub pads : ℕ → List WideRecord
+pads count = replicate count (Profile Pad)
+
+-- the bytes aren't records and behind them a PAD of one byte
+abbrev pub NoPadLast : Bool → List ℕ → Type 0
+NoPadLast in_end bytes = (ws : List WideRecord) (front : List ℕ) → IsEach (inner_in in_end) ws front → bytes ≢ front ++ 0 ∷ []
+
+-- Behind these bytes of the data stand so many PADs of one byte, up to its end. They are a run (own rule): none stands before
+-- them, or they begin at a multiple of 2^20 bytes of the data, and they don't go on past the next multiple.
+pub record IsRun (in_end : Bool) (before : List ℕ) (count : ℕ) : Type 0 where
+  pub some : 0 < count
+  pub begins : (length before % 2 ^ 20 ≡ 0) ⊎ NoPadLast in_end before
+  pub within : length before % 2 ^ 20 + count ≤ 2 ^ 20
+
+-- what counts as one record behind these bytes of the data: all PADs of a run, or a record that is no PAD of one byte
+pub data CountsAsOne (in_end : Bool) (before : List ℕ) (ws : List WideRecord) (bytes : List ℕ) : Type 0 where
+  AsRun : (count : ℕ) → IsRun in_end before count → pads count ≡ ws → replicate count 0 ≡ bytes → CountsAsOne in_end before ws bytes
+  AsOther : (w : WideRecord) → inner_in in_end w bytes → bytes ≢ 0 ∷ [] → w ∷ [] ≡ ws → CountsAsOne in_end before ws bytes
+
+-- in data that are records that are prepared: at the last of them, or at the first PAD of the run in which the last stands
 pub record EndsInData (limits : Limits) (dropping : Dropping) (in_end : Bool) (records : List WideRecord) (plain : List ℕ) (within : ℕ) : Type 0 where
   pub before : List ℕ
   pub last : List ℕ
   pub inner : List WideRecord
-  pub w : WideRecord
+  pub ws : List WideRecord
   pub place : within ≡ length before
   pub joined : plain ≡ before ++ last
   pub each : IsEach (inner_in in_end) inner before
-  pub spelled : inner_in in_end w last
-  pub prepared : AllPrepared limits dropping (records ++ (inner ++ w ∷ []))
+  pub one : CountsAsOne in_end before ws last
+  pub prepared : AllPrepared limits dropping (records ++ (inner ++ ws))
 
 -- the stream of these bytes doesn't end as it should, and gives this
 abbrev pub IsVain : BlockHead → List ℕ → List ℕ → Type 0

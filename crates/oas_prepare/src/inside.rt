@@ -6,14 +6,17 @@ ghost use Rattle.oas_prepare.specs.Inside.{ReadsInside, TakesData, TakesBlock, f
 
 use crate::gathering::{Next, take_next};
 use crate::taking::Preparation;
-use oas_block::{BlockEnd, BlockFault, read_block};
+use oas_block::{BlockEnd, BlockFault, Inflated, InflatedSource, read_block};
 use oas_narrow::{Place, Rejection};
-use oas_num::{SliceSource, Source, Why};
+use oas_num::{Source, Why};
 use oas_wide::{BlockHead, WideRecord, WideWhy};
 use std::alloc::Global;
 
 /// How many bytes of data a block may have at most, since they are held in memory: 2^30 (own rule).
 const DATA_MAX: usize = 1_073_741_824;
+
+/// At each multiple of how many bytes of a block's data a run of PADs begins anew: 2^20 (own rule).
+const RUN_MAX: u64 = 1_048_576;
 
 /// A rejection at an offset in a file, or in a block's data.
 pub(crate) fn stopped(at: u64, why: WideWhy) -> Rejection
@@ -41,25 +44,29 @@ fn read_inside<S: Source>(
     }
 }
 
-/// Takes the records of a block's data, and answers where in the data the last of them begins, if there is one.
+/// Takes the records of a block's data, and answers where in the data the last of them begins, if there is one. A run of PADs
+/// counts as one: they change nothing, so they are taken at once.
 fn take_data(
     alloc: Global,
-    plain: &[u8],
+    plain: &Inflated,
     flag_in_end: bool,
     preparation: &mut Preparation,
 ) -> Result<Option<u64>, Rejection>
-    ensures { TakesData flag_in_end plain.now preparation.old result preparation.new }
+    ensures { TakesData flag_in_end plain.now.items preparation.old result preparation.new }
 {
     let length = plain.len() as u64;
-    let mut source = SliceSource::new(plain, length);
+    let mut source = InflatedSource::new(plain);
     let mut last = None;
     'records: loop {
         let within = source.at();
         if within == length {
             return Ok(last);
         }
-        let next = read_inside(alloc, &mut source, flag_in_end)?;
-        preparation.take(alloc, within, next)?;
+        let pads = source.skip_zeros(RUN_MAX - within % RUN_MAX);
+        if pads == 0 {
+            let next = read_inside(alloc, &mut source, flag_in_end)?;
+            preparation.take(alloc, within, next)?;
+        }
         last = Some(within);
     }
 }
@@ -125,7 +132,7 @@ fn ended(block: u64, end: BlockEnd, last: Option<u64>) -> Result<(), Rejection>
 ///
 /// It stops at the block where its bytes are no block's of that head, as far as they were inflated, and else at the record in
 /// its data. A stream that isn't finished, stands for too few bytes or leaves bytes over stops it at the last record that
-/// begins in what there is.
+/// begins in what there is, of which a run of PADs is one.
 pub(crate) fn take_block<S: Source>(
     alloc: Global,
     source: &mut S,

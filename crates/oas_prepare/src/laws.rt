@@ -1,5 +1,5 @@
 //! The laws of preparing, each the contract of a function that does nothing.
-ghost use Rattle.oas_prepare.specs.Laws.{OneWideMeaning, SamePrepared, ProfileIsPrepared, ProfileAsCanonical, PreparedAgain};
+ghost use Rattle.oas_prepare.specs.Laws.{OneWideMeaning, SamePrepared, ProfileIsPrepared, ProfileAsCanonical, PreparedAgain, OneLastRecord};
 
 /// A file of the standard means one layout.
 pub fn one_wide_meaning()
@@ -22,4 +22,9 @@ pub fn profile_files()
 /// What is prepared is prepared to itself.
 pub fn prepared_again()
     ensures { PreparedAgain }
+{}
+
+/// The last record of a block's data stands at one place, at which a file stops whose block ends too early.
+pub fn one_last_record()
+    ensures { OneLastRecord }
 {}

@@ -13,7 +13,8 @@
 //!   memory (own rule).
 //! - The laws stand over the definitions alone ([`laws`]): a file means one layout; two files whose records stand for the same
 //!   layout are prepared to the same bytes; a file that the profile accepts is prepared to its canonical file with nothing
-//!   left out; what is prepared is prepared to itself.
+//!   left out; what is prepared is prepared to itself; the last record of a block's data, of which a run of PADs is one, stands
+//!   at one place.
 //!
 //! The definitions of which files are prepared, and what they mean, are those of `oas_narrow`. The records of the profile go
 //! to the reader of `oas_modal`, and its layout to the writer of `oas_form`: there is one canonical form and one way to it.

@@ -6,7 +6,7 @@ use oas_wide::WideWhy;
 
 /// A block and what stands behind it, behind the head of a file and a cell (37 bytes), and where and why that file stops, which
 /// goes on by END.
-pub(crate) const REFUSED: [(&str, Place, WideWhy); 17] = [
+pub(crate) const REFUSED: [(&str, Place, WideWhy); 22] = [
     // kind 1
     ("220100020300", Place::File(37), WideWhy::CblockType),
     // no stream begins so
@@ -34,6 +34,51 @@ pub(crate) const REFUSED: [(&str, Place, WideWhy); 17] = [
         Place::Block {
             block: 37,
             within: 8,
+        },
+        WideWhy::CblockLength,
+    ),
+    // PADs alone, where one byte more is stated: at the first of them
+    (
+        "22000408010300fcff000000",
+        Place::Block {
+            block: 37,
+            within: 0,
+        },
+        WideWhy::CblockLength,
+    ),
+    // PADs behind others and a record: at the first of the last of them
+    (
+        "2200191d011800e7ff147b01000a1400000000000000147b01000a140000000000",
+        Place::Block {
+            block: 37,
+            within: 21,
+        },
+        WideWhy::CblockLength,
+    ),
+    // a PAD behind a record that ends in a byte 0
+    (
+        "22000a0e010900f6ff147b01000a14000000",
+        Place::Block {
+            block: 37,
+            within: 8,
+        },
+        WideWhy::CblockLength,
+    ),
+    // a PAD of two bytes between two of one: at that behind it
+    (
+        "22000509010400fbff00800000",
+        Place::Block {
+            block: 37,
+            within: 3,
+        },
+        WideWhy::CblockLength,
+    ),
+    // a PAD of two bytes behind one of one: at that
+    (
+        "22000408010300fcff008000",
+        Place::Block {
+            block: 37,
+            within: 1,
         },
         WideWhy::CblockLength,
     ),

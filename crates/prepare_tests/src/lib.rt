@@ -7,4 +7,6 @@ mod block_rows;
 #[cfg(test)]
 mod blocks;
 #[cfg(test)]
+mod runs;
+#[cfg(test)]
 mod signatures;

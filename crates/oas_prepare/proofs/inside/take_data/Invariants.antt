@@ -8,7 +8,7 @@ use Rattle.oas_prepare.proofs.inside.take_data.Given as goal
 abbrev pub invariant-records : goal.invariant-records
 invariant-records l = record {
   some : (records : List WideRecord) → Stands l.fn.preparation records → AllPrepared l.fn.preparation.reader.limits l.fn.preparation.dropping records →
-      HasSome l.flag_in_end l.fn.preparation records l.plain l.source l.preparation l.last;
+      HasSome l.flag_in_end l.fn.preparation records l.plain.items l.source l.preparation l.last;
 }
 
 abbrev pub decreases-records : goal.decreases-records

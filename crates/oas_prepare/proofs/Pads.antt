@@ -1,0 +1,107 @@
+-- PADs, which change nothing.
+use Rattle.std.proofs.Common.{◌≡◌, ℕ, zero, suc, ◌+◌, Bool, true, false, List, [], ◌∷◌, ◌++◌, reverse, None, refl, sym, ap, subst, ◌∙◌, append_assoc, arith}
+use Rattle.std.specs.Prelude.{if◌then◌else◌, Result, Ok}
+use Rattle.std.proofs.lemmas.List.{append-nil, reverse-append}
+use Rattle.oas_record.specs.declared.records.Record.{Record}
+use Rattle.oas_record.specs.declared.records.Record.TheVariants.{Pad}
+use Rattle.oas_record.specs.Records.{record_in}
+use Rattle.oas_num.specs.Laws.IntegerLaws.{zero_spelled}
+use Rattle.oas_num.specs.Style.{Any}
+use Rattle.oas_layout.specs.declared.limits.Limits.{Limits}
+use Rattle.oas_drawing.specs.Drawing.{elements_at}
+use Rattle.oas_drawing.specs.Modal.{modal_of}
+use Rattle.oas_modal.specs.Held.{Held}
+use Rattle.oas_modal.specs.Meaning.{cells_drawn}
+use Rattle.oas_modal.specs.Names.{Table, NamesStand, cell_names, text_strings}
+use Rattle.oas_modal.specs.Stands.{StandsFor, ReaderState, seen, is_in_cell, number_drawn, weight_so_far_of}
+use Rattle.oas_modal.specs.Stores.{held_store, HoldCells}
+use Rattle.oas_modal.proofs.StoreLemmas.{hold_none}
+use Rattle.oas_wide.specs.declared.reasons.WideWhy.{WideWhy}
+use Rattle.oas_wide.specs.declared.records.WideRecord.{WideRecord}
+use Rattle.oas_wide.specs.declared.records.WideRecord.TheVariants.{Profile}
+use Rattle.oas_wide.proofs.WidenedLemmas.{widen}
+use Rattle.oas_narrow.specs.declared.dropping.Dropping.{Dropping}
+use Rattle.oas_narrow.specs.Narrowing.{kept_of, handed_after, listed, narrowed, handed_obstacle}
+use Rattle.oas_narrow.specs.Preparable.{AllPrepared}
+use Rattle.oas_narrow.specs.WideFiles.{inner_in}
+use Rattle.oas_prepare.specs.declared.taking.Preparation.{Preparation}
+use Rattle.oas_prepare.specs.Places.{pads}
+use Rattle.oas_prepare.specs.Taking.{Stands, obstacle_next}
+use Rattle.oas_prepare.proofs.Fronts.{allowed_more}
+use Rattle.oas_prepare.proofs.Narrowed.{narrowed-more, kept-more, open-more, report-more}
+
+abbrev pub pad : WideRecord
+pad = Profile Pad
+
+-- ---- its spelling
+
+pad_spelled : (in_end : Bool) → record_in Any in_end Pad (0 ∷ [])
+pad_spelled in_end = record {
+  whole = λ e. absurd cc;
+  parts = record { front = 0 ∷ []; back = []; first = zero_spelled; second = record { from = tt; is = refl; spelled = refl }; joined = refl };
+}
+
+pub pad_in : (in_end : Bool) → inner_in in_end pad (0 ∷ [])
+pad_in in_end = record { holds = record { no_end = λ end e. cc; no_block = λ head e. cc }; spelled = widen in_end Pad (0 ∷ []) (pad_spelled in_end) }
+
+-- ---- the reader
+
+none_more : (n : ℕ) → n + 0 ≡ n
+none_more n = omega arith
+
+seen_pad : (rs : List Record) → seen (Pad ∷ rs) ≡ seen rs
+seen_pad rs = λ i. record { modal = modal_of rs; in_cell = is_in_cell rs; count = none_more (number_drawn rs) i; weight = none_more (weight_so_far_of rs) i }
+
+cells_pad : (t : Table (List ℕ)) (rs : List Record) → NamesStand cell_names t rs → NamesStand cell_names t (Pad ∷ rs)
+cells_pad t rs n = record { numbering = n.numbering; agrees = n.agrees; next = n.next; free = n.free }
+
+strings_pad : (t : Table (List ℕ)) (rs : List Record) → NamesStand text_strings t rs → NamesStand text_strings t (Pad ∷ rs)
+strings_pad t rs n = record { numbering = n.numbering; agrees = n.agrees; next = n.next; free = n.free }
+
+drawn_pad : (hs : List Held) (rs : List Record) → HoldCells held_store hs (cells_drawn elements_at rs) → HoldCells held_store hs (cells_drawn elements_at (Pad ∷ rs))
+drawn_pad hs rs h = hold_none held_store hs (cells_drawn elements_at rs) h
+
+reader_pad : (r : ReaderState Held) (rs : List Record) → StandsFor held_store r rs → StandsFor held_store r (rs ++ Pad ∷ [])
+reader_pad r rs s = record {
+  sound = s.sound;
+  standing = s.standing ∙ sym (seen_pad (reverse rs)) ∙ ap seen back;
+  names = subst (NamesStand cell_names r.names) back (cells_pad r.names (reverse rs) s.names);
+  strings = subst (NamesStand text_strings r.strings) back (strings_pad r.strings (reverse rs) s.strings);
+  cells = subst (λ (b : List Record). HoldCells held_store r.cells (cells_drawn elements_at b)) back (drawn_pad r.cells (reverse rs) s.cells);
+} where
+  back : Pad ∷ reverse rs ≡ reverse (rs ++ Pad ∷ [])
+  back = sym (reverse-append rs (Pad ∷ []))
+
+-- ---- what is made of the records
+
+same_if : {X : Type 0} (b : Bool) (x : X) → (if b then x else x) ≡ x
+same_if true x = refl
+same_if false x = refl
+
+-- it stands for itself, whatever the modal variables are
+handed_pad : (before : List WideRecord) → handed_after before pad ≡ Ok (Pad ∷ [])
+handed_pad before = same_if (kept_of before).is_mixed (Ok (Pad ∷ []))
+
+-- nothing stops it
+no_obstacle : (limits : Limits) (dropping : Dropping) (ws : List WideRecord) → obstacle_next limits dropping ws pad ≡ None
+no_obstacle limits dropping ws = ap (handed_obstacle limits (narrowed ws)) (handed_pad (reverse ws))
+
+stands_pad : {p : Preparation} {ws : List WideRecord} → Stands p ws → Stands p (ws ++ pad ∷ [])
+stands_pad {p = p} {ws = ws} s = record {
+  reader = subst (StandsFor held_store p.reader) (sym (narrowed-more ws pad ∙ ap (λ (h : Result (List Record) WideWhy). narrowed ws ++ listed h) (handed_pad (reverse ws)))) (reader_pad p.reader (narrowed ws) s.reader);
+  resolver = s.resolver ∙ sym (kept-more ws pad);
+  in_cell = s.in_cell ∙ sym (open-more ws pad);
+  report = s.report ∙ sym (report-more ws pad);
+}
+
+-- ---- so many of them
+
+pub stands_pads : (count : ℕ) {p : Preparation} {ws : List WideRecord} → Stands p ws → Stands p (ws ++ pads count)
+stands_pads zero {p = p} {ws = ws} s = subst (Stands p) (sym (append-nil ws)) s
+stands_pads (suc count) {p = p} {ws = ws} s = subst (Stands p) (append_assoc ws (pad ∷ []) (pads count)) (stands_pads count (stands_pad s))
+
+pub prepared_pads : (count : ℕ) (limits : Limits) (dropping : Dropping) (ws : List WideRecord) → AllPrepared limits dropping ws → AllPrepared limits dropping (ws ++ pads count)
+prepared_pads zero limits dropping ws a = subst (AllPrepared limits dropping) (sym (append-nil ws)) a
+prepared_pads (suc count) limits dropping ws a =
+    subst (AllPrepared limits dropping) (append_assoc ws (pad ∷ []) (pads count))
+    (prepared_pads count limits dropping (ws ++ pad ∷ []) (allowed_more limits dropping ws pad a (no_obstacle limits dropping ws)))
