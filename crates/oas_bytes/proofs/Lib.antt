@@ -1,3 +1,4 @@
+pub mod ScriptLemmas
 pub mod ReaderLemmas
 pub mod WritingLemmas
 pub mod OutletLemmas

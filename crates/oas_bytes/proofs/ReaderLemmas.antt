@@ -1,14 +1,16 @@
--- A reader's source at a byte that it has.
-use Rattle.std.proofs.Common.{◌≡◌, ◌≢◌, ℕ, suc, ◌+◌, ◌-◌, min, ◌<◌, ◌≤◌, true, false, ltb, List, [], ◌∷◌, ◌++◌, length, take, get_or, Option, Some, None, Ok, Err, refl, sym, ap, ◌∙◌, inl, inr, arith}
+-- A reader's source at the bytes that it has.
+use Rattle.std.proofs.Common.{◌≡◌, ◌≢◌, ℕ, zero, suc, ◌+◌, ◌-◌, min, ◌<◌, ◌≤◌, true, false, ltb, List, [], ◌∷◌, ◌++◌, length, take, drop, get_or, Option, Some, None, Ok, Err, refl, sym, ap, ◌∙◌, inl, inr, arith}
 use Rattle.std.specs.Prelude.{slice_range}
 use Rattle.std.specs.Io.KnownBytes.{Consumes}
 use Rattle.std.proofs.Math.Seq.{drop-cons}
+use Rattle.std.proofs.lemmas.List.{length-take, length-drop}
 use Rattle.std.proofs.lemmas.Bool.{cases_lt, lt-ltb, le-ltb}
 use Rattle.oas_bytes.specs.declared.sources.SourceFault.TheVariants.{TooLong}
 use Rattle.oas_bytes.specs.declared.readers.Ending.{Ending}
 use Rattle.oas_bytes.specs.declared.readers.Ending.TheVariants as endings
-use Rattle.oas_bytes.specs.Script.{Script, Rest, Gave, NoneLeft, IsTooLong, Next}
+use Rattle.oas_bytes.specs.Script.{Script, Rest, Gave, Takes, NoneLeft, IsTooLong, Next}
 use Rattle.oas_bytes.specs.Readers.{rest_from, reader_script, WaitsOnly, IsSoundReader}
+use Rattle.oas_bytes.proofs.ScriptLemmas.{Takes-none, Takes-then}
 
 ltb_suc : (a b : ℕ) → ltb (suc a) (suc b) ≡ ltb a b
 ltb_suc a b =
@@ -76,13 +78,17 @@ fills s known new window buf start end at limit n ending is opened same below h 
       rest = let z : n - 0 ≡ n = omega arith in rw (no_range window end, z) (rest_filled known new n (limit - at) buf h);
     })
 
+-- what is held from there begins with its byte
+held_one : (window : List ℕ) (start end : ℕ) → start < end → end ≤ length window → slice_range window start end ≡ get_or window start 0 ∷ slice_range window (start + 1) end
+held_one window start end some within =
+    let e : end - start ≡ suc (end - suc start) = omega arith in
+    let lt : start < length window = omega arith in
+    let n : start + 1 ≡ suc start = omega arith in
+    rw (n, e, drop-cons window start 0 lt) refl
+
 module _ (s : Script) (known : Option (List ℕ)) (window : List ℕ) (start end at limit : ℕ) (ending : Ending) (r : IsReady s known window start end at limit ending) where
   one_held : slice_range window start end ≡ get_or window start 0 ∷ slice_range window (start + 1) end
-  one_held =
-      let e : end - start ≡ suc (end - suc start) = omega arith in
-      let lt : start < length window = omega arith in
-      let n : start + 1 ≡ suc start = omega arith in
-      rw (n, e, drop-cons window start 0 lt) refl
+  one_held = held_one window start end r.some r.within
 
   none_left : (known : Option (List ℕ)) (b : ℕ) (held : List ℕ) → NoneLeft (rest_from known (b ∷ held) 0) true
   none_left None b held = tt
@@ -108,23 +114,23 @@ module _ (s : Script) (known : Option (List ℕ)) (window : List ℕ) (start end
   gave_one (Some a) None byte held room h = absurd h
   gave_one (Some a) (Some b) byte held room h = (h.0, sym (ltb_suc room (length (held ++ b))) ∙ h.1)
 
-  pub gives : (byte : ℕ) → at < limit → byte ≡ get_or window start 0 → byte < 256 → Next s (Ok (Some byte)) (reader_script known window (start + 1) end (at + 1) limit ending)
-  gives byte lt is small =
+  pub takes_one : at < limit → Takes s (get_or window start 0 ∷ []) (reader_script known window (start + 1) end (at + 1) limit ending)
+  takes_one lt =
       let e : limit - at ≡ suc (limit - (at + 1)) = omega arith in
       rw r.is_open (record {
-        again = rw r.settled tt;
-        within = omega arith;
-        answers = (
-          small,
-          record {
-            given = omega (arith, r.given);
-            limit = sym r.limit_is;
-            reliable = sym r.unreliable;
-            failures = omega (arith, r.failures);
-            rest = rw is (gave_one s.rest known (get_or window start 0) (slice_range window (start + 1) end) (limit - (at + 1)) (rw (e, one_held) at r.rest));
-          },
-        );
+        given = omega (arith, r.given);
+        limit = sym r.limit_is;
+        reliable = sym r.unreliable;
+        failures = omega (arith, r.failures);
+        rest = gave_one s.rest known (get_or window start 0) (slice_range window (start + 1) end) (limit - (at + 1)) (rw (e, one_held) at r.rest);
       })
+
+  pub gives : (byte : ℕ) → at < limit → byte ≡ get_or window start 0 → byte < 256 → Next s (Ok (Some byte)) (reader_script known window (start + 1) end (at + 1) limit ending)
+  gives byte lt is small = record {
+    again = rw r.settled tt;
+    within = omega arith;
+    answers = (small, rw is (takes_one lt));
+  }
 
 -- The window has a byte, the source is still what it was, and so much of the window may be given.
 pub record HasNext (s : Script) (known : Option (List ℕ)) (window : List ℕ) (start end filled before limit : ℕ) (ending : Ending) : Type 0 where
@@ -201,3 +207,40 @@ module _ (s : Script) (known : Option (List ℕ)) (window : List ℕ) (start end
     waits = le;
     ends = is_too_long s known window start filled (before + start) limit ending h.ready (omega (arith, h.under, h.ready.some, le));
   }
+
+-- The bytes at hand are those of the window that may be given.
+length_held : (window : List ℕ) (start end : ℕ) → end ≤ length window → length (slice_range window start end) ≡ end - start
+length_held window start end within = omega (arith, length-take (end - start) (drop start window), length-drop start window)
+
+module _ (known : Option (List ℕ)) (window : List ℕ) (filled before limit : ℕ) (ending : Ending) where
+  -- the source with its next byte there
+  script_at : ℕ → Script
+  script_at start = reader_script known window start filled (before + start) limit ending
+
+  -- one by one
+  takes_held : (start end count : ℕ) → IsSoundReader known window start end filled before limit ending → count ≤ end - start
+      → Takes (script_at start) (take count (slice_range window start end)) (script_at (start + count))
+  unfolding script_at
+  takes_held start end zero h le = let e : start + 0 ≡ start = omega arith in rw e (Takes-none (script_at start))
+  takes_held start end (suc count) h le =
+      let lt : start < end = omega arith in
+      let n = has_byte (script_at start) known window start end filled before limit ending refl h lt in
+      let room : before + start < limit = omega (arith, h.under, lt) in
+      let within : end ≤ length window = omega (arith, h.under, h.within) in
+      let next : before + (start + 1) ≡ (before + start) + 1 = omega arith in
+      let more : start + suc count ≡ (start + 1) + count = omega arith in
+      let byte : Takes (script_at start) (get_or window start 0 ∷ []) (script_at (start + 1)) =
+      rw next (takes_one (script_at start) known window start filled (before + start) limit ending n.ready room) in
+      let sound = sound_next (script_at start) known window start end filled before limit ending n lt in
+      rw (held_one window start end lt within, more)
+      (Takes-then (script_at start) (script_at (start + 1)) (script_at ((start + 1) + count)) (get_or window start 0 ∷ [])
+      (take count (slice_range window (start + 1) end)) byte (takes_held (start + 1) end count sound (omega arith)))
+
+  -- so many at once
+  pub reader_skips : (start end count : ℕ) → IsSoundReader known window start end filled before limit ending → count ≤ length (slice_range window start end)
+      → Takes (reader_script known window start filled (before + start) limit ending) (take count (slice_range window start end))
+      (reader_script known window (start + count) filled (before + (start + count)) limit ending)
+  unfolding script_at
+  reader_skips start end count h few =
+      let within : end ≤ length window = omega (arith, h.under, h.within) in
+      takes_held start end count h (omega (arith, few, length_held window start end within))

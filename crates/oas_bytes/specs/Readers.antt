@@ -38,6 +38,11 @@ reader_script known window start end at limit ending = record {
   settled = settled_by ending;
 }
 
+-- what contracts see of a reader's source: its script, and the bytes of the window that may be given
+pub record Reading : Type 0 where
+  pub script : Script
+  pub at_hand : List ℕ
+
 -- the ending is as it was found
 abbrev pub EndsSo : Ending → Script → Type 0
 EndsSo endings.Open s = Unit {0}

@@ -23,6 +23,11 @@ Gave None bytes new = Unit {0}
 Gave (Some old) bytes None = ⊥
 Gave (Some old) bytes (Some new) = (old.bytes ≡ bytes ++ new.bytes) × (new.goes_on ≡ old.goes_on)
 
+-- the bytes that are still to be given, where they are known
+abbrev pub left_of : Option Rest → List ℕ
+left_of None = []
+left_of (Some rest) = rest.bytes
+
 -- from old to new these bytes were given
 pub record Takes (old : Script) (bytes : List ℕ) (new : Script) : Type 0 where
   pub given : new.given ≡ old.given + length bytes

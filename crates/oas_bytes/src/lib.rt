@@ -4,6 +4,7 @@
 //!
 //! - A [`Source`] gives its bytes in order, at most as many as its limit, and says truly why it gives no more. What it
 //!   gave and is still to give is a `Script` (specs/Script.antt), and a call of `next` is a `Next` between two of them.
+//!   The bytes that it has at hand it shows by `ahead`, and so many of them are taken by one call of `skip` (`Takes`).
 //! - A [`SliceSource`] has no device behind it, and cannot fail; a [`ReaderSource`] gives the bytes of a reader, however the
 //!   reader cuts them (specs/Readers.antt).
 //! - A [`Sink`] is given bytes, and `Writes` (specs/Writing.antt) says which, also where it failed: then a front of them.

@@ -41,14 +41,17 @@ pub struct ReaderSource<R: Read> {
 }
 
 impl<R: Read> Model for ReaderSource<R> {
-    ghost use Rattle.oas_bytes.specs.Script.{Script};
+    ghost use Rattle.oas_bytes.specs.Readers.{Reading};
 
-    ghost Value = { Script };
+    ghost Value = { Reading };
 
-    ghost use Rattle.std.specs.Prelude.{◌+◌};
+    ghost use Rattle.std.specs.Prelude.{◌+◌, slice_range};
     ghost use Rattle.oas_bytes.specs.Readers.{reader_script, IsSoundReader};
 
-    ghost view = { λ s. reader_script (R.remaining s.reader) s.window.items s.start s.filled (s.before + s.start) s.limit s.ending };
+    ghost view = { λ s. record {
+      script = reader_script (R.remaining s.reader) s.window.items s.start s.filled (s.before + s.start) s.limit s.ending;
+      at_hand = slice_range s.window.items s.start s.end;
+    } };
 
     ghost invariant = { λ s. IsSoundReader (R.remaining s.reader) s.window.items s.start s.end s.filled s.before s.limit s.ending };
 }
@@ -56,7 +59,8 @@ impl<R: Read> Model for ReaderSource<R> {
 impl<R: Read + Drop> ReaderSource<R> {
     /// The reader's bytes, of which at most `limit` are given.
     pub fn new(alloc: Global, reader: R, limit: u64) -> Result<Self, AllocError>
-        ensures { IfOk result (λ s. s ≡ reader_script (R.remaining reader) [] 0 0 0 limit Ending.Open) }
+        ensures all { IfOk result (λ s. s.script ≡ reader_script (R.remaining reader) [] 0 0 0 limit Ending.Open) }
+        ensures none { IfOk result (λ s. s.at_hand ≡ []) }
     {
         let window = vec![in alloc; 0; 65536]?;
         Ok(ReaderSource {
@@ -75,7 +79,7 @@ impl<R: Read + Drop> ReaderSource<R> {
     #[cold]
     #[inline(never)]
     fn next_window(&mut self) -> Result<Option<u8>, SourceFault>
-        ensures { Next self.old result self.new }
+        ensures { Next self.old.script result self.new.script }
     {
         match self.ending {
             Ending::Open => {}
@@ -114,7 +118,9 @@ impl<R: Read + Drop> ReaderSource<R> {
 }
 
 impl<R: Read + Drop> Source for ReaderSource<R> {
-    ghost script = { λ s. s };
+    ghost script = { λ s. s.script };
+
+    ghost at_hand = { λ s. s.at_hand };
 
     #[inline]
     fn next(&mut self) -> Result<Option<u8>, SourceFault> {
@@ -130,5 +136,15 @@ impl<R: Read + Drop> Source for ReaderSource<R> {
         // The sum is at most the limit, which the proof knows to fit once it is read.
         let _limit = self.limit;
         self.before + self.start as u64
+    }
+
+    #[inline]
+    fn ahead(&self) -> &[u8] {
+        &self.window[self.start..self.end]
+    }
+
+    #[inline]
+    fn skip(&mut self, count: usize) {
+        self.start += count;
     }
 }

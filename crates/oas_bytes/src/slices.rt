@@ -40,7 +40,11 @@ impl<'a> SliceSource<'a> {
 }
 
 impl<'a> Source for SliceSource<'a> {
+    ghost use Rattle.oas_bytes.specs.Script.{left_of};
+
     ghost script = { λ s. s };
+
+    ghost at_hand = { λ s. left_of s.rest };
 
     fn next(&mut self) -> Result<Option<u8>, SourceFault> {
         if self.at >= self.bytes.len() {
@@ -56,5 +60,16 @@ impl<'a> Source for SliceSource<'a> {
 
     fn at(&self) -> u64 {
         self.at as u64
+    }
+
+    #[inline]
+    fn ahead(&self) -> &[u8] {
+        let end = self.bytes.len().min(self.limit as usize);
+        &self.bytes[self.at..end]
+    }
+
+    #[inline]
+    fn skip(&mut self, count: usize) {
+        self.at += count;
     }
 }

@@ -1,5 +1,5 @@
-ghost use Rattle.std.specs.Prelude.{◌≡◌, List, ℕ};
-ghost use Rattle.oas_bytes.specs.Script.{Script, Next};
+ghost use Rattle.std.specs.Prelude.{◌≡◌, ◌≤◌, List, ℕ, length, take};
+ghost use Rattle.oas_bytes.specs.Script.{Script, Next, Takes};
 
 use thiserror::Error;
 
@@ -17,7 +17,7 @@ pub enum SourceFault {
     TooLong,
 }
 
-/// Gives bytes, one at a time, up to a limit.
+/// Gives bytes, up to a limit: one at a time, or at once so many of those that it has at hand.
 pub trait Source {
     /// What it gave, and what it is still to give.
     ghost script: { Self → Script };
@@ -30,4 +30,16 @@ pub trait Source {
     /// How many bytes it gave.
     fn at(&self) -> u64
         ensures { result ≡ (script self.now).given };
+
+    /// The bytes that it has at hand, which are the next that it gives. There may be none although more follow.
+    ghost at_hand: { Self → List ℕ };
+
+    /// Shows them, so that whoever needs many has no call for each.
+    fn ahead(&self) -> &[u8]
+        ensures { result.now ≡ at_hand self.now };
+
+    /// Takes so many of them.
+    fn skip(&mut self, count: usize)
+        requires { count ≤ length (at_hand self.old) }
+        ensures { Takes (script self.old) (take count (at_hand self.old)) (script self.new) };
 }

@@ -48,6 +48,27 @@ fn gives<S: Source>(source: &mut S, bytes: &[u8], last: Result<Option<u8>, Sourc
     source.next() == last && source.next() == last && source.at() == bytes.len() as u64
 }
 
+/// Whether a source gives these bytes, where those at hand are taken at once and each other one by itself.
+fn gives_at_once<S: Source>(source: &mut S, bytes: &[u8]) -> bool {
+    let mut left = bytes;
+    for _ in bytes {
+        let ahead = source.ahead();
+        let count = ahead.len();
+        if count > left.len() || &left[..count] != ahead {
+            return false;
+        }
+        source.skip(count);
+        left = &left[count..];
+        if let Some((byte, rest)) = left.split_first() {
+            if source.next() != Ok(Some(*byte)) {
+                return false;
+            }
+            left = rest;
+        }
+    }
+    left.is_empty() && source.ahead().is_empty() && source.at() == bytes.len() as u64
+}
+
 #[test]
 fn a_reader_gives_what_a_slice_gives_however_it_is_cut(rt: HostRuntime) -> Result<(), AllocError> {
     let bytes: &[u8] = &[3, 72, 105, 33, 3, 200, 1, 0, 9, 130, 4];
@@ -58,10 +79,13 @@ fn a_reader_gives_what_a_slice_gives_however_it_is_cut(rt: HostRuntime) -> Resul
     ] {
         let given = &bytes[..bytes.len().min(limit as usize)];
         assert!(rt; gives(&mut SliceSource::new(bytes, limit), given, end));
+        assert!(rt; gives_at_once(&mut SliceSource::new(bytes, limit), given));
         for most in [1, 2, 3, 7, 11] {
             let then = Then::Ends;
             let mut source = ReaderSource::new(rt.alloc(), Cut { bytes, most, then }, limit)?;
             assert!(rt; gives(&mut source, given, end));
+            let mut source = ReaderSource::new(rt.alloc(), Cut { bytes, most, then }, limit)?;
+            assert!(rt; gives_at_once(&mut source, given));
         }
     }
     Ok(())
