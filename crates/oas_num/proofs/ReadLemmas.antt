@@ -1,33 +1,11 @@
 -- One read after another.
-use Rattle.std.proofs.Common.{◌≡◌, ℕ, Bool, List, [], ◌++◌, Option, Some, None, refl, sym, ap, subst, ◌∙◌, append_assoc, arith}
-use Rattle.std.proofs.lemmas.List.{length-append}
+use Rattle.std.proofs.Common.{◌≡◌, ℕ, Bool, List, ◌++◌, sym, ap, subst, ◌∙◌, append_assoc}
 use Rattle.oas_num.specs.declared.refusals.Why.{Why}
-use Rattle.oas_num.specs.Script.{Script, Rest, Gave, Takes}
+use Rattle.oas_num.specs.Script.{Script, Takes}
 use Rattle.oas_num.specs.Begun.{HasSome, Begins, Before}
 use Rattle.oas_num.specs.Laws.BegunLaws.{Before-begins}
 use Rattle.oas_num.specs.Reading.{NoneFits, NoneWithin, FailsBy}
-
-Gave-none : (r : Option Rest) → Gave r [] r
-Gave-none None = tt
-Gave-none (Some r) = (refl, refl)
-
-pub Takes-none : (s : Script) → Takes s [] s
-Takes-none s = record { given = omega arith; limit = refl; reliable = refl; failures = omega arith; rest = Gave-none s.rest }
-
-Gave-then : (r s t : Option Rest) (a b : List ℕ) → Gave r a s → Gave s b t → Gave r (a ++ b) t
-Gave-then None s t a b p q = tt
-Gave-then (Some r) None t a b p q = absurd p
-Gave-then (Some r) (Some s) None a b p q = absurd q
-Gave-then (Some r) (Some s) (Some t) a b p q = (p.0 ∙ ap (λ (x : List ℕ). a ++ x) q.0 ∙ sym (append_assoc a b t.bytes), q.1 ∙ p.1)
-
-pub Takes-then : (old mid new : Script) (a b : List ℕ) → Takes old a mid → Takes mid b new → Takes old (a ++ b) new
-Takes-then old mid new a b p q = record {
-  given = omega (arith, p.given, q.given, length-append a b);
-  limit = q.limit ∙ p.limit;
-  reliable = q.reliable ∙ p.reliable;
-  failures = omega (arith, p.failures, q.failures);
-  rest = Gave-then old.rest mid.rest new.rest a b p.rest q.rest;
-}
+pub use Rattle.oas_bytes.proofs.ScriptLemmas.{Takes-none, Takes-then, Takes-nothing}
 
 -- after these bytes each spelling goes on by one of the other kind
 pub record Wants {V W : Type 0} (spells : V → List ℕ → Type 0) (front : List ℕ) (next : W → List ℕ → Type 0) : Type 0 where
