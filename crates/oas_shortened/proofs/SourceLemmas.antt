@@ -12,6 +12,7 @@ use Rattle.oas_shortened.specs.declared.places.Place.{Place}
 use Rattle.oas_shortened.specs.Places.{given_by, moved, put, shortened, after}
 use Rattle.oas_shortened.specs.Shortening.{short_rest, short_settled, short_script, Follows, IsEnding, IsShortened, Silent, Steps, Counts}
 use Rattle.oas_shortened.specs.Laws.PlaceLaws.{after-append}
+use Rattle.oas_bytes.proofs.ScriptLemmas.{Takes-none, Takes-then}
 
 -- ---- the bytes that were taken
 
@@ -135,32 +136,16 @@ keeps {s} {t} place kept ending few h byte is n = record {
 
 -- ---- byte by byte
 
-Gave-then : (r s t : Option Rest) (a b : List ℕ) → Gave r a s → Gave s b t → Gave r (a ++ b) t
-Gave-then None s t a b p q = tt
-Gave-then (Some r) None t a b p q = absurd p
-Gave-then (Some r) (Some s) None a b p q = absurd q
-Gave-then (Some r) (Some s) (Some t) a b p q = (p.0 ∙ ap (λ (x : List ℕ). a ++ x) q.0 ∙ sym (append_assoc a b t.bytes), q.1 ∙ p.1)
-
 none_then : {old mid new : Script} (bytes : List ℕ) → Takes old [] mid → Takes mid bytes new → Takes old bytes new
-none_then {old} {mid} {new} bytes p q = record {
-  given = omega (arith, p.given, q.given);
-  limit = q.limit ∙ p.limit;
-  reliable = q.reliable ∙ p.reliable;
-  failures = omega (arith, p.failures, q.failures);
-  rest = Gave-then old.rest mid.rest new.rest [] bytes p.rest q.rest;
-}
+none_then {old} {mid} {new} bytes p q = Takes-then old mid new [] bytes p q
 
 -- bytes were taken of which nothing is given
 pub record Quiet (old now : Script) : Type 0 where
   pub takes : Takes old [] now
   pub same : (old.settled ≡ None) ⊎ (old.settled ≡ now.settled)
 
-Gave-none : (r : Option Rest) → Gave r [] r
-Gave-none None = tt
-Gave-none (Some r) = (refl, refl)
-
 pub quiet_first : (s : Script) → Quiet s s
-quiet_first s = record { takes = record { given = omega arith; limit = refl; reliable = refl; failures = omega arith; rest = Gave-none s.rest }; same = inr refl }
+quiet_first s = record { takes = Takes-none s; same = inr refl }
 
 pub quiet_on : {old now new : Script} → Quiet old now → Silent now new → Quiet old new
 quiet_on {old} {now} {new} q s = record {

@@ -112,9 +112,13 @@ impl<'a, S: Source, K: Start> ShortenedSource<'a, S, K> {
 }
 
 impl<'a, S: Source, K: Start> Source for ShortenedSource<'a, S, K> {
+    ghost use Rattle.std.specs.Prelude.{[]};
     ghost use Rattle.oas_shortened.specs.Shortening.{short_script};
 
     ghost script = { λ s. short_script (S.script s.source.now) s.place s.kept s.ending };
+
+    // None, since what is given is made byte by byte.
+    ghost at_hand = { λ _. [] };
 
     fn next(&mut self) -> Result<Option<u8>, SourceFault> {
         loop {
@@ -129,4 +133,10 @@ impl<'a, S: Source, K: Start> Source for ShortenedSource<'a, S, K> {
     fn at(&self) -> u64 {
         self.source.at() - self.kept
     }
+
+    fn ahead(&self) -> &[u8] {
+        &[]
+    }
+
+    fn skip(&mut self, _count: usize) {}
 }
