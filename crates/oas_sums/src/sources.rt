@@ -66,7 +66,12 @@ impl<'a, S: Source, K: Start> SummedSource<'a, S, K> {
 }
 
 impl<'a, S: Source, K: Start> Source for SummedSource<'a, S, K> {
+    ghost use Rattle.std.specs.Prelude.{[]};
+
     ghost script = { λ s. S.script s.source.now };
+
+    // None, since each byte is summed up as it is taken.
+    ghost at_hand = { λ _. [] };
 
     fn next(&mut self) -> Result<Option<u8>, SourceFault> {
         let next = self.source.next()?;
@@ -79,4 +84,10 @@ impl<'a, S: Source, K: Start> Source for SummedSource<'a, S, K> {
     fn at(&self) -> u64 {
         self.source.at()
     }
+
+    fn ahead(&self) -> &[u8] {
+        &[]
+    }
+
+    fn skip(&mut self, _count: usize) {}
 }
