@@ -40,9 +40,13 @@ pub(crate) struct FrontSource<'a, S: Source, K: Start> {
 }
 
 impl<'a, S: Source, K: Start> Source for FrontSource<'a, S, K> {
+    ghost use Rattle.std.specs.Prelude.{[]};
     ghost use Rattle.oas_block.specs.Fronts.{front_script};
 
     ghost script = { λ f. front_script (S.script f.source.now) f.left };
+
+    // None, although the source may have some: they are taken one by one.
+    ghost at_hand = { λ _. [] };
 
     fn next(&mut self) -> Result<Option<u8>, SourceFault> {
         if self.left == 0 {
@@ -58,4 +62,10 @@ impl<'a, S: Source, K: Start> Source for FrontSource<'a, S, K> {
     fn at(&self) -> u64 {
         self.source.at()
     }
+
+    fn ahead(&self) -> &[u8] {
+        &[]
+    }
+
+    fn skip(&mut self, _count: usize) {}
 }
