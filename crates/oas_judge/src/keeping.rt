@@ -58,9 +58,13 @@ struct KeepingSource<'a, S: Source, K: Start> {
 }
 
 impl<'a, S: Source, K: Start> Source for KeepingSource<'a, S, K> {
+    ghost use Rattle.std.specs.Prelude.{[]};
     ghost use Rattle.oas_judge.specs.KeptScripts.{kept_script};
 
     ghost script = { λ k. kept_script (S.script k.source.now) k.ending };
+
+    // None, since each byte is kept as it is taken.
+    ghost at_hand = { λ _. [] };
 
     fn next(&mut self) -> Result<Option<u8>, SourceFault> {
         match self.ending {
@@ -87,6 +91,12 @@ impl<'a, S: Source, K: Start> Source for KeepingSource<'a, S, K> {
     fn at(&self) -> u64 {
         self.source.at()
     }
+
+    fn ahead(&self) -> &[u8] {
+        &[]
+    }
+
+    fn skip(&mut self, _count: usize) {}
 }
 
 /// Why a read was refused, in place of what the reader of such a source says: where a byte couldn't be kept it was for want
