@@ -7,8 +7,6 @@
 
 mod meter;
 mod reading;
-#[cfg(test)]
-mod tests;
 mod writing;
 
 pub use meter::{Meter, STEP, clear};

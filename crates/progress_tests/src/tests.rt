@@ -1,6 +1,6 @@
 //! What a meter shows, and that it changes nothing.
 
-use crate::{Meter, Reading, STEP, Writing};
+use oas_progress::{Meter, Reading, STEP, Writing};
 use std::io;
 use std::io::{ErrorKind, Read, Write};
 use std::test::Fail;
