@@ -5,9 +5,6 @@ use crate::sinks::{Sink, SinkFault};
 use crate::windows::Window;
 use std::io::Write;
 
-#[cfg(test)]
-mod tests;
-
 /// A sink over a borrowed writer. It gathers bytes in a window of its own and takes no memory, so a byte at a time costs
 /// no call of the writer each.
 ///

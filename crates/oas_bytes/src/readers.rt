@@ -7,9 +7,6 @@ use std::alloc::{AllocError, Global};
 use std::io::Read;
 use std::marker::Model;
 
-#[cfg(test)]
-mod tests;
-
 /// How a reader's bytes ended.
 #[derive(Clone, Copy, Debug, PartialEq, Eq)]
 pub enum Ending {

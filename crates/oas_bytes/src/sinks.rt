@@ -4,9 +4,6 @@ ghost use Rattle.oas_bytes.specs.Writing.{Writes};
 
 use thiserror::Error;
 
-#[cfg(test)]
-mod tests;
-
 /// Why a byte was not taken.
 #[derive(Clone, Copy, Debug, Drop, PartialEq, Eq, Error)]
 pub enum SinkFault {

@@ -1,4 +1,4 @@
-use super::*;
+use oas_bytes::{Counter, Sink, SinkFault};
 use std::test::Fail;
 
 #[test]

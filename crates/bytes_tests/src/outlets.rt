@@ -2,8 +2,9 @@ ghost use Rattle.std.specs.Prelude.{OnOk, IfErr};
 ghost use Rattle.std.specs.Io.KnownBytes.{Appends};
 ghost use Rattle.oas_bytes.specs.Outlets.{TakesFront};
 
-use super::*;
+use oas_bytes::{Outlet, Sink, SinkFault};
 use std::io;
+use std::io::Write;
 use std::test::Fail;
 
 /// A writer that takes at most `most` bytes a call and `room` in all. Then it answers an error, or that it took none.

@@ -1,7 +1,7 @@
-use super::*;
-use crate::slices::SliceSource;
+use oas_bytes::{ReaderSource, SliceSource, Source, SourceFault};
 use std::alloc::AllocError;
 use std::io;
+use std::io::Read;
 
 /// What a reader does after its bytes.
 #[derive(Clone, Copy, PartialEq, Eq)]
