@@ -37,8 +37,6 @@ mod room;
 mod run;
 mod settling;
 mod store;
-#[cfg(test)]
-mod tests;
 
 pub use entries::Entries;
 pub use entry::Entry;

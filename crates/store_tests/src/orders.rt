@@ -6,7 +6,7 @@ ghost use Rattle.std.specs.Ordering.{nat_cmp};
 ghost use Rattle.oas_layout.specs.Bag.{put_more};
 ghost use Rattle.oas_store.specs.Tally.{count_at};
 
-use crate::{KeyStore, Run};
+use oas_store::{KeyStore, Run};
 use std::alloc::{AllocError, Global};
 use std::process::Abort;
 use std::test::Fail;
