@@ -17,8 +17,6 @@ mod listing;
 mod opening;
 mod printing;
 mod replacing;
-#[cfg(test)]
-mod tests;
 mod words;
 
 pub use creating::{NewFile, Output};

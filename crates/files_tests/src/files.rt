@@ -1,8 +1,6 @@
 //! Files by name: inputs that can't be opened or read, and outputs that are created at their first byte.
 
-use crate::creating::NewFile;
-use crate::opening::Input;
-use crate::replacing::Replacement;
+use oas_files::{Input, NewFile, Replacement};
 use std::alloc::Global;
 use std::fs;
 use std::fs::Files;

@@ -1,9 +1,6 @@
 //! Words that are names, lists of names, and names as they are printed.
 
-use crate::listing::Names;
-use crate::opening::Input;
-use crate::printing::Printed;
-use crate::words::file_meant;
+use oas_files::{Input, Names, Printed, file_meant};
 use std::alloc::Global;
 use std::fs;
 use std::process::Abort;
