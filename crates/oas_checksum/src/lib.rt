@@ -19,6 +19,3 @@ mod table;
 
 pub use crc::Crc32;
 pub use sums::Sum32;
-
-#[cfg(test)]
-mod tests;

@@ -1,4 +1,4 @@
-use super::*;
+use oas_checksum::{Crc32, Sum32};
 use std::test::Fail;
 
 /// Texts, their CRC-32 as zlib gives it, and the sum of their bytes.
