@@ -22,6 +22,3 @@ pub use corners::{Corner, Corners};
 pub use deltas::trapezoid_corners;
 pub use named::named_corners;
 pub use sides::{Sides, Unsided, sides_of};
-
-#[cfg(test)]
-mod tests;

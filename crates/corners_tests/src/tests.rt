@@ -1,4 +1,4 @@
-use super::*;
+use oas_corners::{Corners, Sides, Unsided, named_corners, sides_of, trapezoid_corners};
 use std::alloc::Global;
 use std::test::Fail;
 
