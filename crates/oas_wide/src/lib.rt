@@ -70,6 +70,3 @@ pub use reasons::{WideRefusal, WideWhy};
 pub use records::WideRecord;
 pub use strings::{read_attributed, read_string};
 pub use trapezoids::{NamedTrapezoid, Trapezoid};
-
-#[cfg(test)]
-mod tests;

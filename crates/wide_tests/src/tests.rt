@@ -1,5 +1,9 @@
-use super::*;
 use oas_num::{INPUT_MAX, Padding, SliceSource, Source, Spelled, Why};
+use oas_wide::{
+    BlockHead, ExtensionGeometry, LayerName, NamedTrapezoid, Property, Trapezoid, WideEnd,
+    WidePlacement, WideReal, WideRecord, WideRefusal, WideStart, WideWhy, read_attributed,
+    read_string,
+};
 use std::alloc::Global;
 use std::test::Fail;
 
