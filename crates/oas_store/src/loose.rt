@@ -13,7 +13,7 @@ use crate::ordering::order_of;
 use std::alloc::{AllocError, Global};
 use std::cmp::Ordering;
 
-/// An entry that waits, and the first bytes of its key as a number, which tells most keys apart.
+/// An entry that waits, and as a number the eight bytes of its key behind those with which all keys begin. It tells most apart.
 #[derive(Clone, Copy, Debug)]
 pub(crate) struct Loose<'a> {
     front: u64,
@@ -21,35 +21,68 @@ pub(crate) struct Loose<'a> {
     pub(crate) times: u64,
 }
 
-/// The first eight bytes of a key as a number, the first of them highest. Where the key ends before, zeros stand for what it lacks.
-fn front_of(key: &[u8]) -> u64 {
-    if let [a, b, c, d, e, f, g, h, ..] = key {
+/// The first eight bytes as a number, the first of them highest. Where there are fewer, zeros stand for what lacks.
+fn front_of(bytes: &[u8]) -> u64 {
+    if let [a, b, c, d, e, f, g, h, ..] = bytes {
         return u64::from_be_bytes([*a, *b, *c, *d, *e, *f, *g, *h]);
     }
     let mut front = [0; 8];
-    for (to, byte) in front.iter_mut().zip(key) {
+    for (to, byte) in front.iter_mut().zip(bytes) {
         *to = *byte;
     }
     u64::from_be_bytes(front)
 }
 
-/// Which of two keys is lower.
-fn order(one: &Loose<'_>, other: &Loose<'_>) -> Ordering {
+/// The bytes of a key behind so many.
+fn behind(key: &[u8], shared: usize) -> &[u8] {
+    match key.get(shared..) {
+        Some(rest) => rest,
+        None => &[],
+    }
+}
+
+/// Which of two keys is lower, of which so many first bytes are the same.
+fn order(one: &Loose<'_>, other: &Loose<'_>, shared: usize) -> Ordering {
     match one.front.cmp(&other.front) {
-        Ordering::Equal => order_of(one.key, other.key),
+        Ordering::Equal => order_of(behind(one.key, shared), behind(other.key, shared)),
         apart => apart,
     }
 }
 
-/// All that waits, one after another.
-fn all_of(alloc: Global, loose: &Block) -> Result<Vec<Loose<'_>>, AllocError>
+/// With how many of these bytes a key begins.
+fn begins_with(key: &[u8], front: &[u8]) -> usize {
+    if key.starts_with(front) {
+        return front.len();
+    }
+    let apart = front.iter().zip(key).position(|(one, other)| one != other);
+    apart.unwrap_or(key.len())
+}
+
+/// With how many same bytes all keys begin.
+fn shared_by_all(loose: &Block) -> usize {
+    let mut front: &[u8] = match loose.first() {
+        Some(entry) => entry.key,
+        None => return 0,
+    };
+    let mut left = loose.left();
+    while let Some(entry) = read_entry(left) {
+        if let Some(shared) = front.get(..begins_with(entry.key, front)) {
+            front = shared;
+        }
+        left = after(left, entry.end);
+    }
+    front.len()
+}
+
+/// All that waits, one after another, where so many first bytes of all keys are the same.
+fn all_of(alloc: Global, loose: &Block, shared: usize) -> Result<Vec<Loose<'_>>, AllocError>
     ensures { IfOk result (λ all. entries_of all.items ≡ loose.now) }
 {
     let mut all = Vec::new(alloc);
     let mut left = loose.left();
     while let Some(entry) = read_entry(left) {
         all.push(Loose {
-            front: front_of(entry.key),
+            front: front_of(behind(entry.key, shared)),
             key: entry.key,
             times: entry.times,
         })?;
@@ -62,7 +95,8 @@ fn all_of(alloc: Global, loose: &Block) -> Result<Vec<Loose<'_>>, AllocError>
 pub(crate) fn in_order(alloc: Global, loose: &Block) -> Result<Vec<Loose<'_>>, AllocError>
     ensures { IfOk result (λ all. SameTotals (entries_of all.items) loose.now) }
 {
-    let mut all = all_of(alloc, loose)?;
-    all.sort_unstable_by(|one, other| order(one, other));
+    let shared = shared_by_all(loose);
+    let mut all = all_of(alloc, loose, shared)?;
+    all.sort_unstable_by(|one, other| order(one, other, shared));
     Ok(all)
 }
