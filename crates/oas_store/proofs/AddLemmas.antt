@@ -4,12 +4,11 @@ use Rattle.std.specs.Cmp.{IsTotalOrder, tied_itself}
 use Rattle.std.specs.Ordering.{is_eq}
 use Rattle.std.specs.List.Sorted.{IsStrictlySortedBy}
 use Rattle.std.specs.Map.{keys_of}
-use Rattle.std.specs.BTreeMap.{insert_entry}
 use Rattle.std.specs.declared.cmp.Ordering.{Ordering}
 use Rattle.std.specs.declared.cmp.Ordering.TheVariants.{Less, Equal, Greater}
 use Rattle.std.proofs.lemmas.Map.Lookups.{CmpEqualImpliesEq}
 use Rattle.oas_store.specs.Tally.{total, copies, count_at, tally, Positive, IsRun, SameTotals}
-use Rattle.oas_store.specs.Laws.TallyLaws.{total-append, total-put_more, insert_entry-count, IsRun-put_more, count_at-is, count_at-tally, same_tally, AllAbove}
+use Rattle.oas_store.specs.Laws.TallyLaws.{total-append, count_at-tally, same_tally, AllAbove}
 use Rattle.oas_layout.specs.Bag.{put_more}
 use Rattle.oas_store.proofs.MergeLemmas.{IsRun-recount}
 use Rattle.oas_store.specs.Parts.{joined, contents, AreParts, AreRuns, CountsFit, IsBelow, EndsWith}

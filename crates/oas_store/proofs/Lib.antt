@@ -3,5 +3,6 @@ pub mod BlockLemmas
 pub mod EntryLemmas
 pub mod LooseLemmas
 pub mod MergeLemmas
+pub mod OrderLemmas
 pub mod PartLemmas
 pub mod StoreLemmas

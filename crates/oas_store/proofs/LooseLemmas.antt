@@ -1,19 +1,17 @@
 -- What waits loose, put into order and made into runs.
-use Rattle.std.proofs.Common.{◌≡◌, ℕ, suc, ◌+◌, ◌*◌, ◌<◌, ◌^◌, true, List, [], ◌∷◌, ◌++◌, cond, length, get_or, drop, map, drop-cons, refl, sym, ◌∙◌, ap, arith, subst, append_assoc, append-nil}
+use Rattle.std.proofs.Common.{◌≡◌, ℕ, suc, ◌+◌, ◌*◌, ◌<◌, ◌^◌, true, List, [], ◌∷◌, ◌++◌, cond, length, get_or, drop, drop-cons, refl, sym, ◌∙◌, ap, arith, subst, append_assoc, append-nil}
 use Rattle.std.specs.Cmp.{IsTotalOrder, tied_itself}
 use Rattle.std.specs.Ordering.{is_eq}
 use Rattle.std.specs.List.{sum_by}
 use Rattle.std.specs.List.Sorted.{IsPermutation}
 use Rattle.std.specs.declared.cmp.Ordering.{Ordering}
-use Rattle.std.specs.declared.cmp.Ordering.TheVariants.{Equal}
 use Rattle.std.proofs.lemmas.List.{map-append}
 use Rattle.std.proofs.lemmas.List.Sorted.{sum_by-IsPermutation}
 use Rattle.std.proofs.lemmas.List.Sums.{sum_by-cons}
-use Rattle.std.proofs.lemmas.Map.Lookups.{CmpEqualImpliesEq}
 use Rattle.oas_store.specs.declared.loose.Loose.{Loose}
 use Rattle.oas_store.specs.Entries.{Entry}
 use Rattle.oas_store.specs.Loose.{entry_of, entries_of}
-use Rattle.oas_store.specs.Tally.{total, copies, IsRun, SameTotals}
+use Rattle.oas_store.specs.Tally.{total, copies, SameTotals}
 use Rattle.oas_store.specs.Laws.TallyLaws.{total-append}
 use Rattle.oas_store.specs.Parts.{joined, contents, AreRuns, CountsFit, IsBelow}
 use Rattle.oas_store.proofs.PartLemmas.{total_contents}

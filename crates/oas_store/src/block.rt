@@ -81,6 +81,7 @@ impl Block {
     }
 
     /// Puts an entry at the end.
+    #[inline(always)]
     pub(crate) fn append(&mut self, key: &[u8], times: u64) -> Result<(), AllocError>
         ensures ok { OnOk result (self.new ≡ self.old ++ (key.now, times) ∷ []) }
         ensures err { OnErr result (self.new ≡ self.old) }

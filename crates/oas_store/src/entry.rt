@@ -43,6 +43,7 @@ fn push_parts(bytes: &mut Vec<u8>, key: &[u8], times: u64) -> Result<(), AllocEr
 }
 
 /// Puts an entry at the end, or nothing.
+#[inline(never)]
 fn push_long(bytes: &mut Vec<u8>, key: &[u8], times: u64) -> Result<(), AllocError>
     ensures ok { OnOk result (bytes.new.items ≡ bytes.old.items ++ entry_bytes (key.now, times)) }
     ensures err { OnErr result (bytes.new.items ≡ bytes.old.items) }
@@ -57,6 +58,7 @@ fn push_long(bytes: &mut Vec<u8>, key: &[u8], times: u64) -> Result<(), AllocErr
 }
 
 /// Puts two numbers of a byte each and a key at the end, or nothing.
+#[inline(always)]
 fn push_short(bytes: &mut Vec<u8>, len: u8, times: u8, key: &[u8]) -> Result<(), AllocError>
     ensures ok { OnOk result (bytes.new.items ≡ bytes.old.items ++ len ∷ times ∷ key.now) }
     ensures err { OnErr result (bytes.new.items ≡ bytes.old.items) }
@@ -68,6 +70,7 @@ fn push_short(bytes: &mut Vec<u8>, len: u8, times: u8, key: &[u8]) -> Result<(),
 }
 
 /// Puts an entry at the end, or nothing. One whose numbers are a byte each, as nearly all are, asks for room once.
+#[inline(always)]
 pub(crate) fn push_entry(bytes: &mut Vec<u8>, key: &[u8], times: u64) -> Result<(), AllocError>
     ensures ok { OnOk result (bytes.new.items ≡ bytes.old.items ++ entry_bytes (key.now, times)) }
     ensures err { OnErr result (bytes.new.items ≡ bytes.old.items) }
@@ -143,6 +146,7 @@ pub(crate) fn is_over(bytes: &[u8]) -> bool
 }
 
 /// Reads the entry that stands first, whatever its numbers are.
+#[inline(never)]
 fn read_long(bytes: &[u8]) -> Option<Entry<'_>>
     requires { IsBlock bytes.now }
     ensures none { IfNone result (entries bytes.now ≡ []) }

@@ -79,6 +79,7 @@ impl Growing {
 }
 
 /// A block with one entry.
+#[inline(never)]
 fn block_of(alloc: Global, key: &[u8], times: u64) -> Result<Block, AllocError>
     ensures { IfOk result (λ block. block ≡ (key.now, times) ∷ []) }
 {

@@ -9,7 +9,7 @@ ghost use Rattle.oas_store.specs.Loose.{entries_of};
 
 use crate::block::Block;
 use crate::entry::{after, read_entry};
-use crate::ordering::order_of;
+use crate::ordering::{AT_ONCE, number_of, order_of};
 use std::alloc::{AllocError, Global};
 use std::cmp::Ordering;
 
@@ -23,10 +23,10 @@ pub(crate) struct Loose<'a> {
 
 /// The first eight bytes as a number, the first of them highest. Where there are fewer, zeros stand for what lacks.
 fn front_of(bytes: &[u8]) -> u64 {
-    if let [a, b, c, d, e, f, g, h, ..] = bytes {
-        return u64::from_be_bytes([*a, *b, *c, *d, *e, *f, *g, *h]);
+    if bytes.len() >= AT_ONCE {
+        return number_of(bytes);
     }
-    let mut front = [0; 8];
+    let mut front = [0; AT_ONCE];
     for (to, byte) in front.iter_mut().zip(bytes) {
         *to = *byte;
     }
@@ -51,11 +51,17 @@ fn order(one: &Loose<'_>, other: &Loose<'_>, shared: usize) -> Ordering {
 
 /// With how many of these bytes a key begins.
 fn begins_with(key: &[u8], front: &[u8]) -> usize {
-    if key.starts_with(front) {
-        return front.len();
+    let most = key.len().min(front.len());
+    let mut shared = 0;
+    if most >= AT_ONCE && number_of(key) == number_of(front) {
+        shared = AT_ONCE;
     }
-    let apart = front.iter().zip(key).position(|(one, other)| one != other);
-    apart.unwrap_or(key.len())
+    for i in shared..most {
+        if key[i] != front[i] {
+            return i;
+        }
+    }
+    most
 }
 
 /// With how many same bytes all keys begin.

@@ -66,6 +66,7 @@ fn order_of_heads(left: &Run, right: &Run) -> Option<Ordering>
 }
 
 /// Moves the first entry of a run to the end of another, or nothing.
+#[inline(always)]
 fn move_head(alloc: Global, from: &mut Run, to: &mut Growing) -> Result<(), AllocError>
     requires { from.old ≡ [] → ⊥ }
     ensures moved { OnOk result ((p : List ℕ × ℕ) × (from.old ≡ p ∷ from.new) × (to.new ≡ to.old ++ p ∷ [])) }
@@ -79,6 +80,7 @@ fn move_head(alloc: Global, from: &mut Run, to: &mut Growing) -> Result<(), Allo
 }
 
 /// Moves the first entries of two runs, whose key is one, to the end of another as one entry, or nothing.
+#[inline(never)]
 fn join_heads(
     alloc: Global,
     left: &mut Run,

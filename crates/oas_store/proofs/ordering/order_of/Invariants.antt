@@ -1,8 +1,11 @@
-use Rattle.std.proofs.Common.{◌≡◌, drop}
+use Rattle.std.proofs.Common.{◌≡◌, length}
 use Rattle.std.specs.Cmp.Lexicographic.{slice_cmp}
 use Rattle.std.specs.Ordering.{nat_cmp}
 use Rattle.oas_store.proofs.ordering.order_of.Given as goal
 
--- what comes after the bytes that are the same decides
-abbrev pub invariant-loop-i : goal.invariant-loop-i
-invariant-loop-i l = slice_cmp nat_cmp (drop l.i l.one) (drop l.i l.other) ≡ slice_cmp nat_cmp l.one l.other
+-- what is left of both decides
+abbrev pub invariant-loop-left : goal.invariant-loop-left
+invariant-loop-left l = slice_cmp nat_cmp l.left l.right ≡ slice_cmp nat_cmp l.fn.one l.fn.other
+
+abbrev pub decreases-loop-left : goal.decreases-loop-left
+decreases-loop-left l = length l.left

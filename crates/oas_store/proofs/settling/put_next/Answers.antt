@@ -4,7 +4,7 @@ use Rattle.std.specs.Ordering.{nat_cmp}
 use Rattle.std.proofs.lemmas.Cmp.{nat_list_cmp_total}
 use Rattle.std.proofs.lemmas.Map.Lookups.{exact_bytes}
 use Rattle.oas_store.proofs.AddLemmas.{run_push, more_push, run_count, more_count, last_fits}
-use Rattle.oas_store.proofs.LooseLemmas.{next_room, next_same, next_begun, below_none}
+use Rattle.oas_store.proofs.LooseLemmas.{next_room, next_same, below_none}
 use Rattle.oas_store.proofs.settling.put_next.Goals as goal
 
 pub count_last-requires-clause-fits : goal.count_last-requires-clause-fits
