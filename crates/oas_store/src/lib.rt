@@ -20,6 +20,12 @@
 //! two runs are merged as long as the last has grown to half of the one before it. So each run is less than half of the one before,
 //! there are few of them, and a key is moved some log n times in whatever order keys come. A merge gives back each block that it
 //! has read. No contract speaks of time or of bytes.
+//!
+//! How keys are compared: eight bytes at once, as the number of which the first is the highest byte, as long as both keys have
+//! eight more (proofs/OrderLemmas.antt: such numbers are ordered as their bytes), and then byte by byte. A sort looks first at the
+//! eight bytes behind those with which all keys that wait begin, which it keeps beside each key: so of keys of one kind on one
+//! layer, or of names that begin alike, these bytes tell most apart. A sort is not promised to be right: what comes out of order
+//! begins another run.
 #![tactic(auto)]
 
 mod adding;
