@@ -4,7 +4,8 @@
 //! What this crate promises to the crates above it:
 //!
 //! - [`put_key`] puts an element's key: a byte for its kind, and then its fields in the order in which elements are compared,
-//!   each as bytes that no other's begin (`key_of`, specs/Keys.antt). Want of memory leaves what was there.
+//!   each as bytes that no other's begin (`key_of`, specs/Keys.antt). Want of memory leaves what was there. [`put_placement_key`]
+//!   and [`put_text_key`] put the same from the fields, so that a name or a string need not be copied into an element first.
 //! - [`read_key`] answers the element that a key spells, as a [`SpelledElement`]: a name or a string is those bytes of the key,
 //!   and points are read one by one ([`SpelledPoints`]), so no memory is wanted. What is read is the element of which the key is
 //!   (`Spells`, specs/Reading.antt), for there is one.
@@ -24,6 +25,7 @@ mod digits;
 mod fields;
 mod firsts;
 pub mod laws;
+mod named;
 mod numbers;
 mod parts;
 mod points;
@@ -32,6 +34,7 @@ mod reading;
 mod spelled;
 mod starts;
 
+pub use named::{put_placement_key, put_text_key};
 pub use points::SpelledPoints;
 pub use putting::put_key;
 pub use reading::read_key;

@@ -5,70 +5,35 @@ ghost use Rattle.oas_layout.specs.Element.{kind};
 ghost use Rattle.oas_layout.specs.Sound.{IsSound};
 ghost use Rattle.oas_keys.specs.Keys.{key_of, fields_key, room_of};
 
-use crate::fields::{put_points, put_text, turned};
+use crate::fields::put_points;
+use crate::named::{put_placement_key, put_text_key};
 use crate::numbers::{put_signed_pair, put_unsigned, put_unsigned_pair};
 use oas_layout::Element;
 use std::alloc::AllocError;
 
-/// Room for an element's key.
+/// Room for the key of an element that is no placement and no text.
 fn room_for(element: &Element) -> usize
+    requires { 1 < kind element.now }
     ensures { result ≡ room_of element.now }
 {
     match element {
-        Element::Placement { cell, .. } => cell.as_bytes().len() + 21,
-        Element::Text { string, .. } => string.as_bytes().len() + 38,
-        Element::Rectangle { .. } => 55,
         Element::Polygon { points, .. } => points.as_slice().len() * 18 + 20,
         Element::Path { points, .. } => points.as_slice().len() * 18 + 47,
         Element::Circle { .. } => 46,
+        _ => 55,
     }
 }
 
-/// The byte for an element's kind.
+/// The byte for the kind of such an element.
 fn kind_byte(element: &Element) -> u8
+    requires { 1 < kind element.now }
     ensures { result ≡ kind element.now + 1 }
 {
     match element {
-        Element::Placement { .. } => 1,
-        Element::Text { .. } => 2,
-        Element::Rectangle { .. } => 3,
         Element::Polygon { .. } => 4,
         Element::Path { .. } => 5,
         Element::Circle { .. } => 6,
-    }
-}
-
-/// Puts the fields of a placement or a text.
-fn put_named(element: &Element, out: &mut Vec<u8>)
-    requires sound { IsSound element.now }
-    requires kind { kind element.now < 2 }
-    requires room { vec_len out.old + room_of element.now ≤ vec_capacity out.old + 1 }
-    ensures { out.new.items ≡ out.old.items ++ fields_key element.now }
-{
-    match element {
-        Element::Placement {
-            cell,
-            x,
-            y,
-            turns,
-            flip,
-        } => {
-            put_text(cell.as_bytes(), out);
-            put_signed_pair(*x, *y, out);
-            out.push_reserved(turned(*turns, *flip));
-        }
-        Element::Text {
-            string,
-            textlayer,
-            texttype,
-            x,
-            y,
-        } => {
-            put_text(string.as_bytes(), out);
-            put_unsigned_pair(*textlayer, *texttype, out);
-            put_signed_pair(*x, *y, out);
-        }
-        _ => {}
+        _ => 3,
     }
 }
 
@@ -140,18 +105,43 @@ fn put_pointed(element: &Element, out: &mut Vec<u8>)
     }
 }
 
-/// Puts an element's key behind what `out` has (own rule, specs/Keys.antt). Where memory is refused, `out` has what it had.
-pub fn put_key(element: &Element, out: &mut Vec<u8>) -> Result<(), AllocError>
-    requires { IsSound element.now }
+/// Puts the key of an element that is no placement and no text.
+fn put_geometry_key(element: &Element, out: &mut Vec<u8>) -> Result<(), AllocError>
+    requires sound { IsSound element.now }
+    requires kind { 1 < kind element.now }
     ensures ok { OnOk result (out.new.items ≡ out.old.items ++ key_of element.now) }
     ensures err { OnErr result (out.new.items ≡ out.old.items) }
 {
     out.reserve(room_for(element))?;
     out.push_reserved(kind_byte(element));
     match element {
-        Element::Placement { .. } | Element::Text { .. } => put_named(element, out),
-        Element::Rectangle { .. } | Element::Circle { .. } => put_placed(element, out),
         Element::Polygon { .. } | Element::Path { .. } => put_pointed(element, out),
+        _ => put_placed(element, out),
     }
     Ok(())
+}
+
+/// Puts an element's key behind what `out` has (own rule, specs/Keys.antt). Where memory is refused, `out` has what it had.
+pub fn put_key(element: &Element, out: &mut Vec<u8>) -> Result<(), AllocError>
+    requires { IsSound element.now }
+    ensures ok { OnOk result (out.new.items ≡ out.old.items ++ key_of element.now) }
+    ensures err { OnErr result (out.new.items ≡ out.old.items) }
+{
+    match element {
+        Element::Placement {
+            cell,
+            x,
+            y,
+            turns,
+            flip,
+        } => put_placement_key(cell, *x, *y, *turns, *flip, out),
+        Element::Text {
+            string,
+            textlayer,
+            texttype,
+            x,
+            y,
+        } => put_text_key(string, *textlayer, *texttype, *x, *y, out),
+        _ => put_geometry_key(element, out),
+    }
 }
