@@ -1,27 +1,21 @@
 -- What waits, placed by the names of the whole file.
-use Rattle.std.proofs.Common.{◌≡◌, ℕ, ◌+◌, ◌*◌, ◌<◌, ◌≤◌, ◌^◌, List, [], ◌∷◌, ◌++◌, true, false, Option, None, Some, refl, sym, ◌∙◌, ap, subst, arith}
+use Rattle.std.proofs.Common.{◌≡◌, ℕ, ◌+◌, ◌*◌, ◌<◌, ◌≤◌, ◌^◌, List, [], ◌∷◌, ◌++◌, Option, None, Some, Result, Ok, Err, OnOk, refl, sym, ◌∙◌, ap, subst, arith}
 use Rattle.std.specs.Prelude.{sum_by}
-use Rattle.std.specs.Option.{option_map}
 use Rattle.std.specs.Ordering.{nat_cmp}
 use Rattle.std.specs.Cmp.Lexicographic.{slice_cmp}
 use Rattle.std.specs.List.{AllByRecursion}
 use Rattle.oas_layout.specs.declared.profile.Profile.{Profile}
 use Rattle.oas_layout.specs.declared.element.Element.{Element}
-use Rattle.oas_layout.specs.declared.element.Element.TheVariants.{Placement, Text}
 use Rattle.oas_layout.specs.Bag.{put_more}
-use Rattle.oas_layout.specs.Grid.{fits_grid}
 use Rattle.oas_layout.specs.Laws.BagLaws.{total}
 use Rattle.oas_layout.specs.Laws.SameLaws.{normal-normal}
 use Rattle.oas_layout.specs.Same.{normal}
 use Rattle.oas_layout.specs.Sound.{IsSound}
-use Rattle.oas_layout.specs.Weight.{lacks_points}
 use Rattle.oas_keys.specs.Keys.{key_of}
 use Rattle.oas_store.specs.Entries.{Entry}
 use Rattle.oas_drawing.specs.declared.drawn.Drawn.{Drawn}
 use Rattle.oas_drawing.specs.declared.drawn.Drawn.TheVariants.{Named, PlacementBy, TextBy}
-use Rattle.oas_modal.specs.Finish.{IsFit}
 use Rattle.oas_modal.specs.Meaning.{element_by, elements_meant}
-use Rattle.oas_modal.specs.Names.{name_of}
 use Rattle.oas_modal.proofs.Alike.{weighed, sum-meant}
 use Rattle.oas_modal.proofs.WeighLemmas.{sum_two}
 use Rattle.oas_compact.specs.Compact.{Compact, by_key, by_number, Keeps, IsKey, AreKeys, Waits}
@@ -30,25 +24,7 @@ use Rattle.oas_compact.proofs.KeptLemmas.{normal_sound}
 use Rattle.oas_compact.proofs.DrawLemmas.{all-put_more, few_is, keys_more}
 use Rattle.oas_compact.proofs.WaitLemmas.{total-append, all_front, all_back}
 
--- ---- an element that is meant
-
--- it has its points, and lies within the grid
-pub record IsWithin (e : Element) : Type 0 where
-  pub points : lacks_points e ≡ false
-  pub inside : fits_grid e ≡ true
-
-pub meant_within : (names strings : List (ℕ × List ℕ)) (d : Drawn) (e : Element) → IsFit d → element_by names strings d ≡ Some e → IsWithin e
-meant_within names strings (Named x) e f h = let same : x ≡ e = cc in subst IsWithin same (record { points = f.points; inside = f.inside })
-meant_within names strings (PlacementBy number x y turns flip) e f h = by (name_of names number) h
-  where
-    by : (o : Option (List ℕ)) → option_map (λ (c : List ℕ). Placement c x y turns flip) o ≡ Some e → IsWithin e
-    by None h = let no : ⊥ = cc in absurd no
-    by (Some c) h = let same : Placement c x y turns flip ≡ e = cc in subst IsWithin same (record { points = refl; inside = f.inside })
-meant_within names strings (TextBy number textlayer texttype x y) e f h = by (name_of strings number) h
-  where
-    by : (o : Option (List ℕ)) → option_map (λ (c : List ℕ). Text c textlayer texttype x y) o ≡ Some e → IsWithin e
-    by None h = let no : ⊥ = cc in absurd no
-    by (Some c) h = let same : Text c textlayer texttype x y ≡ e = cc in subst IsWithin same (record { points = refl; inside = f.inside })
+-- ---- a key that is added
 
 -- its key is one more
 pub keys_with : (profile : Profile) (ks ls : List Entry) (e : Element) (n : ℕ) → IsSound e → AreKeys profile ks → ls ≡ put_more (slice_cmp nat_cmp) ks (key_of (normal profile e)) n → AreKeys profile ls
@@ -57,12 +33,11 @@ keys_with profile ks ls e n sound a is =
     (all-put_more (λ p. IsKey profile p.0) (slice_cmp nat_cmp) ks (key_of (normal profile e)) n (λ p h. h)
     (record { element = normal profile e; sound = normal_sound profile e sound; normal = normal-normal profile e; is = refl }) a)
 
--- nothing is placed where there is none
-pub placed_none : (profile : Profile) (o : Option Element) (n : ℕ) (ks ls : List Entry) → o ≡ None → ls ≡ ks → ls ≡ with_placed profile o n ks
-placed_none profile o n ks ls e is = is ∙ ap (λ (x : Option Element). with_placed profile x n ks) (sym e)
-
-pub placed_some : (profile : Profile) (o : Option Element) (e : Element) (n : ℕ) (ks ls : List Entry) → o ≡ Some e → ls ≡ put_more (slice_cmp nat_cmp) ks (key_of (normal profile e)) n → ls ≡ with_placed profile o n ks
-placed_some profile o e n ks ls h is = is ∙ ap (λ (x : Option Element). with_placed profile x n ks) (sym h)
+-- so it is where memory allows
+pub keys_added : {U E : Type 0} (profile : Profile) (r : Result U E) (ks ls : List Entry) (e : Element) (n : ℕ) → OnOk r (IsSound e) → AreKeys profile ks
+    → OnOk r (ls ≡ put_more (slice_cmp nat_cmp) ks (key_of (normal profile e)) n) → OnOk r (AreKeys profile ls)
+keys_added profile (Ok u) ks ls e n sound a is = keys_with profile ks ls e n sound a is
+keys_added profile (Err x) ks ls e n sound a is = tt
 
 -- ---- sums
 

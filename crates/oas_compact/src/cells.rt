@@ -71,12 +71,7 @@ impl<P: KeptBy> CompactCell<P> {
 
     /// The run of the keys of all elements that are meant by the tables of the whole file, in the forms in which the profile keeps
     /// them; or want of memory. What is drawn by a number that has no name isn't among them.
-    pub fn into_run(
-        self,
-        alloc: Global,
-        names: &NameTable<Name>,
-        strings: &NameTable<Label>,
-    ) -> Result<Run, Why>
+    pub fn into_run(self, names: &NameTable<Name>, strings: &NameTable<Label>) -> Result<Run, Why>
         requires { IsCompact P.profile self }
         ensures run { IfOk result (λ run. IsRun (slice_cmp nat_cmp) run) }
         ensures keys { IfOk result (λ run. AreKeys P.profile run) }
@@ -88,7 +83,7 @@ impl<P: KeptBy> CompactCell<P> {
             waiting,
             ..
         } = self;
-        place_all(alloc, P::profile(), &mut kept, waiting, names, strings)?;
+        place_all(P::profile(), &mut kept, waiting, names, strings)?;
         match kept.close() {
             Ok(run) => Ok(run),
             Err(_) => Err(Why::Memory),

@@ -3,6 +3,7 @@
 ghost use Rattle.std.specs.Prelude.{◌≡◌, ◌+◌, ◌<◌, ◌^◌, [], false, true, OnOk, OnErr, IfOk};
 ghost use Rattle.std.specs.Ordering.{nat_cmp};
 ghost use Rattle.std.specs.Cmp.Lexicographic.{slice_cmp};
+ghost use Rattle.oas_layout.specs.declared.element.Element.TheVariants.{Placement, Text};
 ghost use Rattle.oas_layout.specs.Bag.{put_more};
 ghost use Rattle.oas_layout.specs.Laws.BagLaws.{total};
 ghost use Rattle.oas_layout.specs.Grid.{fits_grid};
@@ -12,8 +13,9 @@ ghost use Rattle.oas_layout.specs.Weight.{lacks_points};
 ghost use Rattle.oas_keys.specs.Keys.{key_of};
 ghost use Rattle.oas_store.specs.Tally.{IsRun};
 
-use oas_keys::put_key;
-use oas_layout::{Element, Profile};
+use oas_keys::{put_key, put_placement_key, put_text_key};
+use oas_layout::{Element, Profile, Turns};
+use oas_num::{Label, Name};
 use oas_store::{KeyStore, Run};
 use std::alloc::{AllocError, Global};
 use std::marker::Model;
@@ -65,6 +67,54 @@ impl KeptElements {
     {
         element.fits();
         put_kept(self.alloc, profile, element, &mut self.key)?;
+        self.keys.add(&self.key, times)?;
+        Ok(())
+    }
+
+    /// Adds a placement with these fields, which every profile keeps as it is, so many times; or, for want of memory, nothing.
+    pub(crate) fn add_placement(
+        &mut self,
+        cell: &Name,
+        x: i64,
+        y: i64,
+        turns: Turns,
+        flip: bool,
+        times: u64,
+    ) -> Result<(), AllocError>
+        requires some { 0 < times }
+        requires inside { fits_grid (Placement cell.now x y turns flip) ≡ true }
+        requires room { total (λ _. 1) self.old + times < 2 ^ 64 }
+        ensures ok { OnOk result (self.new ≡ put_more (slice_cmp nat_cmp) self.old (key_of (Placement cell.now x y turns flip)) times) }
+        ensures sound { OnOk result (IsSound (Placement cell.now x y turns flip)) }
+        ensures err { OnErr result (self.new ≡ self.old) }
+    {
+        let _name = cell.as_bytes();
+        self.key.clear();
+        put_placement_key(cell, x, y, turns, flip, &mut self.key)?;
+        self.keys.add(&self.key, times)?;
+        Ok(())
+    }
+
+    /// Adds a text with these fields, which every profile keeps as it is, so many times; or, for want of memory, nothing.
+    pub(crate) fn add_text(
+        &mut self,
+        string: &Label,
+        textlayer: u64,
+        texttype: u64,
+        x: i64,
+        y: i64,
+        times: u64,
+    ) -> Result<(), AllocError>
+        requires some { 0 < times }
+        requires inside { fits_grid (Text string.now textlayer texttype x y) ≡ true }
+        requires room { total (λ _. 1) self.old + times < 2 ^ 64 }
+        ensures ok { OnOk result (self.new ≡ put_more (slice_cmp nat_cmp) self.old (key_of (Text string.now textlayer texttype x y)) times) }
+        ensures sound { OnOk result (IsSound (Text string.now textlayer texttype x y)) }
+        ensures err { OnErr result (self.new ≡ self.old) }
+    {
+        let _string = string.as_bytes();
+        self.key.clear();
+        put_text_key(string, textlayer, texttype, x, y, &mut self.key)?;
         self.keys.add(&self.key, times)?;
         Ok(())
     }

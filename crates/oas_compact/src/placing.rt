@@ -17,14 +17,54 @@ use crate::short::Short;
 use crate::waiting::Waiting;
 use oas_drawing::Drawn;
 use oas_layout::Profile;
-use oas_modal::{NameTable, element_meant};
+use oas_modal::NameTable;
 use oas_num::{Label, Name, Why};
-use std::alloc::Global;
+use std::alloc::AllocError;
 use std::collections::BTreeMap;
+
+/// Adds the element that is meant so many times, if its number has a name: the bytes of that go into the key from where they are.
+fn add_meant(
+    profile: Profile,
+    kept: &mut KeptElements,
+    drawn: Drawn,
+    times: u64,
+    names: &NameTable<Name>,
+    strings: &NameTable<Label>,
+) -> Result<(), AllocError>
+    requires some { 0 < times }
+    requires fit { IsFit drawn }
+    requires room { total (λ _. 1) kept.old + times < 2 ^ 64 }
+    requires keys { AreKeys profile kept.old }
+    ensures placed { OnOk result (kept.new ≡ with_placed profile (element_by names.now.named strings.now.named drawn) times kept.old) }
+    ensures keys { OnOk result (AreKeys profile kept.new) }
+{
+    match drawn {
+        Drawn::Named(element) => kept.add(profile, &element, times),
+        Drawn::PlacementBy {
+            number,
+            x,
+            y,
+            turns,
+            flip,
+        } => match names.get(number) {
+            Some(cell) => kept.add_placement(cell, x, y, turns, flip, times),
+            None => Ok(()),
+        },
+        Drawn::TextBy {
+            number,
+            textlayer,
+            texttype,
+            x,
+            y,
+        } => match strings.get(number) {
+            Some(string) => kept.add_text(string, textlayer, texttype, x, y, times),
+            None => Ok(()),
+        },
+    }
+}
 
 /// Places what was drawn so many times, if its number has a name.
 fn place_one(
-    alloc: Global,
     profile: Profile,
     kept: &mut KeptElements,
     drawn: Drawn,
@@ -40,10 +80,7 @@ fn place_one(
     ensures keys { OnOk result (AreKeys profile kept.new) }
     ensures err { IfErr result (λ why. why ≡ Memory) }
 {
-    let Some(element) = element_meant(alloc, drawn, names, strings)? else {
-        return Ok(());
-    };
-    match kept.add(profile, &element, times) {
+    match add_meant(profile, kept, drawn, times, names, strings) {
         Ok(()) => Ok(()),
         Err(_) => Err(Why::Memory),
     }
@@ -51,7 +88,6 @@ fn place_one(
 
 /// Places what waits in few bytes, where its numbers have names.
 fn place_shorts(
-    alloc: Global,
     profile: Profile,
     kept: &mut KeptElements,
     shorts: Vec<Short>,
@@ -66,14 +102,13 @@ fn place_shorts(
     ensures err { IfErr result (λ why. why ≡ Memory) }
 {
     for short in shorts {
-        place_one(alloc, profile, kept, short.drawn(), 1, names, strings)?;
+        place_one(profile, kept, short.drawn(), 1, names, strings)?;
     }
     Ok(())
 }
 
 /// Places what waits in a chunk.
 fn place_chunk(
-    alloc: Global,
     profile: Profile,
     kept: &mut KeptElements,
     chunk: Chunk,
@@ -87,12 +122,11 @@ fn place_chunk(
     ensures keys { OnOk result (AreKeys profile kept.new) }
     ensures err { IfErr result (λ why. why ≡ Memory) }
 {
-    place_shorts(alloc, profile, kept, chunk.shorts, names, strings)
+    place_shorts(profile, kept, chunk.shorts, names, strings)
 }
 
 /// Places what waits in chunks, each of which is given back once it is placed.
 fn place_chunks(
-    alloc: Global,
     profile: Profile,
     kept: &mut KeptElements,
     chunks: Vec<Chunk>,
@@ -107,14 +141,13 @@ fn place_chunks(
     ensures err { IfErr result (λ why. why ≡ Memory) }
 {
     for chunk in chunks {
-        place_chunk(alloc, profile, kept, chunk, names, strings)?;
+        place_chunk(profile, kept, chunk, names, strings)?;
     }
     Ok(())
 }
 
 /// Places what waits with counts, where its numbers have names.
 fn place_counted(
-    alloc: Global,
     profile: Profile,
     kept: &mut KeptElements,
     waiting: BTreeMap<Drawn, u64>,
@@ -129,14 +162,13 @@ fn place_counted(
     ensures err { IfErr result (λ why. why ≡ Memory) }
 {
     for (drawn, times) in waiting {
-        place_one(alloc, profile, kept, drawn, times, names, strings)?;
+        place_one(profile, kept, drawn, times, names, strings)?;
     }
     Ok(())
 }
 
 /// Places all that waits, where its numbers have names.
 pub(crate) fn place_all(
-    alloc: Global,
     profile: Profile,
     kept: &mut KeptElements,
     waiting: Waiting,
@@ -154,7 +186,7 @@ pub(crate) fn place_all(
     let Ok(row) = chunks.into_row() else {
         return Err(Why::Memory);
     };
-    place_chunks(alloc, profile, kept, row, names, strings)?;
-    place_counted(alloc, profile, kept, others, names, strings)?;
+    place_chunks(profile, kept, row, names, strings)?;
+    place_counted(profile, kept, others, names, strings)?;
     Ok(())
 }

@@ -37,7 +37,7 @@ fn put_run<P: KeptBy>(
     let Ok(name) = meant.try_clone(alloc) else {
         return Err(Why::Memory);
     };
-    let run = cell.into_run(alloc, names, strings)?;
+    let run = cell.into_run(names, strings)?;
     runs.insert(name, run)?;
     Ok(())
 }
