@@ -65,6 +65,40 @@ impl KeptElements {
         ensures sound { OnOk result (IsSound element.now) }
         ensures err { OnErr result (self.new ≡ self.old) }
     {
+        match element {
+            Element::Placement {
+                cell,
+                x,
+                y,
+                turns,
+                flip,
+            } => self.add_placement(cell, *x, *y, *turns, *flip, times),
+            Element::Text {
+                string,
+                textlayer,
+                texttype,
+                x,
+                y,
+            } => self.add_text(string, *textlayer, *texttype, *x, *y, times),
+            _ => self.add_geometry(profile, element, times),
+        }
+    }
+
+    /// Adds an element of which the profile may keep another form, so many times; or, for want of memory, nothing.
+    fn add_geometry(
+        &mut self,
+        profile: Profile,
+        element: &Element,
+        times: u64,
+    ) -> Result<(), AllocError>
+        requires some { 0 < times }
+        requires points { lacks_points element.now ≡ false }
+        requires inside { fits_grid element.now ≡ true }
+        requires room { total (λ _. 1) self.old + times < 2 ^ 64 }
+        ensures ok { OnOk result (self.new ≡ put_more (slice_cmp nat_cmp) self.old (key_of (normal profile element.now)) times) }
+        ensures sound { OnOk result (IsSound element.now) }
+        ensures err { OnErr result (self.new ≡ self.old) }
+    {
         element.fits();
         put_kept(self.alloc, profile, element, &mut self.key)?;
         self.keys.add(&self.key, times)?;
