@@ -121,7 +121,7 @@ one_fails p f n i below fails =
     list_all_at p (map f (range_with_len 0 n)) i still (subst (λ (k : ℕ). i < k) (sym (length-map-range_with_len f 0 n)) below)
     (ap p (get_or-map-range_with_len f 0 n i i still below (omega arith)) ∙ fails)
 
-last_reason : (before : Option Why) (b : Bool) → before ≡ None → option_or before (first_of ((not b, CoordinateRange) ∷ [])) ≡ first_of ((not b, CoordinateRange) ∷ [])
+pub last_reason : (before : Option Why) (b : Bool) → before ≡ None → option_or before (first_of ((not b, CoordinateRange) ∷ [])) ≡ first_of ((not b, CoordinateRange) ∷ [])
 last_reason None b e = refl
 last_reason (Some w) b e = cc
 

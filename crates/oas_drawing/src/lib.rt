@@ -12,6 +12,7 @@
 //! - What an element record draws is defined over the variables after it: `drawn_at` and `elements_at` (specs/Drawing.antt),
 //!   and why it is refused, `draw_reason` (specs/Reasons.antt). [`ModalVariables::copies`] and [`ModalVariables::copy`] are
 //!   these, copy by copy; of a [`Drawn`] element the cell or the string may still be a number.
+//!   [`ModalVariables::one_rectangle`] says both at once of a rectangle that stands once.
 //! - [`Drawn`] elements are ordered, and no two tie (`drawn_cmp`, specs/Drawn.antt).
 //! - [`laws`] says, over the definitions alone, that one more record changes the variables by what it gives, what looking
 //!   back finds, that a record is refused copy by copy, and that its elements are those of its copies.

@@ -261,3 +261,4 @@ fn extension_numbers(
 mod checking;
 mod copying;
 mod drawing;
+mod rectangles;
