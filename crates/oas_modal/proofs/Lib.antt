@@ -18,6 +18,7 @@ pub mod PlaceLemmas
 pub mod TakeLemmas
 pub mod DrawLemmas
 pub mod JudgedDraws
+pub mod OnceLemmas
 pub mod ReaderLemmas
 pub mod FinishLemmas
 pub mod AcceptLemmas

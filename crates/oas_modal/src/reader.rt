@@ -19,11 +19,11 @@ use crate::names::NameTable;
 use crate::parts::{Parts, layout_of};
 use crate::stores::CellStore;
 use crate::taken::{Taken, taken_of};
-use crate::taking::accept;
+use crate::taking::{accept, accept_rectangle};
 use oas_drawing::ModalVariables;
 use oas_layout::{Layout, Limits, Profile};
-use oas_num::{Fraction, Refusal};
-use oas_record::Record;
+use oas_num::{Fraction, Refusal, Why};
+use oas_record::{Record, Rectangle};
 use std::alloc::Global;
 use std::marker::Model;
 
@@ -54,6 +54,16 @@ impl<S: CellStore> Model for Reader<S> {
     } };
 
     ghost invariant = { λ a. a.failed ≡ None → Sound S.store a.parts };
+}
+
+/// The refusal of a record that starts at byte `at`, which is kept for the answers from then on.
+fn keep(failed: &mut Option<Refusal>, at: u64, why: Why) -> Refusal
+    ensures refusal { (result.at ≡ at) × (result.why ≡ why) }
+    ensures kept { failed.new ≡ Some result }
+{
+    let refusal = Refusal { at, why };
+    *failed = Some(refusal);
+    refusal
 }
 
 impl<S: CellStore> Reader<S> {
@@ -101,11 +111,31 @@ impl<S: CellStore> Reader<S> {
         let mut next = next;
         match accept(&mut self.parts, &mut next) {
             Ok(()) => Ok(()),
-            Err(why) => {
-                let refusal = Refusal { at, why };
-                self.failed = Some(refusal);
-                Err(refusal)
-            }
+            Err(why) => Err(keep(&mut self.failed, at, why)),
+        }
+    }
+
+    /// Takes a rectangle that gives no repetition, as [`Reader::take`] takes it as a record: what it stands for then, and what
+    /// it refuses, are the same. Such rectangles are often most of a file; this way moves no record and walks over no copies.
+    /// One outside a cell is refused by `OutOfPlace`.
+    pub fn take_rectangle(&mut self, at: u64, next: Rectangle) -> Result<(), Refusal>
+        requires { next.spot.repetition ≡ None }
+        ensures again { (e : OneRefusal) → self.old.failed ≡ Some e → (result ≡ Err e) × (self.new ≡ self.old) }
+        ensures failed { IfErr result (λ e. self.new.failed ≡ Some e) }
+        ensures taken { (rs : List OneRecord) → StandsFor S.store self.old rs → OnOk result ((refusal self.old.limits rs (OneRecord.Rectangle next) ≡ None) × StandsFor S.store self.new (rs ++ OneRecord.Rectangle next ∷ [])) }
+        ensures refused { (rs : List OneRecord) → StandsFor S.store self.old rs →
+            IfErr result (λ e. (e.at ≡ at) × (((e.why ≡ Memory) × MayWant (refusal self.old.limits rs (OneRecord.Rectangle next))) ⊎ (refusal self.old.limits rs (OneRecord.Rectangle next) ≡ Some e.why))) }
+        ensures unit { OnOk result (self.new.unit ≡ self.old.unit) }
+        ensures limits { OnOk result (self.new.limits ≡ self.old.limits) }
+        ensures profile { OnOk result (self.new.profile ≡ self.old.profile) }
+    {
+        if let Some(refusal) = self.failed {
+            return Err(refusal);
+        }
+        let mut next = next;
+        match accept_rectangle(&mut self.parts, &mut next) {
+            Ok(()) => Ok(()),
+            Err(why) => Err(keep(&mut self.failed, at, why)),
         }
     }
 

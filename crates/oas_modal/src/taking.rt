@@ -15,7 +15,7 @@ use crate::parts::Parts;
 use crate::stores::CellStore;
 use oas_drawing::{Kind, ModalVariables, repeats};
 use oas_num::{Label, Name, Why};
-use oas_record::{CellRef, Record, Turn};
+use oas_record::{CellRef, Record, Rectangle, Turn};
 use std::mem;
 
 /// Changes the modal variables by an element record, from which is taken what has memory of its own.
@@ -181,6 +181,34 @@ fn take_other<S: CellStore>(parts: &mut Parts<S>, next: Record) -> Result<(), Wh
         Record::Path(_) => Ok(()),
         Record::Circle(_) => Ok(()),
     }
+}
+
+/// Draws a rectangle that gives no repetition in the open cell. It stands once, so that no copies are walked over.
+pub(crate) fn accept_rectangle<S: CellStore>(
+    parts: &mut Parts<S>,
+    next: &mut Rectangle,
+) -> Result<(), Why>
+    requires once { next.old.spot.repetition ≡ None }
+    requires sound { Sound S.store parts.old }
+    ensures reason { OnOk result (reason_of parts.old (OneRecord.Rectangle next.old) ≡ None) }
+    ensures new { OnOk result (Took S.store parts.old (OneRecord.Rectangle next.old) parts.new) }
+    ensures sound { OnOk result (Sound S.store parts.new) }
+    ensures err { IfErr result (λ why. ((why ≡ Memory) × MayWant (reason_of parts.old (OneRecord.Rectangle next.old))) ⊎ (reason_of parts.old (OneRecord.Rectangle next.old) ≡ Some why)) }
+{
+    let Some(held) = &mut parts.cell else {
+        return Err(Why::OutOfPlace(20));
+    };
+    parts.modal.draw_rectangle(next);
+    let drawn = parts
+        .modal
+        .one_rectangle(parts.limits, parts.count, parts.weight)?;
+    match held.draw(drawn, 1) {
+        Ok(()) => {}
+        Err(_) => return Err(Why::Memory),
+    }
+    parts.count += 1;
+    parts.weight += 1;
+    Ok(())
 }
 
 /// Takes a record, where it isn't refused. What has memory of its own is taken from it.

@@ -1,4 +1,3 @@
-use Rattle.std.proofs.Common.{refl}
 use Rattle.oas_modal.proofs.ReaderLemmas.{take_ok, take_err}
 use Rattle.oas_modal.proofs.reader.Reader.take.Goals as goal
 
@@ -8,4 +7,4 @@ returns-in-Ok-clause-taken g c = λ rs h. take_ok g.S.CellStore.store c.self.ins
 
 pub returns-clause-refused : goal.returns-clause-refused
 returns-clause-refused g c = λ rs h.
-    (refl, take_err g.S.CellStore.store c.self.inside.failed c.self.inside.parts c.args.self.now rs c.args.next c.in-Err.why c.self.view_is h c.in-Err.ensures.err)
+    (c.keep.ensures.refusal.0, rw c.keep.ensures.refusal.1 (take_err g.S.CellStore.store c.self.inside.failed c.self.inside.parts c.args.self.now rs c.args.next c.in-Err.why c.self.view_is h c.in-Err.ensures.err))
