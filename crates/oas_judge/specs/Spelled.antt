@@ -1,5 +1,5 @@
 -- The bytes that spell a record, or END.
-use Rattle.std.specs.Prelude.{◌≡◌, ℕ, Bool, IsTrue, List, Option, None, Some}
+use Rattle.std.specs.Prelude.{◌≡◌, ◌≤◌, ℕ, Bool, IsTrue, List, length, take, Option, None, Some}
 use Rattle.oas_num.specs.Script.{Script, Takes}
 use Rattle.oas_num.specs.Style.{Any}
 use Rattle.oas_record.specs.declared.records.Record.{Record}
@@ -11,6 +11,11 @@ use Rattle.oas_file.specs.Gathering.{inner_in}
 abbrev pub NextIs : Bool → Option Record → List ℕ → Type 0
 NextIs in_end (Some r) bytes = inner_in in_end r bytes
 NextIs in_end None bytes = record_in Any in_end End bytes
+
+-- so many of these bytes, from the first on, spell it
+pub record FirstIs (in_end : Bool) (next : Option Record) (count : ℕ) (bytes : List ℕ) : Type 0 where
+  pub few : count ≤ length bytes
+  pub spelled : NextIs in_end next (take count bytes)
 
 -- a record was taken, or END; and where its bytes are kept, these are they
 pub record NextTaken (keeps : Bool) (in_end : Bool) (old : Script) (next : Option Record) (kept : List ℕ) (new : Script) : Type 0 where
