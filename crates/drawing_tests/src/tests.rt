@@ -1,6 +1,7 @@
 //! What records draw one after another, as the copies of the latest show it.
 
 mod places;
+mod rectangles;
 
 ghost use Rattle.std.specs.Prelude.{◌≡◌, None, Some};
 

@@ -3,6 +3,7 @@
 mod ends;
 mod held;
 mod memory;
+mod rectangles;
 mod table;
 
 use self::table::ROWS;
