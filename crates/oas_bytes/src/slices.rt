@@ -46,6 +46,7 @@ impl<'a> Source for SliceSource<'a> {
 
     ghost at_hand = { λ s. left_of s.rest };
 
+    #[inline]
     fn next(&mut self) -> Result<Option<u8>, SourceFault> {
         if self.at >= self.bytes.len() {
             return Ok(None);
@@ -58,6 +59,7 @@ impl<'a> Source for SliceSource<'a> {
         Ok(Some(byte))
     }
 
+    #[inline]
     fn at(&self) -> u64 {
         self.at as u64
     }

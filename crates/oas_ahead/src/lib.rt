@@ -1,0 +1,16 @@
+//! Records that are read from bytes at hand, by a way that is shorter than reading them from a source.
+//!
+//! What this crate promises to the crates above it:
+//!
+//! - [`rectangle_ahead`] answers a rectangle that stands once, where the bytes begin with one, how many bytes spell it, and
+//!   whether it is spelled in the shortest style (`IsAhead`, specs/Ahead.antt). It promises nothing of what it doesn't answer:
+//!   oas_record reads every record, and says why one is refused.
+//!
+//! Most bytes of a layout are rectangles. A source gives a byte a call, and a `Record` has room for the largest kind; of bytes
+//! that are at hand a rectangle takes neither.
+#![tactic(auto)]
+
+mod fronts;
+mod rectangles;
+
+pub use rectangles::{RectangleAhead, rectangle_ahead};
