@@ -25,7 +25,7 @@ closed_long : (bytes : List ℕ) → IsClosed bytes → 0 < length bytes
 closed_long [] c = absurd c
 closed_long (b ∷ bs) c = omega arith
 
-record_long : (in_end : Bool) (r : Record) (bytes : List ℕ) → record_in Any in_end r bytes → 0 < length bytes
+pub record_long : (in_end : Bool) (r : Record) (bytes : List ℕ) → record_in Any in_end r bytes → 0 < length bytes
 record_long in_end r bytes s =
     let p = s.parts in
     omega (arith, ap length p.joined, length-append p.front p.back, closed_long p.front p.first.closed)

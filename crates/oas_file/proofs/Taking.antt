@@ -1,4 +1,5 @@
 -- One record more, or a refusal there.
+use Rattle.std.specs.Prelude.{take, Bool, List}
 use Rattle.std.proofs.Common.{◌≡◌, ℕ, [], ◌∷◌, ◌++◌, None, Some, ◌⊎◌, inl, inr, refl, sym, ap, subst, ◌∙◌, append_assoc, arith}
 use Rattle.oas_num.specs.declared.refusals.Why.{Why}
 use Rattle.oas_num.specs.declared.refusals.Why.TheVariants.{Memory}
@@ -9,7 +10,9 @@ use Rattle.oas_num.specs.Style.{Any}
 use Rattle.oas_num.proofs.ReadLemmas.{Takes-then}
 use Rattle.oas_record.specs.declared.heads.Head.{Head}
 use Rattle.oas_record.specs.declared.records.Record.{Record}
-use Rattle.oas_record.specs.declared.records.Record.TheVariants.{End}
+use Rattle.oas_record.specs.declared.records.Record.TheVariants.{End, Rectangle}
+use Rattle.oas_ahead.specs.declared.rectangles.RectangleAhead.{RectangleAhead}
+use Rattle.oas_ahead.specs.Ahead.{IsAhead}
 use Rattle.oas_record.specs.Records.{record_in}
 use Rattle.oas_record.specs.Laws.RecordLaws.{OneFront-record}
 use Rattle.oas_record.specs.Refusals.{RecordTook}
@@ -20,7 +23,7 @@ use Rattle.oas_modal.specs.Stands.{ReaderState, StandsFor, refusal as refusal_of
 use Rattle.oas_file.specs.Files.{FrontOf}
 use Rattle.oas_file.specs.Acceptance.{Allowed}
 use Rattle.oas_file.specs.Deciding.{TheNext, IsReasoned}
-use Rattle.oas_file.specs.Gathering.{inner_in, HasBegun, HasGathered, HasAll}
+use Rattle.oas_file.specs.Gathering.{inner_in, HasBegun, HasGathered, HasAll, HasTakenOne, RefusesOne}
 use Rattle.oas_file.specs.Places.{ByRecord}
 use Rattle.oas_file.specs.Reading.{IsPlaced, Refuses}
 use Rattle.oas_file.proofs.Fronts.{allowed_last, allowed_more, front_allowed, front_more}
@@ -120,6 +123,16 @@ module _ {C : Type 0} {t : Store C} {origin mid new : Script} {head : Head} {fir
     gather_refuses at refusal is e =
         next_refuses refusal (e.0 ∙ is) (subst (λ (l : Limits). Reasons l refusal.why) m.taken.same.limits e.1)
 
+  -- the next record is refused, or can't be read
+  pub one_refused : (refusal : Refusal) → ((refusal.at ≡ mid.given) × FailsPiece (record_in Any head.flag_in_end) (RecordTook head.flag_in_end) mid refusal.why new)
+      ⊎ RefusesOne t head.flag_in_end mid s refusal new → Refuses first.limits origin refusal new
+  one_refused refusal (inl f) = gather_fails refusal f.0 f.1
+  one_refused refusal (inr o) = let e = o.reason m.records m.taken.stands in gather_refuses o.read refusal.at refusal e.0 (refl, e.1)
+
+  -- it is taken
+  pub one_more : {after : ReaderState C} → HasTakenOne t head.flag_in_end mid s new after → HasGathered t origin head first new after
+  one_more o = gather_more o.read _ (o.taken m.records m.taken.stands) o.same.unit o.same.limits o.same.profile
+
   -- END is read
   pub gather_ends : (at : ℕ) → at ≡ mid.given → ReadsValue (record_in Any head.flag_in_end) mid End new → HasAll t origin head first at new s
   gather_ends at is read = record {
@@ -132,3 +145,7 @@ module _ {C : Type 0} {t : Store C} {origin mid new : Script} {head : Head} {fir
     place = is ∙ m.takes.given;
     taken = m.taken;
   }
+
+-- a rectangle at hand is a record before END
+pub ahead_read : {old new : Script} {bytes : List ℕ} {ahead : RectangleAhead} (in_end : Bool) → IsAhead bytes ahead → Takes old (take ahead.length bytes) new → ReadsValue (inner_in in_end) old (Rectangle ahead.rectangle) new
+ahead_read in_end is takes = record { bytes = _; takes = takes; spelled = record { holds = λ e. cc; spelled = is.spelled in_end } }

@@ -1,7 +1,7 @@
 -- What the parts of a read do: of one record, of all records, of the end of the input.
-use Rattle.std.specs.Prelude.{◌≡◌, ℕ, ◌+◌, Bool, List, [], ◌∷◌, ◌++◌, length, Option, None, Some, Result, Ok, Err}
+use Rattle.std.specs.Prelude.{◌≡◌, ◌⊎◌, ℕ, ◌+◌, Bool, true, false, List, [], ◌∷◌, ◌++◌, length, Option, None, Some, Result, Ok, Err}
 use Rattle.oas_num.specs.declared.refusals.Why.{Why}
-use Rattle.oas_num.specs.declared.refusals.Why.TheVariants.{TrailingBytes, Read, InputTooLong}
+use Rattle.oas_num.specs.declared.refusals.Why.TheVariants.{TrailingBytes, Read, InputTooLong, Memory}
 use Rattle.oas_num.specs.declared.refusals.Refusal.{Refusal}
 use Rattle.oas_num.specs.Grammar.{IsSuch}
 use Rattle.oas_num.specs.Reading.{ReadsValue, FailsPiece}
@@ -13,7 +13,8 @@ use Rattle.oas_record.specs.declared.records.Record.TheVariants.{End}
 use Rattle.oas_record.specs.Records.{record_in, IsInner}
 use Rattle.oas_record.specs.Refusals.{RecordTook}
 use Rattle.oas_modal.specs.Stores.{Store}
-use Rattle.oas_modal.specs.Stands.{ReaderState, StandsFor}
+use Rattle.oas_modal.specs.Standing.{MayWant}
+use Rattle.oas_modal.specs.Stands.{ReaderState, StandsFor, refusal as refusal_of}
 use Rattle.oas_file.specs.Acceptance.{Allowed}
 use Rattle.oas_file.specs.Files.{FrontOf}
 use Rattle.oas_file.specs.Reading.{Refuses}
@@ -71,6 +72,26 @@ module _ {C : Type 0} where
     pub end : record_in Any head.flag_in_end End last
     pub place : at ≡ origin.given + length bytes
     pub taken : HasTaken t first s records
+
+  -- a record was read, and the reader stands for it too
+  pub record HasTakenOne (t : Store C) (in_end : Bool) (old : Script) (first : ReaderState C) (new : Script) (s : ReaderState C) : Type 0 where
+    pub next : Record
+    pub read : ReadsValue (inner_in in_end) old next new
+    pub taken : (records : List Record) → StandsFor t first records → (refusal_of first.limits records next ≡ None) × StandsFor t s (records ++ next ∷ [])
+    pub same : SameFile first s
+
+  -- a record was read, and the reader refused it
+  pub record RefusesOne (t : Store C) (in_end : Bool) (old : Script) (first : ReaderState C) (refusal : Refusal) (new : Script) : Type 0 where
+    pub next : Record
+    pub read : ReadsValue (inner_in in_end) old next new
+    pub reason : (records : List Record) → StandsFor t first records
+        → (refusal.at ≡ old.given) × (((refusal.why ≡ Memory) × MayWant (refusal_of first.limits records next)) ⊎ (refusal_of first.limits records next ≡ Some refusal.why))
+
+  -- the next record was taken, or END was, or it is refused
+  abbrev pub TakesOne : Store C → Bool → Script → ReaderState C → Result Bool Refusal → Script → ReaderState C → Type 0
+  TakesOne t in_end old first (Ok true) new s = HasTakenOne t in_end old first new s
+  TakesOne t in_end old first (Ok false) new s = ReadsValue (record_in Any in_end) old End new × (s ≡ first)
+  TakesOne t in_end old first (Err refusal) new s = ((refusal.at ≡ old.given) × FailsPiece (record_in Any in_end) (RecordTook in_end) old refusal.why new) ⊎ RefusesOne t in_end old first refusal new
 
   abbrev pub Gathers : Store C → Head → Script → ReaderState C → Result ℕ Refusal → Script → ReaderState C → Type 0
   Gathers t head old first (Ok at) new s = (b : HasBegun t head old first) → HasAll t b.origin head first at new s

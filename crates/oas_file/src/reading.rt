@@ -1,7 +1,9 @@
 //! From a source to a layout.
-ghost use Rattle.oas_file.specs.Gathering.{TakesNext, Gathers, FindsEnd};
+ghost use Rattle.std.specs.Prelude.{◌≡◌};
+ghost use Rattle.oas_file.specs.Gathering.{TakesNext, TakesOne, Gathers, FindsEnd};
 ghost use Rattle.oas_file.specs.Reading.{ReadsLayout};
 
+use oas_ahead::rectangle_ahead;
 use oas_layout::{Layout, Limits, Profile};
 use oas_modal::{CellStore, Reader};
 use oas_num::{Refusal, Source, SourceFault, Why};
@@ -22,6 +24,30 @@ pub fn take_record<S: Source>(
     }
 }
 
+/// Has the reader take the next record, which starts at byte `at`, and answers false where it is END. A rectangle that is at
+/// hand goes the short way.
+fn take_next<S: Source, C: CellStore>(
+    alloc: Global,
+    source: &mut S,
+    flag_in_end: bool,
+    at: u64,
+    reader: &mut Reader<C>,
+) -> Result<bool, Refusal>
+    requires { at ≡ (S.script source.old).given }
+    ensures { TakesOne C.store flag_in_end (S.script source.old) reader.old result (S.script source.new) reader.new }
+{
+    if let Some(found) = rectangle_ahead(source.ahead()) {
+        source.skip(found.length);
+        reader.take_rectangle(at, found.rectangle)?;
+        return Ok(true);
+    }
+    let Some(record) = take_record(alloc, source, flag_in_end)? else {
+        return Ok(false);
+    };
+    reader.take(at, record)?;
+    Ok(true)
+}
+
 /// Has the reader take the records up to END, and answers END's offset.
 pub fn take_records<S: Source, C: CellStore>(
     alloc: Global,
@@ -32,8 +58,7 @@ pub fn take_records<S: Source, C: CellStore>(
     ensures { Gathers C.store head (S.script source.old) reader.old result (S.script source.new) reader.new }
 {
     let mut at = source.at();
-    while let Some(record) = take_record(alloc, source, head.flag_in_end)? {
-        reader.take(at, record)?;
+    while take_next(alloc, source, head.flag_in_end, at, reader)? {
         at = source.at();
     }
     Ok(at)

@@ -1,0 +1,31 @@
+use Rattle.std.proofs.Common.{inr, ◌∙◌}
+use Rattle.std.proofs.lemmas.Result.{err_from_is_err_and}
+use Rattle.oas_record.specs.declared.records.Record.TheVariants.{Rectangle}
+use Rattle.oas_file.proofs.Taking.{ahead_read}
+use Rattle.oas_file.proofs.reading.take_next.Goals as goal
+
+pub returns-in_err-take_rectangle : goal.returns-in_err-take_rectangle
+returns-in_err-take_rectangle g c =
+    let p = err_from_is_err_and c.from_residual.result c.from_residual.ensures.1 in
+    rw (p.1, p.2) (inr (record {
+      next = Rectangle c.in-Some.found.rectangle;
+      read = ahead_read c.args.flag_in_end (rw c.ahead.ensures at c.in-Some.ensures) c.skip.ensures;
+      reason = λ records stands. let e = c.in_err-take_rectangle.ensures.refused records stands in (e.0 ∙ c.requires, e.1);
+    }))
+
+pub returns-in-Some : goal.returns-in-Some
+returns-in-Some g c = record {
+  next = Rectangle c.in-Some.found.rectangle;
+  read = ahead_read c.args.flag_in_end (rw c.ahead.ensures at c.in-Some.ensures) c.skip.ensures;
+  taken = c.in_ok-take_rectangle.ensures.taken;
+  same = record { unit = c.in_ok-take_rectangle.ensures.unit; limits = c.in_ok-take_rectangle.ensures.limits; profile = c.in_ok-take_rectangle.ensures.profile };
+}
+
+pub returns-in_err-take : goal.returns-in_err-take
+returns-in_err-take g c =
+    let p = err_from_is_err_and c.from_residual-in_err-take.result c.from_residual-in_err-take.ensures.1 in
+    rw (p.1, p.2) (inr (record {
+      next = c.in-Some-2.record;
+      read = rw c.in-Some-2.is at c.in_ok-record.ensures;
+      reason = λ records stands. let e = c.in_err-take.ensures.refused records stands in (e.0 ∙ c.requires, e.1);
+    }))
