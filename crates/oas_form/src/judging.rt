@@ -1,5 +1,5 @@
 //! Judges a file record by record, with no layout kept.
-ghost use Rattle.std.specs.Prelude.{◌≡◌, ◌≤◌, ◌^◌, length, true, false, [], IsTrue, ◌↔◌};
+ghost use Rattle.std.specs.Prelude.{◌≡◌, List, ℕ, ◌≤◌, ◌^◌, length, true, false, [], IsTrue, ◌↔◌};
 ghost use Rattle.oas_record.specs.declared.records.Record.TheVariants.{Cell};
 ghost use Rattle.oas_record.specs.declared.references.CellRef.TheVariants.{Name as ByName};
 ghost use Rattle.oas_layout.specs.declared.profile.Profile.{Profile};
@@ -125,6 +125,14 @@ impl FormJudge {
         self.element = Some(element);
     }
 
+    /// Judges a record that draws one element, of which this is the kept form, and of which the canonical bytes were read.
+    pub fn draw_spelled(&mut self, element: Element)
+        ensures { (bytes : List ℕ) → element_bytes element ≡ bytes → GoesOnDrawing self.old element bytes self.new }
+    {
+        self.holds = self.may_follow(&element);
+        self.element = Some(element);
+    }
+
     /// Judges a record that no canonical file has there.
     pub fn refuse(&mut self)
         ensures { GoesOnRefusing self.old self.new }
@@ -138,6 +146,13 @@ impl FormJudge {
         ensures { IsTrue result ↔ (IsTrue self.now.holds × (opening_bytes name.now ≡ bytes.now) × IsAbove self.now.name name.now) }
     {
         self.holds && is_opening(name, bytes) && is_above(&self.name, name)
+    }
+
+    /// Whether a canonical file may have this element next, if it is spelled so.
+    fn may_follow(&self, element: &Element) -> bool
+        ensures { IsTrue result ↔ (IsTrue self.now.holds × IsNotBelow self.now.element element.now) }
+    {
+        self.holds && is_not_below(&self.element, element)
     }
 
     /// Whether a canonical file may have this element next, of which these are the bytes.

@@ -1,12 +1,24 @@
 -- How a judge of a file goes on by one entry.
 use Rattle.std.proofs.Common.{◌≡◌, ℕ, Bool, true, false, IsTrue, List, [], ◌∷◌, ◌++◌, reverse, refl, sym, subst, ◌∙◌, true≢false}
-use Rattle.std.specs.Prelude.{◌&&◌}
+use Rattle.std.specs.Prelude.{◌&&◌, take}
 use Rattle.std.specs.List.{AllByRecursion}
 use Rattle.oas_record.specs.declared.heads.Head.{Head}
 use Rattle.oas_record.specs.declared.records.Record.{Record}
 use Rattle.oas_record.specs.declared.records.Record.TheVariants as record_of
 use Rattle.oas_record.specs.declared.references.CellRef.TheVariants.{Name as ByName}
+use Rattle.oas_num.specs.Style.{Shortest}
+use Rattle.oas_record.specs.declared.rectangles.Rectangle.{Rectangle as OneRectangle}
+use Rattle.oas_record.specs.Records.{record_in}
+use Rattle.oas_ahead.specs.declared.rectangles.RectangleAhead.{RectangleAhead}
+use Rattle.oas_ahead.specs.Ahead.{IsAhead}
 use Rattle.oas_layout.specs.declared.element.Element.{Element}
+use Rattle.oas_layout.specs.declared.element.Element.TheVariants.{Placement, Text, Rectangle, Polygon, Path, Circle}
+use Rattle.oas_layout.specs.Same.{normal}
+use Rattle.oas_layout.specs.Sound.{IsSound}
+use Rattle.oas_form.specs.Bytes.{element_bytes}
+use Rattle.oas_form.specs.Records.{element_record}
+use Rattle.oas_form.proofs.JudgeRecords.{element_is_bytes}
+use Rattle.oas_judge.specs.Ahead.{IsSpelledBy}
 use Rattle.oas_layout.specs.declared.limits.Limits.{Limits}
 use Rattle.oas_layout.specs.declared.profile.Profile.{Profile}
 use Rattle.oas_drawing.specs.declared.drawn.Drawn.TheVariants.{Named}
@@ -18,7 +30,7 @@ use Rattle.oas_form.proofs.JudgeBytes.{bytes_go_on}
 use Rattle.oas_judge.specs.declared.candidates.Candidate.{Candidate}
 use Rattle.oas_judge.specs.declared.candidates.Candidate.TheVariants as candidates
 use Rattle.oas_judge.specs.declared.judge.FileJudge.{FileJudge}
-use Rattle.oas_judge.specs.FileJudges.{holds, IsJudging, AreEntries, GoesOn}
+use Rattle.oas_judge.specs.FileJudges.{holds, IsJudging, AreEntries, GoesOnBy, GoesOnAhead}
 use Rattle.oas_judge.proofs.OwnLemmas.{own_draws}
 use Rattle.oas_judge.proofs.RightRecords.{RightCell, RightElement, read_front, absolute_so_far, right_next}
 
@@ -43,8 +55,8 @@ stays_failed profile j entries x failed s = record {
   element_is = λ t. absurd (true≢false (sym t ∙ failed));
 }
 
-pub goes_on_failed : (j : FileJudge) (candidate : Candidate) → holds j ≡ false → GoesOn j candidate j
-goes_on_failed j candidate failed limits profile head start entries r bytes read says tied judging = record {
+pub goes_on_failed : (known : List ℕ) (j : FileJudge) (candidate : Candidate) → holds j ≡ false → GoesOnBy known j candidate j
+goes_on_failed known j candidate failed limits profile head start entries r bytes read says tied judging = record {
   by = judging.by;
   begins = judging.begins;
   stands = λ b. stays_failed profile j.form entries (r, bytes) (second_fails j.begins j.form.holds failed b) (judging.stands b);
@@ -56,8 +68,8 @@ goes_on_failed j candidate failed limits profile head start entries r bytes read
 are_read : (limits : Limits) (head : Head) (entries : List Entry) → head.flag_in_end ≡ false → AreEntries limits head entries → AreRead limits entries
 are_read limits head entries flag read = record { each = subst (λ (in_end : Bool). AllByRecursion (λ e. inner_in in_end e.0 e.1) entries) flag read.each; allowed = read.allowed }
 
-module _ (j : FileJudge) (form : FormJudge) (told : IsTrue (holds j)) where
-  pub goes_on_opened : (name : List ℕ) → FormGoesOn j.form (record_of.Cell (ByName name), j.bytes.items) form → GoesOn j (candidates.Cell name) (record j { form = form })
+module _ (known : List ℕ) (j : FileJudge) (form : FormJudge) (told : IsTrue (holds j)) where
+  pub goes_on_opened : (name : List ℕ) → FormGoesOn j.form (record_of.Cell (ByName name), known) form → GoesOnBy known j (candidates.Cell name) (record j { form = form })
   goes_on_opened name step limits profile head start entries r bytes read says tied judging = record {
     by = judging.by;
     begins = judging.begins;
@@ -66,7 +78,7 @@ module _ (j : FileJudge) (form : FormJudge) (told : IsTrue (holds j)) where
 
   -- what was read has the bytes that were kept
   kept_read : (limits : Limits) (profile : Profile) (head : Head) (start : List ℕ) (entries : List Entry) (r : Record) (bytes : List ℕ) → AreEntries limits head (entries ++ (r, bytes) ∷ []) →
-      (IsTrue (holds j) → j.bytes.items ≡ bytes) → IsJudging profile j head start entries → AreRead limits (entries ++ (r, j.bytes.items) ∷ [])
+      (IsTrue (holds j) → known ≡ bytes) → IsJudging profile j head start entries → AreRead limits (entries ++ (r, known) ∷ [])
   kept_read limits profile head start entries r bytes read tied judging =
       subst (λ (b : List ℕ). AreRead limits (entries ++ (r, b) ∷ [])) (sym (tied told))
       (are_read limits head (entries ++ (r, bytes) ∷ []) (judging.begins.0 (both_hold j.begins j.form.holds told).0).flag read)
@@ -75,11 +87,11 @@ module _ (j : FileJudge) (form : FormJudge) (told : IsTrue (holds j)) where
   matched : (profile : Profile) (head : Head) (start : List ℕ) (entries : List Entry) → IsJudging profile j head start entries → AllMatch profile [] entries
   matched profile head start entries judging = let both = both_hold j.begins j.form.holds told in (judging.stands both.0).holds_is.0 both.1
 
-  pub goes_on_drawn : (kept : Element) → GoesOnDrawing j.form kept j.bytes.items form → GoesOn j (candidates.Element kept) (record j { form = form })
+  pub goes_on_drawn : (kept : Element) → GoesOnDrawing j.form kept known form → GoesOnBy known j (candidates.Element kept) (record j { form = form })
   goes_on_drawn kept step limits profile head start entries r bytes read says tied judging =
       let g = says told in
       let all = kept_read limits profile head start entries r bytes read tied judging in
-      let absolute = absolute_so_far limits profile entries (read_front entries (r, j.bytes.items) all) (matched profile head start entries judging) in
+      let absolute = absolute_so_far limits profile entries (read_front entries (r, known) all) (matched profile head start entries judging) in
       let one : elements_at r (reverse (entry_records entries)) ≡ Named g.element ∷ [] = own_draws (reverse (entry_records entries)) r (Named g.element) absolute g.drawn in
       record {
         by = judging.by;
@@ -87,7 +99,7 @@ module _ (j : FileJudge) (form : FormJudge) (told : IsTrue (holds j)) where
         stands = λ b. subst (λ (c : List ℕ). Stands profile form (entries ++ (r, c) ∷ [])) (tied told) (step limits profile entries r g.element all one g.form (judging.stands b));
       }
 
-  pub goes_on_refused : GoesOnRefusing j.form form → GoesOn j candidates.Other (record j { form = form })
+  pub goes_on_refused : GoesOnRefusing j.form form → GoesOnBy known j candidates.Other (record j { form = form })
   goes_on_refused step limits profile head start entries r bytes read says tied judging =
       let nowhere = says told in
       let all = kept_read limits profile head start entries r bytes read tied judging in
@@ -96,9 +108,40 @@ module _ (j : FileJudge) (form : FormJudge) (told : IsTrue (holds j)) where
         by = judging.by;
         begins = judging.begins;
         stands = λ b. subst (λ (c : List ℕ). Stands profile form (entries ++ (r, c) ∷ [])) (tied told)
-            (step profile entries (r, j.bytes.items) (judging.stands b) (λ here.
-            elim (right_next limits profile entries (r, j.bytes.items) all m here) [
+            (step profile entries (r, known) (judging.stands b) (λ here.
+            elim (right_next limits profile entries (r, known) all m here) [
               | RightCell name is short ↦ nowhere.cell name is short
               | RightElement e drawn fit normal ↦ nowhere.element e drawn fit normal
             ]));
       }
+
+-- ---- a rectangle at hand
+
+-- the element of a rectangle's record is kept as it is
+kept_so : (e : Element) (r : OneRectangle) → element_record e ≡ record_of.Rectangle r → (profile : Profile) → e ≡ normal profile e
+kept_so (Rectangle layer datatype width height x y) r is profile = refl
+kept_so (Placement name x y turns flip) r is profile = absurd cc
+kept_so (Text string textlayer texttype x y) r is profile = absurd cc
+kept_so (Polygon layer datatype points) r is profile = absurd cc
+kept_so (Path layer datatype half_width start end points) r is profile = absurd cc
+kept_so (Circle layer datatype radius x y) r is profile = absurd cc
+
+-- its bytes are the canonical ones
+bytes_so : (ahead : RectangleAhead) (e : Element) (all : List ℕ) → IsAhead all ahead → IsSpelledBy ahead e → element_bytes e ≡ take ahead.length all
+bytes_so ahead e all is spelled =
+    let sound : IsSound e = record { points = spelled.fit.points; inside = spelled.fit.inside; fits = spelled.fits } in
+    let there : record_in Shortest false (element_record e) (take ahead.length all) = subst (λ (r : Record). record_in Shortest false r (take ahead.length all)) (sym spelled.is) (is.shortest spelled.shortest false) in
+    sym ((element_is_bytes e (take ahead.length all) sound spelled.fit.light).0 there)
+
+-- a judge that has failed
+pub ahead_failed : (known : List ℕ) (j : FileJudge) (r : Record) → holds j ≡ false → GoesOnAhead known j r j
+ahead_failed known j r failed = record { candidate = candidates.Other; says = λ told. absurd (true≢false (sym told ∙ failed)); goes_on = goes_on_failed known j candidates.Other failed }
+
+-- one that holds
+pub ahead_drawn : (j : FileJudge) (form : FormJudge) (ahead : RectangleAhead) (e : Element) (all : List ℕ) → IsTrue (holds j) → IsAhead all ahead → IsSpelledBy ahead e
+    → ((bytes : List ℕ) → element_bytes e ≡ bytes → GoesOnDrawing j.form e bytes form) → GoesOnAhead (take ahead.length all) j (record_of.Rectangle ahead.rectangle) (record j { form = form })
+ahead_drawn j form ahead e all told is spelled step = record {
+  candidate = candidates.Element e;
+  says = λ told. record { element = e; drawn = spelled.drawn; form = kept_so e ahead.rectangle spelled.is j.profile; fit = spelled.fit };
+  goes_on = goes_on_drawn (take ahead.length all) j form told e (step (take ahead.length all) (bytes_so ahead e all is spelled));
+}

@@ -1,5 +1,5 @@
 -- How the records of a file are taken and judged, one after another.
-use Rattle.std.proofs.Common.{◌≡◌, ℕ, Bool, IsTrue, List, [], ◌∷◌, ◌++◌, None, Some, ◌⊎◌, inl, inr, refl, sym, ap, subst, ◌∙◌, append_assoc}
+use Rattle.std.proofs.Common.{◌≡◌, ℕ, ◌<◌, true, arith, Bool, IsTrue, List, [], ◌∷◌, ◌++◌, None, Some, ◌⊎◌, inl, inr, refl, sym, ap, subst, ◌∙◌, append_assoc}
 use Rattle.std.proofs.lemmas.List.{append-nil}
 use Rattle.std.specs.List.{AllByRecursion}
 use Rattle.oas_num.specs.declared.refusals.Why.{Why}
@@ -22,14 +22,19 @@ use Rattle.oas_file.specs.Files.{FrontOf}
 use Rattle.oas_file.specs.Gathering.{inner_in, HasGathered, HasTaken}
 use Rattle.oas_file.specs.Reading.{Refuses}
 use Rattle.oas_file.proofs.Fronts.{allowed_more}
+use Rattle.oas_file.proofs.SomePlaces.{record_long}
 use Rattle.oas_file.proofs.Taking.{gather_fails, gather_refuses}
+use Rattle.oas_record.specs.declared.records.Record.TheVariants.{Rectangle}
+use Rattle.oas_ahead.specs.declared.rectangles.RectangleAhead.{RectangleAhead}
+use Rattle.oas_ahead.specs.Ahead.{IsAhead}
+use Rattle.std.specs.Prelude.{take}
 use Rattle.oas_form.specs.Judging.{Entry, entry_records, entry_bytes}
 use Rattle.oas_form.proofs.JudgeRecords.{all_more}
 use Rattle.oas_judge.specs.declared.candidates.Candidate.{Candidate}
 use Rattle.oas_judge.specs.declared.judge.FileJudge.{FileJudge}
 use Rattle.oas_judge.specs.Candidates.{IsCandidate}
-use Rattle.oas_judge.specs.FileJudges.{holds, IsJudging, GoesOn}
-use Rattle.oas_judge.specs.Judged.{HasBegun, HasSeen, HasSeenAll}
+use Rattle.oas_judge.specs.FileJudges.{holds, IsJudging, GoesOn, GoesOnBy, GoesOnAhead}
+use Rattle.oas_judge.specs.Judged.{HasBegun, HasSeen, HasSeenAll, SeesMore, SeesRefused, SeesEnd}
 use Rattle.oas_judge.specs.Kept.{RefusesKept, RefusesNext}
 use Rattle.oas_judge.specs.Spelled.{NextTaken}
 use Rattle.oas_judge.proofs.KeptLemmas.{wants_memory}
@@ -117,7 +122,7 @@ module _ {C : Type 0} {t : Store C} {profile : Profile} {head : Head} {now : Scr
       }
 
       -- a record was
-      module _ {new : Script} {r : Record} (next : NextTaken (holds k) head.flag_in_end mid (Some r) l.bytes.items new) where
+      module _ {known : List ℕ} {new : Script} {r : Record} (next : NextTaken (holds k) head.flag_in_end mid (Some r) known new) where
         abbrev read : ReadsValue (inner_in head.flag_in_end) mid r new
         read = record { bytes = next.bytes; spelled = next.spelled; takes = next.takes }
 
@@ -140,7 +145,7 @@ module _ {C : Type 0} {t : Store C} {profile : Profile} {head : Head} {now : Scr
         module _ (after : ReaderState C) (judged : FileJudge) (candidate : Candidate)
             (taken : (refusal_of s.limits (entry_records m.entries) r ≡ None) × StandsFor t after (entry_records m.entries ++ r ∷ []))
             (unit : after.unit ≡ s.unit) (limits : after.limits ≡ s.limits) (by : after.profile ≡ s.profile)
-            (says : IsTrue (holds l) → IsCandidate l.profile candidate r) (goes_on : GoesOn l candidate judged) where
+            (says : IsTrue (holds l) → IsCandidate l.profile candidate r) (goes_on : GoesOnBy known l candidate judged) where
           all_taken : HasTaken t first after (entry_records (m.entries ++ (r, next.bytes) ∷ []))
           all_taken =
               let same = m.taken.same in
@@ -163,3 +168,65 @@ module _ {C : Type 0} {t : Store C} {profile : Profile} {head : Head} {now : Scr
             judging = goes_on first.limits profile head b.begun.start m.entries r next.bytes (record { each = all_each; allowed = all_taken.allowed })
                 (λ told. subst (λ (p : Profile). IsCandidate p candidate r) judging_so.by (says told)) (λ told. next.tied (sym holds_so ∙ told)) judging_so;
           }
+
+-- ---- a record takes a byte at least
+
+pub next_grows : {keeps in_end : Bool} {mid new : Script} {r : Record} {kept : List ℕ} → NextTaken keeps in_end mid (Some r) kept new → mid.given < new.given
+next_grows next = omega (arith, record_long _ _ _ next.spelled.spelled, next.takes.given)
+
+-- ---- a rectangle at hand
+
+next_ahead : (keeps in_end : Bool) {mid new : Script} {all : List ℕ} {ahead : RectangleAhead} → IsAhead all ahead → Takes mid (take ahead.length all) new
+    → NextTaken keeps in_end mid (Some (Rectangle ahead.rectangle)) (take ahead.length all) new
+next_ahead keeps in_end {all = all} {ahead = ahead} is takes =
+    record { bytes = take ahead.length all; spelled = record { holds = λ e. cc; spelled = is.spelled in_end }; takes = takes; tied = λ told. refl }
+
+pub ahead_grows : {mid new : Script} {all : List ℕ} {ahead : RectangleAhead} → IsAhead all ahead → Takes mid (take ahead.length all) new → mid.given < new.given
+ahead_grows is takes = next_grows (next_ahead true true is takes)
+
+module _ {C : Type 0} {t : Store C} {head : Head} {mid new : Script} {s : ReaderState C} {k : FileJudge} {all : List ℕ} {ahead : RectangleAhead}
+    (is : IsAhead all ahead) (takes : Takes mid (take ahead.length all) new) where
+  -- it is refused
+  pub ahead_refused : (at : ℕ) (refusal : Refusal) → at ≡ mid.given
+      → ((rs : List Record) → StandsFor t s rs → (refusal.at ≡ at) × (((refusal.why ≡ Memory) × MayWant (refusal_of s.limits rs (Rectangle ahead.rectangle))) ⊎ (refusal_of s.limits rs (Rectangle ahead.rectangle) ≡ Some refusal.why)))
+      → SeesRefused t head mid s k refusal new
+  ahead_refused at refusal place refused profile now first judge b m =
+      take_refused b m {l = k} refl (next_ahead (holds k) head.flag_in_end is takes) at refusal place (refused _ m.taken.stands)
+
+  -- it is taken and judged
+  pub ahead_seen : {after : ReaderState C} {judged : FileJudge}
+      → ((rs : List Record) → StandsFor t s rs → (refusal_of s.limits rs (Rectangle ahead.rectangle) ≡ None) × StandsFor t after (rs ++ Rectangle ahead.rectangle ∷ []))
+      → after.unit ≡ s.unit → after.limits ≡ s.limits → after.profile ≡ s.profile → GoesOnAhead (take ahead.length all) k (Rectangle ahead.rectangle) judged → SeesMore t head mid s k new after judged
+  ahead_seen {after} {judged} taken unit limits by g profile now first judge b m =
+      seen_more b m {l = k} refl (next_ahead (holds k) head.flag_in_end is takes) after judged g.candidate (taken _ m.taken.stands) unit limits by g.says g.goes_on
+
+-- ---- one record
+
+-- it can't be read
+pub one_fails : {C : Type 0} {t : Store C} {head : Head} {mid new : Script} {s : ReaderState C} {k : FileJudge} (refusal : Refusal) → RefusesNext head.flag_in_end mid refusal new
+    → SeesRefused t head mid s k refusal new
+one_fails refusal f profile now first judge b m = next_fails b m refusal f
+
+module _ {C : Type 0} {t : Store C} {head : Head} {mid new : Script} {s : ReaderState C} {k l : FileJudge} (same : l ≡ record k { bytes = l.bytes }) where
+  -- it is END
+  pub one_ends : NextTaken (holds k) head.flag_in_end mid None l.bytes.items new → SeesEnd t head mid s k new s l
+  one_ends next profile now first judge b m = seen_all b m same mid.given refl next
+
+  module _ {r : Record} (next : NextTaken (holds k) head.flag_in_end mid (Some r) l.bytes.items new) where
+    -- memory is wanted for what it may be
+    pub one_wants : (refusal : Refusal) → refusal.why ≡ Memory → SeesRefused t head mid s k refusal new
+    one_wants refusal is profile now first judge b m = candidate_fails b m same next refusal is
+
+    -- it is refused
+    pub one_refused : (at : ℕ) (refusal : Refusal) → at ≡ mid.given
+        → ((rs : List Record) → StandsFor t s rs → (refusal.at ≡ at) × (((refusal.why ≡ Memory) × MayWant (refusal_of s.limits rs r)) ⊎ (refusal_of s.limits rs r ≡ Some refusal.why)))
+        → SeesRefused t head mid s k refusal new
+    one_refused at refusal place refused profile now first judge b m = take_refused b m same next at refusal place (refused _ m.taken.stands)
+
+    -- it is taken and judged
+    pub one_seen : {after : ReaderState C} {judged : FileJudge} (candidate : Candidate)
+        → ((rs : List Record) → StandsFor t s rs → (refusal_of s.limits rs r ≡ None) × StandsFor t after (rs ++ r ∷ []))
+        → after.unit ≡ s.unit → after.limits ≡ s.limits → after.profile ≡ s.profile → (IsTrue (holds l) → IsCandidate l.profile candidate r) → GoesOn l candidate judged
+        → SeesMore t head mid s k new after judged
+    one_seen {after} {judged} candidate taken unit limits by says goes_on profile now first judge b m =
+        seen_more b m same next after judged candidate (taken _ m.taken.stands) unit limits by says goes_on

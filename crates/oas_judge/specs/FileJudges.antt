@@ -43,8 +43,18 @@ pub record AreEntries (limits : Limits) (head : Head) (entries : List Entry) : T
   pub each : AllByRecursion (λ e. inner_in head.flag_in_end e.0 e.1) entries
   pub allowed : Allowed limits (entry_records entries)
 
--- It stands for one entry more: a record of which the candidate was told, with the bytes that were kept.
-abbrev pub GoesOn : FileJudge → Candidate → FileJudge → Type 0
-GoesOn old candidate new = (limits : Limits) (profile : Profile) (head : Head) (start : List ℕ) (entries : List Entry) (r : Record) (bytes : List ℕ) →
-    AreEntries limits head (entries ++ (r, bytes) ∷ []) → (IsTrue (holds old) → IsCandidate profile candidate r) → (IsTrue (holds old) → old.bytes.items ≡ bytes) →
+-- It stands for one entry more: a record of which the candidate was told, with these bytes.
+abbrev pub GoesOnBy : List ℕ → FileJudge → Candidate → FileJudge → Type 0
+GoesOnBy known old candidate new = (limits : Limits) (profile : Profile) (head : Head) (start : List ℕ) (entries : List Entry) (r : Record) (bytes : List ℕ) →
+    AreEntries limits head (entries ++ (r, bytes) ∷ []) → (IsTrue (holds old) → IsCandidate profile candidate r) → (IsTrue (holds old) → known ≡ bytes) →
     IsJudging profile old head start entries → IsJudging profile new head start (entries ++ (r, bytes) ∷ [])
+
+-- the same with the bytes that were kept
+abbrev pub GoesOn : FileJudge → Candidate → FileJudge → Type 0
+GoesOn old candidate new = GoesOnBy old.bytes.items old candidate new
+
+-- it stands for a rectangle too that is at hand
+pub record GoesOnAhead (known : List ℕ) (old : FileJudge) (r : Record) (new : FileJudge) : Type 0 where
+  pub candidate : Candidate
+  pub says : IsTrue (holds old) → IsCandidate old.profile candidate r
+  pub goes_on : GoesOnBy known old candidate new

@@ -1,5 +1,5 @@
 -- What judging the records of a file does, and judging a file.
-use Rattle.std.specs.Prelude.{◌≡◌, ◌↔◌, ℕ, ◌+◌, Bool, IsTrue, List, [], ◌++◌, length, Result, Ok, Err}
+use Rattle.std.specs.Prelude.{◌≡◌, ◌↔◌, ℕ, ◌+◌, ◌<◌, Bool, true, false, IsTrue, List, [], ◌++◌, length, Result, Ok, Err}
 use Rattle.std.specs.List.{AllByRecursion}
 use Rattle.oas_num.specs.declared.refusals.Refusal.{Refusal}
 use Rattle.oas_num.specs.Script.{Script, Takes, IsAtEnd}
@@ -55,6 +55,36 @@ module _ {C : Type 0} where
   abbrev pub JudgesRecords : Store C → Head → Script → ReaderState C → FileJudge → Result ℕ Refusal → Script → ReaderState C → FileJudge → Type 0
   JudgesRecords t head old first j (Ok at) new s k = (profile : Profile) (b : HasBegun t profile head old first j) → HasSeenAll t profile head b.begun.start b.origin first at new s k
   JudgesRecords t head old first j (Err refusal) new s k = (profile : Profile) (b : HasBegun t profile head old first j) → RefusesKept first.limits b.origin refusal new
+
+-- ---- one record
+
+module _ {C : Type 0} where
+  -- in a read that has seen some entries it is one entry more
+  abbrev pub SeesMore : Store C → Head → Script → ReaderState C → FileJudge → Script → ReaderState C → FileJudge → Type 0
+  SeesMore t head old s j new s' j' = (profile : Profile) (now : Script) (first : ReaderState C) (judge : FileJudge) (b : HasBegun t profile head now first judge)
+      → HasSeen t profile head b.begun.start b.origin first old s j → HasSeen t profile head b.begun.start b.origin first new s' j'
+
+  -- it is END
+  abbrev pub SeesEnd : Store C → Head → Script → ReaderState C → FileJudge → Script → ReaderState C → FileJudge → Type 0
+  SeesEnd t head old s j new s' j' = (profile : Profile) (now : Script) (first : ReaderState C) (judge : FileJudge) (b : HasBegun t profile head now first judge)
+      → HasSeen t profile head b.begun.start b.origin first old s j → HasSeenAll t profile head b.begun.start b.origin first old.given new s' j'
+
+  -- it is refused
+  abbrev pub SeesRefused : Store C → Head → Script → ReaderState C → FileJudge → Refusal → Script → Type 0
+  SeesRefused t head old s j refusal new = (profile : Profile) (now : Script) (first : ReaderState C) (judge : FileJudge) (b : HasBegun t profile head now first judge)
+      → HasSeen t profile head b.begun.start b.origin first old s j → RefusesKept first.limits b.origin refusal new
+
+  -- the next record was seen, or END was
+  abbrev pub JudgesOne : Store C → Head → Script → ReaderState C → FileJudge → Result Bool Refusal → Script → ReaderState C → FileJudge → Type 0
+  JudgesOne t head old s j (Ok true) new s' j' = (old.given < new.given) × SeesMore t head old s j new s' j'
+  JudgesOne t head old s j (Ok false) new s' j' = SeesEnd t head old s j new s' j'
+  JudgesOne t head old s j (Err refusal) new s' j' = SeesRefused t head old s j refusal new
+
+  -- the next record was seen, which is at hand, or nothing was done
+  abbrev pub JudgesAhead : Store C → Head → Script → ReaderState C → FileJudge → Result Bool Refusal → Script → ReaderState C → FileJudge → Type 0
+  JudgesAhead t head old s j (Ok true) new s' j' = (old.given < new.given) × SeesMore t head old s j new s' j'
+  JudgesAhead t head old s j (Ok false) new s' j' = (new ≡ old) × (s' ≡ s) × (j' ≡ j)
+  JudgesAhead t head old s j (Err refusal) new s' j' = SeesRefused t head old s j refusal new
 
 -- ---- a file
 

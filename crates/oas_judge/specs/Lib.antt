@@ -6,3 +6,4 @@ pub mod Spelled
 pub mod Candidates
 pub mod FileJudges
 pub mod Judged
+pub mod Ahead

@@ -32,7 +32,7 @@ fn is_short(name: &Name) -> bool
 }
 
 /// Whether an element has its points, lies within the grid, and weighs no more than any limits allow.
-fn is_drawable(element: &Element) -> bool
+pub(crate) fn is_drawable(element: &Element) -> bool
     ensures { IsTrue result ↔ IsDrawable element.now }
 {
     !element.lacks_points() && element.fits_grid() && element.weight() <= HEAVIEST

@@ -1,18 +1,23 @@
 //! The judge of a file, which sees it part by part.
-ghost use Rattle.std.specs.Prelude.{◌≡◌, ◌↔◌, IsTrue, [], OnOk, IfOk, IfErr};
+ghost use Rattle.std.specs.Prelude.{◌≡◌, ◌↔◌, IsTrue, true, false, take, [], ℕ, List, IfSome, OnOk, IfOk, IfErr};
 ghost use Rattle.oas_num.specs.declared.refusals.Why.TheVariants.{Memory as NoMemory};
 ghost use Rattle.oas_layout.specs.declared.limits.Limits.{Limits};
 ghost use Rattle.oas_form.specs.Bytes.{end_bytes};
 ghost use Rattle.oas_judge.specs.Candidates.{IsCandidate, IsFitting};
-ghost use Rattle.oas_judge.specs.FileJudges.{holds, BeginsJudging, GoesOn, IsFront, IsJudging};
+ghost use Rattle.oas_judge.specs.FileJudges.{holds, BeginsJudging, GoesOn, IsFront, IsJudging, GoesOnAhead};
+ghost use Rattle.oas_judge.specs.Ahead.{IsSpelledBy};
+ghost use Rattle.oas_ahead.specs.Ahead.{IsAhead};
+ghost use Rattle.oas_record.specs.declared.records.Record.TheVariants.{Rectangle as OneRectangle};
 ghost use Rattle.oas_judge.specs.Kept.{RefusesKept, RefusesNext};
 ghost use Rattle.oas_judge.specs.Spelled.{NextTaken};
 
-use crate::candidates::{Candidate, candidate_of};
+use crate::candidates::{Candidate, candidate_of, is_drawable};
+use crate::own::own_rectangle;
 use crate::spelled::{read_head_spelled, take_record_spelled};
+use oas_ahead::RectangleAhead;
 use oas_file::take_record;
 use oas_form::{FormJudge, is_end, is_head};
-use oas_layout::Profile;
+use oas_layout::{Element, Profile};
 use oas_num::{Fraction, Refusal, Source, Why};
 use oas_record::{Head, Record};
 use std::alloc::Global;
@@ -37,6 +42,18 @@ fn is_front(unit: Fraction, flag_in_end: bool, bytes: &[u8]) -> bool
     ensures { IsTrue result ↔ IsFront (record { unit = unit; flag_in_end = flag_in_end }) bytes.now }
 {
     !flag_in_end && is_head(unit, bytes)
+}
+
+/// The element of a rectangle that is at hand, where its bytes are the canonical ones of that.
+fn spelled_element(ahead: &RectangleAhead) -> Option<Element>
+    ensures { IfSome result (λ element. IsSpelledBy ahead.now element) }
+{
+    if !ahead.shortest {
+        return None;
+    }
+    let own = own_rectangle(&ahead.rectangle)?;
+    own.fits();
+    if is_drawable(&own) { Some(own) } else { None }
 }
 
 impl FileJudge {
@@ -114,6 +131,22 @@ impl FileJudge {
                 why: Why::Memory,
             }),
         }
+    }
+
+    /// Judges a rectangle that is at hand, if it is accepted. It answers false, and does nothing, where the bytes have to be
+    /// compared with the canonical ones to know.
+    pub(crate) fn judge_ahead(&mut self, ahead: &RectangleAhead) -> bool
+        ensures no { result ≡ false → self.new ≡ self.old }
+        ensures yes { result ≡ true → (all : List ℕ) → IsAhead all ahead.now → GoesOnAhead (take ahead.now.length all) self.old (OneRectangle ahead.now.rectangle) self.new }
+    {
+        if !self.holds() {
+            return true;
+        }
+        let Some(element) = spelled_element(ahead) else {
+            return false;
+        };
+        self.form.draw_spelled(element);
+        true
     }
 
     /// Judges the record that was taken last, which was accepted.

@@ -1,9 +1,10 @@
 //! The element that a record gives by its own fields, with no modal variable.
 
-ghost use Rattle.std.specs.Prelude.{◌≡◌, true, false, IfOk, OnOk};
+ghost use Rattle.std.specs.Prelude.{◌≡◌, true, false, IfSome, IfOk, OnOk};
 ghost use Rattle.oas_shape.specs.Polylines.{vertices_of};
 ghost use Rattle.oas_layout.specs.Grid.{is_grid_point};
 ghost use Rattle.oas_record.specs.declared.records.Record.{Record as OneRecord};
+ghost use Rattle.oas_form.specs.Records.{element_record};
 ghost use Rattle.oas_judge.specs.Own.{AreVertices, ArePair, is_memory, IsOwn, own_drawn, point_given, turn_given, number_given, start_given, end_given};
 
 use oas_layout::{Element, Turns};
@@ -101,8 +102,9 @@ fn own_text(alloc: Global, written: &Text) -> Result<Option<Element>, AllocError
 }
 
 /// A rectangle that gives both sides.
-fn own_rectangle(drawn: &Rectangle) -> Option<Element>
-    ensures { IsOwn result (own_drawn (OneRecord.Rectangle drawn.now)) }
+pub(crate) fn own_rectangle(drawn: &Rectangle) -> Option<Element>
+    ensures own { IsOwn result (own_drawn (OneRecord.Rectangle drawn.now)) }
+    ensures spelled { IfSome result (λ e. element_record e ≡ OneRecord.Rectangle drawn.now) }
 {
     if drawn.square {
         return None;

@@ -1,11 +1,60 @@
 //! The records of a file, accepted and judged one after another.
-ghost use Rattle.oas_judge.specs.Judged.{JudgesRecords};
+ghost use Rattle.std.specs.Prelude.{◌≡◌};
+ghost use Rattle.oas_judge.specs.Judged.{JudgesRecords, JudgesOne, JudgesAhead};
 
 use crate::judge::FileJudge;
+use oas_ahead::rectangle_ahead;
 use oas_modal::{CellStore, Reader};
 use oas_num::{Refusal, Source};
 use oas_record::Head;
 use std::alloc::Global;
+
+/// Has the reader take a rectangle that is at hand, and the judge see it, where that needs nothing more to know. Answers false
+/// where it does nothing.
+fn judge_ahead<S: Source, C: CellStore>(
+    source: &mut S,
+    head: &Head,
+    at: u64,
+    reader: &mut Reader<C>,
+    judge: &mut FileJudge,
+) -> Result<bool, Refusal>
+    requires { at ≡ (S.script source.old).given }
+    ensures { JudgesAhead C.store head.now (S.script source.old) reader.old judge.old result (S.script source.new) reader.new judge.new }
+{
+    let Some(found) = rectangle_ahead(source.ahead()) else {
+        return Ok(false);
+    };
+    if !judge.judge_ahead(&found) {
+        return Ok(false);
+    }
+    source.skip(found.length);
+    reader.take_rectangle(at, found.rectangle)?;
+    Ok(true)
+}
+
+/// Has the reader take the next record, which starts at byte `at`, and the judge see it. Answers false where it is END.
+fn judge_next<S: Source, C: CellStore>(
+    alloc: Global,
+    source: &mut S,
+    head: &Head,
+    at: u64,
+    reader: &mut Reader<C>,
+    judge: &mut FileJudge,
+) -> Result<bool, Refusal>
+    requires { at ≡ (S.script source.old).given }
+    ensures { JudgesOne C.store head.now (S.script source.old) reader.old judge.old result (S.script source.new) reader.new judge.new }
+{
+    if judge_ahead(source, head, at, reader, judge)? {
+        return Ok(true);
+    }
+    let Some(record) = judge.next(alloc, source, head.flag_in_end)? else {
+        return Ok(false);
+    };
+    let candidate = judge.candidate(alloc, at, &record)?;
+    reader.take(at, record)?;
+    judge.judge(candidate);
+    Ok(true)
+}
 
 /// Has the reader take the records up to END, and the judge see them. Answers END's offset.
 pub(crate) fn judge_records<S: Source, C: CellStore>(
@@ -18,10 +67,7 @@ pub(crate) fn judge_records<S: Source, C: CellStore>(
     ensures { JudgesRecords C.store head (S.script source.old) reader.old judge.old result (S.script source.new) reader.new judge.new }
 {
     let mut at = source.at();
-    while let Some(record) = judge.next(alloc, source, head.flag_in_end)? {
-        let candidate = judge.candidate(alloc, at, &record)?;
-        reader.take(at, record)?;
-        judge.judge(candidate);
+    while judge_next(alloc, source, &head, at, reader, judge)? {
         at = source.at();
     }
     Ok(at)

@@ -1,37 +1,20 @@
 use Rattle.std.proofs.lemmas.Result.{err_from_is_err_and}
-use Rattle.oas_judge.proofs.RecordSteps.{next_fails, candidate_fails, take_refused, seen_more, seen_all}
 use Rattle.oas_judge.proofs.records.judge_records.Goals as goal
 
-pub returns-in_err-record : goal.returns-in_err-record
-returns-in_err-record g c =
+pub returns-in_err-judge_next : goal.returns-in_err-judge_next
+returns-in_err-judge_next g c =
     let p = err_from_is_err_and c.from_residual.result c.from_residual.ensures.1 in
-    rw (p.1, p.2) (λ profile b. next_fails b (c.loop-record.invariant.seen profile b) _ c.in_err-record.ensures.refused)
+    rw (p.1, p.2) (λ profile b. c.in_err-judge_next.ensures profile _ _ _ b (c.loop-source.invariant.seen profile b))
 
-pub returns-in_err-candidate : goal.returns-in_err-candidate
-returns-in_err-candidate g c =
-    let p = err_from_is_err_and c.from_residual-in_err-candidate.result c.from_residual-in_err-candidate.ensures.1 in
-    let next = rw c.in-Some.is at c.in_ok-record.ensures.taken in
-    rw (p.1, p.2) (λ profile b. candidate_fails b (c.loop-record.invariant.seen profile b) c.in_ok-record.ensures.same next _ c.in_err-candidate.ensures.err.1)
-
-pub returns-in_err-take : goal.returns-in_err-take
-returns-in_err-take g c =
-    let p = err_from_is_err_and c.from_residual-in_err-take.result c.from_residual-in_err-take.ensures.1 in
-    let next = rw c.in-Some.is at c.in_ok-record.ensures.taken in
-    rw (p.1, p.2) (λ profile b.
-    let m = c.loop-record.invariant.seen profile b in
-    take_refused b m c.in_ok-record.ensures.same next _ _ c.loop-record.invariant.place (c.in_err-take.ensures.refused _ m.taken.stands))
-
-pub loop-record-preserved : goal.loop-record-preserved
-loop-record-preserved g c =
-    let next = rw c.in-Some.is at c.in_ok-record.ensures.taken in
+pub loop-source-preserved : goal.loop-source-preserved
+loop-source-preserved g c =
+    let more = rw c.if-branch.true at c.in_ok-judge_next.ensures in
     record {
-      place = c.at-at-in-Some.ensures;
-      seen = λ profile b.
-          let m = c.loop-record.invariant.seen profile b in
-          seen_more b m c.in_ok-record.ensures.same next _ _ _ (c.in_ok-take.ensures.taken _ m.taken.stands) c.in_ok-take.ensures.unit c.in_ok-take.ensures.limits c.in_ok-take.ensures.profile
-          c.in_ok-candidate.ensures.ok c.judge.ensures;
+      place = c.at-at-in-loop-source.ensures;
+      seen = λ profile b. more.1 profile _ _ _ b (c.loop-source.invariant.seen profile b);
     }
 
 pub returns : goal.returns
-returns g c = λ profile b.
-    seen_all b (c.loop-record.invariant.seen profile b) c.in_ok-record.ensures.same _ c.loop-record.invariant.place (rw c.in_default.is at c.in_ok-record.ensures.taken)
+returns g c =
+    let ended = rw c.if-branch.false at c.in_ok-judge_next.ensures in
+    λ profile b. rw c.loop-source.invariant.place (ended profile _ _ _ b (c.loop-source.invariant.seen profile b))

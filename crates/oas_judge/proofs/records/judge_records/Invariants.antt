@@ -3,12 +3,12 @@ use Rattle.oas_layout.specs.declared.profile.Profile.{Profile}
 use Rattle.oas_judge.specs.Judged.{HasBegun, HasSeen}
 use Rattle.oas_judge.proofs.records.judge_records.Given as goal
 
-abbrev pub invariant-loop-record : goal.invariant-loop-record
-invariant-loop-record g l = record {
+abbrev pub invariant-loop-source : goal.invariant-loop-source
+invariant-loop-source g l = record {
   place : l.at ≡ (g.S.Source.script l.source).given;
   seen : (profile : Profile) (b : HasBegun g.C.CellStore.store profile l.head (g.S.Source.script l.fn.source) l.fn.reader l.fn.judge)
       → HasSeen g.C.CellStore.store profile l.head b.begun.start b.origin l.fn.reader (g.S.Source.script l.source) l.reader l.judge;
 }
 
-abbrev pub decreases-loop-record : goal.decreases-loop-record
-decreases-loop-record g l = 2 ^ 64 - l.at
+abbrev pub decreases-loop-source : goal.decreases-loop-source
+decreases-loop-source g l = 2 ^ 64 - l.at
