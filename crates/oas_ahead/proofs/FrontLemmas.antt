@@ -1,13 +1,14 @@
 -- What is taken of the front of bytes, part by part.
-use Rattle.std.proofs.Common.{◌≡◌, true, false, ℕ, ◌+◌, ◌*◌, ◌%◌, ◌^◌, ◌<◌, ◌≤◌, zero, suc, Bool, Option, None, Some, List, [], ◌∷◌, ◌++◌, length, inl, inr, refl, ap, sym, ◌∙◌, append_assoc, add-one, arith}
+use Rattle.std.proofs.Common.{◌≡◌, true, false, ℕ, ℤ, ◌+◌, ◌*◌, ◌%◌, ◌^◌, ◌<◌, ◌≤◌, zero, suc, Bool, Option, None, Some, List, [], ◌∷◌, ◌++◌, length, inl, inr, refl, ap, sym, ◌∙◌, append_assoc, add-one, arith}
 use Rattle.std.specs.Prelude.{IsTrue, IfSome, ◌&&◌, ◌==◌, not}
 use Rattle.std.proofs.lemmas.List.{length-append}
 use Rattle.std.proofs.Math.Nat.{pow-suc, pow-le-pow_right, lt_of_not-le}
 use Rattle.std.proofs.lemmas.Nat.{mul-le}
 use Rattle.oas_num.specs.Integers.{IsOpen, IsClosed, IsUnsigned, value_of}
 use Rattle.oas_num.specs.Style.{IsShortest}
-use Rattle.oas_record.specs.Kinds.{Kind, number}
-use Rattle.oas_record.specs.Trees.{pair, image, there}
+use Rattle.oas_record.specs.Kinds.{Kind, number, signed}
+use Rattle.oas_record.specs.Trees.{pair, image, there, either}
+use Rattle.oas_record.specs.Fields.{spot, spot_of, repetition}
 use Rattle.oas_ahead.specs.Fronts.{Left, TakesByte, TakesFront, behind, noted}
 
 -- one part after another
@@ -181,3 +182,24 @@ image_takes f back A inverse {u} p = record {
 -- a field that isn't there
 pub none_takes : {V : Type 0} (A : Kind V) (here : Bool) (now : Left) → here ≡ false → TakesFront (there here A) None now now
 none_takes A here now is = record { bytes = []; joined = refl; spelled = rw is refl; shortest = λ t. (t, rw is refl) }
+
+-- a field that is there
+pub some_takes : {V : Type 0} (A : Kind V) (here : Bool) → here ≡ true → {v : V} {old new : Left} → TakesFront A v old new → TakesFront (there here A) (Some v) old new
+some_takes A here is p = record { bytes = p.bytes; joined = p.joined; spelled = rw is p.spelled; shortest = λ now. let s = p.shortest now in (s.0, rw is s.1) }
+
+-- the one of two kinds that the test says
+pub first_takes : {V : Type 0} (test : Bool) (A B : Kind V) → test ≡ true → {v : V} {old new : Left} → TakesFront A v old new → TakesFront (either test A B) v old new
+first_takes test A B is p = record { bytes = p.bytes; joined = p.joined; spelled = rw is p.spelled; shortest = λ now. let s = p.shortest now in (s.0, rw is s.1) }
+
+pub second_takes : {V : Type 0} (test : Bool) (A B : Kind V) → test ≡ false → {v : V} {old new : Left} → TakesFront B v old new → TakesFront (either test A B) v old new
+second_takes test A B is p = record { bytes = p.bytes; joined = p.joined; spelled = rw is p.spelled; shortest = λ now. let s = p.shortest now in (s.0, rw is s.1) }
+
+-- x and y, where there is no repetition
+pub spot_takes : (with_x with_y repeated : Bool) → repeated ≡ false → {x y : Option ℤ} {old mid new : Left} → TakesFront (there with_x signed) x old mid → TakesFront (there with_y signed) y mid new
+    → TakesFront (spot with_x with_y repeated) (record { x = x; y = y; repetition = None }) old new
+spot_takes with_x with_y repeated once p q = image_takes spot_of _ _ _
+    (pair_takes (λ _. pair (there with_y signed) (λ _. there repeated repetition)) p (pair_takes (λ _. there repeated repetition) q (none_takes repetition repeated _ once)))
+
+-- of the bytes none are left that weren't there
+pub leaves_fewer : {V : Type 0} (A : Kind V) {v : V} {old new : Left} → TakesFront A v old new → length new.bytes ≤ length old.bytes
+leaves_fewer A {new = new} p = rw p.joined (omega (arith, length-append p.bytes new.bytes))

@@ -1,5 +1,5 @@
 -- The fields of a rectangle that stands once, and its record.
-use Rattle.std.proofs.Common.{◌≡◌, ℕ, ℤ, ◌-◌, ◌<◌, Bool, Option, None, List, [], ◌∷◌, ◌++◌, length, refl, ap, sym, ◌∙◌, arith}
+use Rattle.std.proofs.Common.{◌≡◌, ℕ, ◌-◌, ◌<◌, Bool, Option, None, List, [], ◌∷◌, ◌++◌, length, refl, ap, sym, ◌∙◌, arith}
 use Rattle.std.specs.Prelude.{IsTrue, ◌==◌, take}
 use Rattle.std.proofs.lemmas.List.{length-append}
 use Rattle.std.proofs.Math.Seq.{take-append_seam}
@@ -8,18 +8,13 @@ use Rattle.oas_record.specs.declared.records.Record.TheVariants.{Rectangle}
 use Rattle.oas_record.specs.declared.rectangles.Rectangle.{Rectangle as OneRectangle}
 use Rattle.oas_record.specs.declared.spots.Spot.{Spot}
 use Rattle.oas_record.specs.Info.{has}
-use Rattle.oas_record.specs.Kinds.{number, signed}
+use Rattle.oas_record.specs.Kinds.{number}
 use Rattle.oas_record.specs.Trees.{pair, there}
-use Rattle.oas_record.specs.Fields.{Layers, layers, spot, spot_of, repetition}
+use Rattle.oas_record.specs.Fields.{Layers, layers, spot}
 use Rattle.oas_record.specs.Records.{record_in}
 use Rattle.oas_ahead.specs.Fronts.{Left, TakesByte, TakesFront, noted}
 use Rattle.oas_ahead.specs.Ahead.{IsAhead, IsOnceInfo, TakesFields}
-use Rattle.oas_ahead.proofs.FrontLemmas.{pair_takes, image_takes, none_takes, one_byte, one_shortest, both_true}
-
-pub spot_takes : (info : ℕ) → IsOnceInfo info → {x y : Option ℤ} {old mid new : Left} → TakesFront (there (has info 16) signed) x old mid → TakesFront (there (has info 8) signed) y mid new
-    → TakesFront (spot (has info 16) (has info 8) (has info 4)) (record { x = x; y = y; repetition = None }) old new
-spot_takes info once p q = image_takes spot_of _ _ _
-    (pair_takes (λ _. pair (there (has info 8) signed) (λ _. there (has info 4) repetition)) p (pair_takes (λ _. there (has info 4) repetition) q (none_takes repetition (has info 4) _ once.1)))
+use Rattle.oas_ahead.proofs.FrontLemmas.{pair_takes, one_byte, one_shortest, both_true}
 
 pub fields_take : (info : ℕ) {both : Layers} {width height : Option ℕ} {at : Spot} {old one two three new : Left} → TakesFront (layers info) both old one → TakesFront (there (has info 64) number) width one two
     → TakesFront (there (has info 32) number) height two three → TakesFront (spot (has info 16) (has info 8) (has info 4)) at three new → at.repetition ≡ None
@@ -75,7 +70,7 @@ module _ (info : ℕ) (small : info < 256) (drawn : OneRectangle) (two new : Lef
   }
 
 -- what is taken of bytes is so long as they are longer than what is left
-taken : (bytes front left : List ℕ) → bytes ≡ front ++ left → take (length bytes - length left) bytes ≡ front
+pub taken : (bytes front left : List ℕ) → bytes ≡ front ++ left → take (length bytes - length left) bytes ≡ front
 taken bytes front left is =
     let e : length bytes - length left ≡ length front = rw is (omega (arith, length-append front left)) in
     rw (e, is) (take-append_seam front left)

@@ -1,5 +1,5 @@
 //! What is left of bytes, read from their front.
-ghost use Rattle.std.specs.Prelude.{◌≡◌, ◌≤◌, true, List, ℕ, IfSome};
+ghost use Rattle.std.specs.Prelude.{◌≡◌, ◌≤◌, ◌++◌, length, true, List, ℕ, IfSome};
 ghost use Rattle.oas_record.specs.Kinds.{number, signed};
 ghost use Rattle.oas_record.specs.Trees.{there};
 ghost use Rattle.oas_ahead.specs.Fronts.{TakesByte, TakesFront, behind, noted};
@@ -58,6 +58,19 @@ impl<'a> Front<'a> {
         let (first, left) = self.left.split_first()?;
         self.left = left;
         Some(*first)
+    }
+
+    /// Takes so many bytes, whatever they are.
+    #[inline]
+    pub(crate) fn bytes(&mut self, count: u64) -> Option<&'a [u8]>
+        ensures { IfSome result (λ taken. (length taken.now ≡ count) × (self.old.bytes ≡ taken.now ++ self.new.bytes) × (self.new.shortest ≡ self.old.shortest)) }
+    {
+        if count > self.left.len() as u64 {
+            return None;
+        }
+        let (taken, left) = self.left.split_at(count as usize);
+        self.left = left;
+        Some(taken)
     }
 
     /// Notes whether what was taken last is spelled in the shortest style.

@@ -34,7 +34,7 @@ fn is_once(info: u8) -> bool
 
 /// Layer and datatype, each where it is there.
 #[inline]
-fn take_layers(front: &mut Front<'_>, info: u8) -> Option<(Option<u64>, Option<u64>)>
+pub(crate) fn take_layers(front: &mut Front<'_>, info: u8) -> Option<(Option<u64>, Option<u64>)>
     ensures { IfSome result (λ both. TakesFront (layers info) both front.old front.new) }
 {
     let layer = front.unsigned_if(info & 1 != 0)?;

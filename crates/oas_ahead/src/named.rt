@@ -1,0 +1,142 @@
+//! A placement or a text at the front of bytes: an element with a name, or with a number for one.
+ghost use Rattle.std.specs.Prelude.{◌≡◌, ◌↔◌, IsTrue, IfSome};
+ghost use Rattle.oas_record.specs.Placements.{IsCanonicalPlacement};
+ghost use Rattle.oas_ahead.specs.Named.{IsNamedAhead, TakesGiven, TakesNamed};
+
+use crate::fronts::Front;
+use crate::rectangles::take_layers;
+
+/// The id of a placement's record that turns by quarters (SEMI P39, PLACEMENT records).
+const PLACEMENT: u8 = 17;
+
+/// The id of a text's record (SEMI P39, TEXT record).
+const TEXT: u8 = 19;
+
+/// The info byte of a text that gives its string itself, all other fields, and no repetition.
+const ALL_FIELDS: u8 = 0x5B;
+
+/// What a record gives of the cell that it places, or of the string that it writes.
+#[derive(Debug, Drop)]
+pub enum Given<'a> {
+    /// Nothing: the modal one is meant.
+    Modal,
+    /// The number of a name record.
+    Number(u64),
+    /// These bytes, which may be any.
+    Bytes(&'a [u8]),
+}
+
+/// A placement or a text that stands once, as its record gives it.
+#[derive(Debug, Drop)]
+pub enum NamedOnce<'a> {
+    Placement {
+        cell: Given<'a>,
+        /// Quarter turns counterclockwise, 0 to 3.
+        quarters: u8,
+        /// Flipped about the x axis, before the turns.
+        flip: bool,
+        x: Option<i64>,
+        y: Option<i64>,
+    },
+    Text {
+        string: Given<'a>,
+        textlayer: Option<u64>,
+        texttype: Option<u64>,
+        x: Option<i64>,
+        y: Option<i64>,
+    },
+}
+
+/// A placement or a text that stands once, as some bytes begin with it.
+#[derive(Debug, Drop)]
+pub struct NamedAhead<'a> {
+    pub element: NamedOnce<'a>,
+    /// How many bytes spell its record, the id included, if those of its name are a name's.
+    pub length: usize,
+    /// Whether they do so in the shortest style: the name and all fields are given, each number in as few bytes as it needs.
+    pub shortest: bool,
+}
+
+/// What is given of a cell or a string, where it is there, by its number or itself.
+#[inline]
+fn take_given<'a>(front: &mut Front<'a>, here: bool, numbered: bool) -> Option<Given<'a>>
+    ensures { IfSome result (λ given. TakesGiven here numbered given front.old front.new) }
+{
+    if !here {
+        return Some(Given::Modal);
+    }
+    let number = front.unsigned()?;
+    if numbered {
+        return Some(Given::Number(number));
+    }
+    Some(Given::Bytes(front.bytes(number)?))
+}
+
+/// Whether a placement with that info byte gives the cell by its name, x, y, and no repetition.
+#[inline]
+fn gives_all(info: u8) -> bool
+    ensures { IsTrue result ↔ IsCanonicalPlacement info }
+{
+    info >= 176 && info < 184
+}
+
+/// A placement, behind its id.
+fn take_placement<'a>(front: &mut Front<'a>) -> Option<NamedOnce<'a>>
+    ensures { IfSome result (λ element. TakesNamed 17 element front.old front.new) }
+{
+    let info = front.byte()?;
+    if info & 8 != 0 {
+        return None;
+    }
+    let cell = take_given(front, info & 128 != 0, info & 64 != 0)?;
+    let x = front.signed_if(info & 32 != 0)?;
+    let y = front.signed_if(info & 16 != 0)?;
+    front.note(gives_all(info));
+    Some(NamedOnce::Placement {
+        cell,
+        quarters: info / 2 % 4,
+        flip: info % 2 == 1,
+        x,
+        y,
+    })
+}
+
+/// A text, behind its id.
+fn take_text<'a>(front: &mut Front<'a>) -> Option<NamedOnce<'a>>
+    ensures { IfSome result (λ element. TakesNamed 19 element front.old front.new) }
+{
+    let info = front.byte()?;
+    if info >= 128 || info & 4 != 0 {
+        return None;
+    }
+    let string = take_given(front, info & 64 != 0, info & 32 != 0)?;
+    let (textlayer, texttype) = take_layers(front, info)?;
+    let x = front.signed_if(info & 16 != 0)?;
+    let y = front.signed_if(info & 8 != 0)?;
+    front.note(info == ALL_FIELDS);
+    Some(NamedOnce::Text {
+        string,
+        textlayer,
+        texttype,
+        x,
+        y,
+    })
+}
+
+/// The placement or the text with which the bytes begin, where it stands once and each of its numbers has nine bytes at most;
+/// None, too, where the bytes end before it does, or begin with anything else.
+pub fn named_ahead(bytes: &[u8]) -> Option<NamedAhead<'_>>
+    ensures { IfSome result (λ ahead. IsNamedAhead bytes.now ahead) }
+{
+    let mut front = Front::of(bytes);
+    let element = match front.byte()? {
+        PLACEMENT => take_placement(&mut front)?,
+        TEXT => take_text(&mut front)?,
+        _ => return None,
+    };
+    Some(NamedAhead {
+        element,
+        length: bytes.len() - front.left().len(),
+        shortest: front.is_shortest(),
+    })
+}
