@@ -1,5 +1,5 @@
 //! What records draw one after another, as the copies of the latest show it.
-
+mod named;
 mod places;
 mod rectangles;
 

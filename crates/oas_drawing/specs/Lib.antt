@@ -7,4 +7,5 @@ pub mod Drawn
 pub mod Turns
 pub mod Drawing
 pub mod Reasons
+pub mod Named
 pub mod Laws

@@ -13,6 +13,8 @@
 //!   and why it is refused, `draw_reason` (specs/Reasons.antt). [`ModalVariables::copies`] and [`ModalVariables::copy`] are
 //!   these, copy by copy; of a [`Drawn`] element the cell or the string may still be a number.
 //!   [`ModalVariables::one_rectangle`] says both at once of a rectangle that stands once.
+//! - [`ModalVariables::one_named`] says it of a placement or a text at hand, drawn with the modal name itself, no copy of it:
+//!   the name that the record gives, if [`ModalVariables::knows`] says so, else the modal one ([`ModalVariables::set_named`]).
 //! - [`Drawn`] elements are ordered, and no two tie (`drawn_cmp`, specs/Drawn.antt).
 //! - [`laws`] says, over the definitions alone, that one more record changes the variables by what it gives, what looking
 //!   back finds, that a record is refused copy by copy, and that its elements are those of its copies.
@@ -22,10 +24,12 @@ mod drawn;
 mod kinds;
 pub mod laws;
 mod modal;
+mod once;
 mod positions;
 mod turning;
 
 pub use drawn::Drawn;
 pub use kinds::{Kind, repeats};
 pub use modal::ModalVariables;
+pub use once::DrawnOnce;
 pub use positions::Position;

@@ -261,4 +261,5 @@ fn extension_numbers(
 mod checking;
 mod copying;
 mod drawing;
+mod named;
 mod rectangles;

@@ -26,9 +26,17 @@ impl Position {
         requires { IsNear self.now }
         ensures { result ≡ moved_by relative self.now spot.now }
     {
+        self.moved_to(relative, spot.x, spot.y)
+    }
+
+    /// The same by these coordinates, each where it is given.
+    pub(crate) fn moved_to(&self, relative: bool, x: Option<i64>, y: Option<i64>) -> Position
+        requires { IsNear self.now }
+        ensures { result ≡ record { x = moved relative self.now.x x; y = moved relative self.now.y y } }
+    {
         Position {
-            x: moved(relative, self.x, spot.x),
-            y: moved(relative, self.y, spot.y),
+            x: moved(relative, self.x, x),
+            y: moved(relative, self.y, y),
         }
     }
 }
