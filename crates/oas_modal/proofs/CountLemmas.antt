@@ -29,6 +29,13 @@ min_more m a b = grind arith
 pub capped_more : (a b : ℕ) → capped (capped a + capped b) ≡ capped (a + b)
 capped_more a b = min_more (2 ^ 64 - 1) a b
 
+min_once : (m v a : ℕ) → min (v + a) m ≡ min (v + min (a * 1) m) m
+min_once m v a = grind arith
+
+-- once what it weighs
+pub capped_once : (v a : ℕ) → capped (v + a) ≡ capped (v + capped (a * 1))
+capped_once v a = min_once (2 ^ 64 - 1) v a
+
 -- ---- used numbers
 
 -- numbers that compare alike are equal

@@ -6,13 +6,14 @@ ghost use Rattle.std.specs.BTreeMap.{is_at};
 ghost use Rattle.std.specs.Ordering.{nat_cmp};
 ghost use Rattle.oas_layout.specs.Bag.{put_more};
 ghost use Rattle.oas_layout.specs.Laws.BagLaws.{total};
+ghost use Rattle.oas_drawing.specs.Named.{drawn_once};
 ghost use Rattle.oas_modal.specs.Counted.{counted_store, placed_more, written_more};
 ghost use Rattle.oas_modal.specs.Laws.StoreLaws.{counted_in_any_order};
 
 use crate::copying::weight_so_far;
 use crate::stores::CellStore;
-use oas_drawing::Drawn;
-use oas_record::CellRef;
+use oas_drawing::{Drawn, DrawnOnce};
+use oas_record::{CellRef, TextRef};
 use std::alloc::{AllocError, Global};
 use std::collections::BTreeMap;
 use std::marker::Model;
@@ -107,6 +108,28 @@ impl CountedCell {
         self.count += times;
         Ok(())
     }
+
+    /// Counts something that stands once, and the use of the number by which it is, if it is.
+    fn count_once(&mut self, drawn: &DrawnOnce<'_>) -> Result<(), AllocError>
+        requires { self.old.count + 1 < 2 ^ 64 }
+        ensures ok { OnOk result (self.new ≡ record self.old
+            { count = self.old.count + 1; placed = placed_more (drawn_once drawn.now) 1 self.old.placed; written = written_more (drawn_once drawn.now) 1 self.old.written }) }
+        ensures err { OnErr result (self.new ≡ self.old) }
+    {
+        match drawn {
+            DrawnOnce::Placement {
+                cell: CellRef::Number(number),
+                ..
+            } => self.placed.add(*number, 1)?,
+            DrawnOnce::Text {
+                string: TextRef::Number(number),
+                ..
+            } => self.written.add(*number, 1)?,
+            _ => {}
+        }
+        self.count += 1;
+        Ok(())
+    }
 }
 
 impl CellStore for CountedCell {
@@ -132,6 +155,12 @@ impl CellStore for CountedCell {
         self.count_up(&drawn, times)?;
         let weight = weight_so_far(&drawn).saturating_mul(times);
         self.weight = self.weight.saturating_add(weight);
+        Ok(())
+    }
+
+    fn draw_once(&mut self, _alloc: Global, drawn: &DrawnOnce<'_>) -> Result<(), AllocError> {
+        self.count_once(drawn)?;
+        self.weight = self.weight.saturating_add(drawn.weight());
         Ok(())
     }
 }

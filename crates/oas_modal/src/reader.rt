@@ -1,9 +1,11 @@
 //! The reader: it takes record after record, and finishes to a layout.
 
-ghost use Rattle.std.specs.Prelude.{◌≡◌, ◌⊎◌, ◌++◌, ◌∷◌, [], List, None, Some, OnOk, OnErr, IfOk, IfErr};
+ghost use Rattle.std.specs.Prelude.{◌≡◌, ◌⊎◌, IsTrue, ◌++◌, ◌∷◌, [], List, None, Some, OnOk, OnErr, IfOk, IfErr};
 ghost use Rattle.oas_num.specs.declared.refusals.Why.TheVariants.{Memory};
 ghost use Rattle.oas_num.specs.declared.refusals.Refusal.{Refusal as OneRefusal};
 ghost use Rattle.oas_record.specs.declared.records.Record.{Record as OneRecord};
+ghost use Rattle.oas_ahead.specs.Named.{named_record};
+ghost use Rattle.oas_drawing.specs.Named.{IsKnown};
 ghost use Rattle.oas_modal.specs.Standing.{MayWant};
 ghost use Rattle.oas_modal.specs.Stands.{StandsFor, refusal, records_mean, end_refusal};
 ghost use Rattle.oas_modal.specs.Stores.{held_store};
@@ -15,11 +17,13 @@ ghost use Rattle.oas_layout.specs.Contents.{meaning_of};
 use crate::accepting::accept_end;
 use crate::counted::CountedCell;
 use crate::held::HeldCell;
+use crate::named::accept_named;
 use crate::names::NameTable;
 use crate::parts::{Parts, layout_of};
 use crate::stores::CellStore;
 use crate::taken::{Taken, taken_of};
 use crate::taking::{accept, accept_rectangle};
+use oas_ahead::NamedOnce;
 use oas_drawing::ModalVariables;
 use oas_layout::{Layout, Limits, Profile};
 use oas_num::{Fraction, Refusal, Why};
@@ -134,6 +138,35 @@ impl<S: CellStore> Reader<S> {
         }
         let mut next = next;
         match accept_rectangle(&mut self.parts, &mut next) {
+            Ok(()) => Ok(()),
+            Err(why) => Err(keep(&mut self.failed, at, why)),
+        }
+    }
+
+    /// Whether the name that a placement or a text gives, if it gives one by its bytes, is the modal one.
+    pub fn knows(&self, next: &NamedOnce<'_>) -> bool
+        ensures { IsTrue result → IsKnown self.now.standing.modal next.now }
+    {
+        self.parts.modal.knows(next)
+    }
+
+    /// Takes a placement or a text that stands once, and whose name, if it gives one, is the modal one, as [`Reader::take`] takes
+    /// it as a record: what it stands for then, and what it refuses, are the same. This way makes no name.
+    pub fn take_named(&mut self, at: u64, next: &NamedOnce<'_>) -> Result<(), Refusal>
+        requires { IsKnown self.old.standing.modal next.now }
+        ensures again { (e : OneRefusal) → self.old.failed ≡ Some e → (result ≡ Err e) × (self.new ≡ self.old) }
+        ensures failed { IfErr result (λ e. self.new.failed ≡ Some e) }
+        ensures taken { (rs : List OneRecord) → StandsFor S.store self.old rs → OnOk result ((refusal self.old.limits rs (named_record next.now) ≡ None) × StandsFor S.store self.new (rs ++ named_record next.now ∷ [])) }
+        ensures refused { (rs : List OneRecord) → StandsFor S.store self.old rs →
+            IfErr result (λ e. (e.at ≡ at) × (((e.why ≡ Memory) × MayWant (refusal self.old.limits rs (named_record next.now))) ⊎ (refusal self.old.limits rs (named_record next.now) ≡ Some e.why))) }
+        ensures unit { OnOk result (self.new.unit ≡ self.old.unit) }
+        ensures limits { OnOk result (self.new.limits ≡ self.old.limits) }
+        ensures profile { OnOk result (self.new.profile ≡ self.old.profile) }
+    {
+        if let Some(refusal) = self.failed {
+            return Err(refusal);
+        }
+        match accept_named(&mut self.parts, next) {
             Ok(()) => Ok(()),
             Err(why) => Err(keep(&mut self.failed, at, why)),
         }

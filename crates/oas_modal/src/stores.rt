@@ -1,12 +1,13 @@
 //! Where what the records of a CELL draw is collected.
 
-ghost use Rattle.std.specs.Prelude.{◌≡◌, ◌+◌, ◌<◌, ◌^◌, List, [], replicate, OnOk, OnErr};
+ghost use Rattle.std.specs.Prelude.{◌≡◌, ◌+◌, ◌<◌, ◌^◌, List, [], ◌∷◌, replicate, OnOk, OnErr};
 ghost use Rattle.oas_drawing.specs.declared.drawn.Drawn.{Drawn};
+ghost use Rattle.oas_drawing.specs.Named.{drawn_once};
 ghost use Rattle.oas_modal.specs.Alike.{SameDrawn};
 ghost use Rattle.oas_modal.specs.Finish.{IsFit};
 ghost use Rattle.oas_modal.specs.Stores.{Store, Draws, IsBegun};
 
-use oas_drawing::Drawn;
+use oas_drawing::{Drawn, DrawnOnce};
 use oas_record::CellRef;
 use std::alloc::{AllocError, Global};
 
@@ -30,6 +31,18 @@ pub trait CellStore: Sized + Drop {
         requires room { store.count self.old + times < 2 ^ 64 }
         ensures ok { OnOk result (Draws store self.old (replicate times drawn) self.new) }
         ensures err { OnErr result (Draws store self.old [] self.new) };
+
+    /// Draws something that has a name, and lies within the grid, once more. Its name is copied only where it is kept so. Where
+    /// memory is refused nothing is drawn.
+    fn draw_once(&mut self, alloc: Global, drawn: &DrawnOnce<'_>) -> Result<(), AllocError>
+        requires fit { IsFit (drawn_once drawn.now) }
+        requires room { store.count self.old + 1 < 2 ^ 64 }
+        ensures ok { OnOk result (Draws store self.old (drawn_once drawn.now ∷ []) self.new) }
+        ensures err { OnErr result (Draws store self.old [] self.new) }
+    {
+        let drawn = drawn.try_drawn(alloc)?;
+        self.draw(drawn, 1)
+    }
 
     /// The order in which things are drawn makes no difference to what it may stand for.
     ghost alike: { (s : Self) (ds es : List Drawn) → store.Holds s ds → SameDrawn ds es → store.Holds s es };

@@ -1,0 +1,45 @@
+//! How a placement or a text that is at hand changes what a reader keeps.
+
+ghost use Rattle.std.specs.Prelude.{◌≡◌, ◌⊎◌, None, Some, OnOk, IfErr};
+ghost use Rattle.oas_num.specs.declared.refusals.Why.TheVariants.{Memory};
+ghost use Rattle.oas_ahead.specs.Named.{named_record};
+ghost use Rattle.oas_drawing.specs.Named.{IsKnown};
+ghost use Rattle.oas_modal.specs.Standing.{MayWant};
+ghost use Rattle.oas_modal.specs.Parts.{Took, Sound, reason_of};
+
+use crate::parts::Parts;
+use crate::stores::CellStore;
+use oas_ahead::NamedOnce;
+use oas_num::Why;
+
+/// Draws a placement or a text that stands once in the open cell. Its name, if it gives one, is the modal one.
+pub(crate) fn accept_named<S: CellStore>(
+    parts: &mut Parts<S>,
+    next: &NamedOnce<'_>,
+) -> Result<(), Why>
+    requires known { IsKnown parts.old.modal next.now }
+    requires sound { Sound S.store parts.old }
+    ensures reason { OnOk result (reason_of parts.old (named_record next.now) ≡ None) }
+    ensures new { OnOk result (Took S.store parts.old (named_record next.now) parts.new) }
+    ensures sound { OnOk result (Sound S.store parts.new) }
+    ensures err { IfErr result (λ why. ((why ≡ Memory) × MayWant (reason_of parts.old (named_record next.now))) ⊎ (reason_of parts.old (named_record next.now) ≡ Some why)) }
+{
+    let Some(held) = &mut parts.cell else {
+        return Err(Why::OutOfPlace(match next {
+            NamedOnce::Placement { .. } => 17,
+            NamedOnce::Text { .. } => 19,
+        }));
+    };
+    parts.modal.set_named(next);
+    let drawn = parts
+        .modal
+        .one_named(next, parts.limits, parts.count, parts.weight)?;
+    let weight = drawn.weight();
+    match held.draw_once(parts.alloc, &drawn) {
+        Ok(()) => {}
+        Err(_) => return Err(Why::Memory),
+    }
+    parts.count += 1;
+    parts.weight += weight;
+    Ok(())
+}
