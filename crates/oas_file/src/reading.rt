@@ -3,7 +3,7 @@ ghost use Rattle.std.specs.Prelude.{◌≡◌};
 ghost use Rattle.oas_file.specs.Gathering.{TakesNext, TakesOne, Gathers, FindsEnd};
 ghost use Rattle.oas_file.specs.Reading.{ReadsLayout};
 
-use oas_ahead::rectangle_ahead;
+use oas_ahead::{named_ahead, rectangle_ahead};
 use oas_layout::{Layout, Limits, Profile};
 use oas_modal::{CellStore, Reader};
 use oas_num::{Refusal, Source, SourceFault, Why};
@@ -25,7 +25,7 @@ pub fn take_record<S: Source>(
 }
 
 /// Has the reader take the next record, which starts at byte `at`, and answers false where it is END. A rectangle that is at
-/// hand goes the short way.
+/// hand goes the short way, and so does a placement or a text whose name is known.
 fn take_next<S: Source, C: CellStore>(
     alloc: Global,
     source: &mut S,
@@ -40,6 +40,15 @@ fn take_next<S: Source, C: CellStore>(
         source.skip(found.length);
         reader.take_rectangle(at, found.rectangle)?;
         return Ok(true);
+    }
+    if let Some(found) = named_ahead(source.ahead()) {
+        if reader.knows(&found.element) {
+            let length = found.length;
+            let taken = reader.take_named(at, &found.element);
+            source.skip(length);
+            taken?;
+            return Ok(true);
+        }
     }
     let Some(record) = take_record(alloc, source, flag_in_end)? else {
         return Ok(false);
