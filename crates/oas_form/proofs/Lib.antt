@@ -1,3 +1,4 @@
+pub mod AgainLemmas
 pub mod AllowedLemmas
 pub mod AloneLemmas
 pub mod ComparingLemmas

@@ -1,7 +1,10 @@
 //! Judges a file record by record, with no layout kept.
 ghost use Rattle.std.specs.Prelude.{◌≡◌, List, ℕ, ◌≤◌, ◌^◌, length, true, false, [], IsTrue, ◌↔◌};
+ghost use Rattle.std.specs.Ordering.{is_gt};
 ghost use Rattle.oas_record.specs.declared.records.Record.TheVariants.{Cell};
 ghost use Rattle.oas_record.specs.declared.references.CellRef.TheVariants.{Name as ByName};
+ghost use Rattle.oas_num.specs.Texts.{IsName, IsLabel};
+ghost use Rattle.oas_layout.specs.declared.element.Element.TheVariants.{Placement, Text};
 ghost use Rattle.oas_layout.specs.declared.profile.Profile.{Profile};
 ghost use Rattle.oas_layout.specs.Sound.{IsSound};
 ghost use Rattle.oas_layout.specs.Grid.{fits_grid};
@@ -9,12 +12,14 @@ ghost use Rattle.oas_layout.specs.Weight.{weight_of, lacks_points};
 ghost use Rattle.oas_form.specs.Bytes.{opening_bytes, element_bytes, head_bytes, end_bytes};
 ghost use Rattle.oas_form.specs.Judging.{IsAbove, IsNotBelow, Stands, GoesOn, GoesOnDrawing, GoesOnRefusing};
 
+use crate::again::{placed, placement_order, text_order, written};
 use crate::cells::put_opening;
 use crate::comparing::Comparer;
 use crate::elements::put_element;
 use crate::frames::{put_end, put_head};
-use oas_layout::Element;
+use oas_layout::{Element, Turns};
 use oas_num::{Fraction, Name};
+use std::cmp::Ordering;
 
 /// Whether a name is above that of the cell before it.
 fn is_above(before: &Option<Name>, name: &Name) -> bool
@@ -133,6 +138,46 @@ impl FormJudge {
         self.element = Some(element);
     }
 
+    /// Judges a placement of the cell that the latest element places, if the bytes of its record are the canonical ones. It
+    /// answers false, and does nothing, where the latest element is no placement of a cell of this name.
+    pub fn place_again(&mut self, name: &[u8], at: (i64, i64), turns: Turns, flip: bool) -> bool
+        ensures no { result ≡ false → self.new ≡ self.old }
+        ensures name { result ≡ true → IsName name.now }
+        ensures yes { result ≡ true → (bytes : List ℕ) → element_bytes (Placement name.now at.0 at.1 turns flip) ≡ bytes → GoesOnDrawing self.old (Placement name.now at.0 at.1 turns flip) bytes self.new }
+    {
+        let Some(last) = &self.element else {
+            return false;
+        };
+        let Some(order) = placement_order(last, name, at, turns, flip) else {
+            return false;
+        };
+        self.holds = self.may_go_on(order);
+        if let Some(last) = self.element.take() {
+            self.element = Some(placed(last, at, turns, flip));
+        }
+        true
+    }
+
+    /// Judges a text of the string that the latest element has, if the bytes of its record are the canonical ones. It answers
+    /// false, and does nothing, where the latest element is no text of this string.
+    pub fn write_again(&mut self, string: &[u8], layers: (u64, u64), at: (i64, i64)) -> bool
+        ensures no { result ≡ false → self.new ≡ self.old }
+        ensures fits { result ≡ true → IsLabel string.now }
+        ensures yes { result ≡ true → (bytes : List ℕ) → element_bytes (Text string.now layers.0 layers.1 at.0 at.1) ≡ bytes → GoesOnDrawing self.old (Text string.now layers.0 layers.1 at.0 at.1) bytes self.new }
+    {
+        let Some(last) = &self.element else {
+            return false;
+        };
+        let Some(order) = text_order(last, string, layers, at) else {
+            return false;
+        };
+        self.holds = self.may_go_on(order);
+        if let Some(last) = self.element.take() {
+            self.element = Some(written(last, layers, at));
+        }
+        true
+    }
+
     /// Judges a record that no canonical file has there.
     pub fn refuse(&mut self)
         ensures { GoesOnRefusing self.old self.new }
@@ -146,6 +191,13 @@ impl FormJudge {
         ensures { IsTrue result ↔ (IsTrue self.now.holds × (opening_bytes name.now ≡ bytes.now) × IsAbove self.now.name name.now) }
     {
         self.holds && is_opening(name, bytes) && is_above(&self.name, name)
+    }
+
+    /// Whether a canonical file may have an element next with which the latest one compares so, if it is spelled so.
+    fn may_go_on(&self, order: Ordering) -> bool
+        ensures { IsTrue result ↔ (IsTrue self.now.holds × (is_gt order ≡ false)) }
+    {
+        self.holds && !order.is_gt()
     }
 
     /// Whether a canonical file may have this element next, if it is spelled so.
