@@ -14,7 +14,7 @@ use std::alloc::{AllocError, Global};
 use std::cmp::Ordering;
 
 /// How many bytes wait loose, about, at most.
-const LOOSE: usize = 1 << 18;
+const LOOSE: usize = 1 << 20;
 
 /// Sees that one more can wait loose.
 fn make_room(

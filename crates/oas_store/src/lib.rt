@@ -15,7 +15,7 @@
 //! - The bytes of an entry and a block's are in specs/Entries.antt; no bytes stand for two lists of entries (specs/Laws).
 //!
 //! How a store is made: a key above all of the rising run is put at its end, and one that is its last counts it up, so keys that
-//! ascend are written once and never compared again. Any other waits loose, as it came, among at most 256 KiB of such keys. When
+//! ascend are written once and never compared again. Any other waits loose, as it came, among at most 1 MiB of such keys. When
 //! these are full they are sorted and equal ones are joined, the rising run and they become runs, one after the other, and the last
 //! two runs are merged as long as the last has grown to half of the one before it. So each run is less than half of the one before,
 //! there are few of them, and a key is moved some log n times in whatever order keys come. A merge gives back each block that it
