@@ -1,12 +1,14 @@
 //! What the records of a CELL draw: kept as keys, or waiting for names.
 
-ghost use Rattle.std.specs.Prelude.{◌≡◌, ◌+◌, ◌<◌, ◌^◌, [], List, false, replicate, OnOk, OnErr, IfOk, IfErr};
+ghost use Rattle.std.specs.Prelude.{◌≡◌, ◌+◌, ◌<◌, ◌^◌, [], ◌∷◌, List, false, replicate, OnOk, OnErr, IfOk, IfErr};
 ghost use Rattle.std.specs.Cmp.Lexicographic.{slice_cmp};
 ghost use Rattle.std.specs.Ordering.{nat_cmp};
 ghost use Rattle.oas_num.specs.declared.refusals.Why.TheVariants.{Memory};
 ghost use Rattle.oas_store.specs.Tally.{IsRun};
 ghost use Rattle.oas_drawing.specs.declared.drawn.Drawn.{Drawn as SomeDrawn};
 ghost use Rattle.oas_drawing.specs.declared.drawn.Drawn.TheVariants.{Named as OneNamed};
+ghost use Rattle.oas_drawing.specs.declared.once.DrawnOnce.TheVariants.{Placement as OnePlacement, Text as OneText};
+ghost use Rattle.oas_drawing.specs.Named.{drawn_once};
 ghost use Rattle.oas_modal.specs.Meaning.{elements_meant};
 ghost use Rattle.oas_modal.specs.Finish.{IsFit};
 ghost use Rattle.oas_modal.specs.Stores.{Draws};
@@ -20,11 +22,11 @@ use crate::placing::place_all;
 use crate::profiles::KeptBy;
 use crate::waiting::Waiting;
 use crate::weighing::head_weight;
-use oas_drawing::Drawn;
-use oas_layout::Element;
+use oas_drawing::{Drawn, DrawnOnce};
+use oas_layout::{Element, Turns};
 use oas_modal::{CellStore, NameTable};
 use oas_num::{Label, Name, Why};
-use oas_record::CellRef;
+use oas_record::{CellRef, TextRef};
 use oas_store::Run;
 use std::alloc::{AllocError, Global};
 use std::marker::{Model, PhantomData};
@@ -105,6 +107,76 @@ impl<P: KeptBy> CompactCell<P> {
         Ok(())
     }
 
+    /// Draws a placement once more, by no copy of its cell's name.
+    fn draw_placement(
+        &mut self,
+        cell: &CellRef,
+        x: i64,
+        y: i64,
+        turns: Turns,
+        flip: bool,
+    ) -> Result<(), AllocError>
+        requires fit { IsFit (drawn_once (OnePlacement cell x y turns flip)) }
+        requires room { self.old.count + 1 < 2 ^ 64 }
+        ensures ok { OnOk result (Draws (compact_store P.profile) self.old (drawn_once (OnePlacement cell.entry x y turns flip) ∷ []) self.new) }
+        ensures err { OnErr result (self.new ≡ self.old) }
+    {
+        match cell {
+            CellRef::Name(name) => {
+                self.kept.add_placement(name, x, y, turns, flip, 1)?;
+                self.count += 1;
+                let weight = 1 + name.as_bytes().len() as u64;
+                self.weight = self.weight.saturating_add(weight);
+                Ok(())
+            }
+            CellRef::Number(number) => {
+                let placement = Drawn::PlacementBy {
+                    number: *number,
+                    x,
+                    y,
+                    turns,
+                    flip,
+                };
+                self.wait(placement, 1)
+            }
+        }
+    }
+
+    /// Draws a text once more, by no copy of its string.
+    fn draw_text(
+        &mut self,
+        string: &TextRef,
+        textlayer: u64,
+        texttype: u64,
+        x: i64,
+        y: i64,
+    ) -> Result<(), AllocError>
+        requires fit { IsFit (drawn_once (OneText string textlayer texttype x y)) }
+        requires room { self.old.count + 1 < 2 ^ 64 }
+        ensures ok { OnOk result (Draws (compact_store P.profile) self.old (drawn_once (OneText string.entry textlayer texttype x y) ∷ []) self.new) }
+        ensures err { OnErr result (self.new ≡ self.old) }
+    {
+        match string {
+            TextRef::Label(label) => {
+                self.kept.add_text(label, textlayer, texttype, x, y, 1)?;
+                self.count += 1;
+                let weight = 1 + label.as_bytes().len() as u64;
+                self.weight = self.weight.saturating_add(weight);
+                Ok(())
+            }
+            TextRef::Number(number) => {
+                let text = Drawn::TextBy {
+                    number: *number,
+                    textlayer,
+                    texttype,
+                    x,
+                    y,
+                };
+                self.wait(text, 1)
+            }
+        }
+    }
+
     /// Draws something by a number so many times more.
     fn wait(&mut self, drawn: Drawn, times: u64) -> Result<(), AllocError>
         requires some { 0 < times }
@@ -145,6 +217,25 @@ impl<P: KeptBy> CellStore for CompactCell<P> {
         match named_element(drawn) {
             Ok(element) => self.keep(element, times),
             Err(drawn) => self.wait(drawn, times),
+        }
+    }
+
+    fn draw_once(&mut self, _alloc: Global, drawn: &DrawnOnce<'_>) -> Result<(), AllocError> {
+        match drawn {
+            DrawnOnce::Placement {
+                cell,
+                x,
+                y,
+                turns,
+                flip,
+            } => self.draw_placement(cell, *x, *y, *turns, *flip),
+            DrawnOnce::Text {
+                string,
+                textlayer,
+                texttype,
+                x,
+                y,
+            } => self.draw_text(string, *textlayer, *texttype, *x, *y),
         }
     }
 }

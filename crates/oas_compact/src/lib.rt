@@ -4,7 +4,8 @@
 //! What this crate promises to the crates above it:
 //!
 //! - A [`CompactCell`] is a `CellStore`. What is drawn by its name is kept as its key (oas_keys) beside how often it is drawn, in
-//!   ascending runs (oas_store). What is drawn by a number waits as it was drawn. A refused growth changes nothing.
+//!   ascending runs (oas_store). What is drawn by a number waits as it was drawn. A refused growth changes nothing. The key of
+//!   a placement or a text that stands once is made of the modal name itself, and takes no copy of it.
 //! - It may stand for the lists of which each key is drawn as often, each thing by a number as often, and that weigh as much
 //!   (`Keeps`, specs/Compact.antt). Each of its keys is that of a sound element in the form that the profile keeps (`IsKey`).
 //! - [`accept_cells`] refuses such cells at END exactly where, and by the first reason that, `end_reason` of oas_modal says, or
