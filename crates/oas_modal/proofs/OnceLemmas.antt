@@ -13,7 +13,7 @@ use Rattle.oas_drawing.specs.declared.kinds.Kind.{Kind}
 use Rattle.oas_drawing.specs.declared.kinds.Kind.TheVariants.{Rectangle}
 use Rattle.oas_modal.specs.declared.parts.Parts.{Parts}
 use Rattle.oas_drawing.specs.Positions.{IsNear}
-use Rattle.oas_drawing.specs.Modal.{ModalState, stepped}
+use Rattle.oas_drawing.specs.Modal.{ModalState}
 use Rattle.oas_drawing.specs.Drawn.{weight_so_far}
 use Rattle.oas_drawing.specs.Drawing.{kind_of, repeats, rectangle_at, point_from, place_of, drawn_by}
 use Rattle.oas_drawing.specs.Reasons.{weight_if, kind_reason}

@@ -38,31 +38,15 @@ impl Model for UsedNumbers {
 }
 
 impl UsedNumbers {
-    /// No numbers.
-    fn new(alloc: Global) -> UsedNumbers
-        ensures { result ≡ [] }
-    {
-        UsedNumbers {
-            times: BTreeMap::new(alloc),
-        }
-    }
-
     /// Uses a number so many times more. Where memory is refused nothing changes.
     fn add(&mut self, number: u64, times: u64) -> Result<(), AllocError>
         requires { total (λ _. 1) self.old + times < 2 ^ 64 }
         ensures ok { OnOk result (self.new ≡ put_more nat_cmp self.old number times) }
         ensures err { OnErr result (self.new ≡ self.old) }
     {
-        let had = self.times_of(number);
+        let had = self.times.get(&number).copied().unwrap_or(0);
         self.times.insert(number, had + times)?;
         Ok(())
-    }
-
-    /// How often a number is used.
-    fn times_of(&self, number: u64) -> u64
-        ensures { result ≡ unwrap_or (lookup (is_at (nat_cmp number)) self.now) 0 }
-    {
-        self.times.get(&number).copied().unwrap_or(0)
     }
 }
 
@@ -142,8 +126,12 @@ impl CellStore for CountedCell {
             cell,
             count: 0,
             weight: 0,
-            placed: UsedNumbers::new(alloc),
-            written: UsedNumbers::new(alloc),
+            placed: UsedNumbers {
+                times: BTreeMap::new(alloc),
+            },
+            written: UsedNumbers {
+                times: BTreeMap::new(alloc),
+            },
         }
     }
 

@@ -1,6 +1,5 @@
 use Rattle.std.proofs.Common.{arith}
 use Rattle.oas_ahead.specs.Named.{named_record}
-use Rattle.oas_drawing.specs.Drawing.{drawn_by}
 use Rattle.oas_drawing.specs.Named.{named_kind, drawn_once}
 use Rattle.oas_modal.proofs.JudgedDraws.{held_room}
 use Rattle.oas_modal.proofs.OnceLemmas.{named_is, named_once, weighs_so_far, took_once, sound_once}
