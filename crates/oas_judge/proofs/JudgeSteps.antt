@@ -11,14 +11,19 @@ use Rattle.oas_record.specs.declared.rectangles.Rectangle.{Rectangle as OneRecta
 use Rattle.oas_record.specs.Records.{record_in}
 use Rattle.oas_ahead.specs.declared.rectangles.RectangleAhead.{RectangleAhead}
 use Rattle.oas_ahead.specs.Ahead.{IsAhead}
+use Rattle.oas_ahead.specs.declared.named.NamedAhead.{NamedAhead}
+use Rattle.oas_ahead.specs.declared.named.NamedOnce.{NamedOnce}
+use Rattle.oas_ahead.specs.declared.named.NamedOnce.TheVariants as once
+use Rattle.oas_ahead.specs.Named.{IsNamedAhead, GivesName, named_record}
 use Rattle.oas_layout.specs.declared.element.Element.{Element}
 use Rattle.oas_layout.specs.declared.element.Element.TheVariants.{Placement, Text, Rectangle, Polygon, Path, Circle}
 use Rattle.oas_layout.specs.Same.{normal}
-use Rattle.oas_layout.specs.Sound.{IsSound}
+use Rattle.oas_layout.specs.Sound.{IsSound, Fits}
 use Rattle.oas_form.specs.Bytes.{element_bytes}
 use Rattle.oas_form.specs.Records.{element_record}
 use Rattle.oas_form.proofs.JudgeRecords.{element_is_bytes}
-use Rattle.oas_judge.specs.Ahead.{IsSpelledBy}
+use Rattle.oas_judge.specs.Ahead.{IsSpelledBy, IsNamedBy}
+use Rattle.oas_judge.specs.Candidates.{IsDrawable}
 use Rattle.oas_layout.specs.declared.limits.Limits.{Limits}
 use Rattle.oas_layout.specs.declared.profile.Profile.{Profile}
 use Rattle.oas_drawing.specs.declared.drawn.Drawn.TheVariants.{Named}
@@ -126,12 +131,25 @@ kept_so (Polygon layer datatype points) r is profile = absurd cc
 kept_so (Path layer datatype half_width start end points) r is profile = absurd cc
 kept_so (Circle layer datatype radius x y) r is profile = absurd cc
 
--- its bytes are the canonical ones
-bytes_so : (ahead : RectangleAhead) (e : Element) (all : List ℕ) → IsAhead all ahead → IsSpelledBy ahead e → element_bytes e ≡ take ahead.length all
-bytes_so ahead e all is spelled =
-    let sound : IsSound e = record { points = spelled.fit.points; inside = spelled.fit.inside; fits = spelled.fits } in
-    let there : record_in Shortest false (element_record e) (take ahead.length all) = subst (λ (r : Record). record_in Shortest false r (take ahead.length all)) (sym spelled.is) (is.shortest spelled.shortest false) in
-    sym ((element_is_bytes e (take ahead.length all) sound spelled.fit.light).0 there)
+-- so is that of a placement's or a text's
+named_so : (e : Element) (next : NamedOnce) → element_record e ≡ named_record next → (profile : Profile) → e ≡ normal profile e
+named_so (Placement name x y turns flip) next is profile = refl
+named_so (Text string textlayer texttype x y) next is profile = refl
+named_so (Rectangle layer datatype width height x y) (once.Placement c quarters flip px py) is profile = absurd cc
+named_so (Rectangle layer datatype width height x y) (once.Text s textlayer texttype px py) is profile = absurd cc
+named_so (Polygon layer datatype points) (once.Placement c quarters flip px py) is profile = absurd cc
+named_so (Polygon layer datatype points) (once.Text s textlayer texttype px py) is profile = absurd cc
+named_so (Path layer datatype half_width start end points) (once.Placement c quarters flip px py) is profile = absurd cc
+named_so (Path layer datatype half_width start end points) (once.Text s textlayer texttype px py) is profile = absurd cc
+named_so (Circle layer datatype radius x y) (once.Placement c quarters flip px py) is profile = absurd cc
+named_so (Circle layer datatype radius x y) (once.Text s textlayer texttype px py) is profile = absurd cc
+
+-- the bytes that spell it in the shortest style are the canonical ones
+bytes_so : (e : Element) (r : Record) (bytes : List ℕ) → element_record e ≡ r → IsDrawable e → Fits e → record_in Shortest false r bytes → element_bytes e ≡ bytes
+bytes_so e r bytes is fit fits spelled =
+    let sound : IsSound e = record { points = fit.points; inside = fit.inside; fits = fits } in
+    let there : record_in Shortest false (element_record e) bytes = subst (λ (s : Record). record_in Shortest false s bytes) (sym is) spelled in
+    sym ((element_is_bytes e bytes sound fit.light).0 there)
 
 -- a judge that has failed
 pub ahead_failed : (known : List ℕ) (j : FileJudge) (r : Record) → holds j ≡ false → GoesOnAhead known j r j
@@ -143,5 +161,17 @@ pub ahead_drawn : (j : FileJudge) (form : FormJudge) (ahead : RectangleAhead) (e
 ahead_drawn j form ahead e all told is spelled step = record {
   candidate = candidates.Element e;
   says = λ told. record { element = e; drawn = spelled.drawn; form = kept_so e ahead.rectangle spelled.is j.profile; fit = spelled.fit };
-  goes_on = goes_on_drawn (take ahead.length all) j form told e (step (take ahead.length all) (bytes_so ahead e all is spelled));
+  goes_on =
+      goes_on_drawn (take ahead.length all) j form told e (step (take ahead.length all) (bytes_so e (record_of.Rectangle ahead.rectangle) (take ahead.length all) spelled.is spelled.fit spelled.fits (is.shortest spelled.shortest false)));
+}
+
+-- of a placement or a text
+pub named_drawn : (j : FileJudge) (form : FormJudge) (ahead : NamedAhead) (e : Element) (all : List ℕ) → IsTrue (holds j) → IsNamedAhead all ahead → IsTrue ahead.shortest → GivesName ahead.element
+    → IsNamedBy ahead.element e → ((bytes : List ℕ) → element_bytes e ≡ bytes → GoesOnDrawing j.form e bytes form)
+    → GoesOnAhead (take ahead.length all) j (named_record ahead.element) (record j { form = form })
+named_drawn j form ahead e all told is short gives named step = record {
+  candidate = candidates.Element e;
+  says = λ told. record { element = e; drawn = named.drawn; form = named_so e ahead.element named.is j.profile; fit = named.fit };
+  goes_on =
+      goes_on_drawn (take ahead.length all) j form told e (step (take ahead.length all) (bytes_so e (named_record ahead.element) (take ahead.length all) named.is named.fit named.fits (is.shortest short gives false)));
 }

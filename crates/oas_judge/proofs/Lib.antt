@@ -4,3 +4,4 @@ mod RightRecords
 mod JudgeSteps
 mod RecordSteps
 mod FileLemmas
+pub mod NamedSteps

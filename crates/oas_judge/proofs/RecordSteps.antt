@@ -24,10 +24,7 @@ use Rattle.oas_file.specs.Reading.{Refuses}
 use Rattle.oas_file.proofs.Fronts.{allowed_more}
 use Rattle.oas_file.proofs.SomePlaces.{record_long}
 use Rattle.oas_file.proofs.Taking.{gather_fails, gather_refuses}
-use Rattle.oas_record.specs.declared.records.Record.TheVariants.{Rectangle}
-use Rattle.oas_ahead.specs.declared.rectangles.RectangleAhead.{RectangleAhead}
-use Rattle.oas_ahead.specs.Ahead.{IsAhead}
-use Rattle.std.specs.Prelude.{take}
+use Rattle.oas_record.specs.Records.{record_in, IsInner}
 use Rattle.oas_form.specs.Judging.{Entry, entry_records, entry_bytes}
 use Rattle.oas_form.proofs.JudgeRecords.{all_more}
 use Rattle.oas_judge.specs.declared.candidates.Candidate.{Candidate}
@@ -174,31 +171,29 @@ module _ {C : Type 0} {t : Store C} {profile : Profile} {head : Head} {now : Scr
 pub next_grows : {keeps in_end : Bool} {mid new : Script} {r : Record} {kept : List ℕ} → NextTaken keeps in_end mid (Some r) kept new → mid.given < new.given
 next_grows next = omega (arith, record_long _ _ _ next.spelled.spelled, next.takes.given)
 
--- ---- a rectangle at hand
+-- ---- a record at hand
 
-next_ahead : (keeps in_end : Bool) {mid new : Script} {all : List ℕ} {ahead : RectangleAhead} → IsAhead all ahead → Takes mid (take ahead.length all) new
-    → NextTaken keeps in_end mid (Some (Rectangle ahead.rectangle)) (take ahead.length all) new
-next_ahead keeps in_end {all = all} {ahead = ahead} is takes =
-    record { bytes = take ahead.length all; spelled = record { holds = λ e. cc; spelled = is.spelled in_end }; takes = takes; tied = λ told. refl }
+module _ {mid new : Script} {known : List ℕ} {r : Record} (inner : IsInner r) (spelled : (in_end : Bool) → record_in Any in_end r known) (takes : Takes mid known new) where
+  next_ahead : (keeps in_end : Bool) → NextTaken keeps in_end mid (Some r) known new
+  next_ahead keeps in_end = record { bytes = known; spelled = record { holds = inner; spelled = spelled in_end }; takes = takes; tied = λ told. refl }
 
-pub ahead_grows : {mid new : Script} {all : List ℕ} {ahead : RectangleAhead} → IsAhead all ahead → Takes mid (take ahead.length all) new → mid.given < new.given
-ahead_grows is takes = next_grows (next_ahead true true is takes)
+  pub ahead_grows : mid.given < new.given
+  ahead_grows = next_grows (next_ahead true true)
 
-module _ {C : Type 0} {t : Store C} {head : Head} {mid new : Script} {s : ReaderState C} {k : FileJudge} {all : List ℕ} {ahead : RectangleAhead}
-    (is : IsAhead all ahead) (takes : Takes mid (take ahead.length all) new) where
-  -- it is refused
-  pub ahead_refused : (at : ℕ) (refusal : Refusal) → at ≡ mid.given
-      → ((rs : List Record) → StandsFor t s rs → (refusal.at ≡ at) × (((refusal.why ≡ Memory) × MayWant (refusal_of s.limits rs (Rectangle ahead.rectangle))) ⊎ (refusal_of s.limits rs (Rectangle ahead.rectangle) ≡ Some refusal.why)))
-      → SeesRefused t head mid s k refusal new
-  ahead_refused at refusal place refused profile now first judge b m =
-      take_refused b m {l = k} refl (next_ahead (holds k) head.flag_in_end is takes) at refusal place (refused _ m.taken.stands)
+  module _ {C : Type 0} {t : Store C} {head : Head} {s : ReaderState C} {k : FileJudge} where
+    -- it is refused
+    pub ahead_refused : (at : ℕ) (refusal : Refusal) → at ≡ mid.given
+        → ((rs : List Record) → StandsFor t s rs → (refusal.at ≡ at) × (((refusal.why ≡ Memory) × MayWant (refusal_of s.limits rs r)) ⊎ (refusal_of s.limits rs r ≡ Some refusal.why)))
+        → SeesRefused t head mid s k refusal new
+    ahead_refused at refusal place refused profile now first judge b m =
+        take_refused b m {l = k} refl (next_ahead (holds k) head.flag_in_end) at refusal place (refused _ m.taken.stands)
 
-  -- it is taken and judged
-  pub ahead_seen : {after : ReaderState C} {judged : FileJudge}
-      → ((rs : List Record) → StandsFor t s rs → (refusal_of s.limits rs (Rectangle ahead.rectangle) ≡ None) × StandsFor t after (rs ++ Rectangle ahead.rectangle ∷ []))
-      → after.unit ≡ s.unit → after.limits ≡ s.limits → after.profile ≡ s.profile → GoesOnAhead (take ahead.length all) k (Rectangle ahead.rectangle) judged → SeesMore t head mid s k new after judged
-  ahead_seen {after} {judged} taken unit limits by g profile now first judge b m =
-      seen_more b m {l = k} refl (next_ahead (holds k) head.flag_in_end is takes) after judged g.candidate (taken _ m.taken.stands) unit limits by g.says g.goes_on
+    -- it is taken and judged
+    pub ahead_seen : {after : ReaderState C} {judged : FileJudge}
+        → ((rs : List Record) → StandsFor t s rs → (refusal_of s.limits rs r ≡ None) × StandsFor t after (rs ++ r ∷ []))
+        → after.unit ≡ s.unit → after.limits ≡ s.limits → after.profile ≡ s.profile → GoesOnAhead known k r judged → SeesMore t head mid s k new after judged
+    ahead_seen {after} {judged} taken unit limits by g profile now first judge b m =
+        seen_more b m {l = k} refl (next_ahead (holds k) head.flag_in_end) after judged g.candidate (taken _ m.taken.stands) unit limits by g.says g.goes_on
 
 -- ---- one record
 

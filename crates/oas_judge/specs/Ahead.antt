@@ -1,4 +1,4 @@
--- A rectangle that is at hand, and its element.
+-- A rectangle, a placement or a text that is at hand, and its element.
 use Rattle.std.specs.Prelude.{◌≡◌, IsTrue, Some}
 use Rattle.oas_record.specs.declared.records.Record.TheVariants.{Rectangle}
 use Rattle.oas_layout.specs.declared.element.Element.{Element}
@@ -6,6 +6,8 @@ use Rattle.oas_layout.specs.Sound.{Fits}
 use Rattle.oas_drawing.specs.declared.drawn.Drawn.TheVariants.{Named}
 use Rattle.oas_form.specs.Records.{element_record}
 use Rattle.oas_ahead.specs.declared.rectangles.RectangleAhead.{RectangleAhead}
+use Rattle.oas_ahead.specs.declared.named.NamedOnce.{NamedOnce}
+use Rattle.oas_ahead.specs.Named.{named_record}
 use Rattle.oas_judge.specs.Candidates.{IsDrawable}
 use Rattle.oas_judge.specs.Own.{own_drawn}
 
@@ -14,5 +16,12 @@ pub record IsSpelledBy (ahead : RectangleAhead) (e : Element) : Type 0 where
   pub shortest : IsTrue ahead.shortest
   pub drawn : own_drawn (Rectangle ahead.rectangle) ≡ Some (Named e)
   pub is : element_record e ≡ Rectangle ahead.rectangle
+  pub fit : IsDrawable e
+  pub fits : Fits e
+
+-- its own fields are all those of this element
+pub record IsNamedBy (next : NamedOnce) (e : Element) : Type 0 where
+  pub drawn : own_drawn (named_record next) ≡ Some (Named e)
+  pub is : element_record e ≡ named_record next
   pub fit : IsDrawable e
   pub fits : Fits e

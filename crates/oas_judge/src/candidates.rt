@@ -11,7 +11,7 @@ use oas_record::{CellRef, Record};
 use std::alloc::{AllocError, Global};
 
 /// The largest weight of an element, and length of a name, that any limits allow.
-const HEAVIEST: u64 = 1 << 30;
+pub(crate) const HEAVIEST: u64 = 1 << 30;
 
 /// What a record may be in a canonical file.
 #[derive(Drop)]

@@ -7,14 +7,16 @@ ghost use Rattle.oas_judge.specs.Candidates.{IsCandidate, IsFitting};
 ghost use Rattle.oas_judge.specs.FileJudges.{holds, BeginsJudging, GoesOn, IsFront, IsJudging, GoesOnAhead};
 ghost use Rattle.oas_judge.specs.Ahead.{IsSpelledBy};
 ghost use Rattle.oas_ahead.specs.Ahead.{IsAhead};
+ghost use Rattle.oas_ahead.specs.Named.{IsNamedAhead, GivesName, named_record};
 ghost use Rattle.oas_record.specs.declared.records.Record.TheVariants.{Rectangle as OneRectangle};
 ghost use Rattle.oas_judge.specs.Kept.{RefusesKept, RefusesNext};
 ghost use Rattle.oas_judge.specs.Spelled.{NextTaken};
 
 use crate::candidates::{Candidate, candidate_of, is_drawable};
+use crate::named::draw_named;
 use crate::own::own_rectangle;
 use crate::spelled::{read_head_spelled, take_record_spelled};
-use oas_ahead::RectangleAhead;
+use oas_ahead::{NamedAhead, RectangleAhead};
 use oas_file::take_record;
 use oas_form::{FormJudge, is_end, is_head};
 use oas_layout::{Element, Profile};
@@ -147,6 +149,18 @@ impl FileJudge {
         };
         self.form.draw_spelled(element);
         true
+    }
+
+    /// Judges a placement or a text that is at hand, if it is accepted. It answers false, and does nothing, where the bytes have to
+    /// be compared with the canonical ones to know, or its name isn't that of the latest element.
+    pub(crate) fn judge_named(&mut self, ahead: &NamedAhead<'_>) -> bool
+        ensures no { result ≡ false → self.new ≡ self.old }
+        ensures yes { result ≡ true → GivesName ahead.now.element → (all : List ℕ) → IsNamedAhead all ahead.now → GoesOnAhead (take ahead.now.length all) self.old (named_record ahead.now.element) self.new }
+    {
+        if !self.holds() {
+            return true;
+        }
+        ahead.shortest && draw_named(&mut self.form, &ahead.element)
     }
 
     /// Judges the record that was taken last, which was accepted.

@@ -19,6 +19,7 @@ mod candidates;
 mod checking;
 mod judge;
 mod keeping;
+mod named;
 mod own;
 mod records;
 mod spelled;

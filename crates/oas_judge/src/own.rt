@@ -18,7 +18,7 @@ use oas_shape::PointList;
 use std::alloc::{AllocError, Global};
 
 /// The largest coordinate, and the smallest with its sign turned (own rule).
-const FURTHEST: i64 = 1 << 60;
+pub(crate) const FURTHEST: i64 = 1 << 60;
 
 /// The place of an element that stands once, where both coordinates are given.
 fn point_given(spot: &Spot) -> Option<Point>

@@ -3,7 +3,7 @@ ghost use Rattle.std.specs.Prelude.{◌≡◌};
 ghost use Rattle.oas_judge.specs.Judged.{JudgesRecords, JudgesOne, JudgesAhead};
 
 use crate::judge::FileJudge;
-use oas_ahead::rectangle_ahead;
+use oas_ahead::{named_ahead, rectangle_ahead};
 use oas_modal::{CellStore, Reader};
 use oas_num::{Refusal, Source};
 use oas_record::Head;
@@ -11,7 +11,7 @@ use std::alloc::Global;
 
 /// Has the reader take a rectangle that is at hand, and the judge see it, where that needs nothing more to know. Answers false
 /// where it does nothing.
-fn judge_ahead<S: Source, C: CellStore>(
+fn judge_rectangle<S: Source, C: CellStore>(
     source: &mut S,
     head: &Head,
     at: u64,
@@ -30,6 +30,49 @@ fn judge_ahead<S: Source, C: CellStore>(
     source.skip(found.length);
     reader.take_rectangle(at, found.rectangle)?;
     Ok(true)
+}
+
+/// Has the reader take a placement or a text that is at hand, and the judge see it, where its name is known to both. Answers
+/// false where it does nothing.
+fn judge_named<S: Source, C: CellStore>(
+    source: &mut S,
+    head: &Head,
+    at: u64,
+    reader: &mut Reader<C>,
+    judge: &mut FileJudge,
+) -> Result<bool, Refusal>
+    requires { at ≡ (S.script source.old).given }
+    ensures { JudgesAhead C.store head.now (S.script source.old) reader.old judge.old result (S.script source.new) reader.new judge.new }
+{
+    let Some(found) = named_ahead(source.ahead()) else {
+        return Ok(false);
+    };
+    if !reader.knows(&found.element) || !judge.judge_named(&found) {
+        return Ok(false);
+    }
+    let length = found.length;
+    let taken = reader.take_named(at, &found.element);
+    source.skip(length);
+    taken?;
+    Ok(true)
+}
+
+/// Has the reader take the next record, and the judge see it, where it is at hand and that needs nothing more to know. Answers
+/// false where it does nothing.
+fn judge_ahead<S: Source, C: CellStore>(
+    source: &mut S,
+    head: &Head,
+    at: u64,
+    reader: &mut Reader<C>,
+    judge: &mut FileJudge,
+) -> Result<bool, Refusal>
+    requires { at ≡ (S.script source.old).given }
+    ensures { JudgesAhead C.store head.now (S.script source.old) reader.old judge.old result (S.script source.new) reader.new judge.new }
+{
+    if judge_rectangle(source, head, at, reader, judge)? {
+        return Ok(true);
+    }
+    judge_named(source, head, at, reader, judge)
 }
 
 /// Has the reader take the next record, which starts at byte `at`, and the judge see it. Answers false where it is END.

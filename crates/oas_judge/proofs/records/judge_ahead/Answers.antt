@@ -1,16 +1,13 @@
-use Rattle.std.proofs.lemmas.Result.{err_from_is_err_and}
-use Rattle.oas_judge.proofs.RecordSteps.{ahead_refused, ahead_seen, ahead_grows}
+use Rattle.std.proofs.Common.{sym, ap, ◌∙◌}
+use Rattle.oas_num.specs.Script.{Script}
 use Rattle.oas_judge.proofs.records.judge_ahead.Goals as goal
 
-pub returns-in_err-take_rectangle : goal.returns-in_err-take_rectangle
-returns-in_err-take_rectangle g c =
-    let p = err_from_is_err_and c.from_residual.result c.from_residual.ensures.1 in
-    rw (p.1, p.2) (ahead_refused (rw c.ahead.ensures at c.in-Some.ensures) c.skip.ensures c.args.at _ c.requires c.in_err-take_rectangle.ensures.refused)
+pub judge_named-requires : goal.judge_named-requires
+judge_named-requires g c =
+    let h = rw c.if-branch.false at c.in_ok-judge_rectangle.ensures in
+    c.requires ∙ ap (λ (s : Script). s.given) (sym h.0)
 
 pub returns : goal.returns
 returns g c =
-    let is = rw c.ahead.ensures at c.in-Some.ensures in (
-      ahead_grows is c.skip.ensures,
-      ahead_seen is c.skip.ensures c.in_ok-take_rectangle.ensures.taken c.in_ok-take_rectangle.ensures.unit c.in_ok-take_rectangle.ensures.limits c.in_ok-take_rectangle.ensures.profile
-          (c.judge_ahead.ensures.yes c.if-not-judge_ahead.false _ is),
-    )
+    let h = rw c.if-branch.false at c.in_ok-judge_rectangle.ensures in
+    rw (sym h.0, sym h.1, sym h.2) c.judge_named.ensures
