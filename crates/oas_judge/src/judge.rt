@@ -137,7 +137,7 @@ impl FileJudge {
 
     /// Judges a rectangle that is at hand, if it is accepted. It answers false, and does nothing, where the bytes have to be
     /// compared with the canonical ones to know.
-    pub(crate) fn judge_ahead(&mut self, ahead: &RectangleAhead) -> bool
+    pub(crate) fn judge_rectangle(&mut self, ahead: &RectangleAhead) -> bool
         ensures no { result ≡ false → self.new ≡ self.old }
         ensures yes { result ≡ true → (all : List ℕ) → IsAhead all ahead.now → GoesOnAhead (take ahead.now.length all) self.old (OneRectangle ahead.now.rectangle) self.new }
     {

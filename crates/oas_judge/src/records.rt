@@ -11,7 +11,7 @@ use std::alloc::Global;
 
 /// Has the reader take a rectangle that is at hand, and the judge see it, where that needs nothing more to know. Answers false
 /// where it does nothing.
-fn judge_rectangle<S: Source, C: CellStore>(
+fn next_rectangle<S: Source, C: CellStore>(
     source: &mut S,
     head: &Head,
     at: u64,
@@ -24,7 +24,7 @@ fn judge_rectangle<S: Source, C: CellStore>(
     let Some(found) = rectangle_ahead(source.ahead()) else {
         return Ok(false);
     };
-    if !judge.judge_ahead(&found) {
+    if !judge.judge_rectangle(&found) {
         return Ok(false);
     }
     source.skip(found.length);
@@ -34,7 +34,7 @@ fn judge_rectangle<S: Source, C: CellStore>(
 
 /// Has the reader take a placement or a text that is at hand, and the judge see it, where its name is known to both. Answers
 /// false where it does nothing.
-fn judge_named<S: Source, C: CellStore>(
+fn next_named<S: Source, C: CellStore>(
     source: &mut S,
     head: &Head,
     at: u64,
@@ -59,7 +59,7 @@ fn judge_named<S: Source, C: CellStore>(
 
 /// Has the reader take the next record, and the judge see it, where it is at hand and that needs nothing more to know. Answers
 /// false where it does nothing.
-fn judge_ahead<S: Source, C: CellStore>(
+fn next_at_hand<S: Source, C: CellStore>(
     source: &mut S,
     head: &Head,
     at: u64,
@@ -69,10 +69,10 @@ fn judge_ahead<S: Source, C: CellStore>(
     requires { at ≡ (S.script source.old).given }
     ensures { JudgesAhead C.store head.now (S.script source.old) reader.old judge.old result (S.script source.new) reader.new judge.new }
 {
-    if judge_rectangle(source, head, at, reader, judge)? {
+    if next_rectangle(source, head, at, reader, judge)? {
         return Ok(true);
     }
-    judge_named(source, head, at, reader, judge)
+    next_named(source, head, at, reader, judge)
 }
 
 /// Has the reader take the next record, which starts at byte `at`, and the judge see it. Answers false where it is END.
@@ -87,7 +87,7 @@ fn judge_next<S: Source, C: CellStore>(
     requires { at ≡ (S.script source.old).given }
     ensures { JudgesOne C.store head.now (S.script source.old) reader.old judge.old result (S.script source.new) reader.new judge.new }
 {
-    if judge_ahead(source, head, at, reader, judge)? {
+    if next_at_hand(source, head, at, reader, judge)? {
         return Ok(true);
     }
     let Some(record) = judge.next(alloc, source, head.flag_in_end)? else {

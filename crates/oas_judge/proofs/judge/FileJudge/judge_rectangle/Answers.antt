@@ -1,7 +1,7 @@
 use Rattle.std.proofs.Common.{◌≡◌, IsTrue, false, sym, ◌∙◌}
 use Rattle.oas_judge.specs.FileJudges.{holds}
 use Rattle.oas_judge.proofs.JudgeSteps.{ahead_failed, ahead_drawn}
-use Rattle.oas_judge.proofs.judge.FileJudge.judge_ahead.Goals as goal
+use Rattle.oas_judge.proofs.judge.FileJudge.judge_rectangle.Goals as goal
 
 pub returns-then-not-holds-clause-yes : goal.returns-then-not-holds-clause-yes
 returns-then-not-holds-clause-yes c done all is =

@@ -1,6 +1,6 @@
 use Rattle.std.proofs.lemmas.Result.{err_from_is_err_and}
 use Rattle.oas_judge.proofs.RecordSteps.{ahead_refused, ahead_seen, ahead_grows}
-use Rattle.oas_judge.proofs.records.judge_rectangle.Goals as goal
+use Rattle.oas_judge.proofs.records.next_rectangle.Goals as goal
 
 pub returns-in_err-take_rectangle : goal.returns-in_err-take_rectangle
 returns-in_err-take_rectangle g c =
@@ -13,5 +13,5 @@ returns g c =
     let is = rw c.ahead.ensures at c.in-Some.ensures in (
       ahead_grows (λ e. cc) is.spelled c.skip.ensures,
       ahead_seen (λ e. cc) is.spelled c.skip.ensures c.in_ok-take_rectangle.ensures.taken c.in_ok-take_rectangle.ensures.unit c.in_ok-take_rectangle.ensures.limits c.in_ok-take_rectangle.ensures.profile
-          (c.judge_ahead.ensures.yes c.if-not-judge_ahead.false _ is),
+          (c.judge_rectangle.ensures.yes c.if-not-judge_rectangle.false _ is),
     )

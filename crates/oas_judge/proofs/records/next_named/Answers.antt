@@ -1,7 +1,7 @@
 use Rattle.std.proofs.lemmas.Result.{err_from_is_err_and}
 use Rattle.oas_file.proofs.Taking.{named_inner, known_gives}
 use Rattle.oas_judge.proofs.RecordSteps.{ahead_refused, ahead_seen, ahead_grows}
-use Rattle.oas_judge.proofs.records.judge_named.Goals as goal
+use Rattle.oas_judge.proofs.records.next_named.Goals as goal
 
 pub returns-in_err-taken : goal.returns-in_err-taken
 returns-in_err-taken g c =
