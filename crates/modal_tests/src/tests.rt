@@ -3,6 +3,7 @@
 mod ends;
 mod held;
 mod memory;
+mod named;
 mod rectangles;
 mod table;
 
