@@ -2,8 +2,8 @@
 
 ghost use Rattle.std.specs.Prelude.{◌≡◌, None};
 
-use super::{layout_listed, unit};
-use oas_layout::{Limits, Profile};
+use super::{answer_listed, refuses_on, unit};
+use oas_layout::{Layout, Limits, Profile};
 use oas_modal::Reader;
 use oas_num::{Name, Refusal, SliceSource, Spelled, Why};
 use oas_record::{CellRef, Record, Rectangle, Spot};
@@ -53,81 +53,60 @@ fn take_three(reader: &mut Reader, alone: bool, cell: Name) -> Result<(), Refusa
     take_one(reader, alone, 17, rectangle(None, 5, -3))
 }
 
-/// What comes of three rectangles, within these limits.
+/// The layout of a cell and three rectangles.
+fn layout_of_three(mut reader: Reader, alone: bool, cell: Name) -> Result<Layout, Refusal> {
+    take_three(&mut reader, alone, cell)?;
+    reader.finish(23)
+}
+
+/// What comes of three rectangles, within these limits: the lines of the layout, or NUMBER@OFFSET.
 fn three(alloc: Global, alone: bool, limits: Limits) -> Result<String, Fail> {
     let cell = Name::read(alloc, &mut SliceSource::new(b"\x01A", 100))?;
-    let mut reader = Reader::new(alloc, unit()?, limits, Profile::One);
-    take_three(&mut reader, alone, cell)?;
-    Ok(layout_listed(alloc, &reader.finish(23)?)?)
+    let reader = Reader::new(alloc, unit()?, limits, Profile::One);
+    answer_listed(alloc, layout_of_three(reader, alone, cell))
 }
 
-/// Why three rectangles are refused, within these limits.
-fn refused(alloc: Global, alone: bool, limits: Limits) -> Result<Option<Refusal>, Fail> {
-    let cell = Name::read(alloc, &mut SliceSource::new(b"\x01A", 100))?;
-    let mut reader = Reader::new(alloc, unit()?, limits, Profile::One);
-    Ok(take_three(&mut reader, alone, cell).err())
-}
-
-#[test]
-fn taken_alike(rt: HostRuntime) -> Result<(), Fail> {
-    let limits = Limits::new(3, 100, 6720).ok_or("these are limits")?;
-    let by_itself = three(rt.alloc(), true, limits)?;
-    assert_eq!(rt; by_itself.as_str(), LISTED_THREE);
-    let as_a_record = three(rt.alloc(), false, limits)?;
-    assert_eq!(rt; as_a_record.as_str(), LISTED_THREE);
+/// Asserts that this comes of three rectangles, taken by themselves and as records.
+fn expect_three(
+    rt: &impl Abort,
+    alloc: Global,
+    limits: Option<Limits>,
+    wanted: &str,
+) -> Result<(), Fail> {
+    let limits = limits.ok_or("these are limits")?;
+    let by_itself = three(alloc, true, limits)?;
+    assert!(rt; by_itself.as_str() == wanted, "{by_itself}");
+    let as_a_record = three(alloc, false, limits)?;
+    assert!(rt; as_a_record.as_str() == wanted, "{as_a_record}");
     Ok(())
 }
 
 /// Two elements may stand there, and then a third may not; or all may weigh 4 with a name that weighs 2.
 #[test]
-fn refused_alike(rt: HostRuntime) -> Result<(), Fail> {
-    let few = Limits::new(2, 100, 6720).ok_or("these are limits")?;
-    let many = Some(Refusal {
-        at: 17,
-        why: Why::TooManyElements,
-    });
-    assert!(rt; refused(rt.alloc(), true, few)? == many);
-    assert!(rt; refused(rt.alloc(), false, few)? == many);
-    let light = Limits::new(3, 4, 1000).ok_or("these are limits")?;
-    let heavy = Some(Refusal {
-        at: 17,
-        why: Why::TooHeavy,
-    });
-    assert!(rt; refused(rt.alloc(), true, light)? == heavy);
-    assert!(rt; refused(rt.alloc(), false, light)? == heavy);
-    Ok(())
+fn taken_or_refused_alike(rt: HostRuntime) -> Result<(), Fail> {
+    let alloc = rt.alloc();
+    expect_three(&rt, alloc, Limits::new(3, 100, 6720), LISTED_THREE)?;
+    expect_three(&rt, alloc, Limits::new(2, 100, 6720), "24@17")?;
+    expect_three(&rt, alloc, Limits::new(3, 4, 1000), "25@17")
+}
+
+/// The reader refuses a rectangle of the modal layer, one of a layer, and a record, all for what it refused first.
+fn refuses_all(rt: &impl Abort, mut reader: Reader, refusal: Refusal) {
+    let first = reader.take_rectangle(refusal.at, rectangle(None, 0, 0));
+    let second = reader.take_rectangle(9, rectangle(Some(1), 0, 0));
+    let is_kept = refuses_on(&mut reader, 11, refusal);
+    assert!(rt; first == Err(refusal) && second == Err(refusal) && is_kept);
 }
 
 /// A rectangle outside a cell is refused, and one after a variable that no record gave; and then all that follows.
 #[test]
 fn rectangle_refused_again(rt: HostRuntime) -> Result<(), Fail> {
-    let mut outside: Reader = Reader::new(rt.alloc(), unit()?, Limits::standard(), Profile::One);
-    let refusal = Refusal {
-        at: 7,
-        why: Why::OutOfPlace(20),
-    };
-    assert_eq!(rt;
-        outside.take_rectangle(7, rectangle(Some(1), 0, 0)),
-        Err(refusal)
-    );
-    assert_eq!(rt;
-        outside.take_rectangle(9, rectangle(Some(1), 0, 0)),
-        Err(refusal)
-    );
-    assert_eq!(rt; outside.take(11, Record::Pad), Err(refusal));
-    let mut inside: Reader = Reader::new(rt.alloc(), unit()?, Limits::standard(), Profile::One);
+    let outside = Reader::new(rt.alloc(), unit()?, Limits::standard(), Profile::One);
+    let why = Why::OutOfPlace(20);
+    refuses_all(&rt, outside, Refusal { at: 7, why });
+    let mut inside = Reader::new(rt.alloc(), unit()?, Limits::standard(), Profile::One);
     assert!(rt; inside.take(3, Record::Cell(CellRef::Number(7))).is_ok());
-    let refusal = Refusal {
-        at: 5,
-        why: Why::ModalUndefined,
-    };
-    assert_eq!(rt;
-        inside.take_rectangle(5, rectangle(None, 0, 0)),
-        Err(refusal)
-    );
-    assert_eq!(rt;
-        inside.take_rectangle(9, rectangle(Some(1), 0, 0)),
-        Err(refusal)
-    );
+    let why = Why::ModalUndefined;
+    refuses_all(&rt, inside, Refusal { at: 5, why });
     Ok(())
 }
