@@ -8,7 +8,7 @@ mod order;
 mod plain;
 
 use oas_layout::{Draft, Element, Layout, Limits, Profile, Turns};
-use oas_num::{Fraction, Label, Name, SliceSource, Spelled};
+use oas_num::{Fraction, Label, Name, SliceSource, Spelled, Why};
 use oas_ring::{Point, Points};
 use std::alloc::{AllocError, Global};
 use std::process::Abort;
@@ -196,13 +196,24 @@ fn counted(alloc: Global, line: &str) -> Result<(u64, Element), Fail> {
     Ok((count.parse().unwrap_or(0), element(alloc, rest)?))
 }
 
+/// Adds the element so many times, if there is such a cell, or hands it back.
+fn put_many(
+    draft: &mut Draft,
+    cell: usize,
+    element: Element,
+    times: u64,
+) -> Result<(), (Why, Element)> {
+    if cell < draft.cells() && times > 0 {
+        draft.add_many(cell, element, times)
+    } else {
+        Ok(())
+    }
+}
+
 /// Adds the element of a line to a cell, as often as the line says.
 fn put(draft: &mut Draft, alloc: Global, cell: usize, line: &str) -> Result<(), Fail> {
     let (times, element) = counted(alloc, line)?;
-    if cell < draft.cells() && times > 0 {
-        draft.add_many(cell, element, times)?;
-    }
-    Ok(())
+    Ok(put_many(draft, cell, element, times)?)
 }
 
 /// Adds the elements of the lines, which `;` keeps apart, the last line's first.
@@ -220,6 +231,14 @@ fn layout_of_a(alloc: Global, profile: Profile, lines: &str) -> Result<Layout, F
     Ok(draft.seal()?)
 }
 
+/// Whether the next pair is so many of that element.
+fn is_pair(pair: Option<(&Element, u64)>, times: u64, wanted: &Element) -> bool {
+    match pair {
+        Some((held, count)) => count == times && *held == *wanted,
+        None => false,
+    }
+}
+
 /// The next pair is that of the line.
 fn gives(
     rt: &impl Abort,
@@ -228,8 +247,7 @@ fn gives(
     line: &str,
 ) -> Result<(), Fail> {
     let (times, wanted) = counted(alloc, line)?;
-    let (held, count) = pair.ok_or("an element is missing")?;
-    assert!(rt; count == times && *held == wanted, "at {line}");
+    assert!(rt; is_pair(pair, times, &wanted), "at {line}");
     Ok(())
 }
 

@@ -1,7 +1,8 @@
 //! Limits at and past the bounds of all limits, and drafts at theirs.
 
-use super::{Words, draft_of_a, element, halves, holds, layout_of_a, put};
-use oas_layout::{Draft, Limits, Profile};
+use super::{Words, draft_of_a, element, halves, layout_of_a, put, put_many};
+use oas_layout::{Draft, Element, Limits, Profile};
+use oas_num::Why;
 use std::alloc::Global;
 use std::process::Abort;
 use std::test::Fail;
@@ -18,7 +19,7 @@ fn are(rt: &impl Abort, limits: Limits, elements: u64, weight: u64, input: u64) 
     assert!(rt;
         limits.elements() == elements && limits.weight() == weight && limits.input() == input
     );
-    assert_eq!(rt; Limits::new(elements, weight, input), Some(limits));
+    assert!(rt; Limits::new(elements, weight, input) == Some(limits));
 }
 
 #[test]
@@ -27,6 +28,14 @@ fn limits_that_there_are(rt: HostRuntime) -> Result<(), Fail> {
     are(&rt, Limits::standard(), 16777216, 268435456, 68719476736);
     are(&rt, Limits::large(), 67108864, 1073741824, 274877906944);
     Ok(())
+}
+
+/// Whether the element is handed back for the reason of this number.
+fn is_refusal(answer: &Result<(), (Why, Element)>, number: u8, element: &Element) -> bool {
+    match answer {
+        Ok(()) => false,
+        Err((why, back)) => why.number() == number && *back == *element,
+    }
 }
 
 /// The draft refuses so many of the element of the line for this reason, and hands it back.
@@ -39,35 +48,17 @@ fn refuses(
     wanted: u8,
 ) -> Result<(), Fail> {
     let given = element(alloc, line)?;
-    if draft.cells() == 0 || times == 0 {
-        return Err(Fail::new("no such call"));
-    }
-    let (why, back) = draft
-        .add_many(0, given, times)
-        .err()
-        .ok_or("it is refused")?;
-    assert!(rt; why.number() == wanted, "at {line}");
-    assert!(rt; back == element(alloc, line)?);
+    let wanted_back = element(alloc, line)?;
+    let answer = put_many(draft, 0, given, times);
+    assert!(rt; is_refusal(&answer, wanted, &wanted_back), "at {line}");
     Ok(())
-}
-
-#[test]
-fn very_many_of_one_element(rt: HostRuntime) -> Result<(), Fail> {
-    let alloc = rt.alloc();
-    let line = "rectangle 1 0 10 20 0 0";
-    let mut draft = draft_of_a(alloc, Limits::standard(), Profile::One)?;
-    refuses(&rt, alloc, &mut draft, line, 16777217, 24)?;
-    put(&mut draft, alloc, 0, "16777216 rectangle 1 0 10 20 0 0")?;
-    refuses(&rt, alloc, &mut draft, line, 1, 24)?;
-    let layout = draft.seal()?;
-    assert_eq!(rt; layout.count(), 16777216);
-    holds(&rt, alloc, &layout, 0, "16777216 rectangle 1 0 10 20 0 0")
 }
 
 /// Limits of elements and weight, so many of an element, and the number of the reason: 16 before 24, 24 before 25, 25
 /// before 23. Then each coordinate, one past the grid.
 const REFUSED: &str = "16777216 268435456 1 16|polygon 1 0 0,0 1,1
 16777216 268435456 1 16|path 1 0 5 0 0
+16777216 268435456 16777217 24|rectangle 1 0 10 20 0 0
 1 3 5 16|polygon 1 0 9,9 2000000000000000000,0
 1 3 5 16|path 1 0 9000000000000000000 0 0
 1 3 5 24|path 1 0 9000000000000000000 0 0 1,1
@@ -124,17 +115,27 @@ fn elements_at_the_edge_of_the_grid(rt: HostRuntime) -> Result<(), Fail> {
     Ok(())
 }
 
-/// A polygon that is kept as its rectangle leaves no more room than the polygon does.
-fn leaves_no_room(rt: &impl Abort, alloc: Global, profile: Profile) -> Result<(), Fail> {
-    let limits = Limits::new(9, 7, 768).ok_or("these are limits")?;
+/// A circle behind the elements of a line is refused for this reason.
+fn leaves_no_room(
+    rt: &impl Abort,
+    alloc: Global,
+    limits: Limits,
+    profile: Profile,
+    line: &str,
+    wanted: u8,
+) -> Result<(), Fail> {
     let mut draft = draft_of_a(alloc, limits, profile)?;
-    put(&mut draft, alloc, 0, "1 polygon 1 0 0,0 10,0 10,20 0,20")?;
-    refuses(rt, alloc, &mut draft, "circle 1 0 5 0 0", 1, 25)?;
-    Ok(())
+    put(&mut draft, alloc, 0, line)?;
+    refuses(rt, alloc, &mut draft, "circle 1 0 5 0 0", 1, wanted)
 }
 
+/// A polygon that is kept as its rectangle leaves no more room than the polygon does.
 #[test]
-fn weight_as_it_was_given(rt: HostRuntime) -> Result<(), Fail> {
-    leaves_no_room(&rt, rt.alloc(), Profile::One)?;
-    leaves_no_room(&rt, rt.alloc(), Profile::Two)
+fn drafts_that_are_full(rt: HostRuntime) -> Result<(), Fail> {
+    let light = Limits::new(9, 7, 768).ok_or("these are limits")?;
+    let line = "1 polygon 1 0 0,0 10,0 10,20 0,20";
+    leaves_no_room(&rt, rt.alloc(), light, Profile::One, line, 25)?;
+    leaves_no_room(&rt, rt.alloc(), light, Profile::Two, line, 25)?;
+    let line = "16777216 rectangle 1 0 10 20 0 0";
+    leaves_no_room(&rt, rt.alloc(), Limits::standard(), Profile::One, line, 24)
 }

@@ -4,7 +4,7 @@
 //! of want in its turn. Where the heap cannot be filled, as under a checker of addresses, no call is refused, and the
 //! answers are the same.
 
-use super::{draft_of_a, element, holds, name, put};
+use super::{draft_of_a, element, holds, name, put, put_many};
 use oas_layout::{Draft, Element, Layout, Limits, Profile};
 use oas_num::{Fraction, Name, Why};
 use scarce_memory::Hoard;
@@ -97,18 +97,6 @@ fn insist_on_cells(rt: &impl Abort, draft: &mut Draft, names: Vec<Name>, want: &
     refused
 }
 
-/// Adds the element to the first cell so many times, or hands it back.
-fn put_many(draft: &mut Draft, element: Element, times: u64) -> Result<(), (Why, Element)> {
-    if draft.cells() == 0 || times == 0 {
-        return Ok(());
-    }
-    if times == 1 {
-        draft.add(0, element)
-    } else {
-        draft.add_many(0, element, times)
-    }
-}
-
 /// Adds the element so many times, and gives back a piece of memory after each refusal.
 fn insist_on_element(
     rt: &impl Abort,
@@ -119,7 +107,7 @@ fn insist_on_element(
     want: &mut Want,
 ) {
     for _ in 0..4000u32 {
-        match put_many(draft, element, times) {
+        match put_many(draft, 0, element, times) {
             Ok(()) => return,
             Err((why, back)) => {
                 assert!(rt; why == Why::Memory && back == *wanted);
@@ -170,9 +158,10 @@ fn elements(alloc: Global) -> Result<Vec<Element>, Fail> {
     Ok(list)
 }
 
-fn names(alloc: Global) -> Result<Vec<Name>, Fail> {
+/// Names of one byte each.
+fn names(alloc: Global, texts: &str) -> Result<Vec<Name>, Fail> {
     let mut list = Vec::new(alloc);
-    for text in "A B C D E F G H I J K L".split_whitespace() {
+    for text in texts.split_whitespace() {
         list.push(name(alloc, text)?)?;
     }
     Ok(list)
@@ -213,11 +202,10 @@ fn insist_on_all(
     let drafts = want.fill_again();
     let cells = insist_on_cells(rt, &mut draft, names, want);
     let elements = insist_on_elements(rt, &mut draft, elements, wanted, want);
-    assert!(rt; !want.hoard.is_full() || drafts, "no draft was refused");
-    assert!(rt; !want.hoard.is_full() || cells > 0, "no cell was refused");
+    let are_refused = drafts && cells > 0 && elements >= 3;
     assert!(rt;
-        !want.hoard.is_full() || elements >= 3,
-        "too few elements were refused"
+        !want.hoard.is_full() || are_refused,
+        "{drafts}, {cells}, {elements}"
     );
     Some(draft)
 }
@@ -225,7 +213,7 @@ fn insist_on_all(
 #[test]
 fn drafts_without_memory(rt: HostRuntime) -> Result<(), Fail> {
     let alloc = rt.alloc();
-    let names = names(alloc)?;
+    let names = names(alloc, "A B C D E F G H I J K L")?;
     let given = elements(alloc)?;
     let wanted = elements(alloc)?;
     let mut want = Want::new(alloc)?;
@@ -239,8 +227,8 @@ fn drafts_without_memory(rt: HostRuntime) -> Result<(), Fail> {
 /// A draft of 26 cells, the last named first, with three circles.
 fn draft_of_many(alloc: Global) -> Result<Draft, Fail> {
     let mut draft = draft_of_a(alloc, Limits::standard(), Profile::One)?;
-    for text in "Z Y X W V U T S R Q P O N M L K J I H G F E D C B".split_whitespace() {
-        draft.add_cell(name(alloc, text)?)?;
+    for name in names(alloc, "Z Y X W V U T S R Q P O N M L K J I H G F E D C B")? {
+        draft.add_cell(name)?;
     }
     put(&mut draft, alloc, 0, "3 circle 1 0 5 0 0")?;
     Ok(draft)
@@ -261,13 +249,19 @@ fn seal_all(rt: &impl Abort, drafts: Vec<Draft>, want: &mut Want) {
     }
 }
 
+/// So many such drafts.
+fn drafts_of_many(alloc: Global, count: u32) -> Result<Vec<Draft>, Fail> {
+    let mut drafts = Vec::new(alloc);
+    for _ in 0..count {
+        drafts.push(draft_of_many(alloc)?)?;
+    }
+    Ok(drafts)
+}
+
 #[test]
 fn seals_without_memory(rt: HostRuntime) -> Result<(), Fail> {
     let alloc = rt.alloc();
-    let mut drafts = Vec::new(alloc);
-    for _ in 0..200u32 {
-        drafts.push(draft_of_many(alloc)?)?;
-    }
+    let drafts = drafts_of_many(alloc, 200)?;
     let last = draft_of_many(alloc)?;
     let mut want = Want::new(alloc)?;
     seal_all(&rt, drafts, &mut want);

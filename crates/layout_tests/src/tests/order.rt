@@ -1,10 +1,7 @@
 //! The order of elements.
 
-use super::{counted, holds, layout_of_a};
+use super::{holds, layout_of_a};
 use oas_layout::Profile;
-use std::alloc::Global;
-use std::cmp::Ordering;
-use std::process::Abort;
 use std::test::Fail;
 
 /// By kind, and then by each field in its turn: of two neighbours that agree up to a field, that field decides, against
@@ -55,23 +52,6 @@ const ASCENDING: &str = "2 placement A -7 9 3 1;
 2 circle 1 0 6 -9 0;
 2 circle 1 1 0 0 0;
 2 circle 2 0 0 0 0";
-
-/// The element of the first line stands before that of the second.
-fn ascends(rt: &impl Abort, alloc: Global, first: &str, second: &str) -> Result<(), Fail> {
-    let (_, a) = counted(alloc, first)?;
-    let (_, b) = counted(alloc, second)?;
-    assert!(rt; a.cmp(&b) == Ordering::Less, "before {second}");
-    Ok(())
-}
-
-#[test]
-fn each_field_in_its_turn(rt: HostRuntime) -> Result<(), Fail> {
-    let next = ASCENDING.split(";").skip(1);
-    for (first, second) in ASCENDING.split(";").zip(next) {
-        ascends(&rt, rt.alloc(), first, second)?;
-    }
-    Ok(())
-}
 
 #[test]
 fn elements_are_given_in_their_order(rt: HostRuntime) -> Result<(), Fail> {

@@ -1,7 +1,7 @@
 //! Cells that a draft takes as a whole.
 
-use super::{draft_of_a, holds, name, put};
-use oas_layout::{Element, Limits, PlainElements, Profile};
+use super::{draft_of_a, holds, name, put_all};
+use oas_layout::{Draft, Element, Limits, PlainElements, Profile};
 use oas_num::Why;
 use std::alloc::Global;
 use std::process::Abort;
@@ -24,15 +24,30 @@ fn three(alloc: Global) -> Result<PlainElements, Fail> {
     }
 }
 
+/// The draft answers so to three rectangles in a cell B.
+fn adds(
+    rt: &impl Abort,
+    alloc: Global,
+    draft: &mut Draft,
+    wanted: Result<usize, Why>,
+) -> Result<(), Fail> {
+    let answer = draft.add_plain(name(alloc, "B")?, three(alloc)?);
+    assert!(rt; answer == wanted);
+    Ok(())
+}
+
 #[test]
 fn cells_taken_as_a_whole(rt: HostRuntime) -> Result<(), Fail> {
     let alloc = rt.alloc();
     let mut draft = draft_of_a(alloc, Limits::standard(), Profile::Two)?;
-    assert_eq!(rt; draft.add_plain(name(alloc, "B")?, three(alloc)?), Ok(1));
-    let again = draft.add_plain(name(alloc, "B")?, three(alloc)?);
-    assert_eq!(rt; again, Err(Why::DuplicateCell));
-    put(&mut draft, alloc, 1, "2 circle 1 0 5 0 0")?;
-    put(&mut draft, alloc, 1, "1 rectangle 1 0 10 20 0 0")?;
+    adds(&rt, alloc, &mut draft, Ok(1))?;
+    adds(&rt, alloc, &mut draft, Err(Why::DuplicateCell))?;
+    put_all(
+        &mut draft,
+        alloc,
+        1,
+        "2 circle 1 0 5 0 0;1 rectangle 1 0 10 20 0 0",
+    )?;
     let layout = draft.seal()?;
     assert!(rt; layout.cells() == 2 && layout.count() == 6 && layout.weight() == 10);
     holds(
@@ -44,25 +59,23 @@ fn cells_taken_as_a_whole(rt: HostRuntime) -> Result<(), Fail> {
     )
 }
 
-/// What a draft of these limits and one cell, A, answers to three rectangles in another.
-fn answer(alloc: Global, limits: Option<Limits>) -> Result<Result<usize, Why>, Fail> {
-    let limits = limits.ok_or("these are limits")?;
+/// What a draft of one cell, A, within these limits, answers to three rectangles in another.
+fn answers(
+    rt: &impl Abort,
+    alloc: Global,
+    elements: u64,
+    weight: u64,
+    wanted: Result<usize, Why>,
+) -> Result<(), Fail> {
+    let limits = Limits::new(elements, weight, 768).ok_or("these are limits")?;
     let mut draft = draft_of_a(alloc, limits, Profile::One)?;
-    Ok(draft.add_plain(name(alloc, "B")?, three(alloc)?))
+    adds(rt, alloc, &mut draft, wanted)
 }
 
 #[test]
 fn cells_at_the_limits(rt: HostRuntime) -> Result<(), Fail> {
-    let alloc = rt.alloc();
-    assert_eq!(rt; answer(alloc, Limits::new(3, 7, 768))?, Ok(1));
-    assert_eq!(rt;
-        answer(alloc, Limits::new(2, 7, 768))?,
-        Err(Why::TooManyElements)
-    );
-    assert_eq!(rt; answer(alloc, Limits::new(3, 6, 768))?, Err(Why::TooHeavy));
-    assert_eq!(rt;
-        answer(alloc, Limits::new(2, 6, 768))?,
-        Err(Why::TooManyElements)
-    );
-    Ok(())
+    answers(&rt, rt.alloc(), 3, 7, Ok(1))?;
+    answers(&rt, rt.alloc(), 2, 7, Err(Why::TooManyElements))?;
+    answers(&rt, rt.alloc(), 3, 6, Err(Why::TooHeavy))?;
+    answers(&rt, rt.alloc(), 2, 6, Err(Why::TooManyElements))
 }
