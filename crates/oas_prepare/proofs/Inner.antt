@@ -79,7 +79,7 @@ some_none in_end {first = first} {records = records} plain stands prepared = rec
     stands = subst (Stands first) (sym (append-nil records)) stands;
     same = record { unit = refl; limits = refl; profile = refl; dropping = refl };
   };
-  ends = tt;
+  ends = refl;
   runs = λ rest e. inl refl;
 }
 

@@ -1,5 +1,5 @@
 -- What taking a block does, whose head was read.
-use Rattle.std.specs.Prelude.{◌≡◌, ℕ, ◌<◌, ◌≤◌, Bool, List, ◌++◌, length, Option, None, Some, Result, Ok, Err, IsTrue, ◌⊎◌}
+use Rattle.std.specs.Prelude.{◌≡◌, ℕ, ◌<◌, ◌≤◌, Bool, List, [], ◌++◌, length, Option, None, Some, Result, Ok, Err, IsTrue, ◌⊎◌}
 use Rattle.oas_num.specs.declared.refusals.Why.TheVariants as why
 use Rattle.oas_num.specs.Grammar.{IsEach}
 use Rattle.oas_num.specs.Reading.{ReadsValue}
@@ -49,9 +49,9 @@ pub record HasInner (in_end : Bool) (first : Preparation) (records : List WideRe
   pub stands : Stands p (records ++ inner)
   pub same : SameRun first p
 
--- that is where the last of the data's records begins, of which a run of PADs is one
+-- that is where the last of the data's records begins, of which a run of PADs is one; there is none only where there are no data
 abbrev pub IsLast : Limits → Dropping → Bool → List WideRecord → List ℕ → Option ℕ → Type 0
-IsLast limits dropping in_end records plain None = Unit {0}
+IsLast limits dropping in_end records plain None = plain ≡ []
 IsLast limits dropping in_end records plain (Some within) = EndsInData limits dropping in_end records plain within
 
 -- the data ran out, or they decided
