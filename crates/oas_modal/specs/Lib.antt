@@ -1,6 +1,5 @@
 pub mod Held
 pub mod Names
-pub mod NamesInOrder
 pub mod References
 pub mod Meaning
 pub mod Finish
