@@ -1,11 +1,15 @@
 //! The least reading of a ring, in at most seven comparisons a point: three for the least rotation in each
 //! direction, and one to compare the two.
+//!
+//! In a slice the one point below all others, where there is one, is found first: each least reading begins
+//! there, so that only its two directions are left to be compared.
 
-ghost use Rattle.std.specs.Prelude.{◌≡◌, ℕ, ◌+◌, ◌-◌, ◌*◌, ◌<◌, ◌≤◌, ◌^◌, List, length};
+ghost use Rattle.std.specs.Prelude.{◌≡◌, ℕ, ◌+◌, ◌-◌, ◌*◌, ◌<◌, ◌≤◌, ◌^◌, List, length, IfSome};
 ghost use Rattle.oas_ring.specs.Points.{list_cmp};
 ghost use Rattle.oas_ring.specs.Rings.{rotation};
 ghost use Rattle.oas_ring.specs.Readings.{reading_of, directed, IsLeastReadingOf};
 ghost use Rattle.oas_ring.specs.Race.{next_order, IsLeastTurn};
+ghost use Rattle.oas_ring.specs.SoleLeast.{IsSoleLeast};
 ghost use Rattle.oas_ring.specs.declared.point.Point.{Point};
 
 use crate::point::Point;
@@ -108,6 +112,52 @@ pub fn least_reading_over<V: RingView>(view: &mut V) -> Reading
     }
 }
 
+/// The place of a point that is strictly below each other one, in one comparison a point, and None where the
+/// least point stands at more than one place.
+fn sole_least(points: &[Point]) -> Option<usize>
+    requires { 0 < length points.now }
+    ensures { IfSome result (IsSoleLeast points.now) }
+{
+    let mut start = 0;
+    let mut least = points[0];
+    let mut sole = true;
+    for i in 1..points.len() {
+        let point = points[i];
+        // A greater x decides alone.
+        if point.x <= least.x {
+            if point.x < least.x || point.y < least.y {
+                start = i;
+                least = point;
+                sole = true;
+            } else if point.y == least.y {
+                sole = false;
+            }
+        }
+    }
+    if sole { Some(start) } else { None }
+}
+
+/// The lesser of the two readings that begin at the one point below all others. Each other reading begins at a
+/// greater point.
+fn least_from(points: &[Point], start: usize) -> Reading
+    requires { IsSoleLeast points.now start }
+    ensures start { result.start < length points.now }
+    ensures least { IsLeastReadingOf points.now (reading_of points.now result) }
+{
+    let forwards = Reading {
+        start,
+        backwards: false,
+    };
+    let backwards = Reading {
+        start,
+        backwards: true,
+    };
+    match compare_readings(&mut CountedRing::new(points), forwards, backwards) {
+        Ordering::Greater => backwards,
+        _ => forwards,
+    }
+}
+
 /// A reading that gives the least list of the ring, in time that is linear in its length. Where several
 /// readings give that list, it is one of them.
 pub fn least_reading(points: &[Point]) -> Reading
@@ -115,5 +165,8 @@ pub fn least_reading(points: &[Point]) -> Reading
     ensures start { result.start < length points.now }
     ensures least { IsLeastReadingOf points.now (reading_of points.now result) }
 {
-    least_reading_over(&mut CountedRing::new(points))
+    match sole_least(points) {
+        Some(start) => least_from(points, start),
+        None => least_reading_over(&mut CountedRing::new(points)),
+    }
 }

@@ -12,7 +12,8 @@
 //! - [`least_reading`] answers a reading whose list is a least reading of the ring (`IsLeastReadingOf`): a
 //!   rotation of the list or of its reverse, and no such rotation is below it. [`least_reading_over`] finds it
 //!   for any [`RingView`] in at most seven comparisons a point, and a comparison is all that it sees of the
-//!   points; [`CountedRing`] is such a view of a slice.
+//!   points; [`CountedRing`] is such a view of a slice. Where one point is below all others, as it is
+//!   where no two are equal, [`least_reading`] compares the two readings that begin there alone.
 //! - [`same_ring`] answers true exactly where one list is a rotation of the other or of its reverse
 //!   (`SameRing`), and takes no memory.
 //! - [`as_box`] answers the corners exactly of the rings that go round a rectangle with positive sides.

@@ -32,6 +32,22 @@ fn reads(
     Ok(())
 }
 
+/// Each reading of the ring reads as this list at the least.
+fn reads_from_each_place(
+    rt: &impl Abort,
+    alloc: Global,
+    ring: &[Point],
+    least: &[Point],
+) -> Result<(), AllocError> {
+    for start in 0..ring.len() {
+        for backwards in [false, true] {
+            let turned = apply(alloc, ring, Reading { start, backwards })?;
+            reads(rt, alloc, &turned, least)?;
+        }
+    }
+    Ok(())
+}
+
 #[test]
 fn known_least_readings(rt: HostRuntime) -> Result<(), Fail> {
     let alloc = rt.alloc();
@@ -43,6 +59,50 @@ fn known_least_readings(rt: HostRuntime) -> Result<(), Fail> {
     reads(&rt, alloc, &its_own_reverse, &least)?;
     reads(&rt, alloc, &[at(3, 4)], &[at(3, 4)])?;
     reads(&rt, alloc, &[at(5, 5); 4], &[at(5, 5); 4])?;
+    Ok(())
+}
+
+#[test]
+fn one_point_below_all_others(rt: HostRuntime) -> Result<(), Fail> {
+    let alloc = rt.alloc();
+    let second_decides = [at(0, 9), at(1, 1), at(2, 5), at(3, 0), at(1, 4)];
+    reads_from_each_place(&rt, alloc, &second_decides, &second_decides)?;
+    let third_decides = [
+        at(-1, 0),
+        at(0, 0),
+        at(0, -2),
+        at(5, 5),
+        at(0, -1),
+        at(0, 0),
+    ];
+    reads_from_each_place(&rt, alloc, &third_decides, &third_decides)?;
+    let least_by_its_y = [at(2, -7), at(2, -6), at(2, 0), at(3, -9)];
+    reads_from_each_place(&rt, alloc, &least_by_its_y, &least_by_its_y)?;
+    let alike_in_both_directions = [at(0, 0), at(1, 0), at(2, 0), at(1, 0)];
+    reads_from_each_place(
+        &rt,
+        alloc,
+        &alike_in_both_directions,
+        &alike_in_both_directions,
+    )?;
+    let far_apart = [at(i64::MIN, i64::MAX), at(0, 0), at(i64::MAX, i64::MIN)];
+    reads_from_each_place(&rt, alloc, &far_apart, &far_apart)?;
+    reads_from_each_place(&rt, alloc, &[at(1, 2), at(1, 3)], &[at(1, 2), at(1, 3)])?;
+    Ok(())
+}
+
+#[test]
+fn least_points_that_tie(rt: HostRuntime) -> Result<(), Fail> {
+    let alloc = rt.alloc();
+    let side_by_side = [at(0, 0), at(0, 0), at(1, 2), at(3, 3), at(1, 3)];
+    reads_from_each_place(&rt, alloc, &side_by_side, &side_by_side)?;
+    let apart = [at(0, 0), at(1, 1), at(0, 0), at(1, 2), at(2, 2)];
+    reads_from_each_place(&rt, alloc, &apart, &apart)?;
+    let thrice = [at(0, 0), at(1, 1), at(0, 0), at(1, 2), at(0, 0), at(1, 3)];
+    reads_from_each_place(&rt, alloc, &thrice, &thrice)?;
+    let others_tie = [at(0, 5), at(1, 1), at(1, 1), at(2, 2), at(2, 2)];
+    reads_from_each_place(&rt, alloc, &others_tie, &others_tie)?;
+    reads_from_each_place(&rt, alloc, &[at(1, 2), at(1, 2)], &[at(1, 2), at(1, 2)])?;
     Ok(())
 }
 
