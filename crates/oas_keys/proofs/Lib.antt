@@ -5,3 +5,5 @@ pub mod PartLemmas
 pub mod PutLemmas
 pub mod ReadingLemmas
 pub mod PointLemmas
+pub mod SignedLemmas
+pub mod PlaceLemmas

@@ -102,6 +102,18 @@ at_end before ps all rest new b h w is was null = by (next_is before ps all rest
         let some = g.some in
         absurd (omega arith)
 
+-- the same of the byte that stands first
+pub ended : (before : Point) (ps : List Point) (left all rest : List ℕ) → left ≡ all → get_or left 0 0 ≡ 0 → is_grid_point before ≡ true → AreWithin ps
+    → all ≡ points_key before ps ++ rest → ps ≡ []
+ended before ps left all rest same null h w is = by (next_is before ps all rest h w is)
+  where
+    by : Ended ps all rest ⊎ GoesOn before ps all rest → ps ≡ []
+    by (inl e) = e.none
+    by (inr g) =
+        let first : get_or left 0 0 ≡ g.byte = ap (λ (xs : List ℕ). get_or xs 0 0) (same ∙ g.begins) in
+        let some = g.some in
+        absurd (omega arith)
+
 -- elsewhere there is one
 pub not_ended : (before : Point) (ps : List Point) (all rest : List ℕ) (b : ℕ) (bs : List ℕ) → is_grid_point before ≡ true → AreWithin ps → all ≡ points_key before ps ++ rest
     → all ≡ b ∷ bs → (b ≡ 0 → ⊥) → GoesOn before ps all rest

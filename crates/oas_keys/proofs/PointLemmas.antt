@@ -18,7 +18,17 @@ has_points s ps within is from = record {
   is = is ∙ sym (append-nil (points_key origin ps)) ∙ ap (λ (p : Point). points_key p ps ++ []) (sym from);
 }
 
--- so many were read of the points that were there
-pub record Counting (all left : SpelledPoints) (count : ℕ) : Type 0 where
-  pub each : (ps : List Point) → HasPoints all ps → (qs : List Point) × HasPoints left qs × (count + length qs ≡ length ps)
-  pub few : count + length left.left ≤ length all.left
+-- of the points that were there so many were passed over, and these are left
+pub record Left (all : SpelledPoints) (left : List ℕ) (count : ℕ) (ps : List Point) : Type 0 where
+  pub before : Point
+  pub qs : List Point
+  pub rest : List ℕ
+  pub from : is_grid_point before ≡ true
+  pub within : AreWithin qs
+  pub is : left ≡ points_key before qs ++ rest
+  pub sum : count + length qs ≡ length ps
+
+-- the same of whichever points were there
+pub record Counting (all : SpelledPoints) (left : List ℕ) (count : ℕ) : Type 0 where
+  pub each : (ps : List Point) → HasPoints all ps → Left all left count ps
+  pub few : count + length left ≤ length all.left

@@ -1,5 +1,5 @@
 -- What bytes stand for, read from the front.
-use Rattle.std.specs.Prelude.{◌≡◌, ℕ, ◌+◌, ◌-◌, ◌*◌, ◌^◌, ◌<◌, nat_lt, nat_eq, cond, true, List, [], ◌∷◌, ◌++◌, Option, None, Some}
+use Rattle.std.specs.Prelude.{◌≡◌, ℕ, ◌+◌, ◌-◌, ◌*◌, ◌^◌, ◌<◌, nat_lt, nat_eq, cond, Bool, true, false, ℤ, List, [], ◌∷◌, ◌++◌, Option, None, Some}
 use Rattle.oas_ring.specs.declared.point.Point.{Point}
 use Rattle.oas_layout.specs.declared.element.Element.{Element}
 use Rattle.oas_layout.specs.declared.element.Element.TheVariants.{Placement, Text, Rectangle, Polygon, Path, Circle}
@@ -10,7 +10,7 @@ use Rattle.oas_keys.specs.declared.spelled.SpelledElement.{SpelledElement}
 use Rattle.oas_keys.specs.declared.spelled.SpelledElement.TheVariants as spelled
 use Rattle.oas_keys.specs.Keys.{points_key, fields_key}
 use Rattle.oas_keys.specs.declared.classes.Class.{Class}
-use Rattle.oas_keys.specs.Numbers.{number_in}
+use Rattle.oas_keys.specs.Numbers.{number_in, signed_key, IsStep}
 use Rattle.oas_keys.specs.Laws.FieldLaws.{AreWithin}
 
 -- the number of more digits, to base 256
@@ -32,6 +32,10 @@ more_with (c ∷ cs) base first = cond (nat_lt first (base + c.firsts)) c.more (
 abbrev pub Stand : List Class → ℕ → List ℕ → Type 0
 Stand cs first bytes = (n : ℕ) × (rest : List ℕ) × (n < 2 ^ 64) × (first ∷ bytes ≡ number_in cs 1 n ++ rest)
 
+-- a first byte, and behind it what makes it a signed number
+abbrev pub StandSigned : ℕ → List ℕ → Type 0
+StandSigned first bytes = (x : ℤ) × (rest : List ℕ) × IsStep x × (first ∷ bytes ≡ signed_key x ++ rest)
+
 -- where the first 0 stands
 abbrev pub text_len : List ℕ → ℕ
 text_len [] = 0
@@ -41,6 +45,11 @@ text_len (b ∷ bs) = cond (nat_eq b 0) 0 (1 + text_len bs)
 abbrev pub NextPoint : Option Point → List Point → List ℕ → List ℕ → Type 0
 NextPoint None ps rest new = (ps ≡ []) × (new ≡ rest)
 NextPoint (Some p) ps rest new = (qs : List Point) × (ps ≡ p ∷ qs) × (new ≡ points_key p qs ++ rest)
+
+-- the way to the first of these points was passed over, or there was none
+abbrev pub PassedPoint : Bool → List Point → List ℕ → List ℕ → Type 0
+PassedPoint false ps rest new = ps ≡ []
+PassedPoint true ps rest new = (p : Point) × (qs : List Point) × (ps ≡ p ∷ qs) × (is_grid_point p ≡ true) × AreWithin qs × (new ≡ points_key p qs ++ rest)
 
 -- these are the fields of a sound element
 pub record HasFields (e : Element) (bytes : List ℕ) : Type 0 where

@@ -1,16 +1,16 @@
 //! What is left of a key, read from its front.
 
-ghost use Rattle.std.specs.Prelude.{◌≡◌, ◌≤◌, ◌<◌, ◌∷◌, ◌++◌, ◌^◌, ◌*◌, ◌+◌, [], ℕ, ℤ, List, length, take, drop};
-ghost use Rattle.oas_keys.specs.Numbers.{number_in, unsigned_key, signed_key, signed_classes, AreClasses, firsts_of, IsStep};
-ghost use Rattle.oas_keys.specs.Reading.{joined_digits, Stand};
+ghost use Rattle.std.specs.Prelude.{◌≡◌, ◌≤◌, ◌<◌, ◌∷◌, ◌++◌, ◌^◌, ◌*◌, ◌+◌, ◌+ℤ◌, [], ℕ, ℤ, pos, List, length, take, drop};
+ghost use Rattle.oas_keys.specs.Numbers.{number_in, unsigned_key, signed_key, signed_classes, place, AreClasses, firsts_of, IsStep};
+ghost use Rattle.oas_keys.specs.Reading.{joined_digits, more_with, Stand, StandSigned};
 
 use crate::classes::{Class, SIGNED, START, UNSIGNED};
 use crate::firsts::{Found, first_found};
 use crate::starts::{
-    ABOVE_FIVE_BYTE, ABOVE_FOUR, ABOVE_FOUR_BYTE, ABOVE_THREE, ABOVE_THREE_BYTE, ABOVE_TWO,
-    ABOVE_TWO_BYTE, BELOW_FOUR, BELOW_FOUR_BYTE, BELOW_THREE, BELOW_THREE_BYTE, BELOW_TWO,
-    BELOW_TWO_BYTE, FIVE_BYTE, FOUR, FOUR_BYTE, FOUR_EACH, ONE, ONE_BYTE, THREE, THREE_BYTE,
-    THREE_EACH, TWO, TWO_BYTE, TWO_EACH,
+    ABOVE_FIVE_BYTE, ABOVE_FOUR_BYTE, ABOVE_NINE_BYTE, ABOVE_THREE_BYTE, ABOVE_TWO_BYTE,
+    BELOW_FIVE_BYTE, BELOW_FOUR_BYTE, BELOW_THREE_BYTE, BELOW_TWO_BYTE, FIVE_BYTE, FOUR, FOUR_BYTE,
+    FOUR_EACH, LEAST_ABOVE_FOUR, LEAST_ABOVE_THREE, LEAST_ABOVE_TWO, LEAST_FOUR, LEAST_THREE,
+    LEAST_TWO, ONE_BYTE, THREE, THREE_BYTE, THREE_EACH, TWO, TWO_BYTE, TWO_EACH, ZERO_BYTE,
 };
 use std::marker::Model;
 
@@ -38,6 +38,63 @@ fn joined_digits(bytes: &[u8]) -> u64
         number = number * 256 + u64::from(*byte);
     }
     number
+}
+
+/// A number, and how many bytes stand behind its first.
+#[derive(Clone, Copy, Debug)]
+struct Long {
+    number: u64,
+    more: usize,
+}
+
+/// The number that begins with a byte, by its classes. It stands by itself and takes nothing, so that where numbers of few bytes
+/// are read, what is left of a key need not lie in memory for it.
+#[inline(never)]
+#[cold]
+fn long_number(classes: &[Class], first: u64, behind: &[u8]) -> Long
+    requires classes { AreClasses classes.now }
+    requires firsts { firsts_of classes.now ≤ 254 }
+    requires stands { Stand classes.now first behind.now }
+    ensures { (n : ℕ) (rest : List ℕ) → n < 2 ^ 64 → first ∷ behind.now ≡ number_in classes.now 1 n ++ rest →
+        (result.number ≡ n) × (result.more ≤ length behind.now) × (drop result.more behind.now ≡ rest) }
+{
+    let found = first_found(classes, first);
+    let more = found.more as usize;
+    Long {
+        number: found.least + joined_digits(&behind[..more]),
+        more,
+    }
+}
+
+/// The signed number at a place.
+fn signed_at(at: u64) -> i64
+    requires { (x : ℤ) × IsStep x × (at ≡ place x) }
+    ensures { (x : ℤ) → IsStep x → at ≡ place x → result ≡ x }
+{
+    at as i64 - START
+}
+
+/// How many bytes stand behind the first of a signed number. The first bytes of fewer bytes stand between those of more, so the
+/// most frequent are found first.
+fn more_behind(first: u64) -> usize
+    ensures { first < 256 → result ≡ more_with signed_classes 1 first }
+{
+    if first >= ONE_BYTE && first < ABOVE_TWO_BYTE {
+        return 0;
+    }
+    if first >= BELOW_TWO_BYTE && first < ABOVE_THREE_BYTE {
+        return 1;
+    }
+    if first >= BELOW_THREE_BYTE && first < ABOVE_FOUR_BYTE {
+        return 2;
+    }
+    if first >= BELOW_FOUR_BYTE && first < ABOVE_FIVE_BYTE {
+        return 3;
+    }
+    if first >= BELOW_FIVE_BYTE && first < ABOVE_NINE_BYTE {
+        return 4;
+    }
+    8
 }
 
 impl<'a> Cursor<'a> {
@@ -85,17 +142,16 @@ impl<'a> Cursor<'a> {
         found.least + joined_digits(self.part(found.more as usize))
     }
 
-    /// Takes what stands behind a number's first byte, by its classes. It stands by itself, so that numbers of few bytes need no
-    /// room for what it keeps.
-    #[inline(never)]
-    #[cold]
+    /// Takes what stands behind a number's first byte, by its classes.
     fn number(&mut self, classes: &[Class], first: u64) -> u64
         requires classes { AreClasses classes.now }
         requires firsts { firsts_of classes.now ≤ 254 }
         requires stands { Stand classes.now first self.old }
         ensures { (n : ℕ) (rest : List ℕ) → n < 2 ^ 64 → first ∷ self.old ≡ number_in classes.now 1 n ++ rest → (result ≡ n) × (self.new ≡ rest) }
     {
-        self.behind(first_found(classes, first))
+        let long = long_number(classes, first, self.bytes);
+        let _taken = self.part(long.more);
+        long.number
     }
 
     /// Takes an unsigned number. Those of one to four bytes, which most are, are taken with no search for their class.
@@ -128,81 +184,93 @@ impl<'a> Cursor<'a> {
         self.number(&UNSIGNED, first)
     }
 
-    /// Takes what stands behind the first byte of a signed number that is below those of one byte, and answers its place.
-    fn place_below(&mut self, first: u64) -> u64
+    /// Takes so many bytes that stand behind the first of a signed number, and answers the number, of which this is the least one
+    /// that begins so.
+    fn signed_behind(&mut self, least: i64, more: usize) -> i64
+        requires least { IsStep least }
+        requires number { (x : ℤ) × IsStep x × (least +ℤ pos (joined_digits 0 (take more self.old)) ≡ x) }
+        requires more { (more ≤ 8) × (more ≤ length self.old) }
+        ensures number { result ≡ least +ℤ pos (joined_digits 0 (take more self.old)) }
+        ensures rest { self.new ≡ drop more self.old }
+    {
+        least + joined_digits(self.part(more)) as i64
+    }
+
+    /// Takes what stands behind the first byte of a signed number that is below those of one byte, and answers the number.
+    #[inline(always)]
+    fn signed_below(&mut self, first: u64) -> i64
         requires below { first < 97 }
-        requires stands { Stand signed_classes first self.old }
-        ensures { (n : ℕ) (rest : List ℕ) → n < 2 ^ 64 → first ∷ self.old ≡ number_in signed_classes 1 n ++ rest → (result ≡ n) × (self.new ≡ rest) }
+        requires stands { StandSigned first self.old }
+        ensures { (x : ℤ) (rest : List ℕ) → IsStep x → first ∷ self.old ≡ signed_key x ++ rest → (result ≡ x) × (self.new ≡ rest) }
     {
         if first >= BELOW_TWO_BYTE {
-            return self.behind(Found {
-                least: BELOW_TWO + (first - BELOW_TWO_BYTE) * TWO_EACH,
-                more: 1,
-            });
+            return self.signed_behind(LEAST_TWO + ((first - BELOW_TWO_BYTE) * TWO_EACH) as i64, 1);
         }
         if first >= BELOW_THREE_BYTE {
-            return self.behind(Found {
-                least: BELOW_THREE + (first - BELOW_THREE_BYTE) * THREE_EACH,
-                more: 2,
-            });
+            return self.signed_behind(
+                LEAST_THREE + ((first - BELOW_THREE_BYTE) * THREE_EACH) as i64,
+                2,
+            );
         }
         if first >= BELOW_FOUR_BYTE {
-            return self.behind(Found {
-                least: BELOW_FOUR + (first - BELOW_FOUR_BYTE) * FOUR_EACH,
-                more: 3,
-            });
+            return self.signed_behind(
+                LEAST_FOUR + ((first - BELOW_FOUR_BYTE) * FOUR_EACH) as i64,
+                3,
+            );
         }
-        self.number(&SIGNED, first)
+        signed_at(self.number(&SIGNED, first))
     }
 
-    /// Takes what stands behind the first byte of a signed number that is above those of one byte, and answers its place.
-    fn place_above(&mut self, first: u64) -> u64
+    /// Takes what stands behind the first byte of a signed number that is above those of one byte, and answers the number.
+    #[inline(always)]
+    fn signed_above(&mut self, first: u64) -> i64
         requires above { 160 ≤ first }
-        requires stands { Stand signed_classes first self.old }
-        ensures { (n : ℕ) (rest : List ℕ) → n < 2 ^ 64 → first ∷ self.old ≡ number_in signed_classes 1 n ++ rest → (result ≡ n) × (self.new ≡ rest) }
+        requires stands { StandSigned first self.old }
+        ensures { (x : ℤ) (rest : List ℕ) → IsStep x → first ∷ self.old ≡ signed_key x ++ rest → (result ≡ x) × (self.new ≡ rest) }
     {
         if first < ABOVE_THREE_BYTE {
-            return self.behind(Found {
-                least: ABOVE_TWO + (first - ABOVE_TWO_BYTE) * TWO_EACH,
-                more: 1,
-            });
+            return self.signed_behind(
+                LEAST_ABOVE_TWO + ((first - ABOVE_TWO_BYTE) * TWO_EACH) as i64,
+                1,
+            );
         }
         if first < ABOVE_FOUR_BYTE {
-            return self.behind(Found {
-                least: ABOVE_THREE + (first - ABOVE_THREE_BYTE) * THREE_EACH,
-                more: 2,
-            });
+            return self.signed_behind(
+                LEAST_ABOVE_THREE + ((first - ABOVE_THREE_BYTE) * THREE_EACH) as i64,
+                2,
+            );
         }
         if first < ABOVE_FIVE_BYTE {
-            return self.behind(Found {
-                least: ABOVE_FOUR + (first - ABOVE_FOUR_BYTE) * FOUR_EACH,
-                more: 3,
-            });
+            return self.signed_behind(
+                LEAST_ABOVE_FOUR + ((first - ABOVE_FOUR_BYTE) * FOUR_EACH) as i64,
+                3,
+            );
         }
-        self.number(&SIGNED, first)
+        signed_at(self.number(&SIGNED, first))
     }
 
-    /// Takes a signed number, and answers its place.
-    fn place(&mut self) -> u64
-        requires { (n : ℕ) × (rest : List ℕ) × (n < 2 ^ 64) × (self.old ≡ number_in signed_classes 1 n ++ rest) }
-        ensures { (n : ℕ) (rest : List ℕ) → n < 2 ^ 64 → self.old ≡ number_in signed_classes 1 n ++ rest → (result ≡ n) × (self.new ≡ rest) }
-    {
-        let first = u64::from(self.byte());
-        if first < ONE_BYTE {
-            return self.place_below(first);
-        }
-        if first < ABOVE_TWO_BYTE {
-            return ONE + (first - ONE_BYTE);
-        }
-        self.place_above(first)
-    }
-
-    /// Takes a signed number.
+    /// Takes a signed number. It stands where it is called, so that what is left of a list of points need not lie in memory.
+    #[inline(always)]
     pub(crate) fn signed(&mut self) -> i64
         requires { (x : ℤ) × (rest : List ℕ) × IsStep x × (self.old ≡ signed_key x ++ rest) }
         ensures { (x : ℤ) (rest : List ℕ) → IsStep x → self.old ≡ signed_key x ++ rest → (result ≡ x) × (self.new ≡ rest) }
     {
-        let place = self.place();
-        place as i64 - START
+        let first = u64::from(self.byte());
+        if first < ONE_BYTE {
+            return self.signed_below(first);
+        }
+        if first < ABOVE_TWO_BYTE {
+            return first as i64 - ZERO_BYTE as i64;
+        }
+        self.signed_above(first)
+    }
+
+    /// Takes a signed number without making it: its first byte tells how many stand behind.
+    pub(crate) fn pass_signed(&mut self)
+        requires { (x : ℤ) × (rest : List ℕ) × IsStep x × (self.old ≡ signed_key x ++ rest) }
+        ensures { (x : ℤ) (rest : List ℕ) → IsStep x → self.old ≡ signed_key x ++ rest → self.new ≡ rest }
+    {
+        let more = more_behind(u64::from(self.byte()));
+        let _passed = self.part(more);
     }
 }

@@ -1,15 +1,16 @@
 //! Numbers as bytes whose order is theirs.
 
-ghost use Rattle.std.specs.Prelude.{◌≡◌, ◌+◌, ◌%◌, ◌/◌, ◌*◌, ◌^◌, ◌<◌, ◌≤◌, ◌++◌, ◌∷◌, vec_len, vec_capacity};
-ghost use Rattle.oas_keys.specs.Numbers.{number_in, digits, unsigned_key, signed_key, signed_classes, signed_start, place, AreClasses, firsts_of, IsStep};
+ghost use Rattle.std.specs.Prelude.{◌≡◌, ◌+◌, ◌%◌, ◌/◌, ◌*◌, ◌^◌, ◌<◌, ◌≤◌, ◌++◌, ◌∷◌, ◌<ℤ◌, ◌≤ℤ◌, pos, negsuc, vec_len, vec_capacity};
+ghost use Rattle.oas_keys.specs.Numbers.{number_in, digits, unsigned_key, signed_key, signed_classes, place, AreClasses, firsts_of, IsStep};
 
 use crate::classes::{Class, SIGNED, START, UNSIGNED, Written, written_in};
 use crate::digits::put_digits;
 use crate::starts::{
-    ABOVE_FIVE, ABOVE_FOUR, ABOVE_FOUR_BYTE, ABOVE_THREE, ABOVE_THREE_BYTE, ABOVE_TWO,
-    ABOVE_TWO_BYTE, BELOW_FOUR, BELOW_FOUR_BYTE, BELOW_THREE, BELOW_THREE_BYTE, BELOW_TWO,
-    BELOW_TWO_BYTE, FIVE, FOUR, FOUR_BYTE, FOUR_EACH, ONE, ONE_BYTE, THREE, THREE_BYTE, THREE_EACH,
-    TWO, TWO_BYTE, TWO_EACH,
+    ABOVE_FOUR, ABOVE_FOUR_BYTE, ABOVE_THREE, ABOVE_THREE_BYTE, ABOVE_TWO, ABOVE_TWO_BYTE,
+    BELOW_FOUR, BELOW_FOUR_BYTE, BELOW_THREE, BELOW_THREE_BYTE, BELOW_TWO, BELOW_TWO_BYTE, FIVE,
+    FOUR, FOUR_BYTE, FOUR_EACH, LEAST_ABOVE_FIVE, LEAST_ABOVE_FOUR, LEAST_ABOVE_THREE,
+    LEAST_ABOVE_TWO, LEAST_FOUR, LEAST_ONE, LEAST_THREE, LEAST_TWO, THREE, THREE_BYTE, THREE_EACH,
+    TWO, TWO_BYTE, TWO_EACH, ZERO_BYTE,
 };
 
 /// Puts the first byte and the digits.
@@ -106,61 +107,50 @@ fn place_of(number: i64) -> u64
     (number + START) as u64
 }
 
-/// Puts the signed number at a place that is below those of one byte.
-fn put_below(place: u64, out: &mut Vec<u8>)
-    requires below { place + 31 < signed_start }
+/// Puts a signed number that is below those of one byte.
+fn put_below(number: i64, out: &mut Vec<u8>)
+    requires step { IsStep number }
+    requires below { number <ℤ negsuc 30 }
     requires room { vec_len out.old + 9 ≤ vec_capacity out.old }
-    ensures items { out.new.items ≡ out.old.items ++ number_in signed_classes 1 place }
+    ensures items { out.new.items ≡ out.old.items ++ number_in signed_classes 1 (place number) }
     ensures len { vec_len out.new ≤ vec_len out.old + 9 }
     ensures capacity { vec_capacity out.new ≡ vec_capacity out.old }
 {
-    if place >= BELOW_TWO {
-        put_two(BELOW_TWO_BYTE, place - BELOW_TWO, out);
-    } else if place >= BELOW_THREE {
-        put_three(BELOW_THREE_BYTE, place - BELOW_THREE, out);
-    } else if place >= BELOW_FOUR {
-        put_four(BELOW_FOUR_BYTE, place - BELOW_FOUR, out);
+    let at = place_of(number);
+    if number >= LEAST_TWO {
+        put_two(BELOW_TWO_BYTE, at - BELOW_TWO, out);
+    } else if number >= LEAST_THREE {
+        put_three(BELOW_THREE_BYTE, at - BELOW_THREE, out);
+    } else if number >= LEAST_FOUR {
+        put_four(BELOW_FOUR_BYTE, at - BELOW_FOUR, out);
     } else {
-        put_long(&SIGNED, place, out);
+        put_long(&SIGNED, at, out);
     }
 }
 
-/// Puts the signed number at a place that is above those of one byte.
-fn put_above(place: u64, out: &mut Vec<u8>)
-    requires above { signed_start + 32 ≤ place }
+/// Puts a signed number that is above those of one byte.
+fn put_above(number: i64, out: &mut Vec<u8>)
+    requires step { IsStep number }
+    requires above { pos 32 ≤ℤ number }
     requires room { vec_len out.old + 9 ≤ vec_capacity out.old }
-    ensures items { out.new.items ≡ out.old.items ++ number_in signed_classes 1 place }
+    ensures items { out.new.items ≡ out.old.items ++ number_in signed_classes 1 (place number) }
     ensures len { vec_len out.new ≤ vec_len out.old + 9 }
     ensures capacity { vec_capacity out.new ≡ vec_capacity out.old }
 {
-    if place < ABOVE_THREE {
-        put_two(ABOVE_TWO_BYTE, place - ABOVE_TWO, out);
-    } else if place < ABOVE_FOUR {
-        put_three(ABOVE_THREE_BYTE, place - ABOVE_THREE, out);
-    } else if place < ABOVE_FIVE {
-        put_four(ABOVE_FOUR_BYTE, place - ABOVE_FOUR, out);
+    let at = place_of(number);
+    if number < LEAST_ABOVE_THREE {
+        put_two(ABOVE_TWO_BYTE, at - ABOVE_TWO, out);
+    } else if number < LEAST_ABOVE_FOUR {
+        put_three(ABOVE_THREE_BYTE, at - ABOVE_THREE, out);
+    } else if number < LEAST_ABOVE_FIVE {
+        put_four(ABOVE_FOUR_BYTE, at - ABOVE_FOUR, out);
     } else {
-        put_long(&SIGNED, place, out);
+        put_long(&SIGNED, at, out);
     }
 }
 
-/// Puts the signed number at a place. Those of one to four bytes are put with no search for their class.
-fn put_place(place: u64, out: &mut Vec<u8>)
-    requires room { vec_len out.old + 9 ≤ vec_capacity out.old }
-    ensures items { out.new.items ≡ out.old.items ++ number_in signed_classes 1 place }
-    ensures len { vec_len out.new ≤ vec_len out.old + 9 }
-    ensures capacity { vec_capacity out.new ≡ vec_capacity out.old }
-{
-    if place < ONE {
-        put_below(place, out);
-    } else if place < ABOVE_TWO {
-        out.push_reserved((ONE_BYTE + (place - ONE)) as u8);
-    } else {
-        put_above(place, out);
-    }
-}
-
-/// Puts a signed number, of which none is farther from 0 than two coordinates are from each other.
+/// Puts a signed number, of which none is farther from 0 than two coordinates are from each other. Those of one to four bytes are
+/// put with no search for their class.
 pub(crate) fn put_signed(number: i64, out: &mut Vec<u8>)
     requires step { IsStep number }
     requires room { vec_len out.old + 9 ≤ vec_capacity out.old }
@@ -168,7 +158,13 @@ pub(crate) fn put_signed(number: i64, out: &mut Vec<u8>)
     ensures len { vec_len out.new ≤ vec_len out.old + 9 }
     ensures capacity { vec_capacity out.new ≡ vec_capacity out.old }
 {
-    put_place(place_of(number), out);
+    if number < LEAST_ONE {
+        put_below(number, out);
+    } else if number < LEAST_ABOVE_TWO {
+        out.push_reserved((number + ZERO_BYTE as i64) as u8);
+    } else {
+        put_above(number, out);
+    }
 }
 
 /// Puts two unsigned numbers.

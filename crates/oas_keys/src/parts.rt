@@ -8,7 +8,7 @@ ghost use Rattle.oas_layout.specs.Grid.{is_grid_point};
 ghost use Rattle.oas_keys.specs.Numbers.{unsigned_key, signed_key, IsStep};
 ghost use Rattle.oas_keys.specs.Keys.{text_key, turned_key, points_key, flip_count};
 ghost use Rattle.oas_keys.specs.Laws.FieldLaws.{NoZero, AreWithin};
-ghost use Rattle.oas_keys.specs.Reading.{text_len, NextPoint};
+ghost use Rattle.oas_keys.specs.Reading.{text_len, NextPoint, PassedPoint};
 
 use crate::cursor::Cursor;
 use oas_layout::Turns;
@@ -105,6 +105,7 @@ impl<'a> Cursor<'a> {
     }
 
     /// Takes the way to the next point, and answers that; or takes the end of the list.
+    #[inline(always)]
     pub(crate) fn next_point(&mut self, before: Point) -> Option<Point>
         requires from { is_grid_point before ≡ true }
         requires stands { (ps : List OnePoint) × (rest : List ℕ) × AreWithin ps × (self.old ≡ points_key before ps ++ rest) }
@@ -115,10 +116,24 @@ impl<'a> Cursor<'a> {
             let _end = self.byte();
             return None;
         }
-        let step = self.signed_pair();
+        let dx = self.signed();
+        let dy = self.signed();
         Some(Point {
-            x: before.x + step.0,
-            y: before.y + step.1,
+            x: before.x + dx,
+            y: before.y + dy,
         })
+    }
+    /// Takes the way to the next point without making that, and answers whether there was one. The end of the list is left.
+    pub(crate) fn pass_point(&mut self) -> bool
+        requires { (before : OnePoint) × (ps : List OnePoint) × (rest : List ℕ) × (is_grid_point before ≡ true) × AreWithin ps × (self.old ≡ points_key before ps ++ rest) }
+        ensures passed { (before : OnePoint) (ps : List OnePoint) (rest : List ℕ) → is_grid_point before ≡ true → AreWithin ps → self.old ≡ points_key before ps ++ rest → PassedPoint result ps rest self.new }
+        ensures shorter { result ≡ true → length self.new < length self.old }
+    {
+        if self.left()[0] == 0 {
+            return false;
+        }
+        self.pass_signed();
+        self.pass_signed();
+        true
     }
 }

@@ -28,7 +28,9 @@ impl<'a> SpelledPoints<'a> {
         }
     }
 
-    /// Takes the next point, where one is left.
+    /// Takes the next point, where one is left. It stands in the loops that call it, so that what is left need not be kept in
+    /// memory between two points.
+    #[inline(always)]
     pub fn next(&mut self) -> Option<Point>
         requires { (ps : List OnePoint) × HasPoints self.old ps }
         ensures next { (ps : List OnePoint) → HasPoints self.old ps → GivesPoint result ps self.new }
@@ -44,12 +46,9 @@ impl<'a> SpelledPoints<'a> {
         requires { (ps : List OnePoint) × HasPoints self.now ps }
         ensures { (ps : List OnePoint) → HasPoints self.now ps → result ≡ length ps }
     {
-        let mut points = SpelledPoints {
-            left: Cursor::of(self.left.left()),
-            before: self.before,
-        };
+        let mut left = Cursor::of(self.left.left());
         let mut count = 0;
-        while let Some(_) = points.next() {
+        while left.pass_point() {
             count += 1;
         }
         count

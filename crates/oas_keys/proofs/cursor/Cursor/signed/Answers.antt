@@ -1,27 +1,15 @@
-use Rattle.std.proofs.Common.{◌<◌, ◌++◌, ◌^◌, ℕ, List, ap, ◌∙◌, ℤ, arith}
+use Rattle.std.proofs.Common.{arith}
 use Rattle.std.proofs.lemmas.Int.{ints}
-use Rattle.oas_keys.specs.Numbers.{place, IsStep}
-use Rattle.oas_keys.specs.Laws.NumberLaws.{signed_is, place_is}
+use Rattle.oas_keys.specs.Laws.NumberLaws.{place_is}
+use Rattle.oas_keys.proofs.FirstLemmas.{begun, first_about}
+use Rattle.oas_keys.proofs.SignedLemmas.{signed_some, signed_behind}
 use Rattle.oas_keys.proofs.cursor.Cursor.signed.Goals as goal
 
-small : (x : ℤ) → IsStep x → place x < 2 ^ 63
-small x step = omega (arith, ints, (place_is x step).0, step.below)
+pub byte-requires : goal.byte-requires
+byte-requires c = signed_some c.requires.0 c.args.self.now c.requires.1 c.requires.3
 
-pub place-place-requires : goal.place-place-requires
-place-place-requires c =
-    (place c.requires.0, c.requires.1, omega (arith, small c.requires.0 c.requires.2), c.requires.3 ∙ ap (λ (t : List ℕ). t ++ c.requires.1) (signed_is c.requires.0))
-
-pub overflow_cast-result : goal.overflow_cast-result
-overflow_cast-result c =
-    let h = c.place-place.ensures (place c.requires.0) c.requires.1 (omega (arith, small c.requires.0 c.requires.2)) (c.requires.3 ∙ ap (λ (t : List ℕ). t ++ c.requires.1) (signed_is c.requires.0)) in
-    omega (arith, ints, h.0, small c.requires.0 c.requires.2)
-
-pub overflow_sub-result : goal.overflow_sub-result
-overflow_sub-result c =
-    let h = c.place-place.ensures (place c.requires.0) c.requires.1 (omega (arith, small c.requires.0 c.requires.2)) (c.requires.3 ∙ ap (λ (t : List ℕ). t ++ c.requires.1) (signed_is c.requires.0)) in
-    omega (arith, ints, h.0, small c.requires.0 c.requires.2)
-
-pub returns : goal.returns
-returns c x rest step is =
-    let h = c.place-place.ensures (place x) rest (omega (arith, small x step)) (is ∙ ap (λ (t : List ℕ). t ++ rest) (signed_is x)) in
-    (omega (arith, ints, h.0, small x step, (place_is x step).0, step.below, step.above), h.1)
+pub returns-then-first-lt-ABOVE_TWO_BYTE : goal.returns-then-first-lt-ABOVE_TWO_BYTE
+returns-then-first-lt-ABOVE_TWO_BYTE c x rest step is =
+    let both = begun _ _ _ _ _ c.byte.ensures c.from-first.ensures is in
+    let h = signed_behind x c.from-first.result _ _ rest c.byte.new.self step both (first_about _ c.if-first-lt-ONE_BYTE.false c.if-first-lt-ABOVE_TWO_BYTE.true) in
+    (omega (arith, ints, h.number, (place_is x step).0, c.if-first-lt-ONE_BYTE.false, c.if-first-lt-ABOVE_TWO_BYTE.true), h.rest_is)

@@ -1,21 +1,21 @@
-use Rattle.std.proofs.Common.{length, ap, arith}
+use Rattle.std.proofs.Common.{length, refl, ap, arith}
 use Rattle.oas_keys.proofs.points.SpelledPoints.count.Goals as goal
 
-pub next-requires : goal.next-requires
-next-requires c =
-    let e = c.loop-count.invariant.each c.requires.0 c.requires.1 in
-    (e.0, e.1)
+pub pass_point-requires : goal.pass_point-requires
+pass_point-requires c =
+    let e = c.loop-left.invariant.each c.requires.0 c.requires.1 in
+    (e.before, e.qs, e.rest, e.from, e.within, e.is)
 
-pub loop-count-preserved : goal.loop-count-preserved
-loop-count-preserved c = record {
+pub loop-left-preserved : goal.loop-left-preserved
+loop-left-preserved c = record {
   each = λ ps h.
-      let e = c.loop-count.invariant.each ps h in
-      let g = c.in-Some.ensures.next e.0 e.1 in
-      (g.0, g.3, omega (arith, e.2, ap length g.1));
-  few = omega (arith, c.loop-count.invariant.few, c.in-Some.ensures.shorter);
+      let e = c.loop-left.invariant.each ps h in
+      let g = c.loop-left-test.ensures.passed e.before e.qs e.rest e.from e.within e.is in
+      record { before = g.0; qs = g.1; rest = e.rest; from = g.3; within = g.4; is = g.5; sum = omega (arith, e.sum, ap length g.2) };
+  few = omega (arith, c.loop-left.invariant.few, c.loop-left-test.ensures.shorter refl);
 }
 
 pub returns : goal.returns
 returns c = λ ps h.
-    let e = c.loop-count.invariant.each ps h in
-    omega (arith, e.2, ap length (c.in_default.ensures.next e.0 e.1))
+    let e = c.loop-left.invariant.each ps h in
+    omega (arith, e.sum, ap length (c.loop-left-test.ensures.passed e.before e.qs e.rest e.from e.within e.is))

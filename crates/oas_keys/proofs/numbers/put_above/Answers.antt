@@ -1,0 +1,35 @@
+use Rattle.std.proofs.Common.{ℕ, List, ◌++◌, ap, ◌∙◌, w64, arith}
+use Rattle.std.proofs.lemmas.Int.{ints, to_z-of_z}
+use Rattle.oas_keys.specs.Numbers.{number_in, signed_classes, place}
+use Rattle.oas_keys.specs.Laws.NumberLaws.{place_is}
+use Rattle.oas_keys.proofs.PlaceLemmas.{above_two, above_three, above_four}
+use Rattle.oas_keys.proofs.numbers.put_above.Goals as goal
+
+pub returns-then-number-lt-LEAST_ABOVE_THREE-clause-items : goal.returns-then-number-lt-LEAST_ABOVE_THREE-clause-items
+returns-then-number-lt-LEAST_ABOVE_THREE-clause-items c =
+    let p = place_is c.args.number c.requires.step in
+    let at = c.place_of-at.ensures ∙ ap place (to_z-of_z w64 c.args.number c.ranges.number) in
+    c.put_two.ensures.items
+    ∙ ap (λ (t : List ℕ). c.args.out.now.items ++ t)
+    (above_two _ _ at (omega (arith, ints, p.0, c.requires.above)) (omega (arith, ints, p.0, c.if-number-lt-LEAST_ABOVE_THREE.true)))
+
+pub returns-then-number-lt-LEAST_ABOVE_FOUR-clause-items : goal.returns-then-number-lt-LEAST_ABOVE_FOUR-clause-items
+returns-then-number-lt-LEAST_ABOVE_FOUR-clause-items c =
+    let p = place_is c.args.number c.requires.step in
+    let at = c.place_of-at.ensures ∙ ap place (to_z-of_z w64 c.args.number c.ranges.number) in
+    c.put_three.ensures.items
+    ∙ ap (λ (t : List ℕ). c.args.out.now.items ++ t)
+    (above_three _ _ at (omega (arith, ints, p.0, c.if-number-lt-LEAST_ABOVE_THREE.false)) (omega (arith, ints, p.0, c.if-number-lt-LEAST_ABOVE_FOUR.true)))
+
+pub returns-then-number-lt-LEAST_ABOVE_FIVE-clause-items : goal.returns-then-number-lt-LEAST_ABOVE_FIVE-clause-items
+returns-then-number-lt-LEAST_ABOVE_FIVE-clause-items c =
+    let p = place_is c.args.number c.requires.step in
+    let at = c.place_of-at.ensures ∙ ap place (to_z-of_z w64 c.args.number c.ranges.number) in
+    c.put_four.ensures.items
+    ∙ ap (λ (t : List ℕ). c.args.out.now.items ++ t)
+    (above_four _ _ at (omega (arith, ints, p.0, c.if-number-lt-LEAST_ABOVE_FOUR.false)) (omega (arith, ints, p.0, c.if-number-lt-LEAST_ABOVE_FIVE.true)))
+
+pub returns-else-number-lt-LEAST_ABOVE_FIVE-clause-items : goal.returns-else-number-lt-LEAST_ABOVE_FIVE-clause-items
+returns-else-number-lt-LEAST_ABOVE_FIVE-clause-items c =
+    c.put_long.ensures.items
+    ∙ ap (λ (n : ℕ). c.args.out.now.items ++ number_in signed_classes 1 n) (c.place_of-at.ensures ∙ ap place (to_z-of_z w64 c.args.number c.ranges.number))
