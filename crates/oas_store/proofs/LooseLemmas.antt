@@ -1,6 +1,6 @@
 -- What waits loose, put into order and made into runs.
-use Rattle.std.proofs.Common.{◌≡◌, ℕ, suc, ◌+◌, ◌*◌, ◌<◌, ◌^◌, true, List, [], ◌∷◌, ◌++◌, cond, length, get_or, drop, drop-cons, refl, sym, ◌∙◌, ap, arith, subst, append_assoc, append-nil}
-use Rattle.std.specs.Cmp.{IsTotalOrder, tied_itself}
+use Rattle.std.proofs.Common.{◌≡◌, ℕ, suc, ◌==◌, false, ◌+◌, ◌*◌, ◌<◌, ◌^◌, true, List, [], ◌∷◌, ◌++◌, cond, length, get_or, drop, drop-cons, refl, sym, ◌∙◌, ap, arith, subst}
+use Rattle.std.specs.Cmp.{IsTotalOrder, tied_itself, unsigned_Decides}
 use Rattle.std.specs.Ordering.{is_eq}
 use Rattle.std.specs.List.{sum_by}
 use Rattle.std.specs.List.Sorted.{IsPermutation}
@@ -11,26 +11,47 @@ use Rattle.std.proofs.lemmas.List.Sums.{sum_by-cons}
 use Rattle.oas_store.specs.declared.loose.Loose.{Loose}
 use Rattle.oas_store.specs.Entries.{Entry}
 use Rattle.oas_store.specs.Loose.{entry_of, entries_of}
-use Rattle.oas_store.specs.Tally.{total, copies, SameTotals}
+use Rattle.oas_store.specs.Tally.{total, copies, Positive, SameTotals}
 use Rattle.oas_store.specs.Laws.TallyLaws.{total-append}
-use Rattle.oas_store.specs.Parts.{joined, contents, AreRuns, CountsFit, IsBelow}
-use Rattle.oas_store.proofs.PartLemmas.{total_contents}
+use Rattle.oas_store.specs.Parts.{joined, waiting, contents, AreParts, AreRuns, CountsFit, IsBelow}
+use Rattle.oas_store.proofs.PartLemmas.{total_contents, IsRun-empty}
 use Rattle.oas_store.proofs.AddLemmas.{More}
 
--- ---- out of the bytes
+-- ---- put to the others
 
--- one more was found
-pub one_found : (all alls : List Loose) (a : Loose) (left rest whole : List Entry) → alls ≡ all ++ a ∷ [] → left ≡ entry_of a ∷ rest → entries_of all ++ left ≡ whole
-    → entries_of alls ++ rest ≡ whole
-one_found all alls a left rest whole e f w =
-    ap (λ (xs : List Loose). entries_of xs ++ rest) e
-    ∙ ap (λ (xs : List Entry). xs ++ rest) (map-append entry_of all (a ∷ []))
-    ∙ append_assoc (entries_of all) (entry_of a ∷ []) rest
-    ∙ ap (λ (xs : List Entry). entries_of all ++ xs) (sym f) ∙ w
+-- one more was put
+pub entry_put : (all alls : List Loose) (a : Loose) → alls ≡ all ++ a ∷ [] → SameTotals (entries_of alls) (entry_of a ∷ entries_of all)
+entry_put all alls a e g =
+    omega (arith, ap (total g) (ap entries_of e ∙ map-append entry_of all (a ∷ [])), total-append g (entries_of all) (entry_of a ∷ []))
 
--- and none is left
-pub all_found : (all : List Loose) (left whole : List Entry) → left ≡ [] → entries_of all ++ left ≡ whole → entries_of all ≡ whole
-all_found all left whole e w = sym (append-nil (entries_of all)) ∙ ap (λ (xs : List Entry). entries_of all ++ xs) (sym e) ∙ w
+-- the last block may come first
+pub last_first : (full : List (List Entry)) (last es whole : List Entry) → es ≡ last ++ joined full → joined full ++ last ≡ whole → SameTotals es whole
+last_first full last es whole e w g =
+    omega (arith, ap (total g) e, ap (total g) w, total-append g last (joined full), total-append g (joined full) last)
+
+total-waiting : (g : List ℕ → ℕ) (k : List ℕ) (n : ℕ) → total g (waiting k n) ≡ n * g k
+total-waiting g k n = elim (n == 0) as (λ b. n == 0 ≡ b → total g (cond b [] ((k, n) ∷ [])) ≡ n * g k) [
+  | true ↦ λ e. let none : n * g k ≡ 0 * g k = ap (λ (m : ℕ). m * g k) ((unsigned_Decides n 0).0 e) in omega (arith, none)
+  | false ↦ λ e. omega arith
+] refl
+
+-- and so may the last entry
+pub waiting_first : (done written whole : List Entry) (k : List ℕ) (n : ℕ) → SameTotals written done → done ++ waiting k n ≡ whole → SameTotals ((k, n) ∷ written) whole
+waiting_first done written whole k n h w g = omega (arith, h g, ap (total g) w, total-append g done (waiting k n), total-waiting g k n)
+
+-- none was put yet
+pub none_put : (olds left es : List Entry) → left ≡ es → SameTotals (olds ++ left) (es ++ olds)
+none_put olds left es e g = omega (arith, ap (total g) e, total-append g olds left, total-append g es olds)
+
+-- the last was put
+pub last_put : (olds news left es : List Entry) (p : Entry) → left ≡ es → SameTotals news (p ∷ olds) → SameTotals (news ++ left) ((p ∷ es) ++ olds)
+last_put olds news left es p e h g = omega (arith, h g, ap (total g) e, total-append g news left, total-append g (p ∷ es) olds)
+
+-- what rises and what waits was put
+pub both_put : (none risen loose both all rising : List Entry) → none ≡ [] → SameTotals risen rising → SameTotals both (risen ++ none) → SameTotals all (loose ++ both)
+    → SameTotals all (rising ++ loose)
+both_put none risen loose both all rising e r b a g =
+    omega (arith, r g, b g, a g, ap (total g) e, total-append g risen none, total-append g loose both, total-append g rising loose)
 
 -- ---- in order
 
@@ -42,9 +63,9 @@ total-entries g [] = refl
 total-entries g (a ∷ all) = ap (λ (n : ℕ). weight g a + n) (total-entries g all) ∙ sym (sum_by-cons (weight g) a all)
 
 -- in another order they weigh the same
-pub in_order_same : (all sorted : List Loose) (whole : List Entry) → IsPermutation all sorted → entries_of all ≡ whole → SameTotals (entries_of sorted) whole
-in_order_same all sorted whole p e g =
-    total-entries g sorted ∙ sum_by-IsPermutation (weight g) all sorted p ∙ sym (total-entries g all) ∙ ap (total g) e
+pub in_order_same : (all sorted : List Loose) (whole : List Entry) → IsPermutation all sorted → SameTotals (entries_of all) whole → SameTotals (entries_of sorted) whole
+in_order_same all sorted whole p h g =
+    total-entries g sorted ∙ sum_by-IsPermutation (weight g) all sorted p ∙ sym (total-entries g all) ∙ h g
 
 -- ---- put one after another
 
@@ -96,9 +117,15 @@ module _ {K : Type 0} where
   pub same_fit : (R : K → K → Ordering) (es fs : List (K × ℕ)) → SameTotals fs es → CountsFit R es → CountsFit R fs
   same_fit R es fs h c k = omega (arith, h (λ x. cond (is_eq (R k x)) 1 0), c k)
 
-  pub all_settled : (loose now : List (K × ℕ)) (olds mids news : List (List (K × ℕ))) → now ≡ [] → SameTotals (joined mids) (loose ++ joined olds)
-      → SameTotals (joined news) (joined mids) → SameTotals (now ++ joined news) (loose ++ joined olds)
-  all_settled loose now olds mids news e h k g = omega (arith, h g, k g, ap (total g) e, total-append g now (joined news))
+  -- both are settled, and begin anew
+  pub all_settled : (r l r' l' : List (K × ℕ)) (olds mids news : List (List (K × ℕ))) → r' ≡ [] → l' ≡ [] → SameTotals (joined mids) ((r ++ l) ++ joined olds)
+      → SameTotals (joined news) (joined mids) → SameTotals (contents r' l' news) (contents r l olds)
+  all_settled r l r' l' olds mids news e f h k g = omega (arith, h g, k g, ap (total g) e, ap (total g) f, total_contents g r' l' news)
+
+  pub all_parts : (R : K → K → Ordering) (r l r' l' : List (K × ℕ)) (olds news : List (List (K × ℕ))) → AreParts R r l olds → r' ≡ [] → l' ≡ []
+      → AreRuns R news → SameTotals (contents r' l' news) (contents r l olds) → AreParts R r' l' news
+  all_parts R r l r' l' olds news p e f runs h =
+      record { ascends = IsRun-empty R r' e; waits = subst Positive (sym f) tt; runs = runs; fits = same_fit R (contents r l olds) (contents r' l' news) h p.fits }
 
 -- ---- the loop
 
@@ -136,5 +163,6 @@ turns_fit R done left whole h c k =
     let g : List ℕ → ℕ = λ x. cond (is_eq (R k x)) 1 0 in
     omega (arith, c k, h g, total-append g done left)
 
-pub turns_same : (done left news whole : List Entry) → SameTotals (done ++ left) whole → left ≡ [] → SameTotals news done → SameTotals news whole
-turns_same done left news whole h e k g = omega (arith, h g, k g, total-append g done left, ap (total g) e)
+pub turns_same : (done left risen news whole : List Entry) → SameTotals (done ++ left) whole → left ≡ [] → risen ≡ [] → SameTotals (risen ++ news) done → SameTotals news whole
+turns_same done left risen news whole h e a k g =
+    omega (arith, h g, k g, total-append g done left, total-append g risen news, ap (total g) e, ap (total g) a)

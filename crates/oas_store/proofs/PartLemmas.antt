@@ -4,7 +4,7 @@ use Rattle.std.proofs.Math.Seq.{get_or-append_seam}
 use Rattle.std.specs.Ordering.{is_eq}
 use Rattle.std.specs.List.Sorted.{IsStrictlySortedBy}
 use Rattle.std.specs.declared.cmp.Ordering.{Ordering}
-use Rattle.oas_store.specs.Tally.{total, copies, Positive, IsRun, SameTotals}
+use Rattle.oas_store.specs.Tally.{total, copies, IsRun, SameTotals}
 use Rattle.oas_store.specs.Laws.TallyLaws.{total-append}
 use Rattle.oas_store.specs.Merging.{IsMerging}
 use Rattle.oas_store.proofs.MergeLemmas.{ends}
@@ -119,22 +119,12 @@ module _ {K : Type 0} where
   pub rising_same : (r l r' : List (K × ℕ)) (rs rs' : List (List (K × ℕ))) → SameTotals (r' ++ joined rs') (r ++ joined rs) → SameTotals (contents r' l rs') (contents r l rs)
   rising_same r l r' rs rs' h g = omega (arith, h g, total-append g r (joined rs), total-append g r' (joined rs'), total_contents g r l rs, total_contents g r' l rs')
 
-  pub loose_same : (r l l' : List (K × ℕ)) (rs rs' : List (List (K × ℕ))) → SameTotals (l' ++ joined rs') (l ++ joined rs) → SameTotals (contents r l' rs') (contents r l rs)
-  loose_same r l l' rs rs' h g = omega (arith, h g, total-append g l (joined rs), total-append g l' (joined rs'), total_contents g r l rs, total_contents g r l' rs')
-
   pub rising_fit : (R : K → K → Ordering) (r l : List (K × ℕ)) (rs : List (List (K × ℕ))) → CountsFit R (contents r l rs) → CountsFit R (r ++ joined rs)
   rising_fit R r l rs h k = omega (arith, h k, total_contents (λ x. cond (is_eq (R k x)) 1 0) r l rs, total-append (λ x. cond (is_eq (R k x)) 1 0) r (joined rs))
-
-  pub loose_fit : (R : K → K → Ordering) (r l : List (K × ℕ)) (rs : List (List (K × ℕ))) → CountsFit R (contents r l rs) → CountsFit R (l ++ joined rs)
-  loose_fit R r l rs h k = omega (arith, h k, total_contents (λ x. cond (is_eq (R k x)) 1 0) r l rs, total-append (λ x. cond (is_eq (R k x)) 1 0) l (joined rs))
 
   pub rising_parts : (R : K → K → Ordering) (r l r' : List (K × ℕ)) (rs rs' : List (List (K × ℕ))) → AreParts R r l rs → IsRun R r' → AreRuns R rs'
       → SameTotals (r' ++ joined rs') (r ++ joined rs) → AreParts R r' l rs'
   rising_parts R r l r' rs rs' p run runs h = record { ascends = run; waits = p.waits; runs = runs; fits = fit_same R (contents r l rs) (contents r' l rs') (rising_same r l r' rs rs' h) p.fits }
-
-  pub loose_parts : (R : K → K → Ordering) (r l l' : List (K × ℕ)) (rs rs' : List (List (K × ℕ))) → AreParts R r l rs → Positive l' → AreRuns R rs'
-      → SameTotals (l' ++ joined rs') (l ++ joined rs) → AreParts R r l' rs'
-  loose_parts R r l l' rs rs' p run runs h = record { ascends = p.ascends; waits = run; runs = runs; fits = fit_same R (contents r l rs) (contents r l' rs') (loose_same r l l' rs rs' h) p.fits }
 
   -- one entry of many was put
   pub one_put : (done left rest done' whole : List (K × ℕ)) (p : K × ℕ) → left ≡ p ∷ rest → done' ≡ done ++ p ∷ [] → done ++ left ≡ whole → done' ++ rest ≡ whole
@@ -142,16 +132,3 @@ module _ {K : Type 0} where
 
   pub all_put : (run done left whole : List (K × ℕ)) → run ≡ done → left ≡ [] → done ++ left ≡ whole → run ≡ whole
   all_put run done left whole a b w = a ∙ sym (append-nil done) ∙ ap (λ (xs : List (K × ℕ)). done ++ xs) (sym b) ∙ w
-
-  -- both are settled
-  pub both_same : (r l r' l' : List (K × ℕ)) (rs rs' rs'' : List (List (K × ℕ))) → SameTotals (r' ++ joined rs') (r ++ joined rs)
-      → SameTotals (l' ++ joined rs'') (l ++ joined rs') → SameTotals (contents r' l' rs'') (contents r l rs)
-  both_same r l r' l' rs rs' rs'' h k g = loose_same r' l l' rs' rs'' k g ∙ rising_same r l r' rs rs' h g
-
-  pub both_parts : (R : K → K → Ordering) (r l r' l' : List (K × ℕ)) (rs rs' rs'' : List (List (K × ℕ))) → AreParts R r l rs → IsRun R r' → AreRuns R rs'
-      → SameTotals (r' ++ joined rs') (r ++ joined rs) → Positive l' → AreRuns R rs'' → SameTotals (l' ++ joined rs'') (l ++ joined rs') → AreParts R r' l' rs''
-  both_parts R r l r' l' rs rs' rs'' p a b h d e k = loose_parts R r' l l' rs' rs'' (rising_parts R r l r' rs rs' p a b h) d e k
-
-  pub then_loose_fit : (R : K → K → Ordering) (r l r' : List (K × ℕ)) (rs rs' : List (List (K × ℕ))) → AreParts R r l rs → IsRun R r' → AreRuns R rs'
-      → SameTotals (r' ++ joined rs') (r ++ joined rs) → CountsFit R (l ++ joined rs')
-  then_loose_fit R r l r' rs rs' p a b h = loose_fit R r' l rs' (rising_parts R r l r' rs rs' p a b h).fits

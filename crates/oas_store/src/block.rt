@@ -8,7 +8,7 @@ use std::alloc::{AllocError, Global};
 use std::marker::Model;
 
 /// How many bytes a block holds, unless one entry is longer.
-const BLOCK: usize = 65536;
+pub(crate) const BLOCK: usize = 65536;
 
 /// How many bytes of an entry are not its key, at most.
 const MARGIN: usize = 18;
@@ -48,6 +48,14 @@ impl Block {
     {
         let size = key_len.saturating_add(MARGIN).max(BLOCK);
         let bytes = Vec::with_capacity(alloc, size)?;
+        Ok(Block { bytes, start: 0 })
+    }
+
+    /// No entries, and room for so many bytes, but for no more than a block holds.
+    pub(crate) fn with_bytes(alloc: Global, bytes: usize) -> Result<Block, AllocError>
+        ensures { IfOk result (λ block. block ≡ []) }
+    {
+        let bytes = Vec::with_capacity(alloc, bytes.min(BLOCK))?;
         Ok(Block { bytes, start: 0 })
     }
 

@@ -10,7 +10,7 @@ use std::alloc::AllocError;
 const LONG: u8 = 255;
 
 /// How many bytes of an entry are not its key, where both numbers are one byte.
-const SHORT_HEAD: usize = 2;
+pub(crate) const SHORT_HEAD: usize = 2;
 
 /// The same where both numbers are long.
 const LONG_HEAD: usize = 18;

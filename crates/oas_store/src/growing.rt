@@ -2,8 +2,11 @@
 
 ghost use Rattle.std.specs.Prelude.{◌≡◌, [], ◌∷◌, ◌++◌, List, ℕ, OnOk, OnErr, IfOk};
 ghost use Rattle.oas_store.specs.Parts.{joined};
+ghost use Rattle.oas_store.specs.Tally.{SameTotals};
 
 use crate::block::Block;
+use crate::entries::Entries;
+use crate::entry::SHORT_HEAD;
 use crate::run::Run;
 use std::alloc::{AllocError, Global};
 use std::collections::VecDeque;
@@ -42,6 +45,18 @@ impl Growing {
         }
     }
 
+    /// No entries, and at once the memory for so many bytes, or for a first block of them.
+    pub(crate) fn with_bytes(alloc: Global, bytes: usize) -> Result<Growing, AllocError>
+        ensures { IfOk result (λ growing. growing ≡ []) }
+    {
+        let last = Block::with_bytes(alloc, bytes)?;
+        Ok(Growing {
+            full: VecDeque::new(alloc),
+            last,
+            size: 0,
+        })
+    }
+
     /// Puts an entry at the end.
     pub fn append(&mut self, alloc: Global, key: &[u8], times: u64) -> Result<(), AllocError>
         ensures ok { OnOk result (self.new ≡ self.old ++ (key.now, times) ∷ []) }
@@ -55,8 +70,20 @@ impl Growing {
             let full = mem::replace(&mut self.last, block);
             self.full.push_back_reserved(full);
         }
-        self.size = self.size.saturating_add(key.len()).saturating_add(2);
+        self.size = size_with(self.size, key);
         Ok(())
+    }
+
+    /// How many bytes were put, about.
+    pub(crate) fn size(&self) -> usize {
+        self.size
+    }
+
+    /// The entries, those of the last block first.
+    pub(crate) fn entries(&self) -> Entries<'_>
+        ensures { SameTotals result self.now }
+    {
+        Entries::of(self.last.left(), &self.full)
     }
 
     /// The run that was written.
@@ -76,6 +103,12 @@ impl Growing {
             None => Run::of(last, full, size),
         }
     }
+}
+
+/// How many bytes there are with an entry more, about: its numbers may take more.
+#[inline(always)]
+pub(crate) fn size_with(size: usize, key: &[u8]) -> usize {
+    size.saturating_add(key.len()).saturating_add(SHORT_HEAD)
 }
 
 /// A block with one entry.

@@ -12,6 +12,14 @@ use crate::merge::merge_all;
 use crate::run::Run;
 use std::alloc::Global;
 
+/// How many bytes the last two runs have, about.
+fn size_of_two(runs: &[Run]) -> usize {
+    match runs {
+        [.., before, last] => before.size().saturating_add(last.size()),
+        _ => 0,
+    }
+}
+
 /// Makes one of the last two runs and says so. For want of memory it leaves them, or three of the same sums.
 fn join_last(alloc: Global, runs: &mut Vec<Run>) -> bool
     requires two { 2 ≤ vec_len runs.old }
@@ -24,8 +32,10 @@ fn join_last(alloc: Global, runs: &mut Vec<Run>) -> bool
     if runs.reserve(1).is_err() {
         return false;
     }
+    let Ok(mut both) = Growing::with_bytes(alloc, size_of_two(runs)) else {
+        return false;
+    };
     if let (Some(mut last), Some(mut before)) = (runs.pop(), runs.pop()) {
-        let mut both = Growing::new(alloc);
         let whole = merge_all(alloc, &mut before, &mut last, &mut both);
         runs.push_reserved(both.into_run());
         if whole {

@@ -18,8 +18,9 @@
 //! ascend are written once and never compared again. Any other waits loose, as it came, among at most 1 MiB of such keys. When
 //! these are full they are sorted and equal ones are joined, the rising run and they become runs, one after the other, and the last
 //! two runs are merged as long as the last has grown to half of the one before it. So each run is less than half of the one before,
-//! there are few of them, and a key is moved some log n times in whatever order keys come. A merge gives back each block that it
-//! has read. No contract speaks of time or of bytes.
+//! there are few of them, and a key is moved some log n times in whatever order keys come. A rising run that is no longer than what
+//! waits, nor than a block, is sorted together with it instead, so that one run comes of both: most stores of a few keys never
+//! merge. A merge gives back each block that it has read. No contract speaks of time or of bytes.
 //!
 //! How keys are compared: eight bytes at once, as the number of which the first is the highest byte, as long as both keys have
 //! eight more (proofs/OrderLemmas.antt: such numbers are ordered as their bytes), and then byte by byte. A sort looks first at the

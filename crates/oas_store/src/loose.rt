@@ -1,6 +1,6 @@
-//! What waits loose, put into order.
+//! What rises and what waits loose, put into order.
 
-ghost use Rattle.std.specs.Prelude.{◌≡◌, ◌++◌, List, ℕ, OnOk, IfOk};
+ghost use Rattle.std.specs.Prelude.{◌≡◌, ◌∷◌, ◌++◌, List, ℕ, OnOk, IfOk};
 ghost use Rattle.std.specs.Cmp.Lexicographic.{slice_cmp};
 ghost use Rattle.std.specs.Ordering.{nat_cmp};
 ghost use Rattle.oas_store.specs.Tally.{IsRun, SameTotals};
@@ -10,6 +10,7 @@ ghost use Rattle.oas_store.specs.Loose.{entries_of};
 use crate::block::Block;
 use crate::entry::{after, read_entry};
 use crate::ordering::{AT_ONCE, number_of, order_of};
+use crate::rising::{Risen, Rising};
 use std::alloc::{AllocError, Global};
 use std::cmp::Ordering;
 
@@ -64,45 +65,115 @@ fn begins_with(key: &[u8], front: &[u8]) -> usize {
     most
 }
 
-/// With how many same bytes all keys begin.
-fn shared_by_all(loose: &Block) -> usize {
-    let mut front: &[u8] = match loose.first() {
+/// How many entries there are, and the bytes with which all their keys begin.
+#[derive(Drop)]
+struct Common<'a> {
+    count: usize,
+    front: &'a [u8],
+}
+
+/// As many of these bytes as a key begins with too.
+fn shared_with<'a>(front: &'a [u8], key: &[u8]) -> &'a [u8] {
+    match front.get(..begins_with(key, front)) {
+        Some(shared) => shared,
+        None => front,
+    }
+}
+
+/// A key of those that rise, or, where none does, the first that waits.
+fn any_key<'a>(risen: &Risen<'a>, loose: &'a Block) -> &'a [u8] {
+    if risen.times > 0 {
+        return risen.last;
+    }
+    match loose.first() {
         Some(entry) => entry.key,
-        None => return 0,
-    };
-    let mut left = loose.left();
-    while let Some(entry) = read_entry(left) {
-        if let Some(shared) = front.get(..begins_with(entry.key, front)) {
-            front = shared;
-        }
-        left = after(left, entry.end);
+        None => &[],
     }
-    front.len()
 }
 
-/// All that waits, one after another, where so many first bytes of all keys are the same.
-fn all_of(alloc: Global, loose: &Block, shared: usize) -> Result<Vec<Loose<'_>>, AllocError>
-    ensures { IfOk result (λ all. entries_of all.items ≡ loose.now) }
-{
-    let mut all = Vec::new(alloc);
+/// What all keys that rise or wait have in common.
+fn common_to_all<'a>(rising: &'a Rising, loose: &'a Block) -> Common<'a> {
+    let risen = rising.entries();
+    let mut front = any_key(&risen, loose);
+    let mut count = usize::from(risen.times > 0);
+    for (key, _) in risen.written {
+        front = shared_with(front, key);
+        count = count.saturating_add(1);
+    }
     let mut left = loose.left();
     while let Some(entry) = read_entry(left) {
-        all.push(Loose {
-            front: front_of(behind(entry.key, shared)),
-            key: entry.key,
-            times: entry.times,
-        })?;
+        front = shared_with(front, entry.key);
+        count = count.saturating_add(1);
         left = after(left, entry.end);
     }
-    Ok(all)
+    Common { count, front }
 }
 
-/// All that waits, in the order of the keys.
-pub(crate) fn in_order(alloc: Global, loose: &Block) -> Result<Vec<Loose<'_>>, AllocError>
-    ensures { IfOk result (λ all. SameTotals (entries_of all.items) loose.now) }
+/// Puts an entry to the others, if it is there at all.
+#[inline(always)]
+fn put_one<'a>(
+    all: &mut Vec<Loose<'a>>,
+    key: &'a [u8],
+    times: u64,
+    shared: usize,
+) -> Result<(), AllocError>
+    ensures { OnOk result (SameTotals (entries_of all.new.items) ((key.now, times) ∷ entries_of all.old.items)) }
 {
-    let shared = shared_by_all(loose);
-    let mut all = all_of(alloc, loose, shared)?;
+    if times == 0 {
+        return Ok(());
+    }
+    all.push(Loose {
+        front: front_of(behind(key, shared)),
+        key,
+        times,
+    })?;
+    Ok(())
+}
+
+/// Puts what rises to the others.
+fn put_risen<'a>(
+    all: &mut Vec<Loose<'a>>,
+    risen: Risen<'a>,
+    shared: usize,
+) -> Result<(), AllocError>
+    ensures { OnOk result (SameTotals (entries_of all.new.items) (((risen.entry.last.now, risen.entry.times) ∷ risen.entry.written) ++ entries_of all.old.items)) }
+{
+    put_one(all, risen.last, risen.times, shared)?;
+    for (key, times) in risen.written {
+        put_one(all, key, times, shared)?;
+    }
+    Ok(())
+}
+
+/// Puts what waits loose to the others.
+fn put_loose<'a>(
+    all: &mut Vec<Loose<'a>>,
+    loose: &'a Block,
+    shared: usize,
+) -> Result<(), AllocError>
+    ensures { OnOk result (SameTotals (entries_of all.new.items) (loose.now ++ entries_of all.old.items)) }
+{
+    let mut left = loose.left();
+    while let Some(entry) = read_entry(left) {
+        put_one(all, entry.key, entry.times, shared)?;
+        left = after(left, entry.end);
+    }
+    Ok(())
+}
+
+/// All that rises and all that waits loose, in the order of the keys. Its memory is asked for once.
+pub(crate) fn in_order<'a>(
+    alloc: Global,
+    rising: &'a Rising,
+    loose: &'a Block,
+) -> Result<Vec<Loose<'a>>, AllocError>
+    ensures { IfOk result (λ all. SameTotals (entries_of all.items) (rising.now ++ loose.now)) }
+{
+    let common = common_to_all(rising, loose);
+    let shared = common.front.len();
+    let mut all = Vec::with_capacity(alloc, common.count)?;
+    put_risen(&mut all, rising.entries(), shared)?;
+    put_loose(&mut all, loose, shared)?;
     all.sort_unstable_by(|one, other| order(one, other, shared));
     Ok(all)
 }

@@ -6,8 +6,10 @@ ghost use Rattle.std.specs.Cmp.Lexicographic.{slice_cmp};
 ghost use Rattle.std.specs.Ordering.{nat_cmp};
 ghost use Rattle.std.specs.Vec.{vec_capacity};
 ghost use Rattle.oas_store.specs.Parts.{IsBelow, EndsWith};
+ghost use Rattle.oas_store.specs.Tally.{SameTotals};
 
-use crate::growing::Growing;
+use crate::entries::Entries;
+use crate::growing::{Growing, size_with};
 use crate::ordering::order_of;
 use crate::run::Run;
 use std::alloc::{AllocError, Global};
@@ -35,6 +37,14 @@ impl Model for Rising {
     ghost invariant = { λ a. a.times ≡ 0 → a.done ≡ [] };
 }
 
+/// What rises, in no order: the last entry, with a count of 0 where there is none, and those that are written.
+#[derive(Drop)]
+pub(crate) struct Risen<'a> {
+    pub(crate) last: &'a [u8],
+    pub(crate) times: u64,
+    pub(crate) written: Entries<'a>,
+}
+
 impl Rising {
     /// No entries.
     pub(crate) fn new(alloc: Global) -> Rising
@@ -47,11 +57,42 @@ impl Rising {
         }
     }
 
+    /// No entries, and at once the memory for so many bytes of them, or for a first block.
+    pub(crate) fn with_bytes(alloc: Global, bytes: usize) -> Result<Rising, AllocError>
+        ensures { IfOk result (λ rising. rising ≡ []) }
+    {
+        let done = Growing::with_bytes(alloc, bytes)?;
+        Ok(Rising {
+            done,
+            last: Vec::new(alloc),
+            times: 0,
+        })
+    }
+
     /// Whether there are no entries.
     pub(crate) fn is_empty(&self) -> bool
         ensures { IsTrue result → self.now ≡ [] }
     {
         self.times == 0
+    }
+
+    /// How many bytes there are, about.
+    pub(crate) fn size(&self) -> usize {
+        if self.times == 0 {
+            return 0;
+        }
+        size_with(self.done.size(), &self.last)
+    }
+
+    /// The entries, in no order.
+    pub(crate) fn entries(&self) -> Risen<'_>
+        ensures { SameTotals ((result.last.now, result.times) ∷ result.written) self.now }
+    {
+        Risen {
+            last: &self.last,
+            times: self.times,
+            written: self.done.entries(),
+        }
     }
 
     /// How the last key compares with a key; where there is none, it is less.

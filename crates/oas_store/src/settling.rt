@@ -3,11 +3,11 @@
 ghost use Rattle.std.specs.Prelude.{◌≡◌, [], ◌∷◌, ◌++◌, IfOk, OnOk};
 ghost use Rattle.std.specs.Cmp.Lexicographic.{slice_cmp};
 ghost use Rattle.std.specs.Ordering.{nat_cmp};
-ghost use Rattle.oas_store.specs.Tally.{Positive, IsRun, SameTotals};
+ghost use Rattle.oas_store.specs.Tally.{IsRun, SameTotals};
 ghost use Rattle.oas_store.specs.Loose.{entries_of};
 ghost use Rattle.oas_store.specs.Parts.{joined, contents, AreRuns, AreParts, CountsFit};
 
-use crate::block::Block;
+use crate::block::{BLOCK, Block};
 use crate::joining::{add_run, join_close};
 use crate::loose::{Loose, in_order};
 use crate::rising::Rising;
@@ -63,13 +63,13 @@ fn put_next(
     Ok(())
 }
 
-/// Entries as runs: one, where their keys ascend.
-fn runs_of(alloc: Global, sorted: &[Loose<'_>]) -> Result<Vec<Run>, AllocError>
+/// Entries of so many bytes as runs: one, where their keys ascend.
+fn runs_of(alloc: Global, sorted: &[Loose<'_>], bytes: usize) -> Result<Vec<Run>, AllocError>
     requires { CountsFit (slice_cmp nat_cmp) (entries_of sorted.now) }
     ensures runs { IfOk result (λ runs. AreRuns (slice_cmp nat_cmp) runs.items) }
     ensures same { IfOk result (λ runs. SameTotals (joined runs.items) (entries_of sorted.now)) }
 {
-    let mut rising = Rising::new(alloc);
+    let mut rising = Rising::with_bytes(alloc, bytes)?;
     let mut runs = Vec::new(alloc);
     for entry in sorted {
         put_next(alloc, &mut rising, &mut runs, entry.key, entry.times)?;
@@ -78,31 +78,53 @@ fn runs_of(alloc: Global, sorted: &[Loose<'_>]) -> Result<Vec<Run>, AllocError>
     Ok(runs)
 }
 
-/// What waits loose, as runs.
-fn settled(alloc: Global, loose: &Block) -> Result<Vec<Run>, AllocError>
-    requires { CountsFit (slice_cmp nat_cmp) loose.now }
+/// What rises and what waits loose, as runs.
+fn settled(alloc: Global, rising: &Rising, loose: &Block) -> Result<Vec<Run>, AllocError>
+    requires { CountsFit (slice_cmp nat_cmp) (rising.now ++ loose.now) }
     ensures runs { IfOk result (λ runs. AreRuns (slice_cmp nat_cmp) runs.items) }
-    ensures same { IfOk result (λ runs. SameTotals (joined runs.items) loose.now) }
+    ensures same { IfOk result (λ runs. SameTotals (joined runs.items) (rising.now ++ loose.now)) }
 {
-    let sorted = in_order(alloc, loose)?;
-    runs_of(alloc, &sorted)
+    let sorted = in_order(alloc, rising, loose)?;
+    runs_of(alloc, &sorted, rising.size().saturating_add(loose.size()))
 }
 
-/// Makes runs of what waits loose; or leaves all.
-fn settle_loose(alloc: Global, loose: &mut Block, runs: &mut Vec<Run>) -> Result<(), AllocError>
-    requires waits { Positive loose.old }
-    requires runs { AreRuns (slice_cmp nat_cmp) runs.old.items }
-    requires fits { CountsFit (slice_cmp nat_cmp) (loose.old ++ joined runs.old.items) }
-    ensures waits { Positive loose.new }
-    ensures runs { AreRuns (slice_cmp nat_cmp) runs.new.items }
-    ensures same { SameTotals (loose.new ++ joined runs.new.items) (loose.old ++ joined runs.old.items) }
-    ensures ok { OnOk result (loose.new ≡ []) }
+/// Makes runs of what rises and of what waits loose, of both together; or leaves all.
+fn settle_both(
+    alloc: Global,
+    rising: &mut Rising,
+    loose: &mut Block,
+    runs: &mut Vec<Run>,
+) -> Result<(), AllocError>
+    requires { AreParts (slice_cmp nat_cmp) rising.old loose.old runs.old.items }
+    ensures parts { AreParts (slice_cmp nat_cmp) rising.new loose.new runs.new.items }
+    ensures same { SameTotals (contents rising.new loose.new runs.new.items) (contents rising.old loose.old runs.old.items) }
+    ensures rising { OnOk result (rising.new ≡ []) }
+    ensures loose { OnOk result (loose.new ≡ []) }
 {
-    let mut more = settled(alloc, loose)?;
+    let mut more = settled(alloc, rising, loose)?;
     runs.append(&mut more)?;
+    *rising = Rising::new(alloc);
     loose.clear();
     join_close(alloc, runs);
     Ok(())
+}
+
+/// Closes the run that rises, where it is longer than what waits loose or than a block: then it costs less to join both than to
+/// sort them together.
+fn settle_long(
+    alloc: Global,
+    rising: &mut Rising,
+    loose: &Block,
+    runs: &mut Vec<Run>,
+) -> Result<(), AllocError>
+    requires { AreParts (slice_cmp nat_cmp) rising.old loose.now runs.old.items }
+    ensures parts { AreParts (slice_cmp nat_cmp) rising.new loose.now runs.new.items }
+    ensures same { SameTotals (contents rising.new loose.now runs.new.items) (contents rising.old loose.now runs.old.items) }
+{
+    if rising.size() <= loose.size().min(BLOCK) {
+        return Ok(());
+    }
+    settle_rising(alloc, rising, runs)
 }
 
 /// Makes runs of what rises and of what waits loose, so that both begin anew. Where memory is refused, all is still held.
@@ -118,7 +140,6 @@ pub(crate) fn settle(
     ensures rising { OnOk result (rising.new ≡ []) }
     ensures loose { OnOk result (loose.new ≡ []) }
 {
-    settle_rising(alloc, rising, runs)?;
-    settle_loose(alloc, loose, runs)?;
-    Ok(())
+    settle_long(alloc, rising, loose, runs)?;
+    settle_both(alloc, rising, loose, runs)
 }

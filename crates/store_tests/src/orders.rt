@@ -1,4 +1,5 @@
-//! Keys come in hostile orders, more of them than wait loose; what comes out is known by arithmetic.
+//! Keys come in hostile orders, more of them than wait loose, and a few of which more rise or more wait; what comes out is known
+//! by arithmetic.
 
 ghost use Rattle.std.specs.Prelude.{◌≡◌, ◌+◌, ◌<◌, ◌^◌, OnOk};
 ghost use Rattle.std.specs.Cmp.Lexicographic.{slice_cmp};
@@ -11,7 +12,7 @@ use std::alloc::{AllocError, Global};
 use std::process::Abort;
 use std::test::Fail;
 
-/// How many numbers come.
+/// How many numbers come, of most orders.
 const COUNT: u32 = 100_000;
 
 /// An order in which numbers come.
@@ -23,9 +24,22 @@ enum Order {
     OrganPipe,
     Scattered,
     Few,
+    /// So many ascend, and then so many below them descend.
+    Apart(u32, u32),
+    /// So many ascend, and then they descend so many times.
+    Again(u32, u32),
 }
 
 impl Order {
+    /// How many numbers come.
+    fn count(self) -> u32 {
+        match self {
+            Order::Apart(rising, loose) => rising.saturating_add(loose),
+            Order::Again(rising, rounds) => rising.saturating_mul(rounds.saturating_add(1)),
+            _ => COUNT,
+        }
+    }
+
     /// The number that comes after so many others.
     fn number(self, before: u32) -> u32 {
         match self {
@@ -35,6 +49,18 @@ impl Order {
             Order::OrganPipe => before.min((COUNT - 1).saturating_sub(before)),
             Order::Scattered => before.wrapping_mul(7919) % COUNT,
             Order::Few => before.wrapping_mul(7) % 10,
+            Order::Apart(rising, loose) => {
+                if before < rising {
+                    return loose.saturating_add(before);
+                }
+                loose.saturating_sub((before - rising).saturating_add(1))
+            }
+            Order::Again(rising, _) => {
+                if before < rising {
+                    return before;
+                }
+                rising.saturating_sub((before % rising.max(1)).saturating_add(1))
+            }
         }
     }
 }
@@ -53,7 +79,7 @@ fn insist(store: &mut KeyStore, key: &[u8]) -> Result<(), AllocError>
 /// A store of the numbers in an order, four bytes each.
 fn filled(alloc: Global, order: Order) -> Result<KeyStore, AllocError> {
     let mut store = KeyStore::new(alloc);
-    for k in 0..COUNT {
+    for k in 0..order.count() {
         let key = order.number(k).to_be_bytes();
         insist(&mut store, &key)?;
     }
@@ -102,5 +128,30 @@ fn keys_come_in_any_order(rt: HostRuntime) -> Result<(), Fail> {
     assert_numbers(&rt, alloc, Order::OrganPipe, 50_000, 2)?;
     assert_numbers(&rt, alloc, Order::Scattered, 100_000, 1)?;
     assert_numbers(&rt, alloc, Order::Few, 10, 10_000)?;
+    Ok(())
+}
+
+#[test]
+fn a_few_keys_rise_or_wait(rt: HostRuntime) -> Result<(), Fail> {
+    let alloc = rt.alloc();
+    assert_numbers(&rt, alloc, Order::Apart(0, 0), 0, 1)?;
+    assert_numbers(&rt, alloc, Order::Apart(1, 0), 1, 1)?;
+    assert_numbers(&rt, alloc, Order::Apart(1, 1), 2, 1)?;
+    assert_numbers(&rt, alloc, Order::Apart(100, 3), 103, 1)?;
+    assert_numbers(&rt, alloc, Order::Apart(3, 100), 103, 1)?;
+    assert_numbers(&rt, alloc, Order::Apart(40, 41), 81, 1)?;
+    assert_numbers(&rt, alloc, Order::Again(1, 1), 1, 2)?;
+    assert_numbers(&rt, alloc, Order::Again(20, 1), 20, 2)?;
+    assert_numbers(&rt, alloc, Order::Again(20, 300), 20, 301)?;
+    Ok(())
+}
+
+#[test]
+fn a_block_of_keys_rises_or_waits(rt: HostRuntime) -> Result<(), Fail> {
+    let alloc = rt.alloc();
+    assert_numbers(&rt, alloc, Order::Apart(10_000, 30_000), 40_000, 1)?;
+    assert_numbers(&rt, alloc, Order::Apart(12_000, 30_000), 42_000, 1)?;
+    assert_numbers(&rt, alloc, Order::Apart(30_000, 10_000), 40_000, 1)?;
+    assert_numbers(&rt, alloc, Order::Again(10_900, 1), 10_900, 2)?;
     Ok(())
 }

@@ -1,6 +1,6 @@
 use Rattle.std.proofs.Common.{length}
 use Rattle.oas_store.specs.Entries.{IsBlock}
-use Rattle.oas_store.proofs.loose.shared_by_all.Given as goal
+use Rattle.oas_store.proofs.loose.common_to_all.Given as goal
 
 -- what is left is entries
 abbrev pub invariant-loop-entry : goal.invariant-loop-entry

@@ -1,13 +1,14 @@
-use Rattle.std.proofs.Common.{◌≡◌, ◌++◌, length}
+use Rattle.std.proofs.Common.{◌++◌, length}
 use Rattle.oas_store.specs.Entries.{entries, IsBlock}
+use Rattle.oas_store.specs.Tally.{SameTotals}
 use Rattle.oas_store.specs.Loose.{entries_of}
-use Rattle.oas_store.proofs.loose.all_of.Given as goal
+use Rattle.oas_store.proofs.loose.put_loose.Given as goal
 
--- what was found, and what is left
+-- what was put, and what is left
 abbrev pub invariant-loop-entry : goal.invariant-loop-entry
 invariant-loop-entry l = record {
   left : IsBlock l.left;
-  same : entries_of l.all.items ++ entries l.left ≡ l.loose;
+  same : SameTotals (entries_of l.all.items ++ entries l.left) (l.loose ++ entries_of l.fn.all.items);
 }
 
 abbrev pub decreases-loop-entry : goal.decreases-loop-entry
