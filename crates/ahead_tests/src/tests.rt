@@ -2,6 +2,7 @@ use oas_ahead::{RectangleAhead, rectangle_ahead};
 use std::process::Abort;
 
 mod named;
+mod polygons;
 
 /// A rectangle of layer 1, datatype 0, 10 by 20 grid steps at (-1, 64), with all its fields, and a byte behind it.
 const WHOLE: [u8; 10] = [0x14, 0x7B, 0x01, 0x00, 0x0A, 0x14, 0x03, 0x80, 0x01, 0x22];

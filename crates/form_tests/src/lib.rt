@@ -3,7 +3,7 @@
 #![tactic(auto)]
 
 #[cfg(test)]
-mod again;
+mod following;
 #[cfg(test)]
 mod judging;
 #[cfg(test)]

@@ -1,3 +1,4 @@
 pub mod FrontLemmas
 pub mod RectangleLemmas
 pub mod NamedLemmas
+pub mod PolygonLemmas

@@ -19,7 +19,7 @@ use Rattle.oas_ahead.specs.declared.named.Given.{Given}
 use Rattle.oas_ahead.specs.declared.named.Given.TheVariants.{Modal, Number, Bytes}
 use Rattle.oas_ahead.specs.declared.named.NamedOnce.{NamedOnce}
 use Rattle.oas_ahead.specs.declared.named.NamedOnce.TheVariants.{Placement, Text}
-use Rattle.oas_ahead.specs.Named.{cell_given, string_given, named_record, GivesCell, GivesString, IsNamedAhead, TakesBytes, TakesGiven, TakesNamed}
+use Rattle.oas_ahead.specs.Named.{cell_given, string_given, named_record, GivesCell, GivesString, GivesName, IsNamedAhead, TakesBytes, TakesGiven, TakesNamed}
 use Rattle.oas_ahead.proofs.FrontLemmas.{pair_takes, image_takes, none_takes, some_takes, first_takes, second_takes, spot_takes, leaves_fewer, one_byte, one_shortest, both_true}
 use Rattle.oas_ahead.proofs.RectangleLemmas.{taken}
 
@@ -103,7 +103,7 @@ pub all_fields : (info : ℕ) → IsTrue (info == 91) → IsCanonicalText info
 all_fields info t = grind arith
 
 -- the info byte, and the fields that it gives
-info_takes : {F : Type 0} (allowed canonical : ℕ → Type 0) (settled : (info : ℕ) → Settled (allowed info)) (zero : allowed 0) (parts : ℕ → Kind F) (info : ℕ) (all : Bool) {fields : F} {old one new : Left}
+pub info_takes : {F : Type 0} (allowed canonical : ℕ → Type 0) (settled : (info : ℕ) → Settled (allowed info)) (zero : allowed 0) (parts : ℕ → Kind F) (info : ℕ) (all : Bool) {fields : F} {old one new : Left}
     → TakesByte info old one → allowed info → (IsTrue all → canonical info) → TakesFront (parts info) fields one new → TakesFront (pair (info_byte allowed canonical settled zero) parts) (info, fields) old (noted all new)
 info_takes allowed canonical settled zero parts info all {new = new} took fits is p = record {
   bytes = info ∷ p.bytes;
@@ -159,18 +159,19 @@ not_end (Placement c quarters flip x y) e = cc
 not_end (Text s textlayer texttype x y) e = cc
 
 -- id, and what follows it, were taken
-pub is_named_ahead : (bytes : List ℕ) (id : ℕ) (element : NamedOnce) (all one new : Left) → all.bytes ≡ bytes → id < 128 → TakesByte id all one → TakesNamed id element one new
+pub is_named_ahead : (bytes : List ℕ) (id : ℕ) (element : NamedOnce) (all one new : Left) → all.bytes ≡ bytes → id < 128 → TakesByte id all one → TakesNamed id element one new → GivesName element
     → IsNamedAhead bytes (record { element = element; length = length bytes - length new.bytes; shortest = new.shortest })
-is_named_ahead bytes id element all one new is small first t = record {
+is_named_ahead bytes id element all one new is small first t names = record {
   within = omega arith;
-  spelled = λ names in_end.
+  named = names;
+  spelled = λ in_end.
       let r = t.takes names in
       rw (taken bytes (id ∷ r.bytes) new.bytes (sym is ∙ first.joined ∙ ap (λ bs. id ∷ bs) r.joined))
       (record {
         whole = λ e. absurd (not_end element e);
         parts = record { front = id ∷ []; back = r.bytes; first = rw t.is (one_byte id small); second = rw t.is (r.spelled in_end); joined = refl };
       });
-  shortest = λ now names in_end.
+  shortest = λ now in_end.
       let r = t.takes names in
       rw (taken bytes (id ∷ r.bytes) new.bytes (sym is ∙ first.joined ∙ ap (λ bs. id ∷ bs) r.joined))
       (record {

@@ -1,3 +1,4 @@
 pub mod Fronts
 pub mod Ahead
 pub mod Named
+pub mod Polygons

@@ -47,11 +47,12 @@ abbrev pub GivesName : NamedOnce → Type 0
 GivesName (Placement c quarters flip x y) = GivesCell c
 GivesName (Text s textlayer texttype x y) = GivesString s
 
--- So many of the bytes spell it, if its name is one, in a file whose table-offsets stand wherever they do.
+-- So many of the bytes spell it, in a file whose table-offsets stand wherever they do; its name, if it gives one, is one.
 pub record IsNamedAhead (bytes : List ℕ) (r : NamedAhead) : Type 0 where
   pub within : r.length ≤ length bytes
-  pub spelled : GivesName r.element → (in_end : Bool) → record_in Any in_end (named_record r.element) (take r.length bytes)
-  pub shortest : IsTrue r.shortest → GivesName r.element → (in_end : Bool) → record_in Shortest in_end (named_record r.element) (take r.length bytes)
+  pub named : GivesName r.element
+  pub spelled : (in_end : Bool) → record_in Any in_end (named_record r.element) (take r.length bytes)
+  pub shortest : IsTrue r.shortest → (in_end : Bool) → record_in Shortest in_end (named_record r.element) (take r.length bytes)
 
 -- bytes were taken behind their length
 pub record TakesBytes (bytes : List ℕ) (old new : Left) : Type 0 where

@@ -6,8 +6,9 @@
 //!   whether it is spelled in the shortest style (`IsAhead`, specs/Ahead.antt). It promises nothing of what it doesn't answer:
 //!   oas_record reads every record, and says why one is refused.
 //! - [`named_ahead`] answers a placement by quarter turns or a text that stands once, in the same way and as one-sidedly
-//!   (`IsNamedAhead`, specs/Named.antt). The bytes that are given for its name may be any: what it says of spelling holds if they
-//!   are a name, or a string, which the caller settles.
+//!   (`IsNamedAhead`, specs/Named.antt). The bytes that it gives for a cell are a name, and those for a string are one.
+//! - [`polygon_ahead`] answers a polygon that stands once, whose point list is of type 4, in the same way (`IsPolygonAhead`,
+//!   specs/Polygons.antt).
 //!
 //! Most bytes of a layout are rectangles. A source gives a byte a call, and a `Record` has room for the largest kind; of bytes
 //! that are at hand a rectangle takes neither.
@@ -15,7 +16,9 @@
 
 mod fronts;
 mod named;
+mod polygons;
 mod rectangles;
 
 pub use named::{Given, NamedAhead, NamedOnce, named_ahead};
+pub use polygons::{PolygonAhead, polygon_ahead};
 pub use rectangles::{RectangleAhead, rectangle_ahead};

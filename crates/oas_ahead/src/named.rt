@@ -1,10 +1,11 @@
 //! A placement or a text at the front of bytes: an element with a name, or with a number for one.
 ghost use Rattle.std.specs.Prelude.{◌≡◌, ◌↔◌, IsTrue, IfSome};
 ghost use Rattle.oas_record.specs.Placements.{IsCanonicalPlacement};
-ghost use Rattle.oas_ahead.specs.Named.{IsNamedAhead, TakesGiven, TakesNamed};
+ghost use Rattle.oas_ahead.specs.Named.{GivesName, IsNamedAhead, TakesGiven, TakesNamed};
 
 use crate::fronts::Front;
 use crate::rectangles::take_layers;
+use oas_num::{Label, Name};
 
 /// The id of a placement's record that turns by quarters (SEMI P39, PLACEMENT records).
 const PLACEMENT: u8 = 17;
@@ -22,7 +23,7 @@ pub enum Given<'a> {
     Modal,
     /// The number of a name record.
     Number(u64),
-    /// These bytes, which may be any.
+    /// The name or the string of these bytes.
     Bytes(&'a [u8]),
 }
 
@@ -47,11 +48,31 @@ pub enum NamedOnce<'a> {
     },
 }
 
+impl<'a> NamedOnce<'a> {
+    /// Whether the bytes that are given for a cell are a name, and those for a string are one.
+    #[inline]
+    fn is_named(&self) -> bool
+        ensures { IsTrue result ↔ GivesName self.now }
+    {
+        match self {
+            NamedOnce::Placement {
+                cell: Given::Bytes(bytes),
+                ..
+            } => Name::is_name(bytes),
+            NamedOnce::Text {
+                string: Given::Bytes(bytes),
+                ..
+            } => Label::is_label(bytes),
+            _ => true,
+        }
+    }
+}
+
 /// A placement or a text that stands once, as some bytes begin with it.
 #[derive(Debug, Drop)]
 pub struct NamedAhead<'a> {
     pub element: NamedOnce<'a>,
-    /// How many bytes spell its record, the id included, if those of its name are a name's.
+    /// How many bytes spell its record, the id included.
     pub length: usize,
     /// Whether they do so in the shortest style: the name and all fields are given, each number in as few bytes as it needs.
     pub shortest: bool,
@@ -134,6 +155,9 @@ pub fn named_ahead(bytes: &[u8]) -> Option<NamedAhead<'_>>
         TEXT => take_text(&mut front)?,
         _ => return None,
     };
+    if !element.is_named() {
+        return None;
+    }
     Some(NamedAhead {
         element,
         length: bytes.len() - front.left().len(),

@@ -1,14 +1,13 @@
 -- A placement or a text that stands once and is at hand, by the modal variables.
-use Rattle.std.specs.Prelude.{◌≡◌, Option, Some}
-use Rattle.oas_num.specs.Texts.{IsName, IsLabel}
+use Rattle.std.specs.Prelude.{ℕ, ◌+◌, length, Option, None, Some}
+use Rattle.std.specs.Option.{option_or}
 use Rattle.oas_record.specs.declared.references.CellRef.{CellRef}
 use Rattle.oas_record.specs.declared.references.CellRef.TheVariants as cell
 use Rattle.oas_record.specs.declared.references.TextRef.{TextRef}
 use Rattle.oas_record.specs.declared.references.TextRef.TheVariants as text
 use Rattle.oas_record.specs.declared.placements.Turn.TheVariants.{Quarters}
 use Rattle.oas_layout.specs.declared.element.Element.TheVariants as element
-use Rattle.oas_ahead.specs.declared.named.Given.{Given}
-use Rattle.oas_ahead.specs.declared.named.Given.TheVariants.{Bytes}
+use Rattle.oas_ahead.specs.Named.{cell_given, string_given}
 use Rattle.oas_ahead.specs.declared.named.NamedOnce.{NamedOnce}
 use Rattle.oas_ahead.specs.declared.named.NamedOnce.TheVariants as once
 use Rattle.oas_drawing.specs.declared.drawn.Drawn.{Drawn}
@@ -19,19 +18,21 @@ use Rattle.oas_drawing.specs.declared.kinds.Kind.{Kind}
 use Rattle.oas_drawing.specs.declared.kinds.Kind.TheVariants.{Placement, Text}
 use Rattle.oas_drawing.specs.Modal.{ModalState}
 
--- bytes that are given for a cell are its modal name, which is a name
-abbrev pub IsKnownCell : Option CellRef → Given → Type 0
-IsKnownCell modal (Bytes bytes) = (modal ≡ Some (cell.Name bytes.now)) × IsName bytes.now
-IsKnownCell modal _ = Unit {0}
+-- the modal variables once the name that is given, by its bytes or its number, is the modal one
+abbrev pub named_by : ModalState → NamedOnce → ModalState
+named_by m (once.Placement c quarters flip x y) = record m { cell = option_or (cell_given c) m.cell }
+named_by m (once.Text s textlayer texttype x y) = record m { string = option_or (string_given s) m.string }
 
--- those for a string are the modal one, which is a string
-abbrev pub IsKnownString : Option TextRef → Given → Type 0
-IsKnownString modal (Bytes bytes) = (modal ≡ Some (text.Label bytes.now)) × IsLabel bytes.now
-IsKnownString modal _ = Unit {0}
+-- what an element with a name weighs as long as its number has none
+abbrev pub cell_weight : Option CellRef → Option ℕ
+cell_weight None = None
+cell_weight (Some (cell.Number number)) = Some 1
+cell_weight (Some (cell.Name name)) = Some (1 + length name)
 
-abbrev pub IsKnown : ModalState → NamedOnce → Type 0
-IsKnown m (once.Placement c quarters flip x y) = IsKnownCell m.cell c
-IsKnown m (once.Text s textlayer texttype x y) = IsKnownString m.string s
+abbrev pub string_weight : Option TextRef → Option ℕ
+string_weight None = None
+string_weight (Some (text.Number number)) = Some 1
+string_weight (Some (text.Label label)) = Some (1 + length label)
 
 -- its kind
 abbrev pub named_kind : NamedOnce → Kind

@@ -16,13 +16,7 @@ use Rattle.oas_ahead.specs.Ahead.{IsAhead}
 use Rattle.oas_ahead.specs.declared.named.NamedAhead.{NamedAhead}
 use Rattle.oas_ahead.specs.declared.named.NamedOnce.{NamedOnce}
 use Rattle.oas_ahead.specs.declared.named.NamedOnce.TheVariants as once
-use Rattle.oas_ahead.specs.declared.named.Given.{Given}
-use Rattle.oas_ahead.specs.declared.named.Given.TheVariants.{Modal, Number, Bytes}
-use Rattle.oas_ahead.specs.Named.{IsNamedAhead, GivesCell, GivesString, GivesName, named_record}
-use Rattle.oas_drawing.specs.Modal.{ModalState}
-use Rattle.oas_drawing.specs.Named.{IsKnownCell, IsKnownString, IsKnown}
-use Rattle.oas_record.specs.declared.references.CellRef.{CellRef}
-use Rattle.oas_record.specs.declared.references.TextRef.{TextRef}
+use Rattle.oas_ahead.specs.Named.{IsNamedAhead, named_record}
 use Rattle.oas_record.specs.Records.{record_in, IsInner}
 use Rattle.oas_record.specs.Laws.RecordLaws.{OneFront-record}
 use Rattle.oas_record.specs.Refusals.{RecordTook}
@@ -165,21 +159,6 @@ pub named_inner : (next : NamedOnce) → IsInner (named_record next)
 named_inner (once.Placement c quarters flip x y) = λ e. cc
 named_inner (once.Text s textlayer texttype x y) = λ e. cc
 
-pub named_read : {old new : Script} {bytes : List ℕ} {ahead : NamedAhead} (in_end : Bool) → GivesName ahead.element → IsNamedAhead bytes ahead → Takes old (take ahead.length bytes) new
+pub named_read : {old new : Script} {bytes : List ℕ} {ahead : NamedAhead} (in_end : Bool) → IsNamedAhead bytes ahead → Takes old (take ahead.length bytes) new
     → ReadsValue (inner_in in_end) old (named_record ahead.element) new
-named_read {ahead = ahead} in_end gives is takes = record { bytes = _; takes = takes; spelled = record { holds = named_inner ahead.element; spelled = is.spelled gives in_end } }
-
--- its name, if it is known, is one
-cell_gives : (modal : Option CellRef) (given : Given) → IsKnownCell modal given → GivesCell given
-cell_gives modal Modal known = tt
-cell_gives modal (Number n) known = tt
-cell_gives modal (Bytes bytes) known = known.1
-
-string_gives : (modal : Option TextRef) (given : Given) → IsKnownString modal given → GivesString given
-string_gives modal Modal known = tt
-string_gives modal (Number n) known = tt
-string_gives modal (Bytes bytes) known = known.1
-
-pub known_gives : (m : ModalState) (next : NamedOnce) → IsKnown m next → GivesName next
-known_gives m (once.Placement c quarters flip x y) known = cell_gives m.cell c known
-known_gives m (once.Text s textlayer texttype x y) known = string_gives m.string s known
+named_read {ahead = ahead} in_end is takes = record { bytes = _; takes = takes; spelled = record { holds = named_inner ahead.element; spelled = is.spelled in_end } }

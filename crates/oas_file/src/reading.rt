@@ -24,8 +24,8 @@ pub fn take_record<S: Source>(
     }
 }
 
-/// Has the reader take the next record, which starts at byte `at`, and answers false where it is END. A rectangle that is at
-/// hand goes the short way, and so does a placement or a text whose name is known.
+/// Has the reader take the next record, which starts at byte `at`, and answers false where it is END. A rectangle, a placement or
+/// a text that is at hand goes the short way.
 fn take_next<S: Source, C: CellStore>(
     alloc: Global,
     source: &mut S,
@@ -42,13 +42,11 @@ fn take_next<S: Source, C: CellStore>(
         return Ok(true);
     }
     if let Some(found) = named_ahead(source.ahead()) {
-        if reader.knows(&found.element) {
-            let length = found.length;
-            let taken = reader.take_named(at, &found.element);
-            source.skip(length);
-            taken?;
-            return Ok(true);
-        }
+        let length = found.length;
+        let taken = reader.take_named(at, &found.element);
+        source.skip(length);
+        taken?;
+        return Ok(true);
     }
     let Some(record) = take_record(alloc, source, flag_in_end)? else {
         return Ok(false);

@@ -1,4 +1,3 @@
-pub mod AgainLemmas
 pub mod AllowedLemmas
 pub mod AloneLemmas
 pub mod ComparingLemmas
@@ -11,6 +10,7 @@ pub mod ElementSpelling
 pub mod Existence
 pub mod FieldsFit
 pub mod FieldsGiven
+pub mod FollowingLemmas
 pub mod Forms
 pub mod Held
 pub mod InGrid

@@ -2,7 +2,6 @@ pub mod Records
 pub mod RecordMeaning
 pub mod Canonical
 pub mod Bytes
-pub mod Again
 pub mod Alone
 pub mod Putting
 pub mod Layouts

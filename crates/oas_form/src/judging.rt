@@ -12,10 +12,10 @@ ghost use Rattle.oas_layout.specs.Weight.{weight_of, lacks_points};
 ghost use Rattle.oas_form.specs.Bytes.{opening_bytes, element_bytes, head_bytes, end_bytes};
 ghost use Rattle.oas_form.specs.Judging.{IsAbove, IsNotBelow, Stands, GoesOn, GoesOnDrawing, GoesOnRefusing};
 
-use crate::again::{placed, placement_order, text_order, written};
 use crate::cells::put_opening;
 use crate::comparing::Comparer;
 use crate::elements::put_element;
+use crate::following::{place_over, placement_order, text_order, write_over};
 use crate::frames::{put_end, put_head};
 use oas_layout::{Element, Turns};
 use oas_num::{Fraction, Name};
@@ -138,11 +138,11 @@ impl FormJudge {
         self.element = Some(element);
     }
 
-    /// Judges a placement of the cell that the latest element places, if the bytes of its record are the canonical ones. It
-    /// answers false, and does nothing, where the latest element is no placement of a cell of this name.
-    pub fn place_again(&mut self, name: &[u8], at: (i64, i64), turns: Turns, flip: bool) -> bool
+    /// Judges a placement of the cell of this name, if the bytes of its record are the canonical ones. It answers false, and does
+    /// nothing, where the latest element is no placement, or memory is refused.
+    pub fn place_next(&mut self, name: &[u8], at: (i64, i64), turns: Turns, flip: bool) -> bool
+        requires { IsName name.now }
         ensures no { result ≡ false → self.new ≡ self.old }
-        ensures name { result ≡ true → IsName name.now }
         ensures yes { result ≡ true → (bytes : List ℕ) → element_bytes (Placement name.now at.0 at.1 turns flip) ≡ bytes → GoesOnDrawing self.old (Placement name.now at.0 at.1 turns flip) bytes self.new }
     {
         let Some(last) = &self.element else {
@@ -151,18 +151,22 @@ impl FormJudge {
         let Some(order) = placement_order(last, name, at, turns, flip) else {
             return false;
         };
-        self.holds = self.may_go_on(order);
-        if let Some(last) = self.element.take() {
-            self.element = Some(placed(last, at, turns, flip));
+        let Some(last) = self.element.take() else {
+            return false;
+        };
+        let (next, made) = place_over(last, name, at, turns, flip);
+        self.element = Some(next);
+        if made {
+            self.holds = self.may_go_on(order);
         }
-        true
+        made
     }
 
-    /// Judges a text of the string that the latest element has, if the bytes of its record are the canonical ones. It answers
-    /// false, and does nothing, where the latest element is no text of this string.
-    pub fn write_again(&mut self, string: &[u8], layers: (u64, u64), at: (i64, i64)) -> bool
+    /// Judges a text of this string, if the bytes of its record are the canonical ones. It answers false, and does nothing, where
+    /// the latest element is no text, or memory is refused.
+    pub fn write_next(&mut self, string: &[u8], layers: (u64, u64), at: (i64, i64)) -> bool
+        requires { IsLabel string.now }
         ensures no { result ≡ false → self.new ≡ self.old }
-        ensures fits { result ≡ true → IsLabel string.now }
         ensures yes { result ≡ true → (bytes : List ℕ) → element_bytes (Text string.now layers.0 layers.1 at.0 at.1) ≡ bytes → GoesOnDrawing self.old (Text string.now layers.0 layers.1 at.0 at.1) bytes self.new }
     {
         let Some(last) = &self.element else {
@@ -171,11 +175,15 @@ impl FormJudge {
         let Some(order) = text_order(last, string, layers, at) else {
             return false;
         };
-        self.holds = self.may_go_on(order);
-        if let Some(last) = self.element.take() {
-            self.element = Some(written(last, layers, at));
+        let Some(last) = self.element.take() else {
+            return false;
+        };
+        let (next, made) = write_over(last, string, layers, at);
+        self.element = Some(next);
+        if made {
+            self.holds = self.may_go_on(order);
         }
-        true
+        made
     }
 
     /// Judges a record that no canonical file has there.

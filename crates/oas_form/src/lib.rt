@@ -20,19 +20,19 @@
 //!   canonical form by profile one.
 //! - [`judge_laws`] says when an accepted file is a canonical form, record by record as it is read (specs/Judging.antt), and
 //!   [`FormJudge`] judges so: of what was read it keeps the name of the open cell and the latest element. A placement or a
-//!   text of the latest one's name it judges by the other fields alone, with no copy of the name. [`is_head`] and [`is_end`]
-//!   say whether bytes are those before the first record and END.
+//!   text that follows another it judges by its fields alone, in the memory of that ([`FormJudge::place_next`]). [`is_head`]
+//!   and [`is_end`] say whether bytes are those before the first record and END.
 //! - The parts of the writer, for one that has its elements in another form: each puts the bytes of a part, and answers how many
 //!   they are ([`put_head`], [`put_opening`], [`put_rectangle`], [`put_step`] and their like, [`put_end`]).
 //! - [`meaning_laws`] and [`spelling_laws`] say of the records of a canonical file (`records_of`, specs/Records.antt) what
 //!   they mean, that they are accepted, and how they are spelled.
 #![tactic(auto)]
 
-mod again;
 mod alone;
 mod cells;
 mod comparing;
 mod elements;
+mod following;
 mod frames;
 pub mod judge_laws;
 mod judging;

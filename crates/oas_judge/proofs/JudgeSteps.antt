@@ -14,7 +14,7 @@ use Rattle.oas_ahead.specs.Ahead.{IsAhead}
 use Rattle.oas_ahead.specs.declared.named.NamedAhead.{NamedAhead}
 use Rattle.oas_ahead.specs.declared.named.NamedOnce.{NamedOnce}
 use Rattle.oas_ahead.specs.declared.named.NamedOnce.TheVariants as once
-use Rattle.oas_ahead.specs.Named.{IsNamedAhead, GivesName, named_record}
+use Rattle.oas_ahead.specs.Named.{IsNamedAhead, named_record}
 use Rattle.oas_layout.specs.declared.element.Element.{Element}
 use Rattle.oas_layout.specs.declared.element.Element.TheVariants.{Placement, Text, Rectangle, Polygon, Path, Circle}
 use Rattle.oas_layout.specs.Same.{normal}
@@ -166,12 +166,12 @@ ahead_drawn j form ahead e all told is spelled step = record {
 }
 
 -- of a placement or a text
-pub named_drawn : (j : FileJudge) (form : FormJudge) (ahead : NamedAhead) (e : Element) (all : List ℕ) → IsTrue (holds j) → IsNamedAhead all ahead → IsTrue ahead.shortest → GivesName ahead.element
+pub named_drawn : (j : FileJudge) (form : FormJudge) (ahead : NamedAhead) (e : Element) (all : List ℕ) → IsTrue (holds j) → IsNamedAhead all ahead → IsTrue ahead.shortest
     → IsNamedBy ahead.element e → ((bytes : List ℕ) → element_bytes e ≡ bytes → GoesOnDrawing j.form e bytes form)
     → GoesOnAhead (take ahead.length all) j (named_record ahead.element) (record j { form = form })
-named_drawn j form ahead e all told is short gives named step = record {
+named_drawn j form ahead e all told is short named step = record {
   candidate = candidates.Element e;
   says = λ told. record { element = e; drawn = named.drawn; form = named_so e ahead.element named.is j.profile; fit = named.fit };
   goes_on =
-      goes_on_drawn (take ahead.length all) j form told e (step (take ahead.length all) (bytes_so e (named_record ahead.element) (take ahead.length all) named.is named.fit named.fits (is.shortest short gives false)));
+      goes_on_drawn (take ahead.length all) j form told e (step (take ahead.length all) (bytes_so e (named_record ahead.element) (take ahead.length all) named.is named.fit named.fits (is.shortest short false)));
 }

@@ -152,10 +152,11 @@ impl FileJudge {
     }
 
     /// Judges a placement or a text that is at hand, if it is accepted. It answers false, and does nothing, where the bytes have to
-    /// be compared with the canonical ones to know, or its name isn't that of the latest element.
+    /// be compared with the canonical ones to know.
     pub(crate) fn judge_named(&mut self, ahead: &NamedAhead<'_>) -> bool
+        requires { GivesName ahead.now.element }
         ensures no { result ≡ false → self.new ≡ self.old }
-        ensures yes { result ≡ true → GivesName ahead.now.element → (all : List ℕ) → IsNamedAhead all ahead.now → GoesOnAhead (take ahead.now.length all) self.old (named_record ahead.now.element) self.new }
+        ensures yes { result ≡ true → (all : List ℕ) → IsNamedAhead all ahead.now → GoesOnAhead (take ahead.now.length all) self.old (named_record ahead.now.element) self.new }
     {
         if !self.holds() {
             return true;

@@ -1,5 +1,6 @@
 //! A placement or a text that is at hand, in the cell that is judged.
 ghost use Rattle.std.specs.Prelude.{◌≡◌, true, false, List, ℕ, Some, IfSome};
+ghost use Rattle.oas_ahead.specs.Named.{GivesName};
 ghost use Rattle.oas_layout.specs.Element.{turn_count};
 ghost use Rattle.oas_layout.specs.Grid.{is_coordinate};
 ghost use Rattle.oas_layout.specs.declared.element.Element.{Element as OneElement};
@@ -38,8 +39,9 @@ fn place_given(x: Option<i64>, y: Option<i64>) -> Option<(i64, i64)>
 }
 
 /// Judges the element that such a record gives by its own fields, of which the canonical bytes were read. Answers false, and does
-/// nothing, where the latest element has another name, or the record gives no such element.
+/// nothing, where the latest element is of another kind, or the record gives no such element.
 pub(crate) fn draw_named(form: &mut FormJudge, next: &NamedOnce<'_>) -> bool
+    requires { GivesName next.now }
     ensures no { result ≡ false → form.new ≡ form.old }
     ensures yes { result ≡ true → (e : OneElement) × IsNamedBy next.now e × ((bytes : List ℕ) → element_bytes e ≡ bytes → GoesOnDrawing form.old e bytes form.new) }
 {
@@ -54,7 +56,7 @@ pub(crate) fn draw_named(form: &mut FormJudge, next: &NamedOnce<'_>) -> bool
             let (Some(turns), Some(at)) = (turns_by(*quarters), place_given(*x, *y)) else {
                 return false;
             };
-            (name.len() as u64) < HEAVIEST && form.place_again(name, at, turns, *flip)
+            (name.len() as u64) < HEAVIEST && form.place_next(name, at, turns, *flip)
         }
         NamedOnce::Text {
             string: Given::Bytes(string),
@@ -66,8 +68,7 @@ pub(crate) fn draw_named(form: &mut FormJudge, next: &NamedOnce<'_>) -> bool
             let Some(at) = place_given(*x, *y) else {
                 return false;
             };
-            (string.len() as u64) < HEAVIEST
-                && form.write_again(string, (*textlayer, *texttype), at)
+            (string.len() as u64) < HEAVIEST && form.write_next(string, (*textlayer, *texttype), at)
         }
         _ => false,
     }

@@ -32,8 +32,8 @@ fn next_rectangle<S: Source, C: CellStore>(
     Ok(true)
 }
 
-/// Has the reader take a placement or a text that is at hand, and the judge see it, where its name is known to both. Answers
-/// false where it does nothing.
+/// Has the reader take a placement or a text that is at hand, and the judge see it, where that needs nothing more to
+/// know. Answers false where it does nothing.
 fn next_named<S: Source, C: CellStore>(
     source: &mut S,
     head: &Head,
@@ -47,7 +47,7 @@ fn next_named<S: Source, C: CellStore>(
     let Some(found) = named_ahead(source.ahead()) else {
         return Ok(false);
     };
-    if !reader.knows(&found.element) || !judge.judge_named(&found) {
+    if !judge.judge_named(&found) {
         return Ok(false);
     }
     let length = found.length;

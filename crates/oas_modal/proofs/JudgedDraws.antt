@@ -67,6 +67,15 @@ module _ {S : Type 0} (t : Store S) (p : Parts S) (r : Record) (kind : Kind) (he
   pub refused_number : (why : Why) → kind_reason p.limits p.count p.weight m kind repeated ≡ Some why → reason_of p r ≡ Some why
   refused_number why h = judged_in ∙ refused_before p.limits p.count p.weight m r kind why c.kind_is (by_repeats (Some why) h)
 
+  -- refused by the reason for its kind, for its number or for one of its copies
+  pub refused_kind : (why : Why) → reason_if p.limits p.count p.weight m (Some kind) repeated ≡ Some why → reason_of p r ≡ Some why
+  refused_kind why h =
+      let by_kind : draw_reason p.limits p.count p.weight m r ≡ reason_if p.limits p.count p.weight m (Some kind) (repeats r) =
+      ap (λ (k : Option Kind). reason_if p.limits p.count p.weight m k (repeats r)) c.kind_is in
+      let by_once : reason_if p.limits p.count p.weight m (Some kind) (repeats r) ≡ reason_if p.limits p.count p.weight m (Some kind) repeated =
+      ap (λ (b : Bool). reason_if p.limits p.count p.weight m (Some kind) b) (sym c.repeats_is) in
+      judged_in ∙ (by_kind ∙ (by_once ∙ h))
+
   may_want : kind_reason p.limits p.count p.weight m kind repeated ≡ None → MayWant (reason_of p r)
   may_want none =
       let left : Option Why = first_of ((not (all_fit m kind (repeats r)), CoordinateRange) ∷ []) in

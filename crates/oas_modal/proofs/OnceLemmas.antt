@@ -2,6 +2,7 @@
 use Rattle.std.proofs.Common.{◌≡◌, ℕ, ◌+◌, ◌*◌, List, [], ◌++◌, refl, sym, ap, ◌∙◌, subst, arith, false}
 use Rattle.std.specs.Prelude.{Option, None, Some, replicate}
 use Rattle.std.specs.Option.{option_to_list}
+use Rattle.oas_num.specs.declared.refusals.Why.{Why}
 use Rattle.oas_shape.specs.Steps.{still}
 use Rattle.oas_ring.specs.declared.point.Point.{Point}
 use Rattle.oas_record.specs.declared.records.Record.{Record}
@@ -13,15 +14,15 @@ use Rattle.oas_drawing.specs.declared.kinds.Kind.{Kind}
 use Rattle.oas_drawing.specs.declared.kinds.Kind.TheVariants.{Rectangle}
 use Rattle.oas_modal.specs.declared.parts.Parts.{Parts}
 use Rattle.oas_drawing.specs.Positions.{IsNear}
-use Rattle.oas_drawing.specs.Modal.{ModalState}
+use Rattle.oas_drawing.specs.Modal.{ModalState, stepped}
 use Rattle.oas_drawing.specs.Drawn.{weight_so_far}
 use Rattle.oas_drawing.specs.Drawing.{kind_of, repeats, rectangle_at, point_from, place_of, drawn_by}
-use Rattle.oas_drawing.specs.Reasons.{weight_if, kind_reason}
-use Rattle.oas_drawing.specs.Named.{named_kind}
+use Rattle.oas_drawing.specs.Reasons.{weight_if, fault_of, kind_reason, reason_if}
+use Rattle.oas_drawing.specs.Named.{named_by, named_kind}
 use Rattle.oas_modal.specs.Stores.{Store, Draws}
-use Rattle.oas_modal.specs.Parts.{Sound, Took}
+use Rattle.oas_modal.specs.Parts.{reason_of, Sound, Took}
 use Rattle.oas_modal.specs.Copying.{first_copies}
-use Rattle.oas_modal.proofs.JudgedDraws.{InCell, took_draw, sound_draw}
+use Rattle.oas_modal.proofs.JudgedDraws.{InCell, refused_kind, allowed_draw, took_draw, sound_draw}
 
 -- ---- what it weighs
 
@@ -52,6 +53,22 @@ named_is (Text s textlayer texttype x y) = refl
 pub named_once : (n : NamedOnce) → false ≡ repeats (named_record n)
 named_once (Placement c quarters flip x y) = refl
 named_once (Text s textlayer texttype x y) = refl
+
+-- ---- why it is refused
+
+-- whose fields are set, where m are the variables with them, and its name is set or not
+module _ {S : Type 0} (t : Store S) (p : Parts S) (n : NamedOnce) (held : S) (m : ModalState) (held_is : p.cell ≡ Some held)
+    (fields : named_by m n ≡ stepped p.modal (named_record n)) (sound : Sound t p) where
+  pub named_in_cell : (m' : ModalState) → m' ≡ named_by m n → InCell t p (named_record n) (named_kind n) held m' false
+  named_in_cell m' is = record { kind_is = named_is n; held_is = held_is; modal_is = is ∙ fields; repeats_is = named_once n; sound = sound }
+
+  pub named_refused : (why : Why) → reason_if p.limits p.count p.weight (named_by m n) (Some (named_kind n)) false ≡ Some why → reason_of p (named_record n) ≡ Some why
+  named_refused why h = refused_kind t p (named_record n) (named_kind n) held (named_by m n) false (named_in_cell (named_by m n) refl) why h
+
+  pub named_allowed : kind_reason p.limits p.count p.weight (named_by m n) (named_kind n) false ≡ None → fault_of (drawn_by (named_by m n) (named_kind n) still) ≡ None
+      → reason_of p (named_record n) ≡ None
+  named_allowed none fits =
+      allowed_draw t p (named_record n) (named_kind n) held (named_by m n) false (named_in_cell (named_by m n) refl) 1 none refl (λ i small. fits)
 
 -- ---- what is kept after it
 

@@ -23,11 +23,11 @@
 //!   specs/Stands.antt), and stands for one more once that is taken; it refuses exactly where, and by the first reason that,
 //!   `refusal` says, and for want of memory only where it says none, or that a copy lies outside the grid (`MayWant`); a
 //!   refusal is answered again from then on. [`Reader::take_rectangle`] says the same of a rectangle that gives no repetition,
-//!   and takes it with no record and no walk over copies; [`Reader::take_named`] says it of a placement or a text at hand whose
-//!   name, if it gives one, is the modal one ([`Reader::knows`]), of which a store makes a copy only where it keeps one
-//!   ([`CellStore::draw_once`]). The `finish` of one with held cells gives a layout that is the same as what the records mean
-//!   (`records_mean`), or refuses by `end_refusal`, or else for want of memory. [`reader_laws`]: one more record changes where
-//!   it stands by itself alone, and what held cells stand for.
+//!   and takes it with no record and no walk over copies; [`Reader::take_named`] says it of a placement or a text at hand. The
+//!   name that this gives goes into the memory of the modal one, where that is enough, and a store makes a copy of it only where
+//!   it keeps one ([`CellStore::draw_once`]). The `finish` of one with held cells gives a layout that is the same as what the
+//!   records mean (`records_mean`), or refuses by `end_refusal`, or else for want of memory. [`reader_laws`]: one more record
+//!   changes where it stands by itself alone, and what held cells stand for.
 //! - A [`CountedCell`] is a store that keeps no element: only counts, weights, and how often each number is used
 //!   (specs/Counted.antt). The `finish_counting` of a reader with such cells accepts exactly the records that END doesn't refuse,
 //!   and refuses others by `end_refusal`, or for want of memory.

@@ -2,8 +2,7 @@
 
 ghost use Rattle.std.specs.Prelude.{◌≡◌, ◌⊎◌, None, Some, OnOk, IfErr};
 ghost use Rattle.oas_num.specs.declared.refusals.Why.TheVariants.{Memory};
-ghost use Rattle.oas_ahead.specs.Named.{named_record};
-ghost use Rattle.oas_drawing.specs.Named.{IsKnown};
+ghost use Rattle.oas_ahead.specs.Named.{GivesName, named_record};
 ghost use Rattle.oas_modal.specs.Standing.{MayWant};
 ghost use Rattle.oas_modal.specs.Parts.{Took, Sound, reason_of};
 
@@ -12,12 +11,12 @@ use crate::stores::CellStore;
 use oas_ahead::NamedOnce;
 use oas_num::Why;
 
-/// Draws a placement or a text that stands once in the open cell. Its name, if it gives one, is the modal one.
+/// Draws a placement or a text that stands once in the open cell. What else refuses it comes before want of memory.
 pub(crate) fn accept_named<S: CellStore>(
     parts: &mut Parts<S>,
     next: &NamedOnce<'_>,
 ) -> Result<(), Why>
-    requires known { IsKnown parts.old.modal next.now }
+    requires named { GivesName next.now }
     requires sound { Sound S.store parts.old }
     ensures reason { OnOk result (reason_of parts.old (named_record next.now) ≡ None) }
     ensures new { OnOk result (Took S.store parts.old (named_record next.now) parts.new) }
@@ -30,10 +29,16 @@ pub(crate) fn accept_named<S: CellStore>(
             NamedOnce::Text { .. } => 19,
         }));
     };
-    parts.modal.set_named(next);
-    let drawn = parts
+    parts.modal.set_fields(next);
+    parts
         .modal
-        .one_named(next, parts.limits, parts.count, parts.weight)?;
+        .check_named(next, parts.limits, parts.count, parts.weight)?;
+    if parts.modal.set_name(parts.alloc, next).is_err() {
+        return Err(Why::Memory);
+    }
+    let Some(drawn) = parts.modal.one_named(next) else {
+        return Err(Why::ModalUndefined);
+    };
     let weight = drawn.weight();
     match held.draw_once(parts.alloc, &drawn) {
         Ok(()) => {}

@@ -4,8 +4,7 @@ ghost use Rattle.std.specs.Prelude.{◌≡◌, ◌⊎◌, IsTrue, ◌++◌, ◌�
 ghost use Rattle.oas_num.specs.declared.refusals.Why.TheVariants.{Memory};
 ghost use Rattle.oas_num.specs.declared.refusals.Refusal.{Refusal as OneRefusal};
 ghost use Rattle.oas_record.specs.declared.records.Record.{Record as OneRecord};
-ghost use Rattle.oas_ahead.specs.Named.{named_record};
-ghost use Rattle.oas_drawing.specs.Named.{IsKnown};
+ghost use Rattle.oas_ahead.specs.Named.{GivesName, named_record};
 ghost use Rattle.oas_modal.specs.Standing.{MayWant};
 ghost use Rattle.oas_modal.specs.Stands.{StandsFor, refusal, records_mean, end_refusal};
 ghost use Rattle.oas_modal.specs.Stores.{held_store};
@@ -143,17 +142,10 @@ impl<S: CellStore> Reader<S> {
         }
     }
 
-    /// Whether the name that a placement or a text gives, if it gives one by its bytes, is the modal one.
-    pub fn knows(&self, next: &NamedOnce<'_>) -> bool
-        ensures { IsTrue result → IsKnown self.now.standing.modal next.now }
-    {
-        self.parts.modal.knows(next)
-    }
-
-    /// Takes a placement or a text that stands once, and whose name, if it gives one, is the modal one, as [`Reader::take`] takes
-    /// it as a record: what it stands for then, and what it refuses, are the same. This way makes no name.
+    /// Takes a placement or a text that stands once, whose name, if it gives one, is one, as [`Reader::take`] takes it as a record:
+    /// what it stands for then, and what it refuses, are the same. This way no record is made, and a name where none was modal.
     pub fn take_named(&mut self, at: u64, next: &NamedOnce<'_>) -> Result<(), Refusal>
-        requires { IsKnown self.old.standing.modal next.now }
+        requires { GivesName next.now }
         ensures again { (e : OneRefusal) → self.old.failed ≡ Some e → (result ≡ Err e) × (self.new ≡ self.old) }
         ensures failed { IfErr result (λ e. self.new.failed ≡ Some e) }
         ensures taken { (rs : List OneRecord) → StandsFor S.store self.old rs → OnOk result ((refusal self.old.limits rs (named_record next.now) ≡ None) × StandsFor S.store self.new (rs ++ named_record next.now ∷ [])) }

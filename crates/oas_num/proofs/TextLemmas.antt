@@ -1,6 +1,6 @@
 -- The parts of a string, one after another.
-use Rattle.std.proofs.Common.{◌≡◌, ◌≢◌, ℕ, ◌+◌, ◌<◌, ◌^◌, List, [], ◌∷◌, ◌++◌, length, Result, Ok, Err, refl, sym, ap, ◌∙◌, arith}
-use Rattle.std.proofs.lemmas.List.{length_push}
+use Rattle.std.proofs.Common.{◌≡◌, ◌≢◌, ℕ, ◌+◌, ◌<◌, ◌≤◌, ◌^◌, List, [], ◌∷◌, ◌++◌, length, take, slice_index_or, Result, Ok, Err, refl, sym, ap, ◌∙◌, arith}
+use Rattle.std.proofs.lemmas.List.{length_push, take_more, take_all}
 use Rattle.oas_num.specs.declared.refusals.Why.{Why}
 use Rattle.oas_num.specs.declared.refusals.Why.TheVariants.{Truncated, EmptyName, StringByte, Read, InputTooLong}
 use Rattle.oas_num.specs.Script.{Script}
@@ -10,7 +10,7 @@ use Rattle.oas_num.specs.declared.texts.TextClass.TheVariants as classes
 use Rattle.oas_num.specs.Integers.{IsUnsigned}
 use Rattle.oas_num.specs.Laws.IntegerLaws.{OneFront-IsUnsigned}
 use Rattle.oas_num.specs.Style.{Any}
-use Rattle.oas_num.specs.Texts.{IsNameByte, IsLabelByte, IsName, IsLabel, IsText, IsPositive, IsPassed, SpellsName, SpellsLabel, SpellsPadding, padding_of, padding_length}
+use Rattle.oas_num.specs.Texts.{IsOf, IsNameByte, IsLabelByte, IsName, IsLabel, IsText, IsPositive, IsPassed, SpellsName, SpellsLabel, SpellsPadding, padding_of, padding_length}
 use Rattle.oas_num.specs.Laws.TextLaws.{OneFront-positive, text_of, HasSome-name, HasSome-label, HasSome-padding, HasSome-text, HasSome-passed}
 use Rattle.oas_num.specs.Pieces.{CountTook}
 use Rattle.oas_num.specs.Reading.{ReadsPiece, ReadsValue, FailsPiece, ByteMay, IntegerMay, ClassMay, TextMay, NameLengthMay, TextTook, NameTook, LabelTook, PaddingTook, IsInside}
@@ -154,3 +154,17 @@ padding_done old mid new count (Ok padding) read passed = is_read (with_padding_
 padding_done old mid new count (Err why) read passed =
     let g : FailsPiece padding_parts PaddingTook old why new = second_fails OneFront-IsUnsigned read passed in
     keyed_fails padding_length g
+
+-- ---- bytes of a class, one after another
+
+of_push : (class : ℕ → Type 0) (bytes : List ℕ) (b : ℕ) → IsOf class bytes → class b → IsOf class (bytes ++ b ∷ [])
+of_push class [] b all is = (is, tt)
+of_push class (x ∷ xs) b all is = (all.0, of_push class xs b all.1 is)
+
+-- one more of the bytes is of it
+pub of_more : (class : ℕ → Type 0) (bytes : List ℕ) (i : ℕ) → i < length bytes → IsOf class (take i bytes) → class (slice_index_or bytes i 0) → IsOf class (take (i + 1) bytes)
+of_more class bytes i in_bytes all is = rw (take_more bytes i 0 in_bytes) (of_push class (take i bytes) (slice_index_or bytes i 0) all is)
+
+-- and all of them, behind the last
+pub of_all : (class : ℕ → Type 0) (bytes : List ℕ) (i : ℕ) → length bytes ≤ i → IsOf class (take i bytes) → IsOf class bytes
+of_all class bytes i over all = rw (take_all i bytes over) at all

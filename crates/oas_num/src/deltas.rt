@@ -93,6 +93,21 @@ impl Spelled for Delta3 {
     }
 }
 
+impl GDelta {
+    /// The step that its numbers stand for: a direction and how far, or where there is a second one, both components.
+    pub fn from_numbers(first: u64, second: Option<u64>) -> GDelta
+        ensures { result ≡ gdelta_from first second }
+    {
+        match second {
+            None => step_toward(first / 2 % 8, first / 16),
+            Some(second) => GDelta {
+                dx: component(first / 2),
+                dy: component(second),
+            },
+        }
+    }
+}
+
 impl Spelled for GDelta {
     ghost use Rattle.oas_num.specs.Deltas.{SpellsGDelta, GDeltaTook};
     ghost use Rattle.oas_num.specs.Laws.DeltaLaws.{GDelta-one_front, GDelta-some};
@@ -110,7 +125,7 @@ impl Spelled for GDelta {
     {
         let first = read_unsigned(source)?;
         let second = read_unsigned_if(first % 2 == 1, source)?;
-        Ok(step_from(first, second))
+        Ok(GDelta::from_numbers(first, second))
     }
 }
 
@@ -133,19 +148,6 @@ fn delta3_from(coded: u64) -> Delta3
     Delta3 {
         dx: step.dx,
         dy: step.dy,
-    }
-}
-
-/// The step that a g-delta's numbers stand for.
-fn step_from(first: u64, second: Option<u64>) -> GDelta
-    ensures { result ≡ gdelta_from first second }
-{
-    match second {
-        None => step_toward(first / 2 % 8, first / 16),
-        Some(second) => GDelta {
-            dx: component(first / 2),
-            dy: component(second),
-        },
     }
 }
 

@@ -22,7 +22,9 @@
 mod deltas;
 mod fractions;
 mod integers;
+mod labels;
 pub mod laws;
+mod names;
 mod padding;
 mod reals;
 mod refusals;
@@ -33,6 +35,8 @@ mod writing;
 pub use deltas::{Delta1, Delta2, Delta3, GDelta};
 pub use fractions::Fraction;
 pub use integers::{Signed, Unsigned, read_signed_if, read_unsigned, read_unsigned_if};
+pub use labels::Label;
+pub use names::Name;
 pub use oas_bytes::{
     Counter, Ending, INPUT_MAX, Outlet, ReaderSource, Sink, SinkFault, SliceSource, Source,
     SourceFault,
@@ -41,5 +45,5 @@ pub use padding::Padding;
 pub use reals::Real;
 pub use refusals::{Refusal, Why};
 pub use spelling::{Spelled, next_byte, read_if, read_list};
-pub use texts::{Label, Name, TextClass, next_within, read_text};
+pub use texts::{TextClass, next_within, read_text};
 pub use writing::{put_gdelta, put_signed, put_unsigned, unsigned_len};

@@ -1,23 +1,13 @@
-ghost use Rattle.std.specs.Prelude.{◌≡◌, ◌≤◌, ◌↔◌, IsTrue, ◌==◌, List, ℕ, IfOk};
-ghost use Rattle.std.proofs.Common.{rules};
-ghost use Rattle.std.specs.Cmp.{partial_order_from_own_ties};
-ghost use Rattle.std.specs.Cmp.Rules.{comparing, hashing};
-ghost use Rattle.std.specs.Cmp.Lexicographic.{slice_cmp, pointwise};
-ghost use Rattle.std.specs.Ordering.{nat_cmp, as_partial_cmp};
-ghost use Rattle.std.specs.Hash as fed;
-ghost use Rattle.oas_num.specs.Pieces.{CountTook};
-ghost use Rattle.oas_num.specs.Reading.{ReadsPiece, ReadsPieceAs, ByteMay, ClassMay, TextTook};
+//! The classes of strings, and their bytes.
+ghost use Rattle.std.specs.Prelude.{◌≡◌, ◌↔◌, IsTrue, IfOk, OnOk, OnErr};
+ghost use Rattle.oas_num.specs.Reading.{ReadsPiece, ReadsPieceAs, ClassMay, TextTook};
 ghost use Rattle.oas_num.specs.Grammar.{IsSuch, IsByte};
-ghost use Rattle.oas_num.specs.Texts.{IsIn, IsText, IsName, IsLabel, IsPassed};
+ghost use Rattle.oas_num.specs.Texts.{IsIn, IsOf, IsText};
 
-use crate::integers::read_unsigned;
 use crate::refusals::Why;
-use crate::spelling::{Spelled, next_byte};
+use crate::spelling::next_byte;
 use oas_bytes::Source;
 use std::alloc::{AllocError, Global};
-use std::cmp::Ordering;
-use std::hash::{Hash, Hasher};
-use std::marker::Model;
 
 /// The classes of bytes of which strings are made (SEMI P39, Strings).
 #[derive(Clone, Copy, Debug, PartialEq, Eq)]
@@ -68,222 +58,38 @@ pub fn read_text<S: Source>(
     Ok(text)
 }
 
+/// Whether each byte is of the class.
+pub(crate) fn is_of(class: TextClass, bytes: &[u8]) -> bool
+    ensures { IsTrue result ↔ IsOf (IsIn class) bytes.now }
+{
+    for byte in bytes {
+        if !class.has(*byte) {
+            return false;
+        }
+    }
+    true
+}
+
+/// Writes these bytes over those that are held, in the memory that they have where it is enough. Where memory is refused they stay.
+pub(crate) fn overwrite(held: &mut Vec<u8>, bytes: &[u8]) -> Result<(), AllocError>
+    ensures ok { OnOk result (held.new.items ≡ bytes.now) }
+    ensures err { OnErr result (held.new.items ≡ held.old.items) }
+{
+    let len = held.len();
+    if len < bytes.len() {
+        held.extend_from_slice(&bytes[len..])?;
+    } else {
+        held.truncate(bytes.len());
+    }
+    held.copy_from_slice(bytes);
+    Ok(())
+}
+
 /// A copy of the bytes.
-fn copy_of(alloc: Global, bytes: &[u8]) -> Result<Vec<u8>, AllocError>
+pub(crate) fn copy_of(alloc: Global, bytes: &[u8]) -> Result<Vec<u8>, AllocError>
     ensures { IfOk result (λ copy. copy.items ≡ bytes.now) }
 {
     let mut copy = Vec::with_capacity(alloc, bytes.len())?;
     copy.extend_from_slice(bytes)?;
     Ok(copy)
-}
-
-/// An n-string (SEMI P39, Strings): one or more printable bytes, `21` to `7E`, no space among them. Names are ordered by
-/// their bytes, a proper prefix first.
-#[derive(Debug, Drop)]
-pub struct Name {
-    bytes: Vec<u8>,
-}
-
-impl Model for Name {
-    ghost Value = { List ℕ };
-
-    ghost view = { λ name. name.bytes.items };
-
-    ghost invariant = { λ name. IsName name.bytes.items };
-}
-
-impl Name {
-    /// Its bytes.
-    pub fn as_bytes(&self) -> &[u8]
-        ensures bytes { result.now ≡ self.now }
-        ensures class { IsName self.now }
-    {
-        &self.bytes
-    }
-
-    /// An equal one.
-    pub fn try_clone(&self, alloc: Global) -> Result<Name, AllocError>
-        ensures { IfOk result (λ copy. copy ≡ self.now) }
-    {
-        let bytes = copy_of(alloc, &self.bytes)?;
-        Ok(Name { bytes })
-    }
-}
-
-impl Spelled for Name {
-    ghost use Rattle.oas_num.specs.Texts.{SpellsName};
-    ghost use Rattle.oas_num.specs.Style.{Any};
-    ghost use Rattle.oas_num.specs.Laws.TextLaws.{OneFront-name, HasSome-name};
-    ghost use Rattle.oas_num.specs.Reading.{NameTook};
-
-    ghost spells = { SpellsName };
-
-    ghost took = { NameTook };
-
-    ghost one_front = { OneFront-name Any };
-
-    ghost some = { HasSome-name Any };
-
-    fn read<S: Source>(alloc: Global, source: &mut S) -> Result<Name, Why>
-        ensures { ReadsPiece SpellsName NameTook (S.script source.old) result (S.script source.new) }
-    {
-        let length = read_unsigned(source)?;
-        if length == 0 {
-            return Err(Why::EmptyName);
-        }
-        let bytes = read_text(alloc, TextClass::Name, length, source)?;
-        Ok(Name { bytes })
-    }
-}
-
-impl PartialEq for Name {
-    ghost eq = { pointwise ◌==◌ };
-
-    ghost laws = { Prim.search (comparing, rules) };
-
-    fn eq(&self, other: &Name) -> bool {
-        self.as_bytes() == other.as_bytes()
-    }
-}
-
-impl Eq for Name {
-    ghost laws = { Prim.search (comparing, rules) };
-}
-
-impl Ord for Name {
-    ghost cmp = { slice_cmp nat_cmp };
-
-    ghost total = { Prim.search (comparing, rules) };
-
-    ghost matches_partial_cmp = { Prim.search (comparing, rules) };
-
-    ghost matches_eq = { Prim.search (comparing, rules) };
-
-    fn cmp(&self, other: &Name) -> Ordering {
-        self.as_bytes().cmp(other.as_bytes())
-    }
-}
-
-impl PartialOrd for Name {
-    ghost partial_cmp = { as_partial_cmp (slice_cmp nat_cmp) };
-
-    ghost laws = { partial_order_from_own_ties (Prim.search (comparing, rules)) (Prim.search (comparing, rules)) };
-
-    fn partial_cmp(&self, other: &Name) -> Option<Ordering> {
-        Some(self.cmp(other))
-    }
-}
-
-impl Hash for Name {
-    ghost hash_input = { fed.slice fed.u8 };
-
-    ghost respects_eq = { Prim.search (hashing, rules) };
-
-    fn hash<H: Hasher>(&self, state: &mut H) {
-        self.as_bytes().hash(state);
-    }
-}
-
-/// An a-string (SEMI P39, Strings): printable bytes and spaces, `20` to `7E`, or none. Labels are ordered by their bytes,
-/// a proper prefix first.
-#[derive(Debug, Drop)]
-pub struct Label {
-    bytes: Vec<u8>,
-}
-
-impl Model for Label {
-    ghost Value = { List ℕ };
-
-    ghost view = { λ label. label.bytes.items };
-
-    ghost invariant = { λ label. IsLabel label.bytes.items };
-}
-
-impl Label {
-    /// Its bytes.
-    pub fn as_bytes(&self) -> &[u8]
-        ensures bytes { result.now ≡ self.now }
-        ensures class { IsLabel self.now }
-    {
-        &self.bytes
-    }
-
-    /// An equal one.
-    pub fn try_clone(&self, alloc: Global) -> Result<Label, AllocError>
-        ensures { IfOk result (λ copy. copy ≡ self.now) }
-    {
-        let bytes = copy_of(alloc, &self.bytes)?;
-        Ok(Label { bytes })
-    }
-}
-
-impl Spelled for Label {
-    ghost use Rattle.oas_num.specs.Texts.{SpellsLabel};
-    ghost use Rattle.oas_num.specs.Style.{Any};
-    ghost use Rattle.oas_num.specs.Laws.TextLaws.{OneFront-label, HasSome-label};
-    ghost use Rattle.oas_num.specs.Reading.{LabelTook};
-
-    ghost spells = { SpellsLabel };
-
-    ghost took = { LabelTook };
-
-    ghost one_front = { OneFront-label Any };
-
-    ghost some = { HasSome-label Any };
-
-    fn read<S: Source>(alloc: Global, source: &mut S) -> Result<Label, Why>
-        ensures { ReadsPiece SpellsLabel LabelTook (S.script source.old) result (S.script source.new) }
-    {
-        let length = read_unsigned(source)?;
-        let bytes = read_text(alloc, TextClass::Label, length, source)?;
-        Ok(Label { bytes })
-    }
-}
-
-impl PartialEq for Label {
-    ghost eq = { pointwise ◌==◌ };
-
-    ghost laws = { Prim.search (comparing, rules) };
-
-    fn eq(&self, other: &Label) -> bool {
-        self.as_bytes() == other.as_bytes()
-    }
-}
-
-impl Eq for Label {
-    ghost laws = { Prim.search (comparing, rules) };
-}
-
-impl Ord for Label {
-    ghost cmp = { slice_cmp nat_cmp };
-
-    ghost total = { Prim.search (comparing, rules) };
-
-    ghost matches_partial_cmp = { Prim.search (comparing, rules) };
-
-    ghost matches_eq = { Prim.search (comparing, rules) };
-
-    fn cmp(&self, other: &Label) -> Ordering {
-        self.as_bytes().cmp(other.as_bytes())
-    }
-}
-
-impl PartialOrd for Label {
-    ghost partial_cmp = { as_partial_cmp (slice_cmp nat_cmp) };
-
-    ghost laws = { partial_order_from_own_ties (Prim.search (comparing, rules)) (Prim.search (comparing, rules)) };
-
-    fn partial_cmp(&self, other: &Label) -> Option<Ordering> {
-        Some(self.cmp(other))
-    }
-}
-
-impl Hash for Label {
-    ghost hash_input = { fed.slice fed.u8 };
-
-    ghost respects_eq = { Prim.search (hashing, rules) };
-
-    fn hash<H: Hasher>(&self, state: &mut H) {
-        self.as_bytes().hash(state);
-    }
 }

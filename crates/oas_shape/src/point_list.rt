@@ -3,7 +3,7 @@ ghost use Rattle.std.specs.Prelude.{◌≡◌, IfOk, length};
 ghost use Rattle.oas_num.specs.Reading.{ReadsPiece};
 ghost use Rattle.oas_num.specs.Style.{Any};
 ghost use Rattle.oas_ring.specs.declared.point.Point.{Point};
-ghost use Rattle.oas_shape.specs.PointLists.{point_list_in, PointListTook, closing_of};
+ghost use Rattle.oas_shape.specs.PointLists.{point_list_in, PointListTook, closing_of, plain_line};
 ghost use Rattle.oas_shape.specs.Polylines.{vertices_of, left_out_count};
 
 use crate::list_use::ListUse;
@@ -68,6 +68,17 @@ impl Model for PointList {
 }
 
 impl PointList {
+    /// The list of type 4 with these steps.
+    pub fn plain(deltas: Vec<GDelta>) -> PointList
+        ensures { result ≡ plain_line deltas.items }
+    {
+        PointList {
+            deltas,
+            running: false,
+            closing: Closing::Listed,
+        }
+    }
+
     /// Reads a type, a count and so many deltas.
     ///
     /// It is refused by `ListKind` for a type above 5, by `PointCount` where a polygon has too few deltas or, in types 0

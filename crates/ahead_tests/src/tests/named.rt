@@ -169,13 +169,18 @@ fn text_of_the_modal_string(rt: HostRuntime) {
 }
 
 #[test]
-fn any_bytes_are_given(rt: HostRuntime) {
-    let ahead = found(&rt, &[0x11, 0x80, 0x02, 0x00, 0xFF]);
-    assert!(rt; ahead.length == 5);
-    match ahead.element {
-        NamedOnce::Placement { cell, .. } => assert!(rt; gives_bytes(&cell, &[0x00, 0xFF])),
-        _ => panic!(rt; "it is a placement"),
-    }
+fn bytes_that_are_no_name(rt: HostRuntime) {
+    // a cell of no byte, and of a byte that no name has
+    assert!(rt; named_ahead(&[0x11, 0x80, 0x00]).is_none());
+    assert!(rt; named_ahead(&[0x11, 0x80, 0x02, 0x41, 0x20]).is_none());
+    assert!(rt; named_ahead(&[0x11, 0x80, 0x02, 0x00, 0xFF]).is_none());
+    // a string of a byte that none has
+    assert!(rt; named_ahead(&[0x13, 0x40, 0x01, 0x1F]).is_none());
+    assert!(rt; named_ahead(&[0x13, 0x40, 0x02, 0x48, 0x7F]).is_none());
+}
+
+#[test]
+fn string_of_no_byte(rt: HostRuntime) {
     let empty = found(&rt, &[0x13, 0x5B, 0x00, 0x01, 0x02, 0x00, 0x00]);
     assert!(rt; empty.length == 7);
     assert!(rt; empty.shortest);

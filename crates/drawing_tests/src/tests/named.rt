@@ -1,6 +1,9 @@
-//! Placements and texts at hand: which names are known, what is drawn against what their records draw, and each reason in its
+//! Placements and texts at hand: what is drawn against what their records draw, and each reason in its
 //! turn, where 2^24 elements may weigh 2^28.
-ghost use Rattle.std.specs.Prelude.{◌≡◌, ◌≤◌, ◌^◌, None, Some};
+ghost use Rattle.std.specs.Prelude.{◌≡◌, ◌≤◌, ◌^◌, None, Some, OnOk};
+ghost use Rattle.oas_ahead.specs.Named.{GivesName, named_record};
+ghost use Rattle.oas_drawing.specs.Positions.{IsNear};
+ghost use Rattle.oas_drawing.specs.Modal.{stepped};
 
 use super::{at, last_copy};
 use oas_ahead::{Given, NamedOnce};
@@ -68,39 +71,32 @@ fn text(string: Option<TextRef>, texttype: Option<u64>, x: i64, y: Option<i64>) 
     }
 }
 
-#[test]
-fn known_cells(rt: HostRuntime) -> Result<(), Fail> {
-    let mut modal = ModalVariables::new();
-    assert!(rt; modal.knows(&placed(Given::Modal)));
-    assert!(rt; modal.knows(&placed(Given::Number(7))));
-    assert!(rt; !modal.knows(&placed(Given::Bytes(b"AB"))));
-    let cell = CellRef::Name(name(rt.alloc())?);
-    modal.place(&mut placement(Some(cell), 5, None));
-    assert!(rt; modal.knows(&placed(Given::Bytes(b"AB"))));
-    assert!(rt; !modal.knows(&placed(Given::Bytes(b"A"))));
-    assert!(rt; !modal.knows(&placed(Given::Bytes(b"ABC"))));
-    assert!(rt; !modal.knows(&placed(Given::Bytes(b"AC"))));
-    assert!(rt; !modal.knows(&written(Given::Bytes(b"AB"))));
-    modal.place(&mut placement(Some(CellRef::Number(7)), 5, None));
-    assert!(rt; !modal.knows(&placed(Given::Bytes(b"AB"))));
-    Ok(())
-}
-
 /// What the element weighs, or why it is refused.
 fn weighs(modal: &ModalVariables, next: &NamedOnce<'_>, count: u64, weight: u64) -> Result<u64, Why>
     requires few { count ≤ 2 ^ 24 }
     requires light { weight ≤ 2 ^ 28 }
 {
-    match modal.one_named(next, Limits::standard(), count, weight) {
-        Ok(once) => Ok(once.weight()),
-        Err(why) => Err(why),
+    modal.check_named(next, Limits::standard(), count, weight)?;
+    match modal.one_named(next) {
+        Some(once) => Ok(once.weight()),
+        None => Err(Why::ModalUndefined),
     }
 }
 
-/// The element.
-fn drawn(alloc: Global, modal: &ModalVariables, next: &NamedOnce<'_>) -> Result<Drawn, Fail> {
-    let once = modal.one_named(next, Limits::standard(), 0, 0)?;
-    Ok(once.try_drawn(alloc)?)
+/// The element, once the record has set what it gives.
+fn drawn(alloc: Global, modal: &mut ModalVariables, next: &NamedOnce<'_>) -> Result<Drawn, Fail>
+    requires placement { IsNear modal.old.placement }
+    requires text { IsNear modal.old.text }
+    requires named { GivesName next.now }
+    ensures { OnOk result (modal.new ≡ stepped modal.old (named_record next.now)) }
+{
+    modal.set_fields(next);
+    modal.check_named(next, Limits::standard(), 0, 0)?;
+    modal.set_name(alloc, next)?;
+    match modal.one_named(next) {
+        Some(once) => Ok(once.try_drawn(alloc)?),
+        None => Err(Fail::new("it isn't drawn")),
+    }
 }
 
 #[test]
@@ -121,8 +117,6 @@ fn placements(rt: HostRuntime) -> Result<(), Fail> {
         x: Some(-7),
         y: None,
     };
-    assert!(rt; modal.knows(&next));
-    modal.set_named(&next);
     let wanted = Drawn::Named(Element::Placement {
         cell: name(alloc)?,
         x: -2,
@@ -130,7 +124,7 @@ fn placements(rt: HostRuntime) -> Result<(), Fail> {
         turns: Turns::T3,
         flip: true,
     });
-    assert!(rt; drawn(alloc, &modal, &next)? == wanted);
+    assert!(rt; drawn(alloc, &mut modal, &next)? == wanted);
     assert!(rt; last_copy(alloc, &modal, kind, false) == Ok(wanted));
     Ok(())
 }
@@ -148,8 +142,6 @@ fn texts(rt: HostRuntime) -> Result<(), Fail> {
         x: Some(-7),
         y: None,
     };
-    assert!(rt; modal.knows(&next));
-    modal.set_named(&next);
     let wanted = Drawn::Named(Element::Text {
         string: label(alloc)?,
         textlayer: 4,
@@ -157,7 +149,7 @@ fn texts(rt: HostRuntime) -> Result<(), Fail> {
         x: -7,
         y: -6,
     });
-    assert!(rt; drawn(alloc, &modal, &next)? == wanted);
+    assert!(rt; drawn(alloc, &mut modal, &next)? == wanted);
     assert!(rt; last_copy(alloc, &modal, Kind::Text, false) == Ok(wanted));
     Ok(())
 }
@@ -174,7 +166,6 @@ fn numbers(rt: HostRuntime) -> Result<(), Fail> {
         x: None,
         y: Some(3),
     };
-    modal.set_named(&next);
     let wanted = Drawn::PlacementBy {
         number: 9,
         x: 0,
@@ -182,7 +173,7 @@ fn numbers(rt: HostRuntime) -> Result<(), Fail> {
         turns: Turns::T1,
         flip: false,
     };
-    assert!(rt; drawn(alloc, &modal, &next)? == wanted);
+    assert!(rt; drawn(alloc, &mut modal, &next)? == wanted);
     let next = NamedOnce::Text {
         string: Given::Number(8),
         textlayer: Some(1),
@@ -190,7 +181,6 @@ fn numbers(rt: HostRuntime) -> Result<(), Fail> {
         x: Some(4),
         y: None,
     };
-    modal.set_named(&next);
     let wanted = Drawn::TextBy {
         number: 8,
         textlayer: 1,
@@ -198,7 +188,7 @@ fn numbers(rt: HostRuntime) -> Result<(), Fail> {
         x: 4,
         y: 0,
     };
-    assert!(rt; drawn(alloc, &modal, &next)? == wanted);
+    assert!(rt; drawn(alloc, &mut modal, &next)? == wanted);
     assert!(rt; weighs(&modal, &next, 0, 0) == Ok(1));
     Ok(())
 }
@@ -224,5 +214,24 @@ fn named_reasons(rt: HostRuntime) -> Result<(), Fail> {
     assert!(rt; weighs(&modal, &next, 1 << 24, 1 << 28) == Err(Why::TooManyElements));
     assert!(rt; weighs(&modal, &next, 0, (1 << 28) - 2) == Err(Why::TooHeavy));
     assert!(rt; weighs(&modal, &next, 0, 0) == Err(Why::CoordinateRange));
+    Ok(())
+}
+
+/// A name that is given weighs what it does before it is the modal one, whatever that is.
+#[test]
+fn names_weighed_before_they_are_modal(rt: HostRuntime) -> Result<(), Fail> {
+    let alloc = rt.alloc();
+    let limits = Limits::standard();
+    let mut modal = ModalVariables::new();
+    let next = placed(Given::Bytes(b"ABC"));
+    assert!(rt; modal.check_named(&next, limits, 0, (1 << 28) - 4) == Ok(()));
+    assert!(rt; modal.check_named(&next, limits, 0, (1 << 28) - 3) == Err(Why::TooHeavy));
+    modal.place(&mut placement(Some(CellRef::Name(name(alloc)?)), 5, None));
+    assert!(rt; modal.check_named(&next, limits, 0, (1 << 28) - 4) == Ok(()));
+    assert!(rt; modal.check_named(&next, limits, 0, (1 << 28) - 3) == Err(Why::TooHeavy));
+    let next = placed(Given::Number(7));
+    assert!(rt; modal.check_named(&next, limits, 0, (1 << 28) - 1) == Ok(()));
+    let next = written(Given::Bytes(b"ABC"));
+    assert!(rt; modal.check_named(&next, limits, 1 << 24, 1 << 28) == Err(Why::ModalUndefined));
     Ok(())
 }

@@ -1,17 +1,18 @@
 //! A placement or a text that stands once, taken at hand and as a record: what comes of both is the same.
 
 use super::{layout_listed, unit};
-use oas_ahead::{Given, NamedOnce};
+use oas_ahead::named_ahead;
 use oas_layout::{Limits, Profile};
 use oas_modal::{CellStore, CountedCell, HeldCell, Reader};
-use oas_num::{Refusal, SliceSource, Why};
+use oas_num::{Fraction, Refusal, SliceSource, Why};
 use oas_record::{CellRef, Record};
+use scarce_memory::Hoard;
 use std::alloc::Global;
 use std::process::Abort;
 use std::test::Fail;
 
-/// Records: a cell, a placement and a text that give their names, more of both that are also taken at hand, one behind which
-/// positions are relative, and the names of two numbers.
+/// Records: a cell, placements and texts, which are also taken at hand, one behind which positions are relative, and the names
+/// of two numbers.
 const RECORDS: [&[u8]; 14] = [
     b"\x0E\x01A",
     b"\x11\xB0\x01B\x00\x00",
@@ -35,110 +36,94 @@ const LISTED: &str =
 1 placement C -1 4 0 0;1 placement C 0 4 2 0;1 placement C 0 4 3 0;1 text 1 2 0 0 S;1 text 1 2 1 1 S;1 text 1 5 1 1 S;\
 1 text 9 5 1 3 T;";
 
-/// A placement.
-fn placed(
-    cell: Given<'static>,
-    quarters: u8,
-    flip: bool,
-    x: Option<i64>,
-    y: Option<i64>,
-) -> NamedOnce<'static> {
-    NamedOnce::Placement {
-        cell,
-        quarters,
-        flip,
-        x,
-        y,
-    }
-}
+/// Records whose names aren't the modal ones: where there is none, shorter and longer ones, a number, and one behind a number.
+const RENAMED: [&[u8]; 14] = [
+    b"\x0E\x01A",
+    b"\x11\xB0\x03BCD\x00\x00",
+    b"\x11\xB0\x01B\x02\x00",
+    b"\x11\xB0\x05BCDEF\x04\x00",
+    b"\x11\xF0\x07\x06\x00",
+    b"\x11\xB0\x02BC\x08\x00",
+    b"\x13\x5B\x02ST\x01\x02\x00\x00",
+    b"\x13\x58\x00\x02\x00",
+    b"\x13\x58\x05STUVW\x04\x00",
+    b"\x13\x78\x03\x06\x00",
+    b"\x13\x58\x01S\x08\x00",
+    b"\x11\x30\x0A\x00",
+    b"\x04\x01C\x07",
+    b"\x06\x01T\x03",
+];
 
-/// A text.
-fn written(
-    string: Given<'static>,
-    textlayer: Option<u64>,
-    texttype: Option<u64>,
-    x: Option<i64>,
-    y: Option<i64>,
-) -> NamedOnce<'static> {
-    NamedOnce::Text {
-        string,
-        textlayer,
-        texttype,
-        x,
-        y,
-    }
-}
+/// What comes of them.
+const RENAMED_LISTED: &str =
+    "unit 1000/1;cell A;1 placement B 1 0 0 0;1 placement BC 4 0 0 0;1 placement BC 5 0 0 0;\
+1 placement BCD 0 0 0 0;1 placement BCDEF 2 0 0 0;1 placement C 3 0 0 0;1 text 1 2 1 0 ;1 text 1 2 4 0 S;\
+1 text 1 2 0 0 ST;1 text 1 2 2 0 STUVW;1 text 1 2 3 0 T;";
 
-/// What the record is at hand, where it is a placement or a text behind the first of them.
-fn at_hand(record: usize) -> Option<NamedOnce<'static>> {
-    match record {
-        3 => Some(placed(Given::Bytes(b"B"), 1, true, Some(5), Some(-3))),
-        4 => Some(placed(Given::Modal, 0, false, None, Some(4))),
-        5 => Some(placed(Given::Number(7), 3, false, Some(0), None)),
-        6 => Some(placed(Given::Modal, 2, false, None, None)),
-        8 => Some(written(Given::Bytes(b"S"), Some(1), Some(2), Some(1), Some(1))),
-        9 => Some(written(Given::Modal, None, Some(5), None, None)),
-        10 => Some(written(Given::Number(3), Some(9), None, None, Some(2))),
-        11 => Some(placed(Given::Modal, 0, false, Some(-1), None)),
-        _ => None,
-    }
-}
-
-/// Has the reader take a placement or a text at hand, whose name, if it gives one, is the modal one.
-fn take_known<S: CellStore>(
+/// Has the reader take a placement or a text at hand.
+fn take_at_hand<S: CellStore>(
     reader: &mut Reader<S>,
     at: u64,
-    next: &NamedOnce<'_>,
+    bytes: &[u8],
 ) -> Result<Result<(), Refusal>, Fail> {
-    if !reader.knows(next) {
-        return Err("the name isn't known".into());
-    }
-    Ok(reader.take_named(at, next))
+    let found = named_ahead(bytes).ok_or("it is at hand")?;
+    Ok(reader.take_named(at, &found.element))
 }
 
-/// Has the reader take a record, at hand where it may be so.
+/// Has the reader take a record, a placement or a text at hand where it may be so.
 fn take_one<S: CellStore>(
     alloc: Global,
     reader: &mut Reader<S>,
-    number: usize,
+    at: u64,
     bytes: &[u8],
     by_hand: bool,
 ) -> Result<Result<(), Refusal>, Fail> {
-    if by_hand {
-        if let Some(next) = at_hand(number) {
-            return take_known(reader, number as u64, &next);
-        }
+    if by_hand && (bytes.starts_with(b"\x11") || bytes.starts_with(b"\x13")) {
+        return take_at_hand(reader, at, bytes);
     }
     let record = Record::read(alloc, &mut SliceSource::new(bytes, 100), false)?;
-    Ok(reader.take(number as u64, record))
+    Ok(reader.take(at, record))
 }
 
-/// A reader that took all records within these limits, or refused one.
-fn taken<S: CellStore>(alloc: Global, limits: Limits, by_hand: bool) -> Result<Reader<S>, Fail> {
+/// A reader that took all of these records within these limits, or refused one.
+fn taken<S: CellStore>(
+    alloc: Global,
+    limits: Limits,
+    records: &[&[u8]; 14],
+    by_hand: bool,
+) -> Result<Reader<S>, Fail> {
     let mut reader = Reader::new(alloc, unit()?, limits, Profile::One);
-    for number in 0..RECORDS.len() {
-        if let Err(_) = take_one(alloc, &mut reader, number, RECORDS[number], by_hand)? {
+    for number in 0..records.len() {
+        if let Err(_) = take_one(alloc, &mut reader, number as u64, records[number], by_hand)? {
             break;
         }
     }
     Ok(reader)
 }
 
+/// Asserts that this comes of the records, at hand and by records.
+fn expect_listed(
+    rt: &impl Abort,
+    alloc: Global,
+    records: &[&[u8]; 14],
+    wanted: &str,
+) -> Result<(), Fail> {
+    for by_hand in [true, false] {
+        let reader: Reader<HeldCell> = taken(alloc, Limits::standard(), records, by_hand)?;
+        let found = layout_listed(alloc, &reader.finish(14)?)?;
+        assert!(rt; found.as_str() == wanted, "{found}");
+    }
+    Ok(())
+}
+
 #[test]
 fn named_alike(rt: HostRuntime) -> Result<(), Fail> {
-    let alloc = rt.alloc();
-    let limits = Limits::standard();
-    let by_hand: Reader<HeldCell> = taken(alloc, limits, true)?;
-    assert_eq!(rt;
-        layout_listed(alloc, &by_hand.finish(14)?)?.as_str(),
-        LISTED
-    );
-    let by_records: Reader<HeldCell> = taken(alloc, limits, false)?;
-    assert_eq!(rt;
-        layout_listed(alloc, &by_records.finish(14)?)?.as_str(),
-        LISTED
-    );
-    Ok(())
+    expect_listed(&rt, rt.alloc(), &RECORDS, LISTED)
+}
+
+#[test]
+fn renamed_alike(rt: HostRuntime) -> Result<(), Fail> {
+    expect_listed(&rt, rt.alloc(), &RENAMED, RENAMED_LISTED)
 }
 
 /// Asserts that within these limits this is refused, or nothing is, by held and by counted cells, at hand and by records.
@@ -150,9 +135,9 @@ fn expect(
 ) -> Result<(), Fail> {
     let limits = limits.ok_or("these are limits")?;
     for by_hand in [true, false] {
-        let held: Reader<HeldCell> = taken(alloc, limits, by_hand)?;
+        let held: Reader<HeldCell> = taken(alloc, limits, &RECORDS, by_hand)?;
         assert!(rt; held.finish(14).err() == wanted);
-        let counted: Reader<CountedCell> = taken(alloc, limits, by_hand)?;
+        let counted: Reader<CountedCell> = taken(alloc, limits, &RECORDS, by_hand)?;
         assert!(rt; counted.finish_counting(14).err() == wanted);
     }
     Ok(())
@@ -181,35 +166,13 @@ fn named_within_limits(rt: HostRuntime) -> Result<(), Fail> {
     expect(&rt, alloc, Limits::new(10, 17, 2000), heavy)
 }
 
-/// A name is known where it is the modal one; one that isn't given, or is given by its number, always is.
-#[test]
-fn which_are_known(rt: HostRuntime) -> Result<(), Fail> {
-    let alloc = rt.alloc();
-    let mut reader: Reader = Reader::new(alloc, unit()?, Limits::standard(), Profile::One);
-    let same = placed(Given::Bytes(b"B"), 0, false, None, None);
-    let other = placed(Given::Bytes(b"BC"), 0, false, None, None);
-    let text = written(Given::Bytes(b"B"), None, None, None, None);
-    let number = placed(Given::Number(7), 0, false, None, None);
-    assert!(rt; !reader.knows(&same));
-    assert!(rt; reader.knows(&number));
-    take_one(alloc, &mut reader, 0, RECORDS[0], false)??;
-    take_one(alloc, &mut reader, 1, RECORDS[1], false)??;
-    assert!(rt; reader.knows(&same));
-    assert!(rt; !reader.knows(&other));
-    assert!(rt; !reader.knows(&text));
-    take_known(&mut reader, 2, &number)??;
-    assert!(rt; !reader.knows(&same));
-    assert!(rt; reader.knows(&placed(Given::Modal, 0, false, None, None)));
-    Ok(())
-}
-
-/// What a fresh reader says of a placement or a text, outside a cell or in one, and then again.
-fn refused(inside: bool, next: &NamedOnce<'_>, alloc: Global) -> Result<Option<Refusal>, Fail> {
+/// What a fresh reader says of a placement or a text at hand, outside a cell or in one, and then again.
+fn refused(inside: bool, bytes: &[u8], alloc: Global) -> Result<Option<Refusal>, Fail> {
     let mut reader: Reader = Reader::new(alloc, unit()?, Limits::standard(), Profile::One);
     if inside {
         reader.take(3, Record::Cell(CellRef::Number(7)))?;
     }
-    let first = take_known(&mut reader, 5, next)?;
+    let first = take_at_hand(&mut reader, 5, bytes)?;
     if reader.take(9, Record::Pad) != first {
         return Err("it is refused again".into());
     }
@@ -221,14 +184,90 @@ fn refused(inside: bool, next: &NamedOnce<'_>, alloc: Global) -> Result<Option<R
 fn named_refused_again(rt: HostRuntime) -> Result<(), Fail> {
     let alloc = rt.alloc();
     let at = 5;
-    let place = placed(Given::Modal, 0, false, None, None);
-    let text = written(Given::Number(1), None, Some(2), None, None);
+    let place = b"\x11\x00";
+    let text = b"\x13\x62\x01\x02";
     let why = Why::OutOfPlace(17);
-    assert!(rt; refused(false, &place, alloc)? == Some(Refusal { at, why }));
+    assert!(rt; refused(false, place, alloc)? == Some(Refusal { at, why }));
     let why = Why::OutOfPlace(19);
-    assert!(rt; refused(false, &text, alloc)? == Some(Refusal { at, why }));
+    assert!(rt; refused(false, text, alloc)? == Some(Refusal { at, why }));
     let why = Why::ModalUndefined;
-    assert!(rt; refused(true, &place, alloc)? == Some(Refusal { at, why }));
-    assert!(rt; refused(true, &text, alloc)? == Some(Refusal { at, why }));
+    assert!(rt; refused(true, place, alloc)? == Some(Refusal { at, why }));
+    assert!(rt; refused(true, text, alloc)? == Some(Refusal { at, why }));
     Ok(())
+}
+
+/// A placement of a cell by its name.
+const PLACED: &[u8] = b"\x11\xB0\x03BCD\x00\x00";
+
+/// What a reader says within these limits of a placement at hand, in a cell.
+fn placed_within(alloc: Global, unit: Fraction, limits: Limits) -> Result<Option<Refusal>, Fail> {
+    let mut reader: Reader = Reader::new(alloc, unit, limits, Profile::One);
+    reader.take(3, Record::Cell(CellRef::Number(7)))?;
+    let answer = take_at_hand(&mut reader, 5, PLACED)?;
+    Ok(answer.err())
+}
+
+/// Has readers take a placement until one does so, and gives back a piece of memory after each that doesn't. How many didn't.
+/// Want of memory is all that they refuse it for, and it is never what those do that refuse it for its weight.
+fn insist_on_placing(
+    rt: &impl Abort,
+    alloc: Global,
+    unit: Fraction,
+    light: Limits,
+    hoard: &mut Hoard,
+) -> Result<u32, Fail> {
+    let at = 5;
+    for without in 0..2000u32 {
+        let why = Why::TooHeavy;
+        assert!(rt; placed_within(alloc, unit, light)? == Some(Refusal { at, why }));
+        let Some(refusal) = placed_within(alloc, unit, Limits::standard())? else {
+            return Ok(without);
+        };
+        let why = Why::Memory;
+        assert!(rt; refusal == Refusal { at, why });
+        hoard.give_back();
+    }
+    Err("it is never placed".into())
+}
+
+/// A placement weighs one, and one for each byte of its name. The heap is filled up, and given back a small piece after each run.
+/// Where it cannot be filled, as under a checker of addresses, no call wants memory.
+#[test]
+fn named_without_memory(rt: HostRuntime) -> Result<(), Fail> {
+    let alloc = rt.alloc();
+    let unit = unit()?;
+    let light = Limits::new(10, 3, 2000).ok_or("these are limits")?;
+    let mut hoard = Hoard::new(alloc)?;
+    let is_full = hoard.is_full();
+    let without = insist_on_placing(&rt, alloc, unit, light, &mut hoard);
+    drop(hoard);
+    let without = without?;
+    assert!(rt; !is_full || without > 0);
+    Ok(())
+}
+
+/// Has a reader take placements of names that aren't longer than the modal one.
+fn take_shorter(reader: &mut Reader<CountedCell>) -> Result<(), Fail> {
+    take_at_hand(reader, 13, b"\x11\xB0\x03BCE\x02\x00")??;
+    take_at_hand(reader, 21, b"\x11\xB0\x01B\x02\x00")??;
+    take_at_hand(reader, 27, b"\x11\x30\x04\x00")??;
+    Ok(())
+}
+
+/// Such a name goes into the memory of the modal one: a cell that is counted wants none for it.
+#[test]
+fn shorter_without_memory(rt: HostRuntime) -> Result<(), Fail> {
+    let alloc = rt.alloc();
+    let mut reader: Reader<CountedCell> = Reader::new(
+        alloc,
+        unit()?,
+        Limits::standard(),
+        Profile::One,
+    );
+    reader.take(3, Record::Cell(CellRef::Number(7)))?;
+    take_at_hand(&mut reader, 5, PLACED)??;
+    let hoard = Hoard::new(alloc)?;
+    let shorter = take_shorter(&mut reader);
+    drop(hoard);
+    shorter
 }

@@ -1,185 +1,203 @@
 //! A placement or a text that stands once and is at hand, by the modal variables.
-ghost use Rattle.std.specs.Prelude.{◌≡◌, ◌≤◌, false, None, Some, IfOk, IfErr, OnOk, IsTrue};
+ghost use Rattle.std.specs.Prelude.{◌≡◌, ◌≤◌, ◌<◌, ◌+◌, nat_lt, not, [], ◌∷◌, true, false, None, Some, IfSome, IfErr, OnOk};
+ghost use Rattle.std.specs.Option.{option_or};
 ghost use Rattle.oas_shape.specs.Steps.{still};
-ghost use Rattle.oas_record.specs.declared.placements.Turn.TheVariants.{Quarters};
-ghost use Rattle.oas_ahead.specs.Named.{named_record};
-ghost use Rattle.oas_drawing.specs.declared.kinds.Kind.TheVariants.{Placement as OnePlacement, Text as OneText};
+ghost use Rattle.oas_num.specs.declared.refusals.Why.TheVariants.{TooManyElements, TooHeavy, CoordinateRange};
+ghost use Rattle.oas_ahead.specs.Named.{GivesName, GivesCell, GivesString, cell_given, string_given, named_record};
 ghost use Rattle.oas_drawing.specs.Positions.{IsNear};
 ghost use Rattle.oas_drawing.specs.Modal.{stepped};
 ghost use Rattle.oas_drawing.specs.Drawing.{drawn_by, place_of};
-ghost use Rattle.oas_drawing.specs.Reasons.{fault_of, kind_reason, reason_if};
-ghost use Rattle.oas_drawing.specs.Named.{IsKnown, named_kind, drawn_once};
+ghost use Rattle.oas_drawing.specs.Reasons.{fault_of, first_of, is_on_grid, kind_reason, reason_if};
+ghost use Rattle.oas_drawing.specs.Named.{named_by, named_kind, drawn_once, cell_weight, string_weight};
 
 use super::drawing::coordinate;
 use super::{ModalVariables, set};
 use crate::once::DrawnOnce;
+use crate::positions::Position;
 use crate::turning::turned;
 use oas_ahead::{Given, NamedOnce};
 use oas_layout::Limits;
-use oas_num::Why;
+use oas_num::{Label, Name, Why};
 use oas_record::{CellRef, TextRef, Turn};
+use std::alloc::{AllocError, Global};
+
+/// What a placement weighs by the cell that it gives, or else the modal one; None where there is neither.
+fn weight_placed(given: &Given<'_>, modal: &Option<CellRef>) -> Option<u64>
+    ensures { result ≡ cell_weight (option_or (cell_given given.now) modal.now) }
+{
+    match given {
+        Given::Bytes(name) => Some(1 + name.len() as u64),
+        Given::Number(_) => Some(1),
+        Given::Modal => match modal.as_ref()? {
+            CellRef::Number(_) => Some(1),
+            CellRef::Name(name) => Some(1 + name.as_bytes().len() as u64),
+        },
+    }
+}
+
+/// What a text weighs by the string that it gives, or else the modal one; None where there is neither.
+fn weight_written(given: &Given<'_>, modal: &Option<TextRef>) -> Option<u64>
+    ensures { result ≡ string_weight (option_or (string_given given.now) modal.now) }
+{
+    match given {
+        Given::Bytes(string) => Some(1 + string.len() as u64),
+        Given::Number(_) => Some(1),
+        Given::Modal => match modal.as_ref()? {
+            TextRef::Number(_) => Some(1),
+            TextRef::Label(label) => Some(1 + label.as_bytes().len() as u64),
+        },
+    }
+}
+
+/// Refuses one element more, which weighs so much and stands there, by `TooManyElements`, `TooHeavy` and `CoordinateRange`, in
+/// this order. `count` elements that weigh `weight` stand before it.
+fn check_once(one: u64, at: Position, limits: Limits, count: u64, weight: u64) -> Result<(), Why>
+    requires few { count ≤ limits.elements }
+    requires light { weight ≤ limits.weight }
+    ensures ok { OnOk result ((count < limits.elements) × (weight + one ≤ limits.weight) × (is_on_grid at ≡ true)) }
+    ensures err { IfErr result (λ why. first_of ((nat_lt limits.elements (count + 1), TooManyElements) ∷ (nat_lt limits.weight (weight + one), TooHeavy) ∷ (not (is_on_grid at), CoordinateRange) ∷ []) ≡ Some why) }
+{
+    if limits.elements() - count < 1 {
+        return Err(Why::TooManyElements);
+    }
+    if limits.weight() - weight < one {
+        return Err(Why::TooHeavy);
+    }
+    if coordinate(at.x).is_none() || coordinate(at.y).is_none() {
+        return Err(Why::CoordinateRange);
+    }
+    Ok(())
+}
 
 impl ModalVariables {
-    /// Whether the name that a placement or a text gives, if it gives one by its bytes, is the modal one.
-    pub fn knows(&self, next: &NamedOnce<'_>) -> bool
-        ensures { IsTrue result → IsKnown self.now next.now }
-    {
-        match next {
-            NamedOnce::Placement {
-                cell: Given::Bytes(bytes),
-                ..
-            } => match &self.cell {
-                Some(CellRef::Name(name)) => name.as_bytes() == *bytes,
-                _ => false,
-            },
-            NamedOnce::Text {
-                string: Given::Bytes(bytes),
-                ..
-            } => match &self.string {
-                Some(TextRef::Label(label)) => label.as_bytes() == *bytes,
-                _ => false,
-            },
-            _ => true,
-        }
-    }
-
-    /// What a placement or a text sets whose name, if it gives one, is the modal one.
-    pub fn set_named(&mut self, next: &NamedOnce<'_>)
-        requires known { IsKnown self.old next.now }
+    /// What a placement or a text sets, but for its name.
+    pub fn set_fields(&mut self, next: &NamedOnce<'_>)
         requires placement { IsNear self.old.placement }
         requires text { IsNear self.old.text }
-        ensures { self.new ≡ stepped self.old (named_record next.now) }
+        ensures { named_by self.new next.now ≡ stepped self.old (named_record next.now) }
     {
         match next {
-            NamedOnce::Placement { cell, x, y, .. } => {
+            NamedOnce::Placement { x, y, .. } => {
                 self.placement = self.placement.moved_to(self.relative, *x, *y);
-                if let Given::Number(number) = cell {
-                    self.cell = Some(CellRef::Number(*number));
-                }
             }
             NamedOnce::Text {
-                string,
                 textlayer,
                 texttype,
                 x,
                 y,
+                ..
             } => {
                 set(&mut self.textlayer, *textlayer);
                 set(&mut self.texttype, *texttype);
                 self.text = self.text.moved_to(self.relative, *x, *y);
-                if let Given::Number(number) = string {
-                    self.string = Some(TextRef::Number(*number));
-                }
             }
         }
     }
 
-    /// The placement or the text of such a record, by the modal variables after it, where it isn't refused. `count` elements
-    /// that weigh `weight` stand before it.
-    ///
-    /// It is refused by `ModalUndefined`, `TooManyElements`, `TooHeavy` and `CoordinateRange`, in this order, and never for
-    /// want of memory. Its position is then within the limits.
-    pub fn one_named(
+    /// Refuses a placement or a text whose other fields are set, by `ModalUndefined`, `TooManyElements`, `TooHeavy` and
+    /// `CoordinateRange`, in this order. `count` elements that weigh `weight` stand before it.
+    pub fn check_named(
         &self,
         next: &NamedOnce<'_>,
         limits: Limits,
         count: u64,
         weight: u64,
-    ) -> Result<DrawnOnce<'_>, Why>
+    ) -> Result<(), Why>
         requires few { count ≤ limits.elements }
         requires light { weight ≤ limits.weight }
-        ensures reason { OnOk result (kind_reason limits count weight self.now (named_kind next.now) false ≡ None) }
-        ensures ok { IfOk result (λ d. drawn_by self.now (named_kind next.now) still ≡ Some (drawn_once d)) }
-        ensures fits { OnOk result (fault_of (drawn_by self.now (named_kind next.now) still) ≡ None) }
-        ensures near { OnOk result (IsNear (place_of self.now (named_kind next.now))) }
-        ensures err { IfErr result (λ why. reason_if limits count weight self.now (Some (named_kind next.now)) false ≡ Some why) }
+        ensures reason { OnOk result (kind_reason limits count weight (named_by self.now next.now) (named_kind next.now) false ≡ None) }
+        ensures fits { OnOk result (fault_of (drawn_by (named_by self.now next.now) (named_kind next.now) still) ≡ None) }
+        ensures err { IfErr result (λ why. reason_if limits count weight (named_by self.now next.now) (Some (named_kind next.now)) false ≡ Some why) }
     {
         match next {
-            NamedOnce::Placement { quarters, flip, .. } => self.one_placement(
-                *quarters, *flip, limits, count, weight,
-            ),
-            NamedOnce::Text { .. } => self.one_text(limits, count, weight),
+            NamedOnce::Placement { cell, .. } => {
+                let Some(one) = weight_placed(cell, &self.cell) else {
+                    return Err(Why::ModalUndefined);
+                };
+                check_once(one, self.placement, limits, count, weight)
+            }
+            NamedOnce::Text { string, .. } => {
+                let (Some(one), Some(_), Some(_)) = (
+                    weight_written(string, &self.string),
+                    self.textlayer,
+                    self.texttype,
+                ) else {
+                    return Err(Why::ModalUndefined);
+                };
+                check_once(one, self.text, limits, count, weight)
+            }
         }
     }
 
-    /// The placement of such a record, by the modal variables after it.
-    fn one_placement(
-        &self,
-        quarters: u8,
-        flip: bool,
-        limits: Limits,
-        count: u64,
-        weight: u64,
-    ) -> Result<DrawnOnce<'_>, Why>
-        requires few { count ≤ limits.elements }
-        requires light { weight ≤ limits.weight }
-        ensures reason { OnOk result (kind_reason limits count weight self.now (OnePlacement (Quarters quarters) flip) false ≡ None) }
-        ensures ok { IfOk result (λ d. drawn_by self.now (OnePlacement (Quarters quarters) flip) still ≡ Some (drawn_once d)) }
-        ensures fits { OnOk result (fault_of (drawn_by self.now (OnePlacement (Quarters quarters) flip) still) ≡ None) }
-        ensures near { OnOk result (IsNear self.now.placement) }
-        ensures err { IfErr result (λ why. reason_if limits count weight self.now (Some (OnePlacement (Quarters quarters) flip)) false ≡ Some why) }
+    /// Makes the name that a placement or a text gives the modal one, in the memory that that has where it is enough.
+    pub fn set_name(&mut self, alloc: Global, next: &NamedOnce<'_>) -> Result<(), AllocError>
+        requires { GivesName next.now }
+        ensures { OnOk result (self.new ≡ named_by self.old next.now) }
     {
-        let Some(cell) = &self.cell else {
-            return Err(Why::ModalUndefined);
-        };
-        if limits.elements() - count < 1 {
-            return Err(Why::TooManyElements);
+        match next {
+            NamedOnce::Placement { cell, .. } => set_cell(alloc, &mut self.cell, cell),
+            NamedOnce::Text { string, .. } => set_string(alloc, &mut self.string, string),
         }
-        let one = match cell {
-            CellRef::Number(_) => 1,
-            CellRef::Name(name) => 1 + name.as_bytes().len() as u128,
-        };
-        if u128::from(limits.weight() - weight) < one {
-            return Err(Why::TooHeavy);
-        }
-        let (Some(x), Some(y)) = (coordinate(self.placement.x), coordinate(self.placement.y)) else {
-            return Err(Why::CoordinateRange);
-        };
-        Ok(DrawnOnce::Placement {
-            cell,
-            x,
-            y,
-            turns: turned(Turn::Quarters(quarters)),
-            flip,
-        })
     }
 
-    /// The text of such a record, by the modal variables after it.
-    fn one_text(&self, limits: Limits, count: u64, weight: u64) -> Result<DrawnOnce<'_>, Why>
-        requires few { count ≤ limits.elements }
-        requires light { weight ≤ limits.weight }
-        ensures reason { OnOk result (kind_reason limits count weight self.now OneText false ≡ None) }
-        ensures ok { IfOk result (λ d. drawn_by self.now OneText still ≡ Some (drawn_once d)) }
-        ensures fits { OnOk result (fault_of (drawn_by self.now OneText still) ≡ None) }
-        ensures near { OnOk result (IsNear self.now.text) }
-        ensures err { IfErr result (λ why. reason_if limits count weight self.now (Some OneText) false ≡ Some why) }
+    /// What such a record draws, by the modal variables after it; None only where one that it needs is undefined, or it lies
+    /// outside the grid.
+    pub fn one_named(&self, next: &NamedOnce<'_>) -> Option<DrawnOnce<'_>>
+        ensures some { IfSome result (λ d. drawn_by self.now (named_kind next.now) still ≡ Some (drawn_once d)) }
+        ensures near { IfSome result (λ _. IsNear (place_of self.now (named_kind next.now))) }
+        ensures none { result ≡ None → fault_of (drawn_by self.now (named_kind next.now) still) ≡ None → ⊥ }
     {
-        let (Some(string), Some(textlayer), Some(texttype)) = (
-            &self.string,
-            self.textlayer,
-            self.texttype,
-        ) else {
-            return Err(Why::ModalUndefined);
-        };
-        if limits.elements() - count < 1 {
-            return Err(Why::TooManyElements);
+        match next {
+            NamedOnce::Placement { quarters, flip, .. } => Some(DrawnOnce::Placement {
+                cell: self.cell.as_ref()?,
+                x: coordinate(self.placement.x)?,
+                y: coordinate(self.placement.y)?,
+                turns: turned(Turn::Quarters(*quarters)),
+                flip: *flip,
+            }),
+            NamedOnce::Text { .. } => Some(DrawnOnce::Text {
+                string: self.string.as_ref()?,
+                textlayer: self.textlayer?,
+                texttype: self.texttype?,
+                x: coordinate(self.text.x)?,
+                y: coordinate(self.text.y)?,
+            }),
         }
-        let one = match string {
-            TextRef::Number(_) => 1,
-            TextRef::Label(label) => 1 + label.as_bytes().len() as u128,
-        };
-        if u128::from(limits.weight() - weight) < one {
-            return Err(Why::TooHeavy);
-        }
-        let (Some(x), Some(y)) = (coordinate(self.text.x), coordinate(self.text.y)) else {
-            return Err(Why::CoordinateRange);
-        };
-        Ok(DrawnOnce::Text {
-            string,
-            textlayer,
-            texttype,
-            x,
-            y,
-        })
     }
+}
+
+/// Makes the cell that is given, if one is, the modal one.
+fn set_cell(alloc: Global, modal: &mut Option<CellRef>, given: &Given<'_>) -> Result<(), AllocError>
+    requires { GivesCell given.now }
+    ensures { OnOk result (modal.new ≡ option_or (cell_given given.now) modal.old) }
+{
+    match given {
+        Given::Modal => {}
+        Given::Number(number) => *modal = Some(CellRef::Number(*number)),
+        Given::Bytes(bytes) => match modal {
+            Some(CellRef::Name(name)) => name.assign(bytes)?,
+            _ => *modal = Some(CellRef::Name(Name::of(alloc, bytes)?)),
+        },
+    }
+    Ok(())
+}
+
+/// Makes the string that is given, if one is, the modal one.
+fn set_string(
+    alloc: Global,
+    modal: &mut Option<TextRef>,
+    given: &Given<'_>,
+) -> Result<(), AllocError>
+    requires { GivesString given.now }
+    ensures { OnOk result (modal.new ≡ option_or (string_given given.now) modal.old) }
+{
+    match given {
+        Given::Modal => {}
+        Given::Number(number) => *modal = Some(TextRef::Number(*number)),
+        Given::Bytes(bytes) => match modal {
+            Some(TextRef::Label(label)) => label.assign(bytes)?,
+            _ => *modal = Some(TextRef::Label(Label::of(alloc, bytes)?)),
+        },
+    }
+    Ok(())
 }

@@ -2,7 +2,7 @@ use Rattle.std.proofs.Common.{inr, ◌∙◌}
 use Rattle.std.proofs.lemmas.Result.{err_from_is_err_and}
 use Rattle.oas_record.specs.declared.records.Record.TheVariants.{Rectangle}
 use Rattle.oas_ahead.specs.Named.{named_record}
-use Rattle.oas_file.proofs.Taking.{ahead_read, named_read, known_gives}
+use Rattle.oas_file.proofs.Taking.{ahead_read, named_read}
 use Rattle.oas_file.proofs.reading.take_next.Goals as goal
 
 pub returns-in_err-take_rectangle : goal.returns-in_err-take_rectangle
@@ -26,20 +26,18 @@ pub returns-in_err-taken : goal.returns-in_err-taken
 returns-in_err-taken g c =
     let p = err_from_is_err_and c.from_residual-in_err-taken.result c.from_residual-in_err-taken.ensures.1 in
     let at_hand = c.in-Some-named_ahead in
-    let gives = known_gives c.args.reader.now.standing.modal at_hand.found.element (c.knows.ensures c.if-knows.true) in
     rw (p.1, p.2) (inr (record {
       next = named_record at_hand.found.element;
-      read = named_read c.args.flag_in_end gives (rw c.ahead-2.ensures at at_hand.ensures) c.skip-then-knows.ensures;
+      read = named_read c.args.flag_in_end (rw c.ahead-2.ensures at at_hand.ensures) c.skip-in-Some-named_ahead.ensures;
       reason = λ records stands. let e = c.in_err-taken.ensures.refused records stands in (e.0 ∙ c.requires, e.1);
     }))
 
-pub returns-then-knows : goal.returns-then-knows
-returns-then-knows g c =
+pub returns-in-Some-named_ahead : goal.returns-in-Some-named_ahead
+returns-in-Some-named_ahead g c =
     let at_hand = c.in-Some-named_ahead in
-    let gives = known_gives c.args.reader.now.standing.modal at_hand.found.element (c.knows.ensures c.if-knows.true) in
     record {
       next = named_record at_hand.found.element;
-      read = named_read c.args.flag_in_end gives (rw c.ahead-2.ensures at at_hand.ensures) c.skip-then-knows.ensures;
+      read = named_read c.args.flag_in_end (rw c.ahead-2.ensures at at_hand.ensures) c.skip-in-Some-named_ahead.ensures;
       taken = c.in_ok-taken.ensures.taken;
       same = record { unit = c.in_ok-taken.ensures.unit; limits = c.in_ok-taken.ensures.limits; profile = c.in_ok-taken.ensures.profile };
     }

@@ -20,4 +20,4 @@ returns-in_err-second g c =
 pub returns : goal.returns
 returns g c =
     let read = is_read (starts_gdelta _ ▹ (OneFront-IsUnsigned, HasSome-second _, c.in_ok-first.ensures)) c.in_ok-second.ensures in
-    rw c.step_from.ensures read
+    rw c.from_numbers.ensures read
