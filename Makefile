@@ -3,7 +3,7 @@
 PREFIX ?= /usr/local
 JOBS ?= 2
 
-.PHONY: all lib install install-built install-lib dist test test-c test-large test-reference test-readings test-reading test-inflate test-command test-workflows test-edits test-klayout test-klayout-prepared bench bench-klayout clean
+.PHONY: all lib install install-built install-lib dist test test-c test-large test-reference test-readings test-reading test-inflate test-command test-workflows test-klayout test-klayout-prepared bench bench-klayout clean
 
 # The programs: proves every crate that they stand on, builds them, and leaves them as ./oascanon and ./oasprep.
 all:
@@ -55,10 +55,6 @@ test-large: all
 # Random files, given to the built program and to a plain, slow one that was written from the same rules.
 test-reference: all
 	tests/reference/compare ./oascanon
-
-# The wrong bodies that the gate has no time for: the prover must refuse each. An hour and more.
-test-edits:
-	tests/edits
 
 # Each rule of that program changed in turn: some row of the gate must tell the difference.
 test-readings:
