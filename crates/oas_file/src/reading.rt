@@ -3,7 +3,7 @@ ghost use Rattle.std.specs.Prelude.{◌≡◌};
 ghost use Rattle.oas_file.specs.Gathering.{TakesNext, TakesOne, Gathers, FindsEnd};
 ghost use Rattle.oas_file.specs.Reading.{ReadsLayout};
 
-use oas_ahead::{named_ahead, rectangle_ahead};
+use oas_ahead::{named_ahead, polygon_ahead, rectangle_ahead};
 use oas_layout::{Layout, Limits, Profile};
 use oas_modal::{CellStore, Reader};
 use oas_num::{Refusal, Source, SourceFault, Why};
@@ -24,8 +24,8 @@ pub fn take_record<S: Source>(
     }
 }
 
-/// Has the reader take the next record, which starts at byte `at`, and answers false where it is END. A rectangle, a placement or
-/// a text that is at hand goes the short way.
+/// Has the reader take the next record, which starts at byte `at`, and answers false where it is END. A rectangle, a placement, a
+/// text or a polygon that is at hand goes the short way.
 fn take_next<S: Source, C: CellStore>(
     alloc: Global,
     source: &mut S,
@@ -46,6 +46,11 @@ fn take_next<S: Source, C: CellStore>(
         let taken = reader.take_named(at, &found.element);
         source.skip(length);
         taken?;
+        return Ok(true);
+    }
+    if let Some(drawn) = polygon_ahead(alloc, source.ahead()) {
+        source.skip(drawn.length);
+        reader.take(at, Record::Polygon(drawn.polygon))?;
         return Ok(true);
     }
     let Some(record) = take_record(alloc, source, flag_in_end)? else {

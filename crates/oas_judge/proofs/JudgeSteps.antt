@@ -145,7 +145,7 @@ named_so (Circle layer datatype radius x y) (once.Placement c quarters flip px p
 named_so (Circle layer datatype radius x y) (once.Text s textlayer texttype px py) is profile = absurd cc
 
 -- the bytes that spell it in the shortest style are the canonical ones
-bytes_so : (e : Element) (r : Record) (bytes : List ℕ) → element_record e ≡ r → IsDrawable e → Fits e → record_in Shortest false r bytes → element_bytes e ≡ bytes
+pub bytes_so : (e : Element) (r : Record) (bytes : List ℕ) → element_record e ≡ r → IsDrawable e → Fits e → record_in Shortest false r bytes → element_bytes e ≡ bytes
 bytes_so e r bytes is fit fits spelled =
     let sound : IsSound e = record { points = fit.points; inside = fit.inside; fits = fits } in
     let there : record_in Shortest false (element_record e) bytes = subst (λ (s : Record). record_in Shortest false s bytes) (sym is) spelled in

@@ -53,7 +53,7 @@ GoesOnBy known old candidate new = (limits : Limits) (profile : Profile) (head :
 abbrev pub GoesOn : FileJudge → Candidate → FileJudge → Type 0
 GoesOn old candidate new = GoesOnBy old.bytes.items old candidate new
 
--- it stands for a rectangle too that is at hand
+-- it stands for a record too that is at hand
 pub record GoesOnAhead (known : List ℕ) (old : FileJudge) (r : Record) (new : FileJudge) : Type 0 where
   pub candidate : Candidate
   pub says : IsTrue (holds old) → IsCandidate old.profile candidate r

@@ -21,6 +21,7 @@ mod judge;
 mod keeping;
 mod named;
 mod own;
+mod polygons;
 mod records;
 mod spelled;
 

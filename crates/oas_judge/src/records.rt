@@ -3,10 +3,10 @@ ghost use Rattle.std.specs.Prelude.{◌≡◌};
 ghost use Rattle.oas_judge.specs.Judged.{JudgesRecords, JudgesOne, JudgesAhead};
 
 use crate::judge::FileJudge;
-use oas_ahead::{named_ahead, rectangle_ahead};
+use oas_ahead::{named_ahead, polygon_ahead, rectangle_ahead};
 use oas_modal::{CellStore, Reader};
 use oas_num::{Refusal, Source};
-use oas_record::Head;
+use oas_record::{Head, Record};
 use std::alloc::Global;
 
 /// Has the reader take a rectangle that is at hand, and the judge see it, where that needs nothing more to know. Answers false
@@ -57,9 +57,34 @@ fn next_named<S: Source, C: CellStore>(
     Ok(true)
 }
 
+/// Has the reader take a polygon that is at hand, and the judge see it, where that needs nothing more to know. Answers false
+/// where it does nothing.
+fn next_polygon<S: Source, C: CellStore>(
+    alloc: Global,
+    source: &mut S,
+    head: &Head,
+    at: u64,
+    reader: &mut Reader<C>,
+    judge: &mut FileJudge,
+) -> Result<bool, Refusal>
+    requires { at ≡ (S.script source.old).given }
+    ensures { JudgesAhead C.store head.now (S.script source.old) reader.old judge.old result (S.script source.new) reader.new judge.new }
+{
+    let Some(found) = polygon_ahead(alloc, source.ahead()) else {
+        return Ok(false);
+    };
+    if !judge.judge_polygon(alloc, &found) {
+        return Ok(false);
+    }
+    source.skip(found.length);
+    reader.take(at, Record::Polygon(found.polygon))?;
+    Ok(true)
+}
+
 /// Has the reader take the next record, and the judge see it, where it is at hand and that needs nothing more to know. Answers
 /// false where it does nothing.
 fn next_at_hand<S: Source, C: CellStore>(
+    alloc: Global,
     source: &mut S,
     head: &Head,
     at: u64,
@@ -72,7 +97,10 @@ fn next_at_hand<S: Source, C: CellStore>(
     if next_rectangle(source, head, at, reader, judge)? {
         return Ok(true);
     }
-    next_named(source, head, at, reader, judge)
+    if next_named(source, head, at, reader, judge)? {
+        return Ok(true);
+    }
+    next_polygon(alloc, source, head, at, reader, judge)
 }
 
 /// Has the reader take the next record, which starts at byte `at`, and the judge see it. Answers false where it is END.
@@ -87,7 +115,7 @@ fn judge_next<S: Source, C: CellStore>(
     requires { at ≡ (S.script source.old).given }
     ensures { JudgesOne C.store head.now (S.script source.old) reader.old judge.old result (S.script source.new) reader.new judge.new }
 {
-    if next_at_hand(source, head, at, reader, judge)? {
+    if next_at_hand(alloc, source, head, at, reader, judge)? {
         return Ok(true);
     }
     let Some(record) = judge.next(alloc, source, head.flag_in_end)? else {

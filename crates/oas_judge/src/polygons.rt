@@ -1,0 +1,39 @@
+//! A polygon that is at hand, in the cell that is judged.
+ghost use Rattle.std.specs.Prelude.{◌≡◌, true, false, IfSome};
+ghost use Rattle.oas_layout.specs.Same.{normal};
+ghost use Rattle.oas_layout.specs.Weight.{lacks_points};
+ghost use Rattle.oas_judge.specs.Ahead.{IsPolygonBy};
+
+use crate::candidates::is_drawable;
+use crate::own::own_polygon;
+use oas_ahead::PolygonAhead;
+use oas_layout::{Element, Profile};
+use std::alloc::Global;
+
+/// Whether the profile keeps an element as it stands; false, too, where memory is refused.
+fn is_kept(alloc: Global, profile: Profile, element: &Element) -> bool
+    requires { lacks_points element.now ≡ false }
+    ensures { result ≡ true → element.now ≡ normal profile element.now }
+{
+    matches!(element.kept_form(alloc, profile), Ok(None))
+}
+
+/// The element of a polygon that is at hand, where its bytes are the canonical ones of that; None, too, where memory is refused.
+pub(crate) fn spelled_polygon(
+    alloc: Global,
+    profile: Profile,
+    ahead: &PolygonAhead,
+) -> Option<Element>
+    ensures { IfSome result (λ element. IsPolygonBy profile ahead.now element) }
+{
+    if !ahead.shortest {
+        return None;
+    }
+    let own = own_polygon(alloc, &ahead.polygon).ok()??;
+    own.fits();
+    if is_drawable(&own) && is_kept(alloc, profile, &own) {
+        Some(own)
+    } else {
+        None
+    }
+}
