@@ -1,5 +1,6 @@
 pub mod HeldLemmas
 pub mod EarlyLemmas
+pub mod NamesInOrder
 pub mod NameTables
 pub mod NameLemmas
 pub mod ReferenceLemmas

@@ -1,5 +1,6 @@
 pub mod Held
 pub mod Names
+pub mod NamesInOrder
 pub mod References
 pub mod Meaning
 pub mod Finish

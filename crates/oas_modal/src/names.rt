@@ -2,6 +2,8 @@
 
 ghost use Rattle.std.specs.Prelude.{◌≡◌, ◌⊎◌, length, unwrap_or, Some, None, OnOk, OnErr, IfErr};
 ghost use Rattle.std.specs.Option.{option_copied};
+ghost use Rattle.std.specs.Ordering.{nat_cmp};
+ghost use Rattle.std.specs.BTreeMap.{insert_entry};
 ghost use Rattle.oas_num.specs.declared.refusals.Why.TheVariants.{Memory};
 ghost use Rattle.oas_modal.specs.Names.{numbering_given, is_mixed, name_of, is_other, no_names, table_reason, with_name};
 ghost use Rattle.oas_modal.specs.References.{cell_by};
@@ -33,20 +35,31 @@ impl Numbering {
     }
 }
 
-/// The numbers that the name records of one class give to strings, and the numbering of these records. The map is ordered, so
-/// that no choice of numbers makes it slow.
+/// How many strings stand in order at most: more than memory holds, and few enough that all can be counted.
+const MOST_IN_ORDER: u64 = 1 << 62;
+
+/// The numbers that the name records of one class give to strings, and the numbering of these records.
+///
+/// Where the numbers 0, 1, 2, .. come in this order, their strings stand in a list, each at its number. All other numbers are in
+/// a map, which is ordered, so that no choice of numbers makes it slow.
 #[derive(Drop)]
 pub struct NameTable<S> {
     numbering: Option<Numbering>,
-    names: BTreeMap<u64, S>,
+    in_order: Vec<S>,
+    /// Each number is at least the length of `in_order`.
+    others: BTreeMap<u64, S>,
 }
 
 impl<S> Model for NameTable<S> {
+    ghost use Rattle.std.specs.Prelude.{◌++◌, length};
     ghost use Rattle.oas_modal.specs.Names.{Table};
+    ghost use Rattle.oas_modal.specs.NamesInOrder.{numbered, AreApart};
 
     ghost Value = { Table S };
 
-    ghost view = { λ a. record { numbering = a.numbering; named = a.names.entries } };
+    ghost view = { λ a. record { numbering = a.numbering; named = numbered 0 a.in_order.items ++ a.others.entries } };
+
+    ghost invariant = { λ a. AreApart (length a.in_order.items) a.others.entries };
 }
 
 impl<S: PartialEq + Drop> NameTable<S> {
@@ -56,7 +69,8 @@ impl<S: PartialEq + Drop> NameTable<S> {
     {
         NameTable {
             numbering: None,
-            names: BTreeMap::new(alloc),
+            in_order: Vec::new(alloc),
+            others: BTreeMap::new(alloc),
         }
     }
 
@@ -64,7 +78,10 @@ impl<S: PartialEq + Drop> NameTable<S> {
     pub fn get(&self, number: u64) -> Option<&S>
         ensures { option_copied result ≡ name_of self.now.named number }
     {
-        self.names.get(&number)
+        match self.in_order.get(number as usize) {
+            Some(string) => Some(string),
+            None => self.others.get(&number),
+        }
     }
 
     /// Takes a name record: a string, and its number where it gives one, else the next one of its class, from 0 on.
@@ -81,8 +98,27 @@ impl<S: PartialEq + Drop> NameTable<S> {
         }
         let numbering = Numbering::of(number);
         let number = self.number_for(number);
-        self.names.insert(number, string)?;
+        self.put(number, string)?;
         self.numbering = Some(numbering);
+        Ok(())
+    }
+
+    /// Gives a number a string, in the place of the one that it had, if it had one. Where memory is refused nothing changes.
+    fn put(&mut self, number: u64, string: S) -> Result<(), Why>
+        ensures ok { OnOk result (self.new ≡ record self.old { named = insert_entry nat_cmp self.old.named number string }) }
+        ensures why { IfErr result (λ why. why ≡ Memory) }
+        ensures err { OnErr result (self.new ≡ self.old) }
+    {
+        let next = self.in_order.len() as u64;
+        if number < next {
+            self.in_order[number as usize] = string;
+            return Ok(());
+        }
+        if number == next && next < MOST_IN_ORDER && !self.others.contains_key(&number) {
+            self.in_order.push(string)?;
+            return Ok(());
+        }
+        self.others.insert(number, string)?;
         Ok(())
     }
 
@@ -90,7 +126,7 @@ impl<S: PartialEq + Drop> NameTable<S> {
     fn number_for(&self, number: Option<u64>) -> u64
         ensures { result ≡ unwrap_or number (length self.now.named) }
     {
-        number.unwrap_or(self.names.len() as u64)
+        number.unwrap_or(self.in_order.len() as u64 + self.others.len() as u64)
     }
 
     /// Why a name record is refused, if it is.

@@ -17,6 +17,13 @@ use std::test::Fail;
 /// Where END starts.
 const END: u64 = 24;
 
+/// The bytes of two names, so long that the finish, which makes copies of them, wants more memory than a record does.
+const FIRST: &[u8] =
+    b"\x50AAAAAAAAAAAAAAAAAAAAAAAAAAAAAAAAAAAAAAAAAAAAAAAAAAAAAAAAAAAAAAAAAAAAAAAAAAAAAAAA";
+
+const SECOND: &[u8] =
+    b"\x50BBBBBBBBBBBBBBBBBBBBBBBBBBBBBBBBBBBBBBBBBBBBBBBBBBBBBBBBBBBBBBBBBBBBBBBBBBBBBBBB";
+
 fn name(alloc: Global, spelled: &[u8]) -> Result<Name, Fail> {
     Ok(Name::read(alloc, &mut SliceSource::new(spelled, 100))?)
 }
@@ -89,7 +96,7 @@ fn insist(
 fn pairs(alloc: Global, count: u32) -> Result<Vec<(Name, Name)>, Fail> {
     let mut names = Vec::new(alloc);
     for _ in 0..count {
-        names.push((name(alloc, b"\x01A")?, name(alloc, b"\x01B")?))?;
+        names.push((name(alloc, FIRST)?, name(alloc, SECOND)?))?;
     }
     Ok(names)
 }
