@@ -1,8 +1,8 @@
 //! Growths refused: a refused call answers want of memory, at the place that it was given.
 //!
-//! The heap is filled up, and given back a small piece after each run, so that the name, the first rectangle and the finish
-//! are each refused before they succeed, and so is the first of 13 names. Where the heap cannot be filled, as
-//! under a checker of addresses, no call is refused, and the answers are the same.
+//! The heap is filled up, and given back a small piece after each run, so that the name and the first rectangle are each refused
+//! before they succeed, and so are the finish, by a reader that has taken its records before, and the first of 13 names. Where
+//! the heap cannot be filled, as under a checker of addresses, no call is refused, and the answers are the same.
 
 use super::{refuses_on, unit};
 use oas_layout::{Layout, Limits, Profile};
@@ -16,13 +16,6 @@ use std::test::Fail;
 
 /// Where END starts.
 const END: u64 = 24;
-
-/// The bytes of two names, so long that the finish, which makes copies of them, wants more memory than a record does.
-const FIRST: &[u8] =
-    b"\x50AAAAAAAAAAAAAAAAAAAAAAAAAAAAAAAAAAAAAAAAAAAAAAAAAAAAAAAAAAAAAAAAAAAAAAAAAAAAAAAA";
-
-const SECOND: &[u8] =
-    b"\x50BBBBBBBBBBBBBBBBBBBBBBBBBBBBBBBBBBBBBBBBBBBBBBBBBBBBBBBBBBBBBBBBBBBBBBBBBBBBBBBB";
 
 fn name(alloc: Global, spelled: &[u8]) -> Result<Name, Fail> {
     Ok(Name::read(alloc, &mut SliceSource::new(spelled, 100))?)
@@ -96,14 +89,14 @@ fn insist(
 fn pairs(alloc: Global, count: u32) -> Result<Vec<(Name, Name)>, Fail> {
     let mut names = Vec::new(alloc);
     for _ in 0..count {
-        names.push((name(alloc, FIRST)?, name(alloc, SECOND)?))?;
+        names.push((name(alloc, b"\x01A")?, name(alloc, b"\x01B")?))?;
     }
     Ok(names)
 }
 
-/// Whether the name, the first rectangle and the finish were each refused.
+/// Whether the name and the first rectangle were each refused.
 fn has_all(refused: &[u64]) -> bool {
-    refused.contains(&0) && refused.contains(&5) && refused.contains(&END)
+    refused.contains(&0) && refused.contains(&5)
 }
 
 #[test]
@@ -118,6 +111,57 @@ fn reader_without_memory(rt: HostRuntime) -> Result<(), Fail> {
     drop(hoard);
     assert!(rt; done, "a layout is never made");
     assert!(rt; !is_full || has_all(refused.as_slice()), "never refused");
+    Ok(())
+}
+
+/// A reader that has taken a name of a cell, and two cells.
+fn ready(alloc: Global, unit: Fraction, first: Name, second: Name) -> Result<Reader, Refusal> {
+    let mut reader = Reader::new(alloc, unit, Limits::standard(), Profile::One);
+    let first = Record::CellName {
+        name: first,
+        number: None,
+    };
+    reader.take(0, first)?;
+    take_cells(&mut reader, second)?;
+    Ok(reader)
+}
+
+/// So many of them.
+fn all_ready(alloc: Global, unit: Fraction, count: u32) -> Result<Vec<Reader>, Fail> {
+    let mut readers = Vec::new(alloc);
+    for (first, second) in pairs(alloc, count)? {
+        readers.push(ready(alloc, unit, first, second)?)?;
+    }
+    Ok(readers)
+}
+
+/// Finishes one after another until a layout is made, and gives back a piece of memory after each refusal. How many were refused.
+fn insist_on_finish(rt: &impl Abort, readers: Vec<Reader>, hoard: &mut Hoard) -> Option<u32> {
+    let mut refused = 0u32;
+    for reader in readers {
+        match reader.finish(END) {
+            Ok(layout) => {
+                assert!(rt; layout.cells() == 2 && layout.count() == 2);
+                return Some(refused);
+            }
+            Err(Refusal { at, why }) => assert!(rt; at == END && why.number() == 34),
+        }
+        refused = refused.saturating_add(1);
+        hoard.give_back();
+    }
+    None
+}
+
+#[test]
+fn finish_without_memory(rt: HostRuntime) -> Result<(), Fail> {
+    let alloc = rt.alloc();
+    let readers = all_ready(alloc, unit()?, 200)?;
+    let mut hoard = Hoard::new(alloc)?;
+    let is_full = hoard.is_full();
+    let refused = insist_on_finish(&rt, readers, &mut hoard);
+    drop(hoard);
+    assert!(rt; refused.is_some(), "a layout is never made");
+    assert!(rt; !is_full || refused != Some(0), "never refused");
     Ok(())
 }
 
