@@ -63,10 +63,10 @@ returns-in-Some-polygon_ahead g c =
     }
 
 pub returns-in_err-take-2 : goal.returns-in_err-take-2
-returns-in_err-take g c =
-    let p = err_from_is_err_and c.from_residual-in_err-take.result c.from_residual-in_err-take.ensures.1 in
+returns-in_err-take-2 g c =
+    let p = err_from_is_err_and c.from_residual-in_err-take-2.result c.from_residual-in_err-take-2.ensures.1 in
     rw (p.1, p.2) (inr (record {
       next = c.in-Some-2.record;
       read = rw c.in-Some-2.is at c.in_ok-record.ensures;
-      reason = λ records stands. let e = c.in_err-take.ensures.refused records stands in (e.0 ∙ c.requires, e.1);
+      reason = λ records stands. let e = c.in_err-take-2.ensures.refused records stands in (e.0 ∙ c.requires, e.1);
     }))
