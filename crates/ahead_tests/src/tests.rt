@@ -2,6 +2,7 @@ use oas_ahead::{RectangleAhead, rectangle_ahead};
 use std::process::Abort;
 
 mod named;
+mod paths;
 mod polygons;
 
 /// A rectangle of layer 1, datatype 0, 10 by 20 grid steps at (-1, 64), with all its fields, and a byte behind it.

@@ -2,3 +2,4 @@ pub mod FrontLemmas
 pub mod RectangleLemmas
 pub mod NamedLemmas
 pub mod PolygonLemmas
+pub mod PathLemmas

@@ -1,5 +1,5 @@
 -- Steps, point lists and polygons that stand once, and their records.
-use Rattle.std.proofs.Common.{◌≡◌, ℕ, ℤ, ◌+◌, ◌*◌, ◌-◌, ◌/◌, ◌%◌, ◌<◌, ◌≤◌, Bool, true, false, Option, None, Some, List, [], ◌∷◌, ◌++◌, length, inl, refl, ap, sym, ◌∙◌, append_assoc, append-nil, arith}
+use Rattle.std.proofs.Common.{◌≡◌, ℕ, ℤ, ◌+◌, ◌*◌, ◌-◌, ◌/◌, ◌%◌, ◌<◌, Bool, true, false, Option, None, Some, List, [], ◌∷◌, ◌++◌, length, refl, ap, sym, ◌∙◌, append_assoc, append-nil, arith}
 use Rattle.std.specs.Prelude.{IsTrue, not, ◌==◌}
 use Rattle.std.proofs.lemmas.List.{length_push}
 use Rattle.oas_num.specs.Grammar.{IsEach}
@@ -8,9 +8,11 @@ use Rattle.oas_num.specs.Style.{code}
 use Rattle.oas_num.specs.Laws.StyleLaws.{signed_of-code}
 use Rattle.oas_num.specs.declared.deltas.GDelta.{GDelta}
 use Rattle.oas_num.specs.Deltas.{gdelta_from}
+use Rattle.oas_shape.specs.declared.list_use.ListUse.{ListUse}
 use Rattle.oas_shape.specs.declared.list_use.ListUse.TheVariants as uses
+use Rattle.oas_shape.specs.ListUses.{IsFitting}
 use Rattle.oas_shape.specs.Polylines.{Polyline}
-use Rattle.oas_shape.specs.PointLists.{plain_line}
+use Rattle.oas_shape.specs.PointLists.{polyline_of, plain_line}
 use Rattle.oas_record.specs.declared.polygons.Polygon.{Polygon as OnePolygon}
 use Rattle.oas_record.specs.Info.{has}
 use Rattle.oas_record.specs.Kinds.{number, signed}
@@ -87,19 +89,24 @@ all_taken counter count e steps p = rw (sym e) p
 
 -- ---- a point list
 
-line_takes : (count : ℕ) (steps : List GDelta) {old one two new : Left} → TakesFront number 4 old one → TakesFront number count one two → 2 ≤ count → TakesIn (steps_in count) steps two new
-    → TakesFront (points uses.Polygon) (plain_line steps) old new
-line_takes count steps {new = new} k n some s = record {
+-- of type 4 it is the list of its steps, whatever its use
+is_line : (purpose : ListUse) (count : ℕ) (steps : List GDelta) → polyline_of purpose (4, (count, steps)) ≡ plain_line steps
+is_line uses.Polygon count steps = refl
+is_line uses.Path count steps = refl
+
+line_takes : (purpose : ListUse) (count : ℕ) (steps : List GDelta) {old one two new : Left} → TakesFront number 4 old one → TakesFront number count one two → IsFitting purpose 4 count
+    → TakesIn (steps_in count) steps two new → TakesFront (points purpose) (plain_line steps) old new
+line_takes purpose count steps {new = new} k n fits s = record {
   bytes = k.bytes ++ (n.bytes ++ s.bytes);
   joined = k.joined ∙ ap (λ t. k.bytes ++ t) (n.joined ∙ ap (λ t. n.bytes ++ t) s.joined ∙ sym (append_assoc n.bytes s.bytes new.bytes)) ∙ sym (append_assoc k.bytes (n.bytes ++ s.bytes) new.bytes);
   spelled = record {
     from = (4, (count, steps));
-    is = refl;
+    is = is_line purpose count steps;
     spelled = record {
       front = k.bytes;
       back = n.bytes ++ s.bytes;
       first = record { holds = omega arith; spelled = k.spelled };
-      second = record { front = n.bytes; back = s.bytes; first = record { holds = (some, inl (omega arith)); spelled = n.spelled }; second = s.spelled; joined = refl };
+      second = record { front = n.bytes; back = s.bytes; first = record { holds = fits; spelled = n.spelled }; second = s.spelled; joined = refl };
       joined = refl;
     };
   };
@@ -110,7 +117,7 @@ line_takes count steps {new = new} k n some s = record {
         a.0,
         record {
           plain = refl;
-          fits = (rw c.1.len some, inl (omega arith));
+          fits = rw c.1.len fits;
           spelled = record {
             front = k.bytes;
             back = n.bytes ++ s.bytes;
@@ -125,15 +132,15 @@ line_takes count steps {new = new} k n some s = record {
 is_plain : (steps : List GDelta) (line : Polyline) → Some (plain_line steps) ≡ Some line → line ≡ plain_line line.deltas
 is_plain steps line e = let same : plain_line steps ≡ line = cc in rw (sym same) refl
 
-pub list_takes : (count : ℕ) (steps : List GDelta) {old one two new : Left} → TakesFront number 4 old one → TakesFront number count one two → 2 ≤ count → TakesIn (steps_in count) steps two new
-    → TakesList true (Some (plain_line steps)) old new
-list_takes count steps k n some s = record { takes = some_takes (points uses.Polygon) true refl (line_takes count steps k n some s); plain = is_plain steps }
+pub list_takes : (purpose : ListUse) (count : ℕ) (steps : List GDelta) {old one two new : Left} → TakesFront number 4 old one → TakesFront number count one two → IsFitting purpose 4 count
+    → TakesIn (steps_in count) steps two new → TakesList purpose true (Some (plain_line steps)) old new
+list_takes purpose count steps k n fits s = record { takes = some_takes (points purpose) true refl (line_takes purpose count steps k n fits s); plain = is_plain steps }
 
-pub some_list : (here : Bool) → here ≡ true → {list : Option Polyline} {old new : Left} → TakesList true list old new → TakesList here list old new
-some_list here is t = rw is t
+pub some_list : (purpose : ListUse) (here : Bool) → here ≡ true → {list : Option Polyline} {old new : Left} → TakesList purpose true list old new → TakesList purpose here list old new
+some_list purpose here is t = rw is t
 
-pub no_list : (here : Bool) → here ≡ false → (now : Left) → TakesList here None now now
-no_list here is now = record { takes = none_takes (points uses.Polygon) here now is; plain = λ line e. cc }
+pub no_list : (purpose : ListUse) (here : Bool) → here ≡ false → (now : Left) → TakesList purpose here None now now
+no_list purpose here is now = record { takes = none_takes (points purpose) here now is; plain = λ line e. cc }
 
 -- ---- a polygon behind its id
 
@@ -141,7 +148,7 @@ pub all_given : (info : ℕ) → IsTrue (info == 59) → IsCanonicalPolygon info
 all_given info t = grind arith
 
 pub polygon_takes : (info : ℕ) (all : Bool) {both : Layers} {list : Option Polyline} {x y : Option ℤ} {old one two three four new : Left} → TakesByte info old one → info < 64 → has info 4 ≡ false
-    → TakesFront (layers info) both one two → TakesList (has info 32) list two three → TakesFront (there (has info 16) signed) x three four
+    → TakesFront (layers info) both one two → TakesList uses.Polygon (has info 32) list two three → TakesFront (there (has info 16) signed) x three four
     → TakesFront (there (has info 8) signed) y four new → (IsTrue all → IsCanonicalPolygon info)
     → TakesPolygon (record { layer = both.0; datatype = both.1; points = list; spot = (record { x = x; y = y; repetition = None }) }) old (noted all new)
 polygon_takes info all took fits once l s p q is = record {

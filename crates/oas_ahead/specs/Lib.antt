@@ -2,3 +2,4 @@ pub mod Fronts
 pub mod Ahead
 pub mod Named
 pub mod Polygons
+pub mod Paths

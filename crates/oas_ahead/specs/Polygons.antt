@@ -4,7 +4,7 @@ use Rattle.oas_num.specs.Style.{Style, Any, Shortest}
 use Rattle.oas_num.specs.Grammar.{IsImage, IsCount}
 use Rattle.oas_num.specs.declared.deltas.GDelta.{GDelta}
 use Rattle.oas_num.specs.Deltas.{SpellsGDelta, gdelta_in}
-use Rattle.oas_shape.specs.declared.list_use.ListUse.TheVariants as uses
+use Rattle.oas_shape.specs.declared.list_use.ListUse.{ListUse}
 use Rattle.oas_shape.specs.Polylines.{Polyline}
 use Rattle.oas_shape.specs.PointLists.{stepg, plain_line}
 use Rattle.oas_record.specs.declared.polygons.Polygon.{Polygon as OnePolygon}
@@ -41,9 +41,9 @@ pub record TakesIn {V : Type 0} (spells : Style → V → List ℕ → Type 0) (
   pub spelled : spells Any v bytes
   pub shortest : IsTrue new.shortest → IsTrue old.shortest × spells Shortest v bytes
 
--- a point list was taken where there is one, which is of type 4
-pub record TakesList (here : Bool) (list : Option Polyline) (old new : Left) : Type 0 where
-  pub takes : TakesFront (there here (points uses.Polygon)) list old new
+-- a point list for such a use was taken where there is one, which is of type 4
+pub record TakesList (purpose : ListUse) (here : Bool) (list : Option Polyline) (old new : Left) : Type 0 where
+  pub takes : TakesFront (there here (points purpose)) list old new
   pub plain : (line : Polyline) → list ≡ Some line → line ≡ plain_line line.deltas
 
 -- a polygon that stands once was taken behind its id

@@ -9,6 +9,8 @@
 //!   (`IsNamedAhead`, specs/Named.antt). The bytes that it gives for a cell are a name, and those for a string are one.
 //! - [`polygon_ahead`] answers a polygon that stands once, whose point list is of type 4, in the same way (`IsPolygonAhead`,
 //!   specs/Polygons.antt).
+//! - [`path_ahead`] answers a path that stands once, whose point list is of type 4 and whose extensions are both numbers, as far
+//!   as it gives them, in the same way (`IsPathAhead`, specs/Paths.antt).
 //!
 //! Most bytes of a layout are rectangles. A source gives a byte a call, and a `Record` has room for the largest kind; of bytes
 //! that are at hand a rectangle takes neither.
@@ -16,9 +18,11 @@
 
 mod fronts;
 mod named;
+mod paths;
 mod polygons;
 mod rectangles;
 
 pub use named::{Given, NamedAhead, NamedOnce, named_ahead};
+pub use paths::{PathAhead, path_ahead};
 pub use polygons::{PolygonAhead, polygon_ahead};
 pub use rectangles::{RectangleAhead, rectangle_ahead};

@@ -1,12 +1,13 @@
 //! A polygon at the front of bytes.
-ghost use Rattle.std.specs.Prelude.{true, Some, IfSome};
+ghost use Rattle.std.specs.Prelude.{◌↔◌, true, IsTrue, Some, IfSome};
+ghost use Rattle.oas_shape.specs.ListUses.{IsFitting};
 ghost use Rattle.oas_ahead.specs.Polygons.{IsPolygonAhead, TakesIn, TakesList, TakesPolygon, step_in, steps_in};
 
 use crate::fronts::Front;
 use crate::rectangles::take_layers;
 use oas_num::GDelta;
 use oas_record::{Polygon, Spot};
-use oas_shape::PointList;
+use oas_shape::{ListUse, PointList};
 use std::alloc::Global;
 
 /// The id of a polygon's record (SEMI P39, POLYGON record).
@@ -57,26 +58,43 @@ fn take_steps(alloc: Global, front: &mut Front<'_>, count: u64) -> Option<Vec<GD
     Some(steps)
 }
 
-/// A point list of type 4, of two steps at least.
-fn take_list(alloc: Global, front: &mut Front<'_>) -> Option<PointList>
-    ensures { IfSome result (λ list. TakesList true (Some list) front.old front.new) }
+/// Whether a list of type 4 may have so many steps (SEMI P39, Point lists). A polygon has at least two; a path may have any
+/// number.
+#[inline]
+fn may_have(purpose: ListUse, count: u64) -> bool
+    ensures { IsTrue result ↔ IsFitting purpose 4 count }
+{
+    match purpose {
+        ListUse::Polygon => count >= 2,
+        ListUse::Path => true,
+    }
+}
+
+/// A point list of type 4.
+fn take_list(alloc: Global, front: &mut Front<'_>, purpose: ListUse) -> Option<PointList>
+    ensures { IfSome result (λ list. TakesList purpose true (Some list) front.old front.new) }
 {
     if front.unsigned()? != STEPS {
         return None;
     }
     let count = front.unsigned()?;
-    if count < 2 {
+    if !may_have(purpose, count) {
         return None;
     }
     Some(PointList::plain(take_steps(alloc, front, count)?))
 }
 
 /// The same, where there is one.
-fn take_list_if(alloc: Global, front: &mut Front<'_>, here: bool) -> Option<Option<PointList>>
-    ensures { IfSome result (λ list. TakesList here list front.old front.new) }
+pub(crate) fn take_list_if(
+    alloc: Global,
+    front: &mut Front<'_>,
+    purpose: ListUse,
+    here: bool,
+) -> Option<Option<PointList>>
+    ensures { IfSome result (λ list. TakesList purpose here list front.old front.new) }
 {
     if here {
-        Some(Some(take_list(alloc, front)?))
+        Some(Some(take_list(alloc, front, purpose)?))
     } else {
         Some(None)
     }
@@ -91,7 +109,7 @@ fn take_polygon(alloc: Global, front: &mut Front<'_>) -> Option<Polygon>
         return None;
     }
     let (layer, datatype) = take_layers(front, info)?;
-    let points = take_list_if(alloc, front, info & 32 != 0)?;
+    let points = take_list_if(alloc, front, ListUse::Polygon, info & 32 != 0)?;
     let x = front.signed_if(info & 16 != 0)?;
     let y = front.signed_if(info & 8 != 0)?;
     front.note(info == ALL_FIELDS);
