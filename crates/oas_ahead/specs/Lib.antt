@@ -3,3 +3,4 @@ pub mod Ahead
 pub mod Named
 pub mod Polygons
 pub mod Paths
+pub mod Figures

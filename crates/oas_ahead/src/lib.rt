@@ -11,17 +11,20 @@
 //!   specs/Polygons.antt).
 //! - [`path_ahead`] answers a path that stands once, whose point list is of type 4 and whose extensions are both numbers, as far
 //!   as it gives them, in the same way (`IsPathAhead`, specs/Paths.antt).
+//! - [`figure_ahead`] answers either of these as a record (`IsFigureAhead`, specs/Figures.antt).
 //!
 //! Most bytes of a layout are rectangles. A source gives a byte a call, and a `Record` has room for the largest kind; of bytes
 //! that are at hand a rectangle takes neither.
 #![tactic(auto)]
 
+mod figures;
 mod fronts;
 mod named;
 mod paths;
 mod polygons;
 mod rectangles;
 
+pub use figures::{FigureAhead, figure_ahead};
 pub use named::{Given, NamedAhead, NamedOnce, named_ahead};
 pub use paths::{PathAhead, path_ahead};
 pub use polygons::{PolygonAhead, polygon_ahead};

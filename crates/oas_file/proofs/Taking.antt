@@ -10,15 +10,15 @@ use Rattle.oas_num.specs.Style.{Any}
 use Rattle.oas_num.proofs.ReadLemmas.{Takes-then}
 use Rattle.oas_record.specs.declared.heads.Head.{Head}
 use Rattle.oas_record.specs.declared.records.Record.{Record}
-use Rattle.oas_record.specs.declared.records.Record.TheVariants.{End, Rectangle, Polygon}
+use Rattle.oas_record.specs.declared.records.Record.TheVariants.{End, Rectangle}
 use Rattle.oas_ahead.specs.declared.rectangles.RectangleAhead.{RectangleAhead}
 use Rattle.oas_ahead.specs.Ahead.{IsAhead}
 use Rattle.oas_ahead.specs.declared.named.NamedAhead.{NamedAhead}
 use Rattle.oas_ahead.specs.declared.named.NamedOnce.{NamedOnce}
 use Rattle.oas_ahead.specs.declared.named.NamedOnce.TheVariants as once
 use Rattle.oas_ahead.specs.Named.{IsNamedAhead, named_record}
-use Rattle.oas_ahead.specs.declared.polygons.PolygonAhead.{PolygonAhead}
-use Rattle.oas_ahead.specs.Polygons.{IsPolygonAhead}
+use Rattle.oas_ahead.specs.declared.figures.FigureAhead.{FigureAhead}
+use Rattle.oas_ahead.specs.Figures.{IsFigureAhead}
 use Rattle.oas_record.specs.Records.{record_in, IsInner}
 use Rattle.oas_record.specs.Laws.RecordLaws.{OneFront-record}
 use Rattle.oas_record.specs.Refusals.{RecordTook}
@@ -165,6 +165,6 @@ pub named_read : {old new : Script} {bytes : List ℕ} {ahead : NamedAhead} (in_
     → ReadsValue (inner_in in_end) old (named_record ahead.element) new
 named_read {ahead = ahead} in_end is takes = record { bytes = _; takes = takes; spelled = record { holds = named_inner ahead.element; spelled = is.spelled in_end } }
 
--- and a polygon
-pub polygon_read : {old new : Script} {bytes : List ℕ} {ahead : PolygonAhead} (in_end : Bool) → IsPolygonAhead bytes ahead → Takes old (take ahead.length bytes) new → ReadsValue (inner_in in_end) old (Polygon ahead.polygon) new
-polygon_read in_end is takes = record { bytes = _; takes = takes; spelled = record { holds = λ e. cc; spelled = is.spelled in_end } }
+-- and a polygon or a path
+pub figure_read : {old new : Script} {bytes : List ℕ} {ahead : FigureAhead} (in_end : Bool) → IsFigureAhead bytes ahead → Takes old (take ahead.length bytes) new → ReadsValue (inner_in in_end) old ahead.record new
+figure_read in_end is takes = record { bytes = _; takes = takes; spelled = record { holds = is.inner; spelled = is.spelled in_end } }

@@ -3,7 +3,7 @@ ghost use Rattle.std.specs.Prelude.{◌≡◌};
 ghost use Rattle.oas_file.specs.Gathering.{TakesNext, TakesOne, Gathers, FindsEnd};
 ghost use Rattle.oas_file.specs.Reading.{ReadsLayout};
 
-use oas_ahead::{named_ahead, polygon_ahead, rectangle_ahead};
+use oas_ahead::{figure_ahead, named_ahead, rectangle_ahead};
 use oas_layout::{Layout, Limits, Profile};
 use oas_modal::{CellStore, Reader};
 use oas_num::{Refusal, Source, SourceFault, Why};
@@ -25,7 +25,7 @@ pub fn take_record<S: Source>(
 }
 
 /// Has the reader take the next record, which starts at byte `at`, and answers false where it is END. A rectangle, a placement, a
-/// text or a polygon that is at hand goes the short way.
+/// text, a polygon or a path that is at hand goes the short way.
 fn take_next<S: Source, C: CellStore>(
     alloc: Global,
     source: &mut S,
@@ -48,9 +48,9 @@ fn take_next<S: Source, C: CellStore>(
         taken?;
         return Ok(true);
     }
-    if let Some(drawn) = polygon_ahead(alloc, source.ahead()) {
-        source.skip(drawn.length);
-        reader.take(at, Record::Polygon(drawn.polygon))?;
+    if let Some(figure) = figure_ahead(alloc, source.ahead()) {
+        source.skip(figure.length);
+        reader.take(at, figure.record)?;
         return Ok(true);
     }
     let Some(record) = take_record(alloc, source, flag_in_end)? else {

@@ -5,4 +5,4 @@ mod JudgeSteps
 mod RecordSteps
 mod FileLemmas
 pub mod NamedSteps
-mod PolygonSteps
+mod FigureSteps

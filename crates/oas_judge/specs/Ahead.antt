@@ -1,6 +1,6 @@
--- A rectangle, a placement, a text or a polygon that is at hand, and its element.
+-- A rectangle, a placement, a text, a polygon or a path that is at hand, and its element.
 use Rattle.std.specs.Prelude.{◌≡◌, IsTrue, Some}
-use Rattle.oas_record.specs.declared.records.Record.TheVariants.{Rectangle, Polygon}
+use Rattle.oas_record.specs.declared.records.Record.TheVariants.{Rectangle}
 use Rattle.oas_layout.specs.declared.element.Element.{Element}
 use Rattle.oas_layout.specs.declared.profile.Profile.{Profile}
 use Rattle.oas_layout.specs.Same.{normal}
@@ -10,7 +10,7 @@ use Rattle.oas_form.specs.Records.{element_record}
 use Rattle.oas_ahead.specs.declared.rectangles.RectangleAhead.{RectangleAhead}
 use Rattle.oas_ahead.specs.declared.named.NamedOnce.{NamedOnce}
 use Rattle.oas_ahead.specs.Named.{named_record}
-use Rattle.oas_ahead.specs.declared.polygons.PolygonAhead.{PolygonAhead}
+use Rattle.oas_ahead.specs.declared.figures.FigureAhead.{FigureAhead}
 use Rattle.oas_judge.specs.Candidates.{IsDrawable}
 use Rattle.oas_judge.specs.Own.{own_drawn}
 
@@ -30,9 +30,9 @@ pub record IsNamedBy (next : NamedOnce) (e : Element) : Type 0 where
   pub fits : Fits e
 
 -- it gives all fields of this element, in the shortest style, and the profile keeps that as it is
-pub record IsPolygonBy (profile : Profile) (ahead : PolygonAhead) (e : Element) : Type 0 where
+pub record IsFigureBy (profile : Profile) (ahead : FigureAhead) (e : Element) : Type 0 where
   pub shortest : IsTrue ahead.shortest
-  pub drawn : own_drawn (Polygon ahead.polygon) ≡ Some (Named e)
+  pub drawn : own_drawn ahead.record ≡ Some (Named e)
   pub kept : e ≡ normal profile e
   pub fit : IsDrawable e
   pub fits : Fits e

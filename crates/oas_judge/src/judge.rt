@@ -8,17 +8,17 @@ ghost use Rattle.oas_judge.specs.FileJudges.{holds, BeginsJudging, GoesOn, IsFro
 ghost use Rattle.oas_judge.specs.Ahead.{IsSpelledBy};
 ghost use Rattle.oas_ahead.specs.Ahead.{IsAhead};
 ghost use Rattle.oas_ahead.specs.Named.{IsNamedAhead, GivesName, named_record};
-ghost use Rattle.oas_ahead.specs.Polygons.{IsPolygonAhead};
-ghost use Rattle.oas_record.specs.declared.records.Record.TheVariants.{Rectangle as OneRectangle, Polygon as OnePolygon};
+ghost use Rattle.oas_ahead.specs.Figures.{IsFigureAhead};
+ghost use Rattle.oas_record.specs.declared.records.Record.TheVariants.{Rectangle as OneRectangle};
 ghost use Rattle.oas_judge.specs.Kept.{RefusesKept, RefusesNext};
 ghost use Rattle.oas_judge.specs.Spelled.{NextTaken};
 
 use crate::candidates::{Candidate, candidate_of, is_drawable};
+use crate::figures::spelled_figure;
 use crate::named::draw_named;
 use crate::own::own_rectangle;
-use crate::polygons::spelled_polygon;
 use crate::spelled::{read_head_spelled, take_record_spelled};
-use oas_ahead::{NamedAhead, PolygonAhead, RectangleAhead};
+use oas_ahead::{FigureAhead, NamedAhead, RectangleAhead};
 use oas_file::take_record;
 use oas_form::{FormJudge, is_end, is_head};
 use oas_layout::{Element, Profile};
@@ -166,16 +166,16 @@ impl FileJudge {
         ahead.shortest && draw_named(&mut self.form, &ahead.element)
     }
 
-    /// Judges a polygon that is at hand, if it is accepted. It answers false, and does nothing, where the bytes have to be
+    /// Judges a polygon or a path that is at hand, if it is accepted. It answers false, and does nothing, where the bytes have to be
     /// compared with the canonical ones to know, or memory is refused.
-    pub(crate) fn judge_polygon(&mut self, alloc: Global, ahead: &PolygonAhead) -> bool
+    pub(crate) fn judge_figure(&mut self, alloc: Global, ahead: &FigureAhead) -> bool
         ensures no { result ≡ false → self.new ≡ self.old }
-        ensures yes { result ≡ true → (all : List ℕ) → IsPolygonAhead all ahead.now → GoesOnAhead (take ahead.now.length all) self.old (OnePolygon ahead.now.polygon) self.new }
+        ensures yes { result ≡ true → (all : List ℕ) → IsFigureAhead all ahead.now → GoesOnAhead (take ahead.now.length all) self.old ahead.now.record self.new }
     {
         if !self.holds() {
             return true;
         }
-        let Some(element) = spelled_polygon(alloc, self.profile, ahead) else {
+        let Some(element) = spelled_figure(alloc, self.profile, ahead) else {
             return false;
         };
         self.form.draw_spelled(element);

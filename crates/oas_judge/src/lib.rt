@@ -17,11 +17,11 @@
 
 mod candidates;
 mod checking;
+mod figures;
 mod judge;
 mod keeping;
 mod named;
 mod own;
-mod polygons;
 mod records;
 mod spelled;
 

@@ -181,7 +181,7 @@ fn vertices(alloc: Global, points: &PointList, at: Point) -> Result<Option<Point
 }
 
 /// A polygon.
-pub(crate) fn own_polygon(alloc: Global, drawn: &Polygon) -> Result<Option<Element>, AllocError>
+fn own_polygon(alloc: Global, drawn: &Polygon) -> Result<Option<Element>, AllocError>
     ensures { IfOk result (λ own. IsOwn own (own_drawn (OneRecord.Polygon drawn.now))) }
 {
     let Some(at) = point_given(&drawn.spot) else {

@@ -3,10 +3,10 @@ ghost use Rattle.std.specs.Prelude.{◌≡◌};
 ghost use Rattle.oas_judge.specs.Judged.{JudgesRecords, JudgesOne, JudgesAhead};
 
 use crate::judge::FileJudge;
-use oas_ahead::{named_ahead, polygon_ahead, rectangle_ahead};
+use oas_ahead::{figure_ahead, named_ahead, rectangle_ahead};
 use oas_modal::{CellStore, Reader};
 use oas_num::{Refusal, Source};
-use oas_record::{Head, Record};
+use oas_record::Head;
 use std::alloc::Global;
 
 /// Has the reader take a rectangle that is at hand, and the judge see it, where that needs nothing more to know. Answers false
@@ -57,9 +57,9 @@ fn next_named<S: Source, C: CellStore>(
     Ok(true)
 }
 
-/// Has the reader take a polygon that is at hand, and the judge see it, where that needs nothing more to know. Answers false
+/// Has the reader take a polygon or a path that is at hand, and the judge see it, where that needs nothing more to know. Answers false
 /// where it does nothing.
-fn next_polygon<S: Source, C: CellStore>(
+fn next_figure<S: Source, C: CellStore>(
     alloc: Global,
     source: &mut S,
     head: &Head,
@@ -70,14 +70,14 @@ fn next_polygon<S: Source, C: CellStore>(
     requires { at ≡ (S.script source.old).given }
     ensures { JudgesAhead C.store head.now (S.script source.old) reader.old judge.old result (S.script source.new) reader.new judge.new }
 {
-    let Some(found) = polygon_ahead(alloc, source.ahead()) else {
+    let Some(found) = figure_ahead(alloc, source.ahead()) else {
         return Ok(false);
     };
-    if !judge.judge_polygon(alloc, &found) {
+    if !judge.judge_figure(alloc, &found) {
         return Ok(false);
     }
     source.skip(found.length);
-    reader.take(at, Record::Polygon(found.polygon))?;
+    reader.take(at, found.record)?;
     Ok(true)
 }
 
@@ -100,7 +100,7 @@ fn next_at_hand<S: Source, C: CellStore>(
     if next_named(source, head, at, reader, judge)? {
         return Ok(true);
     }
-    next_polygon(alloc, source, head, at, reader, judge)
+    next_figure(alloc, source, head, at, reader, judge)
 }
 
 /// Has the reader take the next record, which starts at byte `at`, and the judge see it. Answers false where it is END.

@@ -8,8 +8,8 @@ next_named-requires g c =
     let h = rw c.if-branch.false at c.in_ok-next_rectangle.ensures in
     c.requires ∙ ap (λ (s : Script). s.given) (sym h.0)
 
-pub next_polygon-requires : goal.next_polygon-requires
-next_polygon-requires g c =
+pub next_figure-requires : goal.next_figure-requires
+next_figure-requires g c =
     let h = rw c.if-branch.false at c.in_ok-next_rectangle.ensures in
     let k = rw c.if-branch-2.false at c.in_ok-next_named.ensures in
     c.requires ∙ ap (λ (s : Script). s.given) (sym h.0) ∙ ap (λ (s : Script). s.given) (sym k.0)
@@ -18,4 +18,4 @@ pub returns : goal.returns
 returns g c =
     let h = rw c.if-branch.false at c.in_ok-next_rectangle.ensures in
     let k = rw c.if-branch-2.false at c.in_ok-next_named.ensures in
-    rw (sym h.0, sym h.1, sym h.2, sym k.0, sym k.1, sym k.2) c.next_polygon.ensures
+    rw (sym h.0, sym h.1, sym h.2, sym k.0, sym k.1, sym k.2) c.next_figure.ensures

@@ -1,8 +1,8 @@
 use Rattle.std.proofs.Common.{◌≡◌, IsTrue, false, sym, ◌∙◌}
 use Rattle.oas_judge.specs.FileJudges.{holds}
 use Rattle.oas_judge.proofs.JudgeSteps.{ahead_failed}
-use Rattle.oas_judge.proofs.PolygonSteps.{polygon_drawn}
-use Rattle.oas_judge.proofs.judge.FileJudge.judge_polygon.Goals as goal
+use Rattle.oas_judge.proofs.FigureSteps.{figure_drawn}
+use Rattle.oas_judge.proofs.judge.FileJudge.judge_figure.Goals as goal
 
 pub returns-then-not-holds-clause-yes : goal.returns-then-not-holds-clause-yes
 returns-then-not-holds-clause-yes c done all is =
@@ -12,4 +12,4 @@ returns-then-not-holds-clause-yes c done all is =
 pub returns-clause-yes : goal.returns-clause-yes
 returns-clause-yes c done all is =
     let told : IsTrue (holds c.args.self.now) = sym c.holds.ensures ∙ c.if-not-holds.false in
-    polygon_drawn c.args.self.now _ c.args.ahead.now c.in-Some.element all told is c.in-Some.ensures c.draw_spelled.ensures
+    figure_drawn c.args.self.now _ c.args.ahead.now c.in-Some.element all told is c.in-Some.ensures c.draw_spelled.ensures

@@ -1,12 +1,12 @@
-//! A polygon that is at hand, in the cell that is judged.
+//! A polygon or a path that is at hand, in the cell that is judged.
 ghost use Rattle.std.specs.Prelude.{◌≡◌, true, false, IfSome};
 ghost use Rattle.oas_layout.specs.Same.{normal};
 ghost use Rattle.oas_layout.specs.Weight.{lacks_points};
-ghost use Rattle.oas_judge.specs.Ahead.{IsPolygonBy};
+ghost use Rattle.oas_judge.specs.Ahead.{IsFigureBy};
 
 use crate::candidates::is_drawable;
-use crate::own::own_polygon;
-use oas_ahead::PolygonAhead;
+use crate::own::own_element;
+use oas_ahead::FigureAhead;
 use oas_layout::{Element, Profile};
 use std::alloc::Global;
 
@@ -18,18 +18,19 @@ fn is_kept(alloc: Global, profile: Profile, element: &Element) -> bool
     matches!(element.kept_form(alloc, profile), Ok(None))
 }
 
-/// The element of a polygon that is at hand, where its bytes are the canonical ones of that; None, too, where memory is refused.
-pub(crate) fn spelled_polygon(
+/// The element of a polygon or a path that is at hand, where its bytes are the canonical ones of that; None, too, where memory is
+/// refused.
+pub(crate) fn spelled_figure(
     alloc: Global,
     profile: Profile,
-    ahead: &PolygonAhead,
+    ahead: &FigureAhead,
 ) -> Option<Element>
-    ensures { IfSome result (λ element. IsPolygonBy profile ahead.now element) }
+    ensures { IfSome result (λ element. IsFigureBy profile ahead.now element) }
 {
     if !ahead.shortest {
         return None;
     }
-    let own = own_polygon(alloc, &ahead.polygon).ok()??;
+    let own = own_element(alloc, &ahead.record).ok()??;
     own.fits();
     if is_drawable(&own) && is_kept(alloc, profile, &own) {
         Some(own)
