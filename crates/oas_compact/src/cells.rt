@@ -213,6 +213,10 @@ impl<P: KeptBy> CellStore for CompactCell<P> {
         &self.cell
     }
 
+    fn rest(&mut self) {
+        self.kept.rest();
+    }
+
     fn draw(&mut self, drawn: Drawn, times: u64) -> Result<(), AllocError> {
         match named_element(drawn) {
             Ok(element) => self.keep(element, times),

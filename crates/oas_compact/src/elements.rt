@@ -153,6 +153,13 @@ impl KeptElements {
         Ok(())
     }
 
+    /// Gives back the memory of the key that is being added.
+    pub(crate) fn rest(&mut self)
+        ensures { self.new ≡ self.old }
+    {
+        self.key = Vec::new(self.alloc);
+    }
+
     /// The run of the keys.
     pub(crate) fn close(self) -> Result<Run, AllocError>
         ensures same { IfOk result (λ run. run ≡ self) }

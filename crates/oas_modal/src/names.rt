@@ -133,23 +133,15 @@ impl<S: PartialEq + Drop> NameTable<S> {
     fn reason(&self, string: &S, number: Option<u64>) -> Option<Why>
         ensures { result ≡ table_reason S.eq self.now (Some (string.now, number)) }
     {
-        if self.has_other_numbering(Numbering::of(number)) {
+        if let Some(had) = self.numbering
+            && had != Numbering::of(number)
+        {
             return Some(Why::MixedNumbering);
         }
         if self.has_other_string(string, self.number_for(number)) {
             return Some(Why::NumberTwice);
         }
         None
-    }
-
-    /// Whether there are records of the other numbering.
-    fn has_other_numbering(&self, numbering: Numbering) -> bool
-        ensures { result ≡ is_mixed self.now.numbering numbering }
-    {
-        match self.numbering {
-            None => false,
-            Some(had) => had != numbering,
-        }
     }
 
     /// Whether the number has another string.

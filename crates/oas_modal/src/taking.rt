@@ -84,7 +84,8 @@ fn close<S: CellStore>(parts: &mut Parts<S>) -> Result<(), Why>
     ensures cells { OnOk result (parts.new.done.items ≡ cells parts.old) }
     ensures err { IfErr result (λ why. why ≡ Memory) }
 {
-    if let Some(held) = parts.cell.take() {
+    if let Some(mut held) = parts.cell.take() {
+        held.rest();
         if parts.done.push(held).is_err() {
             return Err(Why::Memory);
         }
