@@ -153,11 +153,12 @@ impl KeptElements {
         Ok(())
     }
 
-    /// Gives back the memory of the key that is being added.
+    /// Gives back memory that is idle as long as no element is added.
     pub(crate) fn rest(&mut self)
         ensures { self.new ≡ self.old }
     {
         self.key = Vec::new(self.alloc);
+        self.keys.rest();
     }
 
     /// The run of the keys.

@@ -95,19 +95,12 @@ fn counted_weight(
         written,
         ..
     } = counted;
-    let head = head_weight(&cell, names)?;
+    let name = cell_meant(names, &cell)?;
+    let head = (name.as_bytes().len() as u64).saturating_add(1);
     let placed = cells_weight(placed, names)?;
     let written = strings_weight(written, strings)?;
     let drawn = weight.saturating_add(placed.saturating_add(written));
     Some(head.saturating_add(drawn))
-}
-
-/// What a cell weighs without its elements: one and the bytes of its name.
-fn head_weight(cell: &CellRef, names: &NameTable<Name>) -> Option<u64>
-    ensures { result ≡ head_weight (cell_by names.now.named cell.now) }
-{
-    let name = cell_meant(names, cell)?;
-    Some((name.as_bytes().len() as u64).saturating_add(1))
 }
 
 /// The bytes of the names of cells that are placed by number.

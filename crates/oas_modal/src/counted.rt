@@ -139,6 +139,8 @@ impl CellStore for CountedCell {
         &self.cell
     }
 
+    fn rest(&mut self) {}
+
     fn draw(&mut self, drawn: Drawn, times: u64) -> Result<(), AllocError> {
         self.count_up(&drawn, times)?;
         let weight = weight_so_far(&drawn).saturating_mul(times);

@@ -114,6 +114,8 @@ impl CellStore for HeldCell {
         &self.cell
     }
 
+    fn rest(&mut self) {}
+
     fn draw(&mut self, drawn: Drawn, times: u64) -> Result<(), AllocError> {
         if let Err(_) = self.add(drawn, times) {
             return Err(AllocError);

@@ -46,8 +46,7 @@ pub trait CellStore: Sized + Drop {
 
     /// Gives back memory that only drawing wants, once all is drawn. What it may stand for stays as it is.
     fn rest(&mut self)
-        ensures { self.new ≡ self.old }
-    {}
+        ensures { self.new ≡ self.old };
 
     /// The order in which things are drawn makes no difference to what it may stand for.
     ghost alike: { (s : Self) (ds es : List Drawn) → store.Holds s ds → SameDrawn ds es → store.Holds s es };

@@ -77,6 +77,12 @@ fn draw<S: CellStore>(parts: &mut Parts<S>, kind: &Kind, next: &mut Record) -> R
     Ok(())
 }
 
+/// For how many cells room is taken at once, at least.
+const LEAST: usize = 4;
+
+/// For which part of those that are there it is: a quarter, so that little of it is idle.
+const PART: usize = 4;
+
 /// Ends the open cell, where there is one.
 fn close<S: CellStore>(parts: &mut Parts<S>) -> Result<(), Why>
     requires { Sound S.store parts.old }
@@ -86,7 +92,12 @@ fn close<S: CellStore>(parts: &mut Parts<S>) -> Result<(), Why>
 {
     if let Some(mut held) = parts.cell.take() {
         held.rest();
-        if parts.done.push(held).is_err() {
+        let done = &mut parts.done;
+        let room = (done.len() / PART).max(LEAST);
+        if done.len() == done.capacity() && done.reserve_exact(room).is_err() {
+            return Err(Why::Memory);
+        }
+        if done.push(held).is_err() {
             return Err(Why::Memory);
         }
     }

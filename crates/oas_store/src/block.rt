@@ -11,7 +11,7 @@ use std::marker::Model;
 pub(crate) const BLOCK: usize = 65536;
 
 /// How many bytes of an entry are not its key, at most.
-const MARGIN: usize = 18;
+pub(crate) const MARGIN: usize = 18;
 
 /// Entries in a row of bytes, seen as the list of those that are left.
 #[derive(Drop)]
@@ -98,6 +98,15 @@ impl Block {
         Ok(())
     }
 
+    /// Moves the bytes to memory that has room for so many more and no others, where there is some.
+    pub(crate) fn fit(&mut self, alloc: Global, more: usize)
+        ensures { self.new ≡ self.old }
+    {
+        if let Ok(bytes) = copy_of(alloc, &self.bytes, more) {
+            self.bytes = bytes;
+        }
+    }
+
     /// The bytes of the entries that are left.
     pub(crate) fn left(&self) -> &[u8]
         ensures is { entries result.now ≡ self.now }
@@ -123,4 +132,13 @@ impl Block {
             self.start += entry.end;
         }
     }
+}
+
+/// A copy of bytes, with room for so many more.
+fn copy_of(alloc: Global, bytes: &[u8], more: usize) -> Result<Vec<u8>, AllocError>
+    ensures { IfOk result (λ copy. copy.items ≡ bytes.now) }
+{
+    let mut copy = Vec::with_capacity(alloc, bytes.len().saturating_add(more))?;
+    copy.extend_from_slice(bytes)?;
+    Ok(copy)
 }

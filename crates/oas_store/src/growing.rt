@@ -74,6 +74,13 @@ impl Growing {
         Ok(())
     }
 
+    /// Moves the last bytes to memory that has room for so many more and no others, where there is some.
+    pub(crate) fn fit(&mut self, alloc: Global, more: usize)
+        ensures { self.new ≡ self.old }
+    {
+        self.last.fit(alloc, more);
+    }
+
     /// How many bytes were put, about.
     pub(crate) fn size(&self) -> usize {
         self.size

@@ -8,6 +8,7 @@ ghost use Rattle.std.specs.Vec.{vec_capacity};
 ghost use Rattle.oas_store.specs.Parts.{IsBelow, EndsWith};
 ghost use Rattle.oas_store.specs.Tally.{SameTotals};
 
+use crate::block::MARGIN;
 use crate::entries::Entries;
 use crate::growing::{Growing, size_with};
 use crate::ordering::order_of;
@@ -129,6 +130,13 @@ impl Rising {
         ensures { (ps : List (List ℕ × ℕ)) (p : List ℕ × ℕ) → self.old ≡ ps ++ p ∷ [] → self.new ≡ ps ++ (p.0, p.1 + times) ∷ [] }
     {
         self.times += times;
+    }
+
+    /// Gives back what is idle but the room for the last entry.
+    pub(crate) fn fit(&mut self, alloc: Global)
+        ensures { self.new ≡ self.old }
+    {
+        self.done.fit(alloc, self.last.len().saturating_add(MARGIN));
     }
 
     /// All of it as a run, and begins anew; or nothing.

@@ -71,6 +71,14 @@ impl KeyStore {
         Ok(())
     }
 
+    /// Gives back memory that is idle as long as no key is added.
+    pub fn rest(&mut self)
+        ensures { self.new ≡ self.old }
+    {
+        self.rising.fit(self.alloc);
+        self.loose.fit(self.alloc, 0);
+    }
+
     /// The keys ascending, each with its count; or, for want of memory, the store as it was.
     pub fn close(mut self) -> Result<Run, KeyStore>
         ensures ok { IfOk result (λ run. run ≡ self) }
