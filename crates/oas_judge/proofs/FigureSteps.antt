@@ -1,10 +1,10 @@
 -- How a judge of a file goes on by a polygon or a path that is at hand.
-use Rattle.std.proofs.Common.{◌≡◌, ℕ, ℤ, IsTrue, false, List, [], ◌∷◌, map, Option, None, Some, refl, sym, ap, subst, ◌∙◌, arith}
+use Rattle.std.proofs.Common.{◌≡◌, ℕ, ℤ, IsTrue, false, List, [], ◌∷◌, map, Option, None, Some, refl, sym, ap, subst, ◌∙◌, append-nil, arith}
 use Rattle.std.proofs.lemmas.Int.{ints}
 use Rattle.std.specs.Prelude.{pos, ◌+ℤ◌, ◌-ℤ◌, take}
 use Rattle.oas_num.specs.declared.deltas.GDelta.{GDelta}
 use Rattle.oas_ring.specs.declared.point.Point.{Point}
-use Rattle.oas_shape.specs.Steps.{still, added, sums_after}
+use Rattle.oas_shape.specs.Steps.{still, added, moved, sums_after}
 use Rattle.oas_shape.specs.Polylines.{Polyline, vertices_of}
 use Rattle.oas_shape.specs.PointLists.{plain_line}
 use Rattle.oas_shape.specs.declared.repetitions.RepField.{RepField}
@@ -94,7 +94,7 @@ both_so None start end first second = absurd cc
 both_so (Some both) start end first second = λ i. Some (record { start = number_so both.start start first i; end = number_so both.end end second i })
 
 -- the record with these fields
-path_with : ℕ → ℕ → ℕ → Option Extensions → Polyline → ℤ → ℤ → Record
+abbrev path_with : ℕ → ℕ → ℕ → Option Extensions → Polyline → ℤ → ℤ → Record
 path_with layer datatype half_width extensions line x y =
     record_of.Path (record {
       layer = Some layer;

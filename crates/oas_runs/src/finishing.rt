@@ -42,6 +42,23 @@ fn put_run<P: KeptBy>(
     Ok(())
 }
 
+/// Fewer cells than so many are left where they are.
+const FEW: usize = 64;
+
+/// Moves cells to memory that they fill, where they fill half of theirs at most: so it is given back while they become runs.
+fn fit<P: KeptBy>(alloc: Global, cells: &mut Vec<CompactCell<P>>)
+    ensures { cells.new.items ≡ cells.old.items }
+{
+    if cells.len() < FEW || cells.len() > cells.capacity() / 2 {
+        return;
+    }
+    if let Ok(mut fewer) = Vec::with_capacity(alloc, cells.len())
+        && fewer.append(cells).is_ok()
+    {
+        *cells = fewer;
+    }
+}
+
 /// The runs of all cells, by name.
 fn runs_by_name<P: KeptBy>(
     alloc: Global,
@@ -57,6 +74,7 @@ fn runs_by_name<P: KeptBy>(
     let mut left = cells;
     while let Some(cell) = left.pop() {
         put_run(alloc, cell, names, strings, &mut runs)?;
+        fit(alloc, &mut left);
     }
     Ok(runs)
 }

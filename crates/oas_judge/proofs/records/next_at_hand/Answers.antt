@@ -14,6 +14,12 @@ next_figure-requires g c =
     let k = rw c.if-branch-2.false at c.in_ok-next_named.ensures in
     c.requires ∙ ap (λ (s : Script). s.given) (sym h.0) ∙ ap (λ (s : Script). s.given) (sym k.0)
 
+pub returns-then-branch-2 : goal.returns-then-branch-2
+returns-then-branch-2 g c =
+    let h = rw c.if-branch.false at c.in_ok-next_rectangle.ensures in
+    let more = rw c.if-branch-2.true at c.in_ok-next_named.ensures in
+    rw (sym h.0, sym h.1, sym h.2) more
+
 pub returns : goal.returns
 returns g c =
     let h = rw c.if-branch.false at c.in_ok-next_rectangle.ensures in
