@@ -215,6 +215,7 @@ impl<P: KeptBy> CellStore for CompactCell<P> {
 
     fn rest(&mut self) {
         self.kept.rest();
+        self.waiting.rest();
     }
 
     fn draw(&mut self, drawn: Drawn, times: u64) -> Result<(), AllocError> {

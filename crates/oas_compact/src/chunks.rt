@@ -49,6 +49,17 @@ impl Chunk {
         self.shorts.len() >= CHUNK
     }
 
+    /// Moves what is there to memory that it fills, where there is some.
+    fn fit(&mut self, alloc: Global)
+        ensures { self.new ≡ self.old }
+    {
+        if let Ok(mut moved) = Vec::with_capacity(alloc, self.shorts.len())
+            && moved.append(&mut self.shorts).is_ok()
+        {
+            self.shorts = moved;
+        }
+    }
+
     /// Puts one more at the end; or, for want of memory, nothing.
     fn push(&mut self, short: Short) -> Result<(), AllocError>
         ensures ok { OnOk result (self.new ≡ self.old ++ (drawn_of short, 1) ∷ []) }
@@ -110,6 +121,13 @@ impl Chunks {
         set_aside(self.alloc, &mut self.full, &mut self.last)?;
         self.last.push(short)?;
         Ok(())
+    }
+
+    /// Gives back memory that is idle as long as nothing more waits.
+    pub(crate) fn rest(&mut self)
+        ensures { self.new ≡ self.old }
+    {
+        self.last.fit(self.alloc);
     }
 
     /// All chunks in a row.

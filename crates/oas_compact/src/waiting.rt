@@ -60,6 +60,13 @@ impl Waiting {
         both_weights(&self.chunks, &self.others, names, strings)
     }
 
+    /// Gives back memory that is idle as long as nothing more waits.
+    pub(crate) fn rest(&mut self)
+        ensures { self.new ≡ self.old }
+    {
+        self.chunks.rest();
+    }
+
     /// Has something wait so many times more; or, for want of memory, nothing.
     pub(crate) fn add(&mut self, drawn: Drawn, times: u64) -> Result<(), AllocError>
         requires some { 0 < times }
