@@ -44,6 +44,7 @@ mod room;
 mod run;
 mod settling;
 mod store;
+mod summing;
 
 pub use entries::Entries;
 pub use entry::Entry;

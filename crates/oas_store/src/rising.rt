@@ -58,18 +58,6 @@ impl Rising {
         }
     }
 
-    /// No entries, and at once the memory for so many bytes of them, or for a first block.
-    pub(crate) fn with_bytes(alloc: Global, bytes: usize) -> Result<Rising, AllocError>
-        ensures { IfOk result (λ rising. rising ≡ []) }
-    {
-        let done = Growing::with_bytes(alloc, bytes)?;
-        Ok(Rising {
-            done,
-            last: Vec::new(alloc),
-            times: 0,
-        })
-    }
-
     /// Whether there are no entries.
     pub(crate) fn is_empty(&self) -> bool
         ensures { IsTrue result → self.now ≡ [] }

@@ -12,6 +12,7 @@ use crate::joining::{add_run, join_close};
 use crate::loose::{Loose, in_order};
 use crate::rising::Rising;
 use crate::run::Run;
+use crate::summing::Summing;
 use std::alloc::{AllocError, Global};
 use std::cmp::Ordering;
 
@@ -34,30 +35,49 @@ fn settle_rising(alloc: Global, rising: &mut Rising, runs: &mut Vec<Run>) -> Res
     Ok(())
 }
 
-/// Puts a key to the run that rises; where that has come above it, another run begins.
-fn put_next(
+/// Closes the run that is made of entries in order, if it has begun, so that another begins; or leaves all.
+fn end_run(alloc: Global, summing: &mut Summing<'_>, runs: &mut Vec<Run>) -> Result<(), AllocError>
+    requires run { IsRun (slice_cmp nat_cmp) summing.old }
+    requires runs { AreRuns (slice_cmp nat_cmp) runs.old.items }
+    requires fits { CountsFit (slice_cmp nat_cmp) (summing.old ++ joined runs.old.items) }
+    ensures run { IsRun (slice_cmp nat_cmp) summing.new }
+    ensures runs { AreRuns (slice_cmp nat_cmp) runs.new.items }
+    ensures same { SameTotals (summing.new ++ joined runs.new.items) (summing.old ++ joined runs.old.items) }
+    ensures ok { OnOk result (summing.new ≡ []) }
+{
+    if summing.is_empty() {
+        return Ok(());
+    }
+    runs.reserve(1)?;
+    let run = summing.close(alloc)?;
+    add_run(alloc, runs, run);
+    Ok(())
+}
+
+/// Puts a key to the run that is made of entries in order; where that has come above it, another run begins.
+fn put_next<'a>(
     alloc: Global,
-    rising: &mut Rising,
+    summing: &mut Summing<'a>,
     runs: &mut Vec<Run>,
-    key: &[u8],
+    key: &'a [u8],
     times: u64,
 ) -> Result<(), AllocError>
-    requires run { IsRun (slice_cmp nat_cmp) rising.old }
+    requires run { IsRun (slice_cmp nat_cmp) summing.old }
     requires runs { AreRuns (slice_cmp nat_cmp) runs.old.items }
-    requires fits { CountsFit (slice_cmp nat_cmp) ((key.now, times) ∷ (rising.old ++ joined runs.old.items)) }
-    ensures run { OnOk result (IsRun (slice_cmp nat_cmp) rising.new) }
+    requires fits { CountsFit (slice_cmp nat_cmp) ((key.now, times) ∷ (summing.old ++ joined runs.old.items)) }
+    ensures run { OnOk result (IsRun (slice_cmp nat_cmp) summing.new) }
     ensures runs { OnOk result (AreRuns (slice_cmp nat_cmp) runs.new.items) }
-    ensures same { OnOk result (SameTotals (rising.new ++ joined runs.new.items) ((key.now, times) ∷ (rising.old ++ joined runs.old.items))) }
+    ensures same { OnOk result (SameTotals (summing.new ++ joined runs.new.items) ((key.now, times) ∷ (summing.old ++ joined runs.old.items))) }
 {
     if times == 0 {
         return Ok(());
     }
-    match rising.order_of_last(key) {
-        Ordering::Less => rising.push(alloc, key, times)?,
-        Ordering::Equal => rising.count_last(times),
+    match summing.order_of_last(key) {
+        Ordering::Less => summing.push(alloc, key, times)?,
+        Ordering::Equal => summing.count_last(times),
         Ordering::Greater => {
-            settle_rising(alloc, rising, runs)?;
-            rising.push(alloc, key, times)?;
+            end_run(alloc, summing, runs)?;
+            summing.push(alloc, key, times)?;
         }
     }
     Ok(())
@@ -69,12 +89,12 @@ fn runs_of(alloc: Global, sorted: &[Loose<'_>], bytes: usize) -> Result<Vec<Run>
     ensures runs { IfOk result (λ runs. AreRuns (slice_cmp nat_cmp) runs.items) }
     ensures same { IfOk result (λ runs. SameTotals (joined runs.items) (entries_of sorted.now)) }
 {
-    let mut rising = Rising::with_bytes(alloc, bytes)?;
+    let mut summing = Summing::with_bytes(alloc, bytes)?;
     let mut runs = Vec::new(alloc);
     for entry in sorted {
-        put_next(alloc, &mut rising, &mut runs, entry.key, entry.times)?;
+        put_next(alloc, &mut summing, &mut runs, entry.key, entry.times)?;
     }
-    settle_rising(alloc, &mut rising, &mut runs)?;
+    end_run(alloc, &mut summing, &mut runs)?;
     Ok(runs)
 }
 

@@ -10,14 +10,14 @@ use Rattle.oas_store.proofs.settling.runs_of.Goals as goal
 
 pub loop-entry-init : goal.loop-entry-init
 loop-entry-init c = record {
-  run = IsRun-empty (slice_cmp nat_cmp) c.in_ok-rising.rising c.in_ok-rising.ensures;
+  run = IsRun-empty (slice_cmp nat_cmp) c.in_ok-summing.summing c.in_ok-summing.ensures;
   are = no_runs (slice_cmp nat_cmp) c.new-runs.result.items c.new-runs.ensures.items;
-  same = begun_same c.in_ok-rising.rising (entries_of c.args.sorted.now) c.new-runs.result.items c.in_ok-rising.ensures c.new-runs.ensures.items;
+  same = begun_same c.in_ok-summing.summing (entries_of c.args.sorted.now) c.new-runs.result.items c.in_ok-summing.ensures c.new-runs.ensures.items;
 }
 
 pub put_next-requires-clause-fits : goal.put_next-requires-clause-fits
 put_next-requires-clause-fits c =
-    turn_fits (slice_cmp nat_cmp) (c.loop-entry.rising ++ joined c.loop-entry.runs.items) (entries_of (drop c.loop-entry.entry-index c.args.sorted.now))
+    turn_fits (slice_cmp nat_cmp) (c.loop-entry.summing ++ joined c.loop-entry.runs.items) (entries_of (drop c.loop-entry.entry-index c.args.sorted.now))
     (entries_of (drop (c.loop-entry.entry-index + 1) c.args.sorted.now)) (entries_of c.args.sorted.now)
     (entry_of (get_or c.args.sorted.now c.loop-entry.entry-index nothing))
     (next_is c.args.sorted.now c.loop-entry.entry-index nothing c.loop-entry-test.true) c.loop-entry.invariant.same c.requires
@@ -26,20 +26,20 @@ pub loop-entry-preserved : goal.loop-entry-preserved
 loop-entry-preserved c = record {
   run = c.in_ok-put_next.ensures.run;
   are = c.in_ok-put_next.ensures.runs;
-  same = turn_same (c.loop-entry.rising ++ joined c.loop-entry.runs.items) (c.put_next.new.rising ++ joined c.put_next.new.runs.items)
+  same = turn_same (c.loop-entry.summing ++ joined c.loop-entry.runs.items) (c.put_next.new.summing ++ joined c.put_next.new.runs.items)
       (entries_of (drop c.loop-entry.entry-index c.args.sorted.now)) (entries_of (drop (c.loop-entry.entry-index + 1) c.args.sorted.now))
       (entries_of c.args.sorted.now) (entry_of (get_or c.args.sorted.now c.loop-entry.entry-index nothing))
       (next_is c.args.sorted.now c.loop-entry.entry-index nothing c.loop-entry-test.true) c.in_ok-put_next.ensures.same c.loop-entry.invariant.same;
 }
 
-pub settle_rising-requires-clause-fits : goal.settle_rising-requires-clause-fits
-settle_rising-requires-clause-fits c =
-    turns_fit (slice_cmp nat_cmp) (c.loop-entry.rising ++ joined c.loop-entry.runs.items) (entries_of (drop c.loop-entry.entry-index c.args.sorted.now))
+pub end_run-requires-clause-fits : goal.end_run-requires-clause-fits
+end_run-requires-clause-fits c =
+    turns_fit (slice_cmp nat_cmp) (c.loop-entry.summing ++ joined c.loop-entry.runs.items) (entries_of (drop c.loop-entry.entry-index c.args.sorted.now))
     (entries_of c.args.sorted.now) c.loop-entry.invariant.same c.requires
 
 pub returns-clause-same : goal.returns-clause-same
 returns-clause-same c =
-    turns_same (c.loop-entry.rising ++ joined c.loop-entry.runs.items) (entries_of (drop c.loop-entry.entry-index c.args.sorted.now)) c.settle_rising.new.rising
-    (joined c.settle_rising.new.runs.items) (entries_of c.args.sorted.now) c.loop-entry.invariant.same
-    (ap entries_of (drop_all c.loop-entry.entry-index c.args.sorted.now (omega (arith, c.loop-entry-test.false)))) c.in_ok-settle_rising.ensures.ok
-    c.in_ok-settle_rising.ensures.same
+    turns_same (c.loop-entry.summing ++ joined c.loop-entry.runs.items) (entries_of (drop c.loop-entry.entry-index c.args.sorted.now)) c.end_run.new.summing
+    (joined c.end_run.new.runs.items) (entries_of c.args.sorted.now) c.loop-entry.invariant.same
+    (ap entries_of (drop_all c.loop-entry.entry-index c.args.sorted.now (omega (arith, c.loop-entry-test.false)))) c.in_ok-end_run.ensures.ok
+    c.in_ok-end_run.ensures.same

@@ -9,7 +9,7 @@ use Rattle.oas_store.proofs.settling.runs_of.Given as goal
 -- what was put, and what is left
 abbrev pub invariant-loop-entry : goal.invariant-loop-entry
 invariant-loop-entry l = record {
-  run : IsRun (slice_cmp nat_cmp) l.rising;
+  run : IsRun (slice_cmp nat_cmp) l.summing;
   are : AreRuns (slice_cmp nat_cmp) l.runs.items;
-  same : SameTotals ((l.rising ++ joined l.runs.items) ++ entries_of (drop l.entry-index l.sorted)) (entries_of l.sorted);
+  same : SameTotals ((l.summing ++ joined l.runs.items) ++ entries_of (drop l.entry-index l.sorted)) (entries_of l.sorted);
 }
