@@ -31,7 +31,7 @@ pub length-shortest : (n : ℕ) → length (shortest n) ≤ 10
 unfolding shortest
 length-shortest n = groups_short 10 n
 
-pub length-signed : (z : ℤ) → length (shortest_signed z) ≤ 10
+length-signed : (z : ℤ) → length (shortest_signed z) ≤ 10
 unfolding shortest_signed
 length-signed z = length-shortest (code z)
 
@@ -54,13 +54,7 @@ pub length-low_bits : (n m : ℕ) → n / 4 ≡ m / 4 → length (shortest n) �
 unfolding shortest
 length-low_bits n m e = low_bits 10 n m e
 
--- the sign is no byte of its own
-pub length-by_magnitude : (z : ℤ) → length (shortest (2 * nat_abs z)) ≡ length (shortest_signed z)
-unfolding shortest_signed
-length-by_magnitude (pos n) = refl
-length-by_magnitude (negsuc n) = length-low_bits (2 * suc n) (2 * n + 3) (omega arith)
-
--- nor are a sign and the form of a g-delta
+-- the signs and the form of a g-delta are no bytes of their own
 pub length-by_step : (dx dy : ℤ) → length (shortest (4 * nat_abs dx)) + length (shortest (2 * nat_abs dy)) ≡ length (shortest_gdelta dx dy)
 unfolding shortest_gdelta
 length-by_step dx dy = omega (arith, length-append (shortest (2 * code dx + 1)) (shortest (code dy)), first dx, second dy) where

@@ -25,6 +25,7 @@ pub mod LargerLimits
 pub mod LayoutForms
 pub mod Lengths
 pub mod MeantLemmas
+pub mod NumberPutting
 pub mod OrderedLayouts
 pub mod PointPutting
 pub mod PuttingLemmas

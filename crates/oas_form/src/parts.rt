@@ -1,20 +1,21 @@
 //! The parts of records, put and counted.
 
 ghost use Rattle.std.specs.Prelude.{◌≡◌, ◌+◌, ◌≤◌, ◌^◌, length, true, IfOk};
+ghost use Rattle.oas_num.specs.Style.{code};
 ghost use Rattle.oas_num.specs.Writing.{shortest, shortest_signed};
 ghost use Rattle.oas_layout.specs.Grid.{is_coordinate};
 ghost use Rattle.oas_form.specs.Bytes.{string_bytes, place_bytes};
 ghost use Rattle.oas_form.specs.Putting.{Counts};
 
-use oas_num::{Sink, SinkFault, put_signed, put_unsigned, unsigned_len};
+use oas_num::{Sink, SinkFault};
 
-/// How many bytes the shortest spelling of a coordinate has.
-fn signed_len(value: i64) -> u64
+/// The number that spells a coordinate: the sign in its lowest bit, the magnitude above it.
+fn coded(value: i64) -> u64
     requires { is_coordinate value ≡ true }
-    ensures { result ≡ length (shortest_signed value) }
+    ensures { result ≡ code value }
 {
-    // The sign is the lowest bit, and takes no byte of its own.
-    unsigned_len(2 * value.unsigned_abs())
+    let magnitude = 2 * value.unsigned_abs();
+    if value < 0 { magnitude + 1 } else { magnitude }
 }
 
 /// Puts bytes as they are, and answers how many.
@@ -25,13 +26,20 @@ pub fn put_bytes<K: Sink>(sink: &mut K, bytes: &[u8]) -> Result<u64, SinkFault>
     Ok(bytes.len() as u64)
 }
 
-/// Puts a number, and answers its length.
+/// Puts a number, seven bits a byte, the lowest first, and answers how many bytes these are.
 pub fn put_number<K: Sink>(sink: &mut K, value: u64) -> Result<u64, SinkFault>
     ensures counts { Counts K.given K.failures sink.old (shortest value) result sink.new }
     ensures short { IfOk result (λ n. n ≤ 10) }
 {
-    put_unsigned(sink, value)?;
-    Ok(unsigned_len(value))
+    let mut rest = value;
+    let mut count = 0;
+    while rest >= 128 {
+        sink.put((rest % 128) as u8 + 128)?;
+        rest /= 128;
+        count += 1;
+    }
+    sink.put(rest as u8)?;
+    Ok(count + 1)
 }
 
 /// Puts a coordinate or an extension, and answers its length.
@@ -40,8 +48,7 @@ pub fn put_coordinate<K: Sink>(sink: &mut K, value: i64) -> Result<u64, SinkFaul
     ensures counts { Counts K.given K.failures sink.old (shortest_signed value) result sink.new }
     ensures short { IfOk result (λ n. n ≤ 10) }
 {
-    put_signed(sink, value)?;
-    Ok(signed_len(value))
+    put_number(sink, coded(value))
 }
 
 /// Puts x and y, and answers their length.
