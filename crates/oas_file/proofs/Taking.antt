@@ -1,5 +1,5 @@
 -- One record more, or a refusal there.
-use Rattle.std.specs.Prelude.{take, Bool, List, Option}
+use Rattle.std.specs.Prelude.{take, Bool, List}
 use Rattle.std.proofs.Common.{◌≡◌, ℕ, [], ◌∷◌, ◌++◌, None, Some, ◌⊎◌, inl, inr, refl, sym, ap, subst, ◌∙◌, append_assoc, arith}
 use Rattle.oas_num.specs.declared.refusals.Why.{Why}
 use Rattle.oas_num.specs.declared.refusals.Why.TheVariants.{Memory}

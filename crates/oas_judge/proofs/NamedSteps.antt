@@ -1,17 +1,14 @@
 -- The element that a placement or a text at hand gives by its own fields.
-use Rattle.std.proofs.Common.{◌≡◌, ℕ, ℤ, ◌+◌, ◌<◌, ◌^◌, Bool, true, false, List, length, Option, Some, refl, sym, ap, ◌∙◌, arith}
+use Rattle.std.proofs.Common.{◌≡◌, ℕ, ℤ, ◌<◌, ◌^◌, Bool, true, false, List, length, Option, Some, refl, sym, ap, ◌∙◌, arith}
 use Rattle.std.specs.Borrow.{Bor}
 use Rattle.std.specs.Prelude.{◌&&◌}
 use Rattle.oas_num.specs.Texts.{IsName, IsLabel}
 use Rattle.oas_record.specs.declared.placements.Turn.TheVariants.{Quarters}
-use Rattle.oas_record.specs.declared.records.Record.TheVariants as record_of
 use Rattle.oas_layout.specs.declared.element.Element.TheVariants.{Placement, Text}
 use Rattle.oas_layout.specs.declared.element.Turns.{Turns}
 use Rattle.oas_layout.specs.declared.element.Turns.TheVariants.{T0, T1, T2, T3}
 use Rattle.oas_layout.specs.Element.{turn_count}
 use Rattle.oas_layout.specs.Grid.{is_coordinate}
-use Rattle.oas_drawing.specs.declared.drawn.Drawn.{Drawn}
-use Rattle.oas_drawing.specs.declared.drawn.Drawn.TheVariants.{Named}
 use Rattle.oas_drawing.specs.Turns.{turned}
 use Rattle.oas_ahead.specs.declared.named.Given.TheVariants.{Bytes}
 use Rattle.oas_ahead.specs.declared.named.NamedOnce.{NamedOnce}

@@ -1,5 +1,4 @@
 use Rattle.std.proofs.Common.{sym, ap, ◌∙◌}
-use Rattle.std.proofs.lemmas.Result.{err_from_is_err_and}
 use Rattle.oas_num.specs.Script.{Script}
 use Rattle.oas_judge.proofs.records.next_at_hand.Goals as goal
 
