@@ -12,7 +12,7 @@ use Rattle.oas_layout.specs.Laws.SameLaws.{normal-normal}
 use Rattle.oas_layout.specs.Same.{normal}
 use Rattle.oas_layout.specs.Sound.{IsSound}
 use Rattle.oas_keys.specs.Keys.{key_of}
-use Rattle.oas_store.specs.Entries.{Entry}
+use Rattle.oas_entries.specs.Entries.{Entry}
 use Rattle.oas_drawing.specs.declared.drawn.Drawn.{Drawn}
 use Rattle.oas_drawing.specs.declared.drawn.Drawn.TheVariants.{Named, PlacementBy, TextBy}
 use Rattle.oas_modal.specs.Meaning.{element_by, elements_meant}

@@ -2,8 +2,8 @@
 use Rattle.std.proofs.Common.{◌≡◌, ℕ, ◌+◌, ◌<◌, List, [], ◌∷◌, ◌++◌, refl, sym, ◌∙◌, ap, subst, arith, append-nil}
 use Rattle.std.specs.List.{AllByRecursion}
 use Rattle.oas_layout.specs.Laws.BagLaws.{total}
-use Rattle.oas_store.specs.Parts.{joined}
-use Rattle.oas_store.proofs.BlockLemmas.{joined-more}
+use Rattle.oas_entries.specs.Blocks.{joined}
+use Rattle.oas_entries.proofs.BlockLemmas.{joined-more}
 use Rattle.oas_drawing.specs.declared.drawn.Drawn.{Drawn}
 use Rattle.oas_drawing.specs.Drawn.{drawn_cmp}
 use Rattle.oas_modal.specs.Held.{with_drawn}

@@ -11,7 +11,7 @@ use Rattle.oas_layout.specs.declared.profile.Profile.{Profile}
 use Rattle.oas_layout.specs.Weight.{weight_of}
 use Rattle.oas_layout.specs.Meaning.{cells_weight}
 use Rattle.oas_layout.specs.Laws.BagLaws.{total}
-use Rattle.oas_store.specs.Parts as parts
+use Rattle.oas_entries.specs.Blocks as parts
 use Rattle.oas_num.specs.declared.refusals.Why.TheVariants.{UnknownReference, DuplicateCell, TooHeavy}
 use Rattle.oas_drawing.specs.declared.drawn.Drawn.{Drawn}
 use Rattle.oas_drawing.specs.declared.drawn.Drawn.TheVariants.{Named, PlacementBy, TextBy}

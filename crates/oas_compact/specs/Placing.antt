@@ -8,7 +8,7 @@ use Rattle.oas_layout.specs.Bag.{put_more}
 use Rattle.oas_layout.specs.Laws.BagLaws.{total}
 use Rattle.oas_layout.specs.Same.{normal}
 use Rattle.oas_keys.specs.Keys.{key_of}
-use Rattle.oas_store.specs.Entries.{Entry}
+use Rattle.oas_entries.specs.Entries.{Entry}
 use Rattle.oas_drawing.specs.declared.drawn.Drawn.{Drawn}
 use Rattle.oas_modal.specs.Meaning.{element_by}
 

@@ -4,7 +4,7 @@ ghost use Rattle.std.specs.Prelude.{◌≡◌, ◌+◌, ◌<◌, ◌^◌, [], �
 ghost use Rattle.std.specs.Cmp.Lexicographic.{slice_cmp};
 ghost use Rattle.std.specs.Ordering.{nat_cmp};
 ghost use Rattle.oas_num.specs.declared.refusals.Why.TheVariants.{Memory};
-ghost use Rattle.oas_store.specs.Tally.{IsRun};
+ghost use Rattle.oas_entries.specs.Runs.{IsRun};
 ghost use Rattle.oas_drawing.specs.declared.drawn.Drawn.{Drawn as SomeDrawn};
 ghost use Rattle.oas_drawing.specs.declared.drawn.Drawn.TheVariants.{Named as OneNamed};
 ghost use Rattle.oas_drawing.specs.declared.once.DrawnOnce.TheVariants.{Placement as OnePlacement, Text as OneText};
@@ -23,11 +23,11 @@ use crate::profiles::KeptBy;
 use crate::waiting::Waiting;
 use crate::weighing::head_weight;
 use oas_drawing::{Drawn, DrawnOnce};
+use oas_entries::Run;
 use oas_layout::{Element, Turns};
 use oas_modal::{CellStore, NameTable};
 use oas_num::{Label, Name, Why};
 use oas_record::{CellRef, TextRef};
-use oas_store::Run;
 use std::alloc::{AllocError, Global};
 use std::marker::{Model, PhantomData};
 

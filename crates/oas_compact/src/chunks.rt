@@ -1,7 +1,7 @@
 //! What waits in few bytes, in chunks.
 
 ghost use Rattle.std.specs.Prelude.{◌≡◌, ◌<◌, [], ◌∷◌, ◌++◌, OnOk, OnErr, IfOk, vec_len, vec_capacity};
-ghost use Rattle.oas_store.specs.Parts.{joined};
+ghost use Rattle.oas_entries.specs.Blocks.{joined};
 ghost use Rattle.oas_compact.specs.Short.{drawn_of};
 
 use crate::short::Short;
@@ -94,7 +94,7 @@ pub(crate) struct Chunks {
 impl Model for Chunks {
     ghost use Rattle.std.specs.Prelude.{List, ℕ, ◌++◌};
     ghost use Rattle.oas_drawing.specs.declared.drawn.Drawn.{Drawn};
-    ghost use Rattle.oas_store.specs.Parts.{joined};
+    ghost use Rattle.oas_entries.specs.Blocks.{joined};
 
     ghost Value = { List (Drawn × ℕ) };
 

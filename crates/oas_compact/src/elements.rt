@@ -11,12 +11,13 @@ ghost use Rattle.oas_layout.specs.Same.{normal};
 ghost use Rattle.oas_layout.specs.Sound.{IsSound};
 ghost use Rattle.oas_layout.specs.Weight.{lacks_points};
 ghost use Rattle.oas_keys.specs.Keys.{key_of};
-ghost use Rattle.oas_store.specs.Tally.{IsRun};
+ghost use Rattle.oas_entries.specs.Runs.{IsRun};
 
+use oas_entries::Run;
 use oas_keys::{put_key, put_placement_key, put_text_key};
 use oas_layout::{Element, Profile, Turns};
 use oas_num::{Label, Name};
-use oas_store::{KeyStore, Run};
+use oas_store::KeyStore;
 use std::alloc::{AllocError, Global};
 use std::marker::Model;
 
@@ -31,7 +32,7 @@ pub(crate) struct KeptElements {
 
 impl Model for KeptElements {
     ghost use Rattle.std.specs.Prelude.{List};
-    ghost use Rattle.oas_store.specs.Entries.{Entry};
+    ghost use Rattle.oas_entries.specs.Entries.{Entry};
 
     ghost Value = { List Entry };
 

@@ -4,7 +4,7 @@ ghost use Rattle.std.specs.Prelude.{◌≡◌, ◌+◌, ◌<◌, ◌^◌, OnOk, 
 ghost use Rattle.std.specs.List.{AllByRecursion};
 ghost use Rattle.oas_num.specs.declared.refusals.Why.TheVariants.{Memory};
 ghost use Rattle.oas_layout.specs.Laws.BagLaws.{total};
-ghost use Rattle.oas_store.specs.Parts.{joined};
+ghost use Rattle.oas_entries.specs.Blocks.{joined};
 ghost use Rattle.oas_modal.specs.Finish.{IsFit};
 ghost use Rattle.oas_modal.specs.Meaning.{element_by};
 ghost use Rattle.oas_compact.specs.Compact.{AreKeys, Waits};

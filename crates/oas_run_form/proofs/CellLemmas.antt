@@ -9,7 +9,7 @@ use Rattle.oas_layout.specs.Bag.{items}
 use Rattle.oas_layout.specs.Contents.{Cell, Contents, expanded, IsCell}
 use Rattle.oas_layout.specs.Meaning.{cells_weight}
 use Rattle.oas_layout.specs.Weight.{weight_of}
-use Rattle.oas_store.specs.Entries.{Entry}
+use Rattle.oas_entries.specs.Entries.{Entry}
 use Rattle.oas_form.specs.Bytes.{elements_bytes, cell_bytes, cells_bytes}
 use Rattle.oas_form.specs.Putting.{PutsAll}
 use Rattle.oas_form.proofs.ElementPutting.{CopiesLeft, ElementsLeft, elements_short, cells_short, pair_sound, pair_light, pair_fails, pair_put, pair_within}

@@ -9,7 +9,7 @@ use Rattle.oas_layout.specs.Weight.{weight_of}
 use Rattle.oas_keys.specs.declared.points.SpelledPoints.{SpelledPoints}
 use Rattle.oas_keys.specs.Keys.{key_of}
 use Rattle.oas_keys.specs.Reading.{HasPoints}
-use Rattle.oas_store.specs.Entries.{Entry}
+use Rattle.oas_entries.specs.Entries.{Entry}
 use Rattle.oas_runs.specs.Keyed.{keyed, keyed_cells}
 
 -- points behind another

@@ -9,9 +9,9 @@ ghost use Rattle.oas_form.specs.Putting.{Counts};
 ghost use Rattle.oas_run_form.specs.Putting.{AreCopies, AreEntries, AreRuns};
 
 use crate::elements::put_keyed;
+use oas_entries::{Entries, Run};
 use oas_form::put_opening;
 use oas_num::{Name, Sink, SinkFault};
-use oas_store::{Entries, Run};
 use std::collections::BTreeMap;
 
 /// Puts the element of a key so many times.

@@ -8,7 +8,7 @@ use Rattle.oas_layout.specs.declared.profile.Profile.{Profile}
 use Rattle.oas_layout.specs.declared.element.Element.{Element}
 use Rattle.oas_layout.specs.Bag.{items}
 use Rattle.oas_layout.specs.Contents.{Cell, Contents, expanded, AllSound, IsCell}
-use Rattle.oas_store.specs.Entries.{Entry}
+use Rattle.oas_entries.specs.Entries.{Entry}
 use Rattle.oas_listing.specs.Listing.{element_line, cell_lines}
 use Rattle.oas_listing.proofs.CellLemmas.{copies_put, copies_fail}
 use Rattle.oas_runs.specs.declared.layout.CompactLayout.{CompactLayout}

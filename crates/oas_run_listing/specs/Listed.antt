@@ -5,7 +5,7 @@ use Rattle.oas_layout.specs.declared.element.Element.{Element}
 use Rattle.oas_layout.specs.Contents.{Cell, AllSound}
 use Rattle.oas_layout.specs.Sound.{IsSound}
 use Rattle.oas_keys.specs.Keys.{key_of}
-use Rattle.oas_store.specs.Entries.{Entry}
+use Rattle.oas_entries.specs.Entries.{Entry}
 use Rattle.oas_runs.specs.Keyed.{keyed, keyed_cells}
 
 -- the key of a sound element

@@ -9,9 +9,9 @@ ghost use Rattle.oas_listing.specs.Listing.{element_line, cell_lines};
 ghost use Rattle.oas_run_listing.specs.Listed.{IsKeyOf, AreEntries, AreRuns};
 
 use crate::elements::put_keyed;
+use oas_entries::{Entries, Run};
 use oas_listing::put_name;
 use oas_num::{Name, Sink, SinkFault};
-use oas_store::{Entries, Run};
 use std::collections::BTreeMap;
 
 /// Puts the line of a key's element so many times.

@@ -3,7 +3,7 @@ use Rattle.std.proofs.Common.{◌≡◌, ℕ, List, [], ◌∷◌, refl, sym, ap
 use Rattle.oas_layout.specs.declared.element.Element.{Element}
 use Rattle.oas_layout.specs.Contents.{Cell}
 use Rattle.oas_keys.specs.Keys.{key_of}
-use Rattle.oas_store.specs.Entries.{Entry}
+use Rattle.oas_entries.specs.Entries.{Entry}
 use Rattle.oas_runs.specs.Keyed.{keyed, keyed_cells}
 
 -- equal lists have equal first items, and equal others

@@ -20,8 +20,9 @@ use Rattle.oas_layout.specs.Sound.{IsSound}
 use Rattle.oas_layout.proofs.Order.{sound-put_more}
 use Rattle.oas_keys.specs.Keys.{key_of}
 use Rattle.oas_keys.specs.Laws.KeyLaws.{key_order}
-use Rattle.oas_store.specs.Entries.{Entry}
-use Rattle.oas_store.specs.Tally.{IsRun, Positive, tally, total}
+use Rattle.oas_entries.specs.Entries.{Entry}
+use Rattle.oas_entries.specs.Runs.{IsRun, Positive, total}
+use Rattle.oas_store.specs.Tally.{tally}
 use Rattle.oas_store.specs.Laws.TallyLaws.{run_is_tally}
 use Rattle.oas_compact.specs.Placing.{MeansElements}
 use Rattle.oas_compact.proofs.KeptLemmas.{normal_sound}

@@ -9,7 +9,7 @@ use Rattle.std.specs.declared.cmp.Ordering.TheVariants.{Less, Equal, Greater}
 use Rattle.oas_layout.specs.declared.element.Element.{Element}
 use Rattle.oas_layout.specs.Bag.{items}
 use Rattle.oas_layout.specs.Contents.{Cell, expanded}
-use Rattle.oas_store.specs.Entries.{Entry}
+use Rattle.oas_entries.specs.Entries.{Entry}
 use Rattle.oas_runs.specs.Keyed.{keyed, keyed_cells}
 
 -- as keys it goes to the same place

@@ -7,8 +7,8 @@ use Rattle.std.specs.Cmp.Lexicographic.{slice_cmp}
 use Rattle.oas_layout.specs.declared.profile.Profile.{Profile}
 use Rattle.oas_layout.specs.declared.element.Element.{Element}
 use Rattle.oas_layout.specs.Sound.{IsSound}
-use Rattle.oas_store.specs.Entries.{Entry}
-use Rattle.oas_store.specs.Tally.{IsRun}
+use Rattle.oas_entries.specs.Entries.{Entry}
+use Rattle.oas_entries.specs.Runs.{IsRun}
 use Rattle.oas_drawing.specs.declared.drawn.Drawn.{Drawn}
 use Rattle.oas_modal.specs.Meaning.{DrawnCell, elements_meant, with_named, cells_meant}
 use Rattle.oas_modal.specs.References.{cell_by}

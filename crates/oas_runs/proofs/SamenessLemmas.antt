@@ -10,7 +10,7 @@ use Rattle.oas_layout.specs.Meaning.{SameLayout}
 use Rattle.oas_layout.proofs.SameLemmas.{cells_from_same, same_from_cells}
 use Rattle.oas_keys.specs.Keys.{key_of}
 use Rattle.oas_keys.specs.Laws.KeyLaws.{one_key}
-use Rattle.oas_store.specs.Entries.{Entry}
+use Rattle.oas_entries.specs.Entries.{Entry}
 use Rattle.oas_runs.specs.declared.layout.CompactLayout.{CompactLayout}
 use Rattle.oas_runs.specs.Keyed.{keyed, keyed_cells, IsKeyed}
 use Rattle.oas_runs.proofs.FirstLemmas.{parts}

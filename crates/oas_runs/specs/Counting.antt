@@ -11,7 +11,7 @@ use Rattle.oas_layout.specs.Contents.{Cell}
 use Rattle.oas_layout.specs.Meaning.{Meaning}
 use Rattle.oas_layout.specs.Same.{normal}
 use Rattle.oas_layout.specs.Sound.{IsSound}
-use Rattle.oas_store.specs.Entries.{Entry}
+use Rattle.oas_entries.specs.Entries.{Entry}
 use Rattle.oas_runs.specs.declared.layout.CompactLayout.{CompactLayout}
 use Rattle.oas_runs.specs.Keyed.{keyed_cells}
 

@@ -3,7 +3,7 @@ use Rattle.std.specs.Prelude.{◌≡◌, ℕ, List, [], ◌∷◌}
 use Rattle.oas_layout.specs.declared.element.Element.{Element}
 use Rattle.oas_layout.specs.Contents.{Cell, Contents, IsLayout}
 use Rattle.oas_keys.specs.Keys.{key_of}
-use Rattle.oas_store.specs.Entries.{Entry}
+use Rattle.oas_entries.specs.Entries.{Entry}
 use Rattle.oas_runs.specs.declared.layout.CompactLayout.{CompactLayout}
 
 -- elements as their keys, each beside its count

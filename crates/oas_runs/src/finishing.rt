@@ -13,9 +13,9 @@ ghost use Rattle.oas_runs.specs.Finishing.{PutsRun, AreRunsOf};
 
 use crate::layout::CompactLayout;
 use oas_compact::{CompactCell, KeptBy, accept_cells};
+use oas_entries::Run;
 use oas_modal::{CellStore, NameTable, Reader, Taken, cell_meant};
 use oas_num::{Label, Name, Refusal, Why};
-use oas_store::Run;
 use std::alloc::Global;
 use std::collections::BTreeMap;
 

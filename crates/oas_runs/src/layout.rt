@@ -2,8 +2,8 @@
 
 ghost use Rattle.std.specs.Prelude.{◌≡◌};
 
+use oas_entries::Run;
 use oas_num::{Fraction, Name};
-use oas_store::Run;
 use std::collections::BTreeMap;
 
 /// A layout: its unit, and by ascending names its cells, each as the run of the keys of its elements in the form in which a

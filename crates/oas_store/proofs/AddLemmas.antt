@@ -7,11 +7,14 @@ use Rattle.std.specs.Map.{keys_of}
 use Rattle.std.specs.declared.cmp.Ordering.{Ordering}
 use Rattle.std.specs.declared.cmp.Ordering.TheVariants.{Less, Equal, Greater}
 use Rattle.std.proofs.lemmas.Map.Lookups.{CmpEqualImpliesEq}
-use Rattle.oas_store.specs.Tally.{total, copies, count_at, tally, Positive, IsRun, SameTotals}
-use Rattle.oas_store.specs.Laws.TallyLaws.{total-append, count_at-tally, same_tally, AllAbove}
+use Rattle.oas_entries.specs.Runs.{total, copies, Positive, IsRun, SameTotals}
+use Rattle.oas_store.specs.Tally.{count_at, tally}
+use Rattle.oas_entries.specs.Laws.RunLaws.{total-append, AllAbove}
+use Rattle.oas_store.specs.Laws.TallyLaws.{count_at-tally, same_tally}
 use Rattle.oas_layout.specs.Bag.{put_more}
-use Rattle.oas_store.proofs.MergeLemmas.{IsRun-recount}
-use Rattle.oas_store.specs.Parts.{joined, contents, AreParts, AreRuns, CountsFit, IsBelow, EndsWith}
+use Rattle.oas_entries.proofs.MergeLemmas.{IsRun-recount}
+use Rattle.oas_entries.specs.Blocks.{joined}
+use Rattle.oas_store.specs.Parts.{contents, AreParts, AreRuns, CountsFit, IsBelow, EndsWith}
 use Rattle.oas_store.proofs.PartLemmas.{split_last, found_last, total_contents}
 
 module _ {K : Type 0} where

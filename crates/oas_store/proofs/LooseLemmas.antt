@@ -9,11 +9,12 @@ use Rattle.std.proofs.lemmas.List.{map-append}
 use Rattle.std.proofs.lemmas.List.Sorted.{sum_by-IsPermutation}
 use Rattle.std.proofs.lemmas.List.Sums.{sum_by-cons}
 use Rattle.oas_store.specs.declared.loose.Loose.{Loose}
-use Rattle.oas_store.specs.Entries.{Entry}
+use Rattle.oas_entries.specs.Entries.{Entry}
 use Rattle.oas_store.specs.Loose.{entry_of, entries_of}
-use Rattle.oas_store.specs.Tally.{total, copies, Positive, SameTotals}
-use Rattle.oas_store.specs.Laws.TallyLaws.{total-append}
-use Rattle.oas_store.specs.Parts.{joined, waiting, contents, AreParts, AreRuns, CountsFit, IsBelow}
+use Rattle.oas_entries.specs.Runs.{total, copies, Positive, SameTotals}
+use Rattle.oas_entries.specs.Laws.RunLaws.{total-append}
+use Rattle.oas_entries.specs.Blocks.{joined}
+use Rattle.oas_store.specs.Parts.{waiting, contents, AreParts, AreRuns, CountsFit, IsBelow}
 use Rattle.oas_store.proofs.PartLemmas.{total_contents, IsRun-empty}
 use Rattle.oas_store.proofs.AddLemmas.{More}
 
@@ -24,18 +25,13 @@ pub entry_put : (all alls : List Loose) (a : Loose) → alls ≡ all ++ a ∷ []
 entry_put all alls a e g =
     omega (arith, ap (total g) (ap entries_of e ∙ map-append entry_of all (a ∷ [])), total-append g (entries_of all) (entry_of a ∷ []))
 
--- the last block may come first
-pub last_first : (full : List (List Entry)) (last es whole : List Entry) → es ≡ last ++ joined full → joined full ++ last ≡ whole → SameTotals es whole
-last_first full last es whole e w g =
-    omega (arith, ap (total g) e, ap (total g) w, total-append g last (joined full), total-append g (joined full) last)
-
 total-waiting : (g : List ℕ → ℕ) (k : List ℕ) (n : ℕ) → total g (waiting k n) ≡ n * g k
 total-waiting g k n = elim (n == 0) as (λ b. n == 0 ≡ b → total g (cond b [] ((k, n) ∷ [])) ≡ n * g k) [
   | true ↦ λ e. let none : n * g k ≡ 0 * g k = ap (λ (m : ℕ). m * g k) ((unsigned_Decides n 0).0 e) in omega (arith, none)
   | false ↦ λ e. omega arith
 ] refl
 
--- and so may the last entry
+-- the last entry may come first
 pub waiting_first : (done written whole : List Entry) (k : List ℕ) (n : ℕ) → SameTotals written done → done ++ waiting k n ≡ whole → SameTotals ((k, n) ∷ written) whole
 waiting_first done written whole k n h w g = omega (arith, h g, ap (total g) w, total-append g done (waiting k n), total-waiting g k n)
 

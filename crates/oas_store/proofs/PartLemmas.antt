@@ -4,11 +4,12 @@ use Rattle.std.proofs.Math.Seq.{get_or-append_seam}
 use Rattle.std.specs.Ordering.{is_eq}
 use Rattle.std.specs.List.Sorted.{IsStrictlySortedBy}
 use Rattle.std.specs.declared.cmp.Ordering.{Ordering}
-use Rattle.oas_store.specs.Tally.{total, copies, IsRun, SameTotals}
-use Rattle.oas_store.specs.Laws.TallyLaws.{total-append}
-use Rattle.oas_store.specs.Merging.{IsMerging}
-use Rattle.oas_store.proofs.MergeLemmas.{ends}
-use Rattle.oas_store.specs.Parts.{joined, contents, AreParts, AreRuns, CountsFit}
+use Rattle.oas_entries.specs.Runs.{total, copies, IsRun, SameTotals}
+use Rattle.oas_entries.specs.Laws.RunLaws.{total-append}
+use Rattle.oas_entries.specs.Merging.{IsMerging}
+use Rattle.oas_entries.proofs.MergeLemmas.{ends}
+use Rattle.oas_entries.specs.Blocks.{joined}
+use Rattle.oas_store.specs.Parts.{contents, AreParts, AreRuns, CountsFit}
 
 -- a list that is not empty has a last item
 pub split_last : {X : Type 0} (x : X) (xs : List X) → (ps : List X) × (p : X) × (x ∷ xs ≡ ps ++ p ∷ [])

@@ -5,9 +5,11 @@ use Rattle.std.specs.Ordering.{is_eq}
 use Rattle.std.specs.declared.cmp.Ordering.{Ordering}
 use Rattle.std.proofs.lemmas.Map.Lookups.{CmpEqualImpliesEq}
 use Rattle.oas_layout.specs.Bag.{put_more}
-use Rattle.oas_store.specs.Tally.{total, tally, Positive, IsRun, SameTotals}
+use Rattle.oas_entries.specs.Runs.{total, Positive, IsRun, SameTotals}
+use Rattle.oas_store.specs.Tally.{tally}
 use Rattle.oas_store.specs.Laws.TallyLaws.{same_tally, run_is_tally}
-use Rattle.oas_store.specs.Parts.{joined, contents, AreParts, AreRuns, CountsFit}
+use Rattle.oas_entries.specs.Blocks.{joined}
+use Rattle.oas_store.specs.Parts.{contents, AreParts, AreRuns, CountsFit}
 use Rattle.oas_store.proofs.PartLemmas.{total_contents, total_runs, IsRun-empty}
 use Rattle.oas_store.proofs.AddLemmas.{positive_contents, view_added}
 

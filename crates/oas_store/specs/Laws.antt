@@ -1,4 +1,3 @@
 -- What follows of the definitions. Nothing here has to be believed.
 pub mod CountLaws
-pub mod EntryLaws
 pub mod TallyLaws

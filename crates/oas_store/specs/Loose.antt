@@ -1,7 +1,7 @@
 -- What waits, out of its bytes.
 use Rattle.std.specs.Prelude.{List, map}
 use Rattle.oas_store.specs.declared.loose.Loose.{Loose}
-use Rattle.oas_store.specs.Entries.{Entry}
+use Rattle.oas_entries.specs.Entries.{Entry}
 
 -- the key and the count of one that waits
 abbrev pub entry_of : Loose → Entry

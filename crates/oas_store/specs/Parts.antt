@@ -3,20 +3,12 @@ use Rattle.std.specs.Prelude.{◌≡◌, ℕ, ◌<◌, ◌^◌, List, [], ◌∷
 use Rattle.std.specs.List.{AllByRecursion}
 use Rattle.std.specs.declared.cmp.Ordering.{Ordering}
 use Rattle.std.specs.declared.cmp.Ordering.TheVariants.{Less, Equal}
-use Rattle.oas_store.specs.Tally.{copies, Positive, IsRun}
-
--- one list after another
-abbrev pub joined : {X : Type 0} → List (List X) → List X
-joined [] = []
-joined (xs ∷ xss) = xs ++ joined xss
+use Rattle.oas_entries.specs.Blocks.{joined}
+use Rattle.oas_entries.specs.Runs.{copies, Positive, IsRun}
 
 -- an entry that waits; a count of 0 says that there is none
 abbrev pub waiting : {K : Type 0} → K → ℕ → List (K × ℕ)
 waiting key times = cond (times == 0) [] ((key, times) ∷ [])
-
--- none of them is empty
-abbrev pub NoneEmpty : {X : Type 0} → List (List X) → Type 0
-NoneEmpty xss = AllByRecursion (λ xs. xs ≡ [] → ⊥) xss
 
 module _ {K : Type 0} where
   -- everything that is held, in no order

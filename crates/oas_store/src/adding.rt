@@ -3,13 +3,12 @@
 ghost use Rattle.std.specs.Prelude.{◌≡◌, ◌+◌, ◌<◌, ◌^◌, ◌∷◌, OnOk, OnErr};
 ghost use Rattle.std.specs.Cmp.Lexicographic.{slice_cmp};
 ghost use Rattle.std.specs.Ordering.{nat_cmp};
-ghost use Rattle.oas_store.specs.Tally.{copies, SameTotals};
+ghost use Rattle.oas_entries.specs.Runs.{copies, SameTotals};
 ghost use Rattle.oas_store.specs.Parts.{contents, AreParts};
 
-use crate::block::Block;
 use crate::rising::Rising;
-use crate::run::Run;
 use crate::settling::settle;
+use oas_entries::{Block, Run};
 use std::alloc::{AllocError, Global};
 use std::cmp::Ordering;
 

@@ -4,12 +4,11 @@ ghost use Rattle.std.specs.Prelude.{◌≡◌, ◌+◌, ◌<◌, ◌≤◌, ◌+
 ghost use Rattle.std.specs.Cmp.Lexicographic.{slice_cmp};
 ghost use Rattle.std.specs.Ordering.{nat_cmp};
 ghost use Rattle.std.specs.Vec.{vec_len, vec_capacity};
-ghost use Rattle.oas_store.specs.Tally.{IsRun, SameTotals};
-ghost use Rattle.oas_store.specs.Parts.{joined, AreRuns, CountsFit};
+ghost use Rattle.oas_entries.specs.Runs.{IsRun, SameTotals};
+ghost use Rattle.oas_entries.specs.Blocks.{joined};
+ghost use Rattle.oas_store.specs.Parts.{AreRuns, CountsFit};
 
-use crate::growing::Growing;
-use crate::merge::merge_all;
-use crate::run::Run;
+use oas_entries::{Growing, Run, merge_all};
 use std::alloc::Global;
 
 /// How many bytes the last two runs have, about.

@@ -3,14 +3,13 @@
 ghost use Rattle.std.specs.Prelude.{◌≡◌, ◌∷◌, ◌++◌, List, ℕ, OnOk, IfOk};
 ghost use Rattle.std.specs.Cmp.Lexicographic.{slice_cmp};
 ghost use Rattle.std.specs.Ordering.{nat_cmp};
-ghost use Rattle.oas_store.specs.Tally.{IsRun, SameTotals};
-ghost use Rattle.oas_store.specs.Parts.{joined, AreRuns, CountsFit};
+ghost use Rattle.oas_entries.specs.Runs.{IsRun, SameTotals};
+ghost use Rattle.oas_entries.specs.Blocks.{joined};
+ghost use Rattle.oas_store.specs.Parts.{AreRuns, CountsFit};
 ghost use Rattle.oas_store.specs.Loose.{entries_of};
 
-use crate::block::Block;
-use crate::entry::{after, read_entry};
-use crate::ordering::{AT_ONCE, number_of, order_of};
 use crate::rising::{Risen, Rising};
+use oas_entries::{AT_ONCE, Block, after, number_of, order_of, read_entry};
 use std::alloc::{AllocError, Global};
 use std::cmp::Ordering;
 

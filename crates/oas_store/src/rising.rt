@@ -6,13 +6,9 @@ ghost use Rattle.std.specs.Cmp.Lexicographic.{slice_cmp};
 ghost use Rattle.std.specs.Ordering.{nat_cmp};
 ghost use Rattle.std.specs.Vec.{vec_capacity};
 ghost use Rattle.oas_store.specs.Parts.{IsBelow, EndsWith};
-ghost use Rattle.oas_store.specs.Tally.{SameTotals};
+ghost use Rattle.oas_entries.specs.Runs.{SameTotals};
 
-use crate::block::MARGIN;
-use crate::entries::Entries;
-use crate::growing::{Growing, size_with};
-use crate::ordering::order_of;
-use crate::run::Run;
+use oas_entries::{Entries, Growing, MARGIN, Run, order_of, size_with};
 use std::alloc::{AllocError, Global};
 use std::cmp::Ordering;
 use std::marker::Model;
@@ -28,7 +24,7 @@ pub(crate) struct Rising {
 
 impl Model for Rising {
     ghost use Rattle.std.specs.Prelude.{◌≡◌, List, [], ◌++◌};
-    ghost use Rattle.oas_store.specs.Entries.{Entry};
+    ghost use Rattle.oas_entries.specs.Entries.{Entry};
     ghost use Rattle.oas_store.specs.Parts.{waiting};
 
     ghost Value = { List Entry };

@@ -3,16 +3,16 @@
 ghost use Rattle.std.specs.Prelude.{◌≡◌, [], ◌∷◌, ◌++◌, IfOk, OnOk};
 ghost use Rattle.std.specs.Cmp.Lexicographic.{slice_cmp};
 ghost use Rattle.std.specs.Ordering.{nat_cmp};
-ghost use Rattle.oas_store.specs.Tally.{IsRun, SameTotals};
+ghost use Rattle.oas_entries.specs.Runs.{IsRun, SameTotals};
 ghost use Rattle.oas_store.specs.Loose.{entries_of};
-ghost use Rattle.oas_store.specs.Parts.{joined, contents, AreRuns, AreParts, CountsFit};
+ghost use Rattle.oas_entries.specs.Blocks.{joined};
+ghost use Rattle.oas_store.specs.Parts.{contents, AreRuns, AreParts, CountsFit};
 
-use crate::block::{BLOCK, Block};
 use crate::joining::{add_run, join_close};
 use crate::loose::{Loose, in_order};
 use crate::rising::Rising;
-use crate::run::Run;
 use crate::summing::Summing;
+use oas_entries::{BLOCK, Block, Run};
 use std::alloc::{AllocError, Global};
 use std::cmp::Ordering;
 

@@ -4,15 +4,14 @@ ghost use Rattle.std.specs.Prelude.{◌≡◌, ◌+◌, ◌<◌, ◌^◌, [], On
 ghost use Rattle.std.specs.Cmp.Lexicographic.{slice_cmp};
 ghost use Rattle.std.specs.Ordering.{nat_cmp};
 ghost use Rattle.oas_layout.specs.Bag.{put_more};
-ghost use Rattle.oas_store.specs.Tally.{count_at, IsRun};
+ghost use Rattle.oas_entries.specs.Runs.{IsRun};
+ghost use Rattle.oas_store.specs.Tally.{count_at};
 
 use crate::adding::add_key;
-use crate::block::Block;
-use crate::growing::Growing;
 use crate::joining::join_all;
 use crate::rising::Rising;
-use crate::run::Run;
 use crate::settling::settle;
+use oas_entries::{Block, Growing, Run};
 use std::alloc::{AllocError, Global};
 use std::marker::Model;
 
@@ -29,7 +28,7 @@ impl Model for KeyStore {
     ghost use Rattle.std.specs.Prelude.{List};
     ghost use Rattle.std.specs.Cmp.Lexicographic.{slice_cmp};
     ghost use Rattle.std.specs.Ordering.{nat_cmp};
-    ghost use Rattle.oas_store.specs.Entries.{Entry};
+    ghost use Rattle.oas_entries.specs.Entries.{Entry};
     ghost use Rattle.oas_store.specs.Tally.{tally};
     ghost use Rattle.oas_store.specs.Parts.{AreParts, contents};
 

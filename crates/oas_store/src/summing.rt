@@ -6,9 +6,7 @@ ghost use Rattle.std.specs.Cmp.Lexicographic.{slice_cmp};
 ghost use Rattle.std.specs.Ordering.{nat_cmp};
 ghost use Rattle.oas_store.specs.Parts.{IsBelow, EndsWith};
 
-use crate::growing::Growing;
-use crate::ordering::order_of;
-use crate::run::Run;
+use oas_entries::{Growing, Run, order_of};
 use std::alloc::{AllocError, Global};
 use std::cmp::Ordering;
 use std::marker::Model;
@@ -25,7 +23,7 @@ pub(crate) struct Summing<'a> {
 
 impl<'a> Model for Summing<'a> {
     ghost use Rattle.std.specs.Prelude.{◌≡◌, List, [], ◌++◌};
-    ghost use Rattle.oas_store.specs.Entries.{Entry};
+    ghost use Rattle.oas_entries.specs.Entries.{Entry};
     ghost use Rattle.oas_store.specs.Parts.{waiting};
 
     ghost Value = { List Entry };

@@ -7,7 +7,8 @@ ghost use Rattle.std.specs.Ordering.{nat_cmp};
 ghost use Rattle.oas_layout.specs.Bag.{put_more};
 ghost use Rattle.oas_store.specs.Tally.{count_at};
 
-use oas_store::{KeyStore, Run};
+use oas_entries::Run;
+use oas_store::KeyStore;
 use std::alloc::{AllocError, Global};
 use std::process::Abort;
 use std::test::Fail;

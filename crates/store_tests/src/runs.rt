@@ -1,6 +1,6 @@
 //! A run is written and gone over, with memory that is there.
 
-use oas_store::{Growing, Run};
+use oas_entries::{Growing, Run};
 use std::alloc::Global;
 use std::test::Fail;
 

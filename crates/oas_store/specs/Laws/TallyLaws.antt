@@ -1,11 +1,10 @@
 -- What a list of keys and counts comes to is told by its sums alone.
-use Rattle.std.specs.Prelude.{◌≡◌, ℕ, ◌+◌, ◌*◌, ◌<◌, List, [], ◌∷◌, ◌++◌, true, false, cond, Some, unwrap_or, refl}
+use Rattle.std.specs.Prelude.{◌≡◌, ℕ, ◌+◌, ◌*◌, ◌<◌, List, [], ◌∷◌, true, false, cond, Some, unwrap_or, refl}
 use Rattle.std.proofs.Common.{sym, ◌∙◌, ap, arith, subst}
 use Rattle.std.specs.Cmp.{IsTotalOrder, tied_itself}
 use Rattle.std.specs.Ordering.{match_ordering, is_eq, ordering_reverse}
 use Rattle.std.specs.declared.cmp.Ordering.{Ordering}
 use Rattle.std.specs.declared.cmp.Ordering.TheVariants.{Less, Equal, Greater}
-use Rattle.std.specs.List.{AllByRecursion}
 use Rattle.std.specs.List.Sorted.{IsStrictlySortedBy}
 use Rattle.std.specs.Map.{keys_of, lookup}
 use Rattle.std.specs.BTreeMap.{is_at, insert_entry}
@@ -14,14 +13,11 @@ use Rattle.std.proofs.lemmas.Map.Entries.{none_below_head}
 use Rattle.std.proofs.lemmas.Map.Keys.{sorted_head, sorted_tail}
 use Rattle.std.proofs.lemmas.Map.Lookups.{CmpEqualImpliesEq}
 use Rattle.oas_layout.specs.Bag.{put_more}
-use Rattle.oas_store.specs.Tally.{total, copies, count_at, tally, Positive, IsRun, SameTotals}
+use Rattle.oas_entries.specs.Laws.RunLaws.{AllAbove, above_lower}
+use Rattle.oas_entries.specs.Runs.{total, copies, Positive, IsRun, SameTotals}
+use Rattle.oas_store.specs.Tally.{count_at, tally}
 
 module _ {K : Type 0} where
-  -- the sum over two lists
-  pub total-append : (g : K → ℕ) (ps qs : List (K × ℕ)) → total g (ps ++ qs) ≡ total g ps + total g qs
-  total-append g [] qs = omega arith
-  total-append g (p ∷ ps) qs = omega (arith, total-append g ps qs)
-
   -- more of one key adds what it weighs
   pub total-put_more : {R : K → K → Ordering} → CmpEqualImpliesEq R → (g : K → ℕ) (es : List (K × ℕ)) (k : K) (n : ℕ) → total g (put_more R es k n) ≡ n * g k + total g es
   total-put_more exact g [] k n = omega arith
@@ -51,10 +47,6 @@ module _ {K : Type 0} where
   total-tally exact g [] = refl
   total-tally {R} exact g (p ∷ ps) = omega (arith, total-put_more exact g (tally R ps) p.0 p.1, total-tally exact g ps)
 
-  -- all keys are above x
-  abbrev pub AllAbove : (K → K → Ordering) → K → List (K × ℕ) → Type 0
-  AllAbove R x es = AllByRecursion (λ y. R x y ≡ Less) (keys_of es)
-
   above-put_more : (R : K → K → Ordering) (x : K) (es : List (K × ℕ)) (k : K) (n : ℕ) → R x k ≡ Less → AllAbove R x es → AllAbove R x (put_more R es k n)
   above-put_more R x [] k n h a = (h, tt)
   above-put_more R x (p ∷ ps) k n h a =
@@ -63,10 +55,6 @@ module _ {K : Type 0} where
         | Equal ↦ a
         | Greater ↦ (a.0, above-put_more R x ps k n h a.1)
       ]
-
-  pub above_lower : {R : K → K → Ordering} → IsTotalOrder R → (x y : K) (es : List (K × ℕ)) → R x y ≡ Less → AllAbove R y es → AllAbove R x es
-  above_lower o x y [] h a = tt
-  above_lower o x y (p ∷ ps) h a = (o.trans x y p.0 h a.0, above_lower o x y ps h a.1)
 
   flip : {R : K → K → Ordering} → IsTotalOrder R → (x y : K) → R x y ≡ Greater → R y x ≡ Less
   flip o x y g = o.antisymm y x ∙ ap ordering_reverse g

@@ -1,5 +1,5 @@
 use Rattle.std.specs.Vec.Iter.{into_iter_items}
-use Rattle.oas_store.specs.Parts.{joined}
+use Rattle.oas_entries.specs.Blocks.{joined}
 use Rattle.oas_compact.proofs.PlaceLemmas.{Placing}
 use Rattle.oas_compact.proofs.placing.place_chunks.Given as goal
 

@@ -1,6 +1,6 @@
 use Rattle.std.proofs.Common.{◌≡◌, ℕ, List, [], ◌∷◌, sym, ap, ◌∙◌, rules, arith}
 use Rattle.std.proofs.lemmas.Result.{err_from_is_err_and}
-use Rattle.oas_store.specs.Entries.{Entry}
+use Rattle.oas_entries.specs.Entries.{Entry}
 use Rattle.oas_form.proofs.PuttingLemmas.{so_far_within}
 use Rattle.oas_run_form.proofs.CellLemmas.{runs_begin, these, these_entries, run_fails, run_put, run_within, runs_short, runs_end}
 use Rattle.oas_run_form.proofs.cells.put_cells.Goals as goal

@@ -1,7 +1,7 @@
 use Rattle.std.proofs.Common.{◌≡◌, [], rules, arith}
 use Rattle.std.proofs.lemmas.Result.{err_from_is_err_and}
 use Rattle.std.proofs.lemmas.Map.Iter.{rest_more}
-use Rattle.oas_store.specs.Entries.{key_and_count}
+use Rattle.oas_entries.specs.Entries.{key_and_count}
 use Rattle.oas_form.proofs.PuttingLemmas.{so_far_within}
 use Rattle.oas_run_form.proofs.CellLemmas.{entries_begin, these_copies, this, entry_fails, entry_put, entry_within, entries_short, entries_end}
 use Rattle.oas_run_form.proofs.cells.put_entries.Goals as goal

@@ -1,7 +1,7 @@
 use Rattle.std.proofs.Common.{◌≡◌, [], rules}
 use Rattle.std.proofs.lemmas.Result.{err_from_is_err_and}
 use Rattle.std.proofs.lemmas.Map.Iter.{rest_more}
-use Rattle.oas_store.specs.Entries.{key_and_count}
+use Rattle.oas_entries.specs.Entries.{key_and_count}
 use Rattle.oas_run_listing.proofs.CellLemmas.{entries_begin, this, this_key, entry_fails, entry_put, entries_end}
 use Rattle.oas_run_listing.proofs.cells.put_entries.Goals as goal
 

@@ -1,8 +1,9 @@
 use Rattle.std.specs.Vec.{vec_len}
 use Rattle.std.specs.Cmp.Lexicographic.{slice_cmp}
 use Rattle.std.specs.Ordering.{nat_cmp}
-use Rattle.oas_store.specs.Tally.{SameTotals}
-use Rattle.oas_store.specs.Parts.{joined, AreRuns, CountsFit}
+use Rattle.oas_entries.specs.Runs.{SameTotals}
+use Rattle.oas_entries.specs.Blocks.{joined}
+use Rattle.oas_store.specs.Parts.{AreRuns, CountsFit}
 use Rattle.oas_store.proofs.joining.join_all.Given as goal
 
 -- the runs stay runs, and hold what they held

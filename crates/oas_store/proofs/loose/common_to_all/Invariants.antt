@@ -1,5 +1,5 @@
 use Rattle.std.proofs.Common.{length}
-use Rattle.oas_store.specs.Entries.{IsBlock}
+use Rattle.oas_entries.specs.Entries.{IsBlock}
 use Rattle.oas_store.proofs.loose.common_to_all.Given as goal
 
 -- what is left is entries

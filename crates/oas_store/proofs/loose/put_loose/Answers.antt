@@ -1,5 +1,5 @@
 use Rattle.std.proofs.Common.{◌∷◌, ◌++◌, ◌∙◌, List, ℕ, ap, sym, subst}
-use Rattle.oas_store.specs.Entries.{entries, IsBlock}
+use Rattle.oas_entries.specs.Entries.{entries, IsBlock}
 use Rattle.oas_store.specs.Loose.{entries_of}
 use Rattle.oas_store.proofs.LooseLemmas.{none_put, turn_same}
 use Rattle.oas_store.proofs.loose.put_loose.Goals as goal

@@ -1,6 +1,6 @@
 use Rattle.std.proofs.Common.{◌++◌, length}
-use Rattle.oas_store.specs.Entries.{entries, IsBlock}
-use Rattle.oas_store.specs.Tally.{SameTotals}
+use Rattle.oas_entries.specs.Entries.{entries, IsBlock}
+use Rattle.oas_entries.specs.Runs.{SameTotals}
 use Rattle.oas_store.specs.Loose.{entries_of}
 use Rattle.oas_store.proofs.loose.put_loose.Given as goal
 

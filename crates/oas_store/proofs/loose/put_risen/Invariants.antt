@@ -1,5 +1,5 @@
 use Rattle.std.proofs.Common.{◌∷◌, ◌++◌}
-use Rattle.oas_store.specs.Tally.{SameTotals}
+use Rattle.oas_entries.specs.Runs.{SameTotals}
 use Rattle.oas_store.specs.Loose.{entries_of}
 use Rattle.oas_store.proofs.loose.put_risen.Given as goal
 

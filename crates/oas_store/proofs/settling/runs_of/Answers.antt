@@ -2,7 +2,7 @@ use Rattle.std.proofs.Common.{◌+◌, ◌++◌, drop, get_or, ap, arith}
 use Rattle.std.proofs.lemmas.List.{drop_all}
 use Rattle.std.specs.Cmp.Lexicographic.{slice_cmp}
 use Rattle.std.specs.Ordering.{nat_cmp}
-use Rattle.oas_store.specs.Parts.{joined}
+use Rattle.oas_entries.specs.Blocks.{joined}
 use Rattle.oas_store.specs.Loose.{entry_of, entries_of}
 use Rattle.oas_store.proofs.PartLemmas.{IsRun-empty}
 use Rattle.oas_store.proofs.LooseLemmas.{nothing, next_is, begun_same, no_runs, turn_fits, turn_same, turns_fit, turns_same}

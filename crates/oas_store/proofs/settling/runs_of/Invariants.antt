@@ -1,8 +1,9 @@
 use Rattle.std.proofs.Common.{◌++◌, drop}
 use Rattle.std.specs.Cmp.Lexicographic.{slice_cmp}
 use Rattle.std.specs.Ordering.{nat_cmp}
-use Rattle.oas_store.specs.Tally.{IsRun, SameTotals}
-use Rattle.oas_store.specs.Parts.{joined, AreRuns}
+use Rattle.oas_entries.specs.Runs.{IsRun, SameTotals}
+use Rattle.oas_entries.specs.Blocks.{joined}
+use Rattle.oas_store.specs.Parts.{AreRuns}
 use Rattle.oas_store.specs.Loose.{entries_of}
 use Rattle.oas_store.proofs.settling.runs_of.Given as goal
 

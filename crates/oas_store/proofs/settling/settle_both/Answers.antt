@@ -1,7 +1,7 @@
 use Rattle.std.proofs.Common.{◌++◌}
 use Rattle.std.specs.Cmp.Lexicographic.{slice_cmp}
 use Rattle.std.specs.Ordering.{nat_cmp}
-use Rattle.oas_store.specs.Parts.{joined}
+use Rattle.oas_entries.specs.Blocks.{joined}
 use Rattle.oas_store.proofs.LooseLemmas.{apart_fit, put_to_runs, same_fit, all_settled, all_parts}
 use Rattle.oas_store.proofs.settling.settle_both.Goals as goal
 

@@ -1,7 +1,7 @@
 use Rattle.std.proofs.Common.{ℕ, ap, arith, List}
 use Rattle.std.specs.Cmp.Lexicographic.{slice_cmp}
 use Rattle.std.specs.Ordering.{nat_cmp}
-use Rattle.oas_store.specs.Entries.{Entry}
+use Rattle.oas_entries.specs.Entries.{Entry}
 use Rattle.oas_store.specs.Tally.{count_at}
 use Rattle.oas_store.specs.Laws.CountLaws.{count_at-more}
 use Rattle.store_tests.proofs.orders.filled.Goals as goal

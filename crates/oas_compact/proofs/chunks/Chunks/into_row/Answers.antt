@@ -1,6 +1,6 @@
 use Rattle.std.proofs.Common.{[], ◌∷◌, ◌++◌, ◌∙◌, ap}
-use Rattle.oas_store.specs.Parts.{joined}
-use Rattle.oas_store.proofs.BlockLemmas.{joined-more}
+use Rattle.oas_entries.specs.Blocks.{joined}
+use Rattle.oas_entries.proofs.BlockLemmas.{joined-more}
 use Rattle.oas_compact.proofs.chunks.Chunks.into_row.Goals as goal
 
 pub returns : goal.returns

@@ -1,5 +1,5 @@
 use Rattle.std.proofs.Common.{◌∙◌}
-use Rattle.oas_store.proofs.BlockLemmas.{in_last}
+use Rattle.oas_entries.proofs.BlockLemmas.{in_last}
 use Rattle.oas_compact.specs.Short.{drawn_of}
 use Rattle.oas_compact.proofs.chunks.Chunks.push.Goals as goal
 

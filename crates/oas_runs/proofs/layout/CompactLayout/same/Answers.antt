@@ -1,7 +1,7 @@
 use Rattle.std.proofs.Common.{◌≡◌, rules}
 use Rattle.std.specs.Cmp.Lexicographic.{bytes_decides}
 use Rattle.std.proofs.lemmas.Map.Lookups.{btree_map_eq-Decides}
-use Rattle.oas_store.specs.Comparing.{same_entries_decide}
+use Rattle.oas_entries.specs.Comparing.{same_entries_decide}
 use Rattle.oas_runs.proofs.SamenessLemmas.{runs_decide}
 use Rattle.oas_runs.proofs.layout.CompactLayout.same.Goals as goal
 

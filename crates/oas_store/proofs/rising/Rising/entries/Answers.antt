@@ -1,5 +1,5 @@
 use Rattle.std.proofs.Common.{◌∷◌, List, ℕ, sym, subst}
-use Rattle.oas_store.specs.Tally.{SameTotals}
+use Rattle.oas_entries.specs.Runs.{SameTotals}
 use Rattle.oas_store.proofs.LooseLemmas.{waiting_first}
 use Rattle.oas_store.proofs.rising.Rising.entries.Goals as goal
 

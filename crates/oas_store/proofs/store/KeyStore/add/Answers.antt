@@ -5,7 +5,7 @@ use Rattle.std.specs.Ordering.{nat_cmp}
 use Rattle.std.proofs.lemmas.Cmp.{nat_list_cmp_total}
 use Rattle.std.proofs.lemmas.Map.Lookups.{exact_bytes}
 use Rattle.oas_layout.specs.Bag.{put_more}
-use Rattle.oas_store.specs.Entries.{Entry}
+use Rattle.oas_entries.specs.Entries.{Entry}
 use Rattle.oas_store.specs.Tally.{count_at}
 use Rattle.oas_store.specs.Parts.{contents}
 use Rattle.oas_store.proofs.AddLemmas.{positive_contents, room_in}

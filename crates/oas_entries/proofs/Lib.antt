@@ -1,0 +1,4 @@
+pub mod BlockLemmas
+pub mod EntryLemmas
+pub mod MergeLemmas
+pub mod OrderLemmas

@@ -1,0 +1,3 @@
+-- What follows of the definitions. Nothing here has to be believed.
+pub mod EntryLaws
+pub mod RunLaws

@@ -1,0 +1,144 @@
+//! A block of bytes that holds entries, of which the first may have been taken.
+
+ghost use Rattle.std.specs.Prelude.{◌≡◌, ◌+◌, ◌<◌, ◌≤◌, [], ◌∷◌, ◌++◌, List, ℕ, OnOk, OnErr, IfOk, IfSome, IfNone, IsTrue, IsFalse, ◌↔◌, length};
+ghost use Rattle.oas_entries.specs.Entries.{IsBlock, entries};
+
+use crate::entry::{Entry, after, is_over, push_entry, read_entry};
+use std::alloc::{AllocError, Global};
+use std::marker::Model;
+
+/// How many bytes a block holds, unless one entry is longer.
+pub const BLOCK: usize = 65536;
+
+/// How many bytes of an entry are not its key, at most.
+pub const MARGIN: usize = 18;
+
+/// Entries in a row of bytes, seen as the list of those that are left.
+#[derive(Drop)]
+pub struct Block {
+    bytes: Vec<u8>,
+    start: usize,
+}
+
+impl Model for Block {
+    ghost use Rattle.std.specs.Prelude.{◌≤◌, List, drop, length};
+    ghost use Rattle.oas_entries.specs.Entries.{Entry, IsBlock, entries};
+
+    ghost Value = { List Entry };
+
+    ghost view = { λ a. entries (drop a.start a.bytes.items) };
+
+    ghost invariant = { λ a. (a.start ≤ length a.bytes.items) × IsBlock (drop a.start a.bytes.items) };
+}
+
+impl Block {
+    /// No entries, and no memory.
+    pub fn new(alloc: Global) -> Block
+        ensures { result ≡ [] }
+    {
+        Block {
+            bytes: Vec::new(alloc),
+            start: 0,
+        }
+    }
+
+    /// No entries, and room for one with a key of so many bytes, or for many.
+    pub(crate) fn with_room(alloc: Global, key_len: usize) -> Result<Block, AllocError>
+        ensures { IfOk result (λ block. block ≡ []) }
+    {
+        let size = key_len.saturating_add(MARGIN).max(BLOCK);
+        let bytes = Vec::with_capacity(alloc, size)?;
+        Ok(Block { bytes, start: 0 })
+    }
+
+    /// No entries, and room for so many bytes, but for no more than a block holds.
+    pub(crate) fn with_bytes(alloc: Global, bytes: usize) -> Result<Block, AllocError>
+        ensures { IfOk result (λ block. block ≡ []) }
+    {
+        let bytes = Vec::with_capacity(alloc, bytes.min(BLOCK))?;
+        Ok(Block { bytes, start: 0 })
+    }
+
+    /// How many bytes there are.
+    pub fn size(&self) -> usize {
+        self.bytes.len()
+    }
+
+    /// Takes all entries out, and keeps the memory.
+    pub fn clear(&mut self)
+        ensures { self.new ≡ [] }
+    {
+        self.bytes.clear();
+        self.start = 0;
+    }
+
+    /// Whether no entry is left.
+    pub(crate) fn is_empty(&self) -> bool
+        ensures over { IsTrue result → self.now ≡ [] }
+        ensures left { IsFalse result → self.now ≡ [] → ⊥ }
+    {
+        is_over(self.left())
+    }
+
+    /// Whether an entry more belongs into this block. Where there are none it does.
+    pub(crate) fn has_room(&self, key_len: usize) -> bool
+        ensures { IsFalse result → self.now ≡ [] → ⊥ }
+    {
+        let size = self.bytes.len().saturating_add(key_len);
+        size.saturating_add(MARGIN) <= BLOCK || self.is_empty()
+    }
+
+    /// Puts an entry at the end.
+    #[inline(always)]
+    pub fn append(&mut self, key: &[u8], times: u64) -> Result<(), AllocError>
+        ensures ok { OnOk result (self.new ≡ self.old ++ (key.now, times) ∷ []) }
+        ensures err { OnErr result (self.new ≡ self.old) }
+    {
+        push_entry(&mut self.bytes, key, times)?;
+        Ok(())
+    }
+
+    /// Moves the bytes to memory that has room for so many more and no others, where there is some.
+    pub fn fit(&mut self, alloc: Global, more: usize)
+        ensures { self.new ≡ self.old }
+    {
+        if let Ok(bytes) = copy_of(alloc, &self.bytes, more) {
+            self.bytes = bytes;
+        }
+    }
+
+    /// The bytes of the entries that are left.
+    pub fn left(&self) -> &[u8]
+        ensures is { entries result.now ≡ self.now }
+        ensures block { IsBlock result.now }
+    {
+        after(&self.bytes, self.start)
+    }
+
+    /// The first entry that is left.
+    pub fn first(&self) -> Option<Entry<'_>>
+        ensures none { IfNone result (self.now ≡ []) }
+        ensures some { IfSome result (λ e. (es : List (List ℕ × ℕ)) × (self.now ≡ (e.key.now, e.times) ∷ es)) }
+    {
+        read_entry(after(&self.bytes, self.start))
+    }
+
+    /// Takes the first entry.
+    pub(crate) fn pop_first(&mut self)
+        requires { self.old ≡ [] → ⊥ }
+        ensures { (p : List ℕ × ℕ) × (self.old ≡ p ∷ self.new) }
+    {
+        if let Some(entry) = read_entry(after(&self.bytes, self.start)) {
+            self.start += entry.end;
+        }
+    }
+}
+
+/// A copy of bytes, with room for so many more.
+fn copy_of(alloc: Global, bytes: &[u8], more: usize) -> Result<Vec<u8>, AllocError>
+    ensures { IfOk result (λ copy. copy.items ≡ bytes.now) }
+{
+    let mut copy = Vec::with_capacity(alloc, bytes.len().saturating_add(more))?;
+    copy.extend_from_slice(bytes)?;
+    Ok(copy)
+}
