@@ -18,7 +18,7 @@ const LOOSE: usize = 1 << 20;
 /// Sees that one more can wait loose.
 fn make_room(
     alloc: Global,
-    rising: &mut Rising,
+    rising: &mut Rising<Vec<u8>>,
     loose: &mut Block,
     runs: &mut Vec<Run>,
 ) -> Result<(), AllocError>
@@ -35,7 +35,7 @@ fn make_room(
 /// Adds a key so many times to those that wait loose, or nothing.
 fn add_loose(
     alloc: Global,
-    rising: &mut Rising,
+    rising: &mut Rising<Vec<u8>>,
     loose: &mut Block,
     runs: &mut Vec<Run>,
     key: &[u8],
@@ -56,7 +56,7 @@ fn add_loose(
 /// Adds a key so many times, or nothing.
 pub(crate) fn add_key(
     alloc: Global,
-    rising: &mut Rising,
+    rising: &mut Rising<Vec<u8>>,
     loose: &mut Block,
     runs: &mut Vec<Run>,
     key: &[u8],

@@ -24,10 +24,10 @@
 
 mod adding;
 mod joining;
+mod last;
 mod loose;
 mod rising;
 mod settling;
 mod store;
-mod summing;
 
 pub use store::KeyStore;

@@ -91,7 +91,7 @@ fn any_key<'a>(risen: &Risen<'a>, loose: &'a Block) -> &'a [u8] {
 }
 
 /// What all keys that rise or wait have in common.
-fn common_to_all<'a>(rising: &'a Rising, loose: &'a Block) -> Common<'a> {
+fn common_to_all<'a>(rising: &'a Rising<Vec<u8>>, loose: &'a Block) -> Common<'a> {
     let risen = rising.entries();
     let mut front = any_key(&risen, loose);
     let mut count = usize::from(risen.times > 0);
@@ -163,7 +163,7 @@ fn put_loose<'a>(
 /// All that rises and all that waits loose, in the order of the keys. Its memory is asked for once.
 pub(crate) fn in_order<'a>(
     alloc: Global,
-    rising: &'a Rising,
+    rising: &'a Rising<Vec<u8>>,
     loose: &'a Block,
 ) -> Result<Vec<Loose<'a>>, AllocError>
     ensures { IfOk result (λ all. SameTotals (entries_of all.items) (rising.now ++ loose.now)) }

@@ -1,4 +1,4 @@
-//! The run that rises: what is put at its end is above all that is there.
+//! Runs that rise: what is put at their ends is above all that is there.
 
 ghost use Rattle.std.specs.Prelude.{◌≡◌, ℕ, ◌+◌, ◌<◌, ◌≤◌, ◌^◌, List, [], ◌∷◌, ◌++◌, OnOk, OnErr, IfOk, IsTrue, length};
 ghost use Rattle.std.specs.declared.cmp.Ordering.TheVariants.{Less, Equal};
@@ -8,28 +8,30 @@ ghost use Rattle.std.specs.Vec.{vec_capacity};
 ghost use Rattle.oas_store.specs.Parts.{IsBelow, EndsWith};
 ghost use Rattle.oas_entries.specs.Runs.{SameTotals};
 
+use crate::last::LastKey;
 use oas_entries::{Entries, Growing, MARGIN, Run, order_of, size_with};
 use std::alloc::{AllocError, Global};
 use std::cmp::Ordering;
 use std::marker::Model;
 use std::mem;
 
-/// Entries of which the last one waits to be written, since its count may grow. A count of 0 says that none waits.
+/// Entries of which the last one waits to be written, since its count may grow. A count of 0 says that none waits. Its key is the
+/// run's own, or stays where it is until then.
 #[derive(Drop)]
-pub(crate) struct Rising {
+pub(crate) struct Rising<K: LastKey> {
     done: Growing,
-    last: Vec<u8>,
+    last: K,
     times: u64,
 }
 
-impl Model for Rising {
+impl<K: LastKey> Model for Rising<K> {
     ghost use Rattle.std.specs.Prelude.{◌≡◌, List, [], ◌++◌};
     ghost use Rattle.oas_entries.specs.Entries.{Entry};
     ghost use Rattle.oas_store.specs.Parts.{waiting};
 
     ghost Value = { List Entry };
 
-    ghost view = { λ a. a.done ++ waiting a.last.items a.times };
+    ghost view = { λ a. a.done ++ waiting (K.key a.last) a.times };
 
     ghost invariant = { λ a. a.times ≡ 0 → a.done ≡ [] };
 }
@@ -42,9 +44,54 @@ pub(crate) struct Risen<'a> {
     pub(crate) written: Entries<'a>,
 }
 
-impl Rising {
+impl<K: LastKey> Rising<K> {
+    /// Whether there are no entries.
+    pub(crate) fn is_empty(&self) -> bool
+        ensures { IsTrue result → self.now ≡ [] }
+    {
+        self.times == 0
+    }
+
+    /// How the last key compares with a key; where there is none, it is less.
+    #[inline(always)]
+    pub(crate) fn order_of_last(&self, key: &[u8]) -> Ordering
+        ensures below { result ≡ Less → IsBelow (slice_cmp nat_cmp) self.now key.now }
+        ensures last { result ≡ Equal → EndsWith (slice_cmp nat_cmp) self.now key.now }
+    {
+        if self.times == 0 {
+            return Ordering::Less;
+        }
+        order_of(self.last.bytes(), key)
+    }
+
+    /// Counts up the last key.
+    pub(crate) fn count_last(&mut self, times: u64)
+        requires some { 0 < times }
+        requires fits { (ps : List (List ℕ × ℕ)) (p : List ℕ × ℕ) → self.old ≡ ps ++ p ∷ [] → p.1 + times < 2 ^ 64 }
+        requires last { self.old ≡ [] → ⊥ }
+        ensures { (ps : List (List ℕ × ℕ)) (p : List ℕ × ℕ) → self.old ≡ ps ++ p ∷ [] → self.new ≡ ps ++ (p.0, p.1 + times) ∷ [] }
+    {
+        self.times += times;
+    }
+
+    /// All of it as a run, and begins anew; or nothing.
+    pub(crate) fn close(&mut self, alloc: Global) -> Result<Run, AllocError>
+        ensures ok { IfOk result (λ run. run ≡ self.old) }
+        ensures emptied { OnOk result (self.new ≡ []) }
+        ensures err { OnErr result (self.new ≡ self.old) }
+    {
+        if self.times > 0 {
+            self.done.append(alloc, self.last.bytes(), self.times)?;
+        }
+        self.times = 0;
+        let done = mem::replace(&mut self.done, Growing::new(alloc));
+        Ok(done.into_run())
+    }
+}
+
+impl Rising<Vec<u8>> {
     /// No entries.
-    pub(crate) fn new(alloc: Global) -> Rising
+    pub(crate) fn new(alloc: Global) -> Rising<Vec<u8>>
         ensures { result ≡ [] }
     {
         Rising {
@@ -52,13 +99,6 @@ impl Rising {
             last: Vec::new(alloc),
             times: 0,
         }
-    }
-
-    /// Whether there are no entries.
-    pub(crate) fn is_empty(&self) -> bool
-        ensures { IsTrue result → self.now ≡ [] }
-    {
-        self.times == 0
     }
 
     /// How many bytes there are, about.
@@ -80,17 +120,6 @@ impl Rising {
         }
     }
 
-    /// How the last key compares with a key; where there is none, it is less.
-    pub(crate) fn order_of_last(&self, key: &[u8]) -> Ordering
-        ensures below { result ≡ Less → IsBelow (slice_cmp nat_cmp) self.now key.now }
-        ensures last { result ≡ Equal → EndsWith (slice_cmp nat_cmp) self.now key.now }
-    {
-        if self.times == 0 {
-            return Ordering::Less;
-        }
-        order_of(&self.last, key)
-    }
-
     /// Puts an entry at the end, or nothing.
     pub(crate) fn push(&mut self, alloc: Global, key: &[u8], times: u64) -> Result<(), AllocError>
         requires { 0 < times }
@@ -106,35 +135,44 @@ impl Rising {
         Ok(())
     }
 
-    /// Counts up the last key.
-    pub(crate) fn count_last(&mut self, times: u64)
-        requires some { 0 < times }
-        requires fits { (ps : List (List ℕ × ℕ)) (p : List ℕ × ℕ) → self.old ≡ ps ++ p ∷ [] → p.1 + times < 2 ^ 64 }
-        requires last { self.old ≡ [] → ⊥ }
-        ensures { (ps : List (List ℕ × ℕ)) (p : List ℕ × ℕ) → self.old ≡ ps ++ p ∷ [] → self.new ≡ ps ++ (p.0, p.1 + times) ∷ [] }
-    {
-        self.times += times;
-    }
-
     /// Gives back what is idle but the room for the last entry.
     pub(crate) fn fit(&mut self, alloc: Global)
         ensures { self.new ≡ self.old }
     {
         self.done.fit(alloc, self.last.len().saturating_add(MARGIN));
     }
+}
 
-    /// All of it as a run, and begins anew; or nothing.
-    pub(crate) fn close(&mut self, alloc: Global) -> Result<Run, AllocError>
-        ensures ok { IfOk result (λ run. run ≡ self.old) }
-        ensures emptied { OnOk result (self.new ≡ []) }
+impl<'a> Rising<&'a [u8]> {
+    /// No entries, and at once the memory for so many bytes of them, or for a first block.
+    pub(crate) fn with_bytes(alloc: Global, bytes: usize) -> Result<Rising<&'a [u8]>, AllocError>
+        ensures { IfOk result (λ rising. rising ≡ []) }
+    {
+        let done = Growing::with_bytes(alloc, bytes)?;
+        Ok(Rising {
+            done,
+            last: &[],
+            times: 0,
+        })
+    }
+
+    /// Puts an entry at the end, or nothing. Its key stays where it is.
+    pub(crate) fn push_held(
+        &mut self,
+        alloc: Global,
+        key: &'a [u8],
+        times: u64,
+    ) -> Result<(), AllocError>
+        requires { 0 < times }
+        ensures ok { OnOk result (self.new ≡ self.old ++ (key.now, times) ∷ []) }
         ensures err { OnErr result (self.new ≡ self.old) }
     {
         if self.times > 0 {
-            self.done.append(alloc, &self.last, self.times)?;
+            self.done.append(alloc, self.last, self.times)?;
         }
-        self.times = 0;
-        let done = mem::replace(&mut self.done, Growing::new(alloc));
-        Ok(done.into_run())
+        self.last = key;
+        self.times = times;
+        Ok(())
     }
 }
 

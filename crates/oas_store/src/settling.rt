@@ -9,15 +9,19 @@ ghost use Rattle.oas_entries.specs.Blocks.{joined};
 ghost use Rattle.oas_store.specs.Parts.{contents, AreRuns, AreParts, CountsFit};
 
 use crate::joining::{add_run, join_close};
+use crate::last::LastKey;
 use crate::loose::{Loose, in_order};
 use crate::rising::Rising;
-use crate::summing::Summing;
 use oas_entries::{BLOCK, Block, Run};
 use std::alloc::{AllocError, Global};
 use std::cmp::Ordering;
 
-/// Closes the run that rises, if it has begun, so that another begins; or leaves all.
-fn settle_rising(alloc: Global, rising: &mut Rising, runs: &mut Vec<Run>) -> Result<(), AllocError>
+/// Closes a run that rises, if it has begun, so that another begins; or leaves all.
+fn settle_rising<K: LastKey>(
+    alloc: Global,
+    rising: &mut Rising<K>,
+    runs: &mut Vec<Run>,
+) -> Result<(), AllocError>
     requires run { IsRun (slice_cmp nat_cmp) rising.old }
     requires runs { AreRuns (slice_cmp nat_cmp) runs.old.items }
     requires fits { CountsFit (slice_cmp nat_cmp) (rising.old ++ joined runs.old.items) }
@@ -35,29 +39,10 @@ fn settle_rising(alloc: Global, rising: &mut Rising, runs: &mut Vec<Run>) -> Res
     Ok(())
 }
 
-/// Closes the run that is made of entries in order, if it has begun, so that another begins; or leaves all.
-fn end_run(alloc: Global, summing: &mut Summing<'_>, runs: &mut Vec<Run>) -> Result<(), AllocError>
-    requires run { IsRun (slice_cmp nat_cmp) summing.old }
-    requires runs { AreRuns (slice_cmp nat_cmp) runs.old.items }
-    requires fits { CountsFit (slice_cmp nat_cmp) (summing.old ++ joined runs.old.items) }
-    ensures run { IsRun (slice_cmp nat_cmp) summing.new }
-    ensures runs { AreRuns (slice_cmp nat_cmp) runs.new.items }
-    ensures same { SameTotals (summing.new ++ joined runs.new.items) (summing.old ++ joined runs.old.items) }
-    ensures ok { OnOk result (summing.new ≡ []) }
-{
-    if summing.is_empty() {
-        return Ok(());
-    }
-    runs.reserve(1)?;
-    let run = summing.close(alloc)?;
-    add_run(alloc, runs, run);
-    Ok(())
-}
-
 /// Puts a key to the run that is made of entries in order; where that has come above it, another run begins.
 fn put_next<'a>(
     alloc: Global,
-    summing: &mut Summing<'a>,
+    summing: &mut Rising<&'a [u8]>,
     runs: &mut Vec<Run>,
     key: &'a [u8],
     times: u64,
@@ -73,11 +58,11 @@ fn put_next<'a>(
         return Ok(());
     }
     match summing.order_of_last(key) {
-        Ordering::Less => summing.push(alloc, key, times)?,
+        Ordering::Less => summing.push_held(alloc, key, times)?,
         Ordering::Equal => summing.count_last(times),
         Ordering::Greater => {
-            end_run(alloc, summing, runs)?;
-            summing.push(alloc, key, times)?;
+            settle_rising(alloc, summing, runs)?;
+            summing.push_held(alloc, key, times)?;
         }
     }
     Ok(())
@@ -89,17 +74,17 @@ fn runs_of(alloc: Global, sorted: &[Loose<'_>], bytes: usize) -> Result<Vec<Run>
     ensures runs { IfOk result (λ runs. AreRuns (slice_cmp nat_cmp) runs.items) }
     ensures same { IfOk result (λ runs. SameTotals (joined runs.items) (entries_of sorted.now)) }
 {
-    let mut summing = Summing::with_bytes(alloc, bytes)?;
+    let mut summing = Rising::with_bytes(alloc, bytes)?;
     let mut runs = Vec::new(alloc);
     for entry in sorted {
         put_next(alloc, &mut summing, &mut runs, entry.key, entry.times)?;
     }
-    end_run(alloc, &mut summing, &mut runs)?;
+    settle_rising(alloc, &mut summing, &mut runs)?;
     Ok(runs)
 }
 
 /// What rises and what waits loose, as runs.
-fn settled(alloc: Global, rising: &Rising, loose: &Block) -> Result<Vec<Run>, AllocError>
+fn settled(alloc: Global, rising: &Rising<Vec<u8>>, loose: &Block) -> Result<Vec<Run>, AllocError>
     requires { CountsFit (slice_cmp nat_cmp) (rising.now ++ loose.now) }
     ensures runs { IfOk result (λ runs. AreRuns (slice_cmp nat_cmp) runs.items) }
     ensures same { IfOk result (λ runs. SameTotals (joined runs.items) (rising.now ++ loose.now)) }
@@ -111,7 +96,7 @@ fn settled(alloc: Global, rising: &Rising, loose: &Block) -> Result<Vec<Run>, Al
 /// Makes runs of what rises and of what waits loose, of both together; or leaves all.
 fn settle_both(
     alloc: Global,
-    rising: &mut Rising,
+    rising: &mut Rising<Vec<u8>>,
     loose: &mut Block,
     runs: &mut Vec<Run>,
 ) -> Result<(), AllocError>
@@ -133,7 +118,7 @@ fn settle_both(
 /// sort them together.
 fn settle_long(
     alloc: Global,
-    rising: &mut Rising,
+    rising: &mut Rising<Vec<u8>>,
     loose: &Block,
     runs: &mut Vec<Run>,
 ) -> Result<(), AllocError>
@@ -150,7 +135,7 @@ fn settle_long(
 /// Makes runs of what rises and of what waits loose, so that both begin anew. Where memory is refused, all is still held.
 pub(crate) fn settle(
     alloc: Global,
-    rising: &mut Rising,
+    rising: &mut Rising<Vec<u8>>,
     loose: &mut Block,
     runs: &mut Vec<Run>,
 ) -> Result<(), AllocError>

@@ -19,7 +19,7 @@ use std::marker::Model;
 #[derive(Drop)]
 pub struct KeyStore {
     alloc: Global,
-    rising: Rising,
+    rising: Rising<Vec<u8>>,
     loose: Block,
     runs: Vec<Run>,
 }

@@ -32,14 +32,14 @@ loop-entry-preserved c = record {
       (next_is c.args.sorted.now c.loop-entry.entry-index nothing c.loop-entry-test.true) c.in_ok-put_next.ensures.same c.loop-entry.invariant.same;
 }
 
-pub end_run-requires-clause-fits : goal.end_run-requires-clause-fits
-end_run-requires-clause-fits c =
+pub settle_rising-requires-clause-fits : goal.settle_rising-requires-clause-fits
+settle_rising-requires-clause-fits c =
     turns_fit (slice_cmp nat_cmp) (c.loop-entry.summing ++ joined c.loop-entry.runs.items) (entries_of (drop c.loop-entry.entry-index c.args.sorted.now))
     (entries_of c.args.sorted.now) c.loop-entry.invariant.same c.requires
 
 pub returns-clause-same : goal.returns-clause-same
 returns-clause-same c =
-    turns_same (c.loop-entry.summing ++ joined c.loop-entry.runs.items) (entries_of (drop c.loop-entry.entry-index c.args.sorted.now)) c.end_run.new.summing
-    (joined c.end_run.new.runs.items) (entries_of c.args.sorted.now) c.loop-entry.invariant.same
-    (ap entries_of (drop_all c.loop-entry.entry-index c.args.sorted.now (omega (arith, c.loop-entry-test.false)))) c.in_ok-end_run.ensures.ok
-    c.in_ok-end_run.ensures.same
+    turns_same (c.loop-entry.summing ++ joined c.loop-entry.runs.items) (entries_of (drop c.loop-entry.entry-index c.args.sorted.now)) c.settle_rising.new.rising
+    (joined c.settle_rising.new.runs.items) (entries_of c.args.sorted.now) c.loop-entry.invariant.same
+    (ap entries_of (drop_all c.loop-entry.entry-index c.args.sorted.now (omega (arith, c.loop-entry-test.false)))) c.in_ok-settle_rising.ensures.ok
+    c.in_ok-settle_rising.ensures.same

@@ -1,7 +1,7 @@
 use Rattle.std.proofs.Common.{◌∷◌, List, ℕ, sym, subst}
 use Rattle.oas_entries.specs.Runs.{SameTotals}
 use Rattle.oas_store.proofs.LooseLemmas.{waiting_first}
-use Rattle.oas_store.proofs.rising.Rising.entries.Goals as goal
+use Rattle.oas_store.proofs.rising.Rising+Vec+u8.entries.Goals as goal
 
 pub returns : goal.returns
 returns c =
