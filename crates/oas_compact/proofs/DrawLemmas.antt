@@ -26,11 +26,11 @@ use Rattle.oas_drawing.specs.declared.drawn.Drawn.{Drawn}
 use Rattle.oas_drawing.specs.declared.drawn.Drawn.TheVariants.{Named, PlacementBy, TextBy}
 use Rattle.oas_drawing.specs.Drawn.{drawn_cmp, weight_so_far}
 use Rattle.oas_drawing.specs.Laws.DrawnLaws.{exact_drawn}
-use Rattle.oas_modal.specs.Counted.{capped}
+use Rattle.oas_names.specs.Weights.{capped}
 use Rattle.oas_modal.specs.Finish.{IsFit}
 use Rattle.oas_modal.specs.Stores.{Draws, IsBegun}
 use Rattle.oas_modal.proofs.StoreLemmas.{draws_none}
-use Rattle.oas_modal.proofs.CountLemmas.{capped_more}
+use Rattle.oas_names.proofs.WeightLemmas.{capped_more}
 use Rattle.oas_compact.specs.Compact.{Compact, is_named, by_key, by_number, IsKey, WaitsMore, compact_store}
 use Rattle.oas_compact.proofs.KeptLemmas.{normal_sound}
 

@@ -15,7 +15,7 @@ use Rattle.oas_keys.specs.Keys.{key_of}
 use Rattle.oas_entries.specs.Entries.{Entry}
 use Rattle.oas_drawing.specs.declared.drawn.Drawn.{Drawn}
 use Rattle.oas_drawing.specs.declared.drawn.Drawn.TheVariants.{Named, PlacementBy, TextBy}
-use Rattle.oas_modal.specs.Meaning.{element_by, elements_meant}
+use Rattle.oas_names.specs.Meaning.{element_by, elements_meant}
 use Rattle.oas_modal.proofs.Alike.{weighed, sum-meant}
 use Rattle.oas_modal.proofs.WeighLemmas.{sum_two}
 use Rattle.oas_compact.specs.Compact.{Compact, by_key, by_number, Keeps, IsKey, AreKeys, Waits}

@@ -16,14 +16,15 @@ use Rattle.oas_num.specs.declared.refusals.Why.TheVariants.{UnknownReference, Du
 use Rattle.oas_drawing.specs.declared.drawn.Drawn.{Drawn}
 use Rattle.oas_drawing.specs.declared.drawn.Drawn.TheVariants.{Named, PlacementBy, TextBy}
 use Rattle.oas_drawing.specs.Drawn.{weight_so_far}
-use Rattle.oas_modal.specs.Names.{name_of}
-use Rattle.oas_modal.specs.References.{cell_by}
-use Rattle.oas_modal.specs.Meaning.{DrawnCell, element_by, elements_meant, with_named, cells_meant, is_unnamed, lacks_name, has_twice, end_reason}
+use Rattle.oas_names.specs.Names.{name_of}
+use Rattle.oas_names.specs.References.{cell_by}
+use Rattle.oas_names.specs.Meaning.{DrawnCell, element_by, elements_meant, with_named, cells_meant, is_unnamed, lacks_name, has_twice, end_reason}
 use Rattle.oas_modal.specs.Finish.{names_held, with_name_held}
 use Rattle.oas_modal.specs.Stores.{HoldCells, bare}
-use Rattle.oas_modal.specs.Counted.{capped, joined, head_weight}
+use Rattle.oas_names.specs.Weights.{capped, joined, head_weight}
 use Rattle.oas_modal.proofs.Alike.{any-sum, weighed, sum-meant}
-use Rattle.oas_modal.proofs.WeighLemmas.{known, some_lack, joined_known, joined_none, sum_two, cell_and, Adding}
+use Rattle.oas_names.proofs.WeightLemmas.{known, some_lack, joined_known, joined_none, Adding}
+use Rattle.oas_modal.proofs.WeighLemmas.{sum_two, cell_and}
 use Rattle.oas_modal.proofs.AcceptLemmas.{first_why, why_lacks, why_known, heavier, lighter}
 use Rattle.oas_compact.specs.Compact.{Compact, by_number, Keeps, Waits, IsCompact, compact_store}
 use Rattle.oas_compact.specs.Weighing.{behind, behind_times, waiting_weight, full_weight, cell_weight, all_weight}

@@ -13,7 +13,7 @@ use Rattle.oas_drawing.specs.declared.drawn.Drawn.{Drawn}
 use Rattle.oas_drawing.specs.declared.drawn.Drawn.TheVariants.{Named, PlacementBy, TextBy}
 use Rattle.oas_drawing.specs.Drawn.{weight_so_far}
 use Rattle.oas_modal.specs.Finish.{IsFit}
-use Rattle.oas_modal.specs.Counted.{capped}
+use Rattle.oas_names.specs.Weights.{capped}
 use Rattle.oas_modal.specs.Stores.{Store}
 
 -- its reference, how many elements its records draw, what they weigh as long as numbers have no names, the keys of those that

@@ -3,9 +3,9 @@ use Rattle.std.specs.Prelude.{ℕ, ◌*◌, List, [], ◌∷◌, length, Option,
 use Rattle.std.specs.Option.{option_map}
 use Rattle.oas_drawing.specs.declared.drawn.Drawn.{Drawn}
 use Rattle.oas_drawing.specs.declared.drawn.Drawn.TheVariants.{Named, PlacementBy, TextBy}
-use Rattle.oas_modal.specs.Names.{name_of}
-use Rattle.oas_modal.specs.References.{cell_by}
-use Rattle.oas_modal.specs.Counted.{capped, joined, head_weight}
+use Rattle.oas_names.specs.Names.{name_of}
+use Rattle.oas_names.specs.References.{cell_by}
+use Rattle.oas_names.specs.Weights.{capped, joined, head_weight}
 use Rattle.oas_compact.specs.Compact.{Compact}
 
 -- the bytes of the name behind a number

@@ -3,7 +3,7 @@
 ghost use Rattle.std.specs.Prelude.{◌≡◌, ◌⊎◌, List, None, Some, OnOk, IfErr};
 ghost use Rattle.std.specs.List.{AllByRecursion};
 ghost use Rattle.oas_num.specs.declared.refusals.Why.TheVariants.{Memory};
-ghost use Rattle.oas_modal.specs.Meaning.{DrawnCell, end_reason};
+ghost use Rattle.oas_names.specs.Meaning.{DrawnCell, end_reason};
 ghost use Rattle.oas_modal.specs.Stores.{HoldCells};
 ghost use Rattle.oas_compact.specs.Compact.{IsCompact, compact_store};
 ghost use Rattle.oas_compact.specs.Weighing.{all_weight};
@@ -11,7 +11,8 @@ ghost use Rattle.oas_compact.specs.Weighing.{all_weight};
 use crate::cells::CompactCell;
 use crate::profiles::KeptBy;
 use oas_layout::Limits;
-use oas_modal::{NameTable, names_twice};
+use oas_modal::names_twice;
+use oas_names::NameTable;
 use oas_num::{Label, Name, Why};
 use std::alloc::Global;
 
@@ -30,7 +31,7 @@ fn all_weight<P: KeptBy>(
     Some(weight)
 }
 
-/// Accepts cells by the tables of the whole file, or refuses them as END does (`end_reason` of oas_modal): by `UnknownReference`
+/// Accepts cells by the tables of the whole file, or refuses them as END does (`end_reason` of oas_names): by `UnknownReference`
 /// where a number has no name, else by `DuplicateCell` where two cells have one name, else by `TooHeavy` where they weigh more
 /// with all names than the limits allow; or for want of memory.
 pub fn accept_cells<P: KeptBy>(

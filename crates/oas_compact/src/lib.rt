@@ -8,7 +8,7 @@
 //!   a placement or a text that stands once is made of the modal name itself, and takes no copy of it.
 //! - It may stand for the lists of which each key is drawn as often, each thing by a number as often, and that weigh as much
 //!   (`Keeps`, specs/Compact.antt). Each of its keys is that of a sound element in the form that the profile keeps (`IsKey`).
-//! - [`accept_cells`] refuses such cells at END exactly where, and by the first reason that, `end_reason` of oas_modal says, or
+//! - [`accept_cells`] refuses such cells at END exactly where, and by the first reason that, `end_reason` of oas_names says, or
 //!   else for want of memory.
 //! - [`CompactCell::into_run`] places what waits by the names of the whole file, and answers the run of the keys of all that is
 //!   meant: of each kept form there are as many as there are elements (`MeansElements`, specs/Placing.antt).

@@ -12,7 +12,7 @@ use crate::chunks::Chunks;
 use crate::short::Short;
 use crate::weighing::both_weights;
 use oas_drawing::Drawn;
-use oas_modal::NameTable;
+use oas_names::NameTable;
 use oas_num::{Label, Name};
 use std::alloc::{AllocError, Global};
 use std::collections::BTreeMap;

@@ -1,15 +1,15 @@
 //! What cells weigh with the names of the whole file.
 
 ghost use Rattle.std.specs.Prelude.{◌≡◌, length};
-ghost use Rattle.oas_modal.specs.Counted.{head_weight, joined};
-ghost use Rattle.oas_modal.specs.References.{cell_by};
+ghost use Rattle.oas_names.specs.Weights.{head_weight, joined};
+ghost use Rattle.oas_names.specs.References.{cell_by};
 ghost use Rattle.oas_compact.specs.Short.{drawn_of, drawn_once};
 ghost use Rattle.oas_compact.specs.Weighing.{behind, behind_times, waiting_weight, full_weight};
 
 use crate::chunks::{Chunk, Chunks};
 use crate::short::Short;
 use oas_drawing::Drawn;
-use oas_modal::{NameTable, cell_meant};
+use oas_names::{NameTable, cell_meant};
 use oas_num::{Label, Name};
 use oas_record::CellRef;
 use std::collections::BTreeMap;

@@ -15,9 +15,9 @@ use Rattle.oas_drawing.specs.declared.kinds.Kind.{Kind}
 use Rattle.oas_drawing.specs.Drawing.{kind_of, repeats, elements_at, drawn_by, place_of, number_if, lacks_repetition}
 use Rattle.oas_drawing.specs.Modal.{ModalState, stepped}
 use Rattle.oas_drawing.specs.Reasons.{first_of, kind_reason, reason_if, is_magnified, is_askew, weight_if, lacks_if, is_on_grid, all_fit}
-use Rattle.oas_modal.specs.declared.names.Numbering.{Numbering}
-use Rattle.oas_modal.specs.Names.{is_mixed, numbering_given, is_other, name_of, cell_names, text_strings, same_string, reason_given, numbering_of, next_number, named}
-use Rattle.oas_modal.specs.Meaning.{DrawnCell, cells_meant, lacks_name, has_twice, end_reason, cells_drawn}
+use Rattle.oas_names.specs.declared.names.Numbering.{Numbering}
+use Rattle.oas_names.specs.Names.{is_mixed, numbering_given, is_other, name_of, cell_names, text_strings, same_string, reason_given, numbering_of, next_number, named}
+use Rattle.oas_names.specs.Meaning.{DrawnCell, cells_meant, lacks_name, has_twice, end_reason, cells_drawn}
 use Rattle.oas_modal.specs.Standing.{Standing, cell_weight, element_reason}
 use Rattle.oas_modal.specs.Stands.{seen, refused_after, refusal, end_refusal}
 use Rattle.oas_file.specs.Reading.{decides, is_of_file}

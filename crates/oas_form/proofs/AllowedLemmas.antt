@@ -30,8 +30,8 @@ use Rattle.oas_drawing.specs.Modal.{ModalState, modal_of, stepped}
 use Rattle.oas_drawing.specs.Drawn.{weight_so_far}
 use Rattle.oas_drawing.specs.Drawing.{drawn_at, elements_at}
 use Rattle.oas_drawing.specs.Reasons.{first_of, weight_if, lacks_if, is_on_grid, fits_if, draw_reason}
-use Rattle.oas_modal.specs.Names.{named, cell_names, text_strings, same_string}
-use Rattle.oas_modal.specs.Meaning.{is_unnamed, lacks_name, has_twice, end_reason}
+use Rattle.oas_names.specs.Names.{named, cell_names, text_strings, same_string}
+use Rattle.oas_names.specs.Meaning.{is_unnamed, lacks_name, has_twice, end_reason}
 use Rattle.oas_modal.specs.Standing.{element_reason}
 use Rattle.oas_modal.specs.Stands as stands
 use Rattle.oas_modal.specs.Stands.{is_in_cell, number_drawn, weight_so_far_of, seen, refused_after}

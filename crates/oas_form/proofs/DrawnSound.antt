@@ -20,9 +20,9 @@ use Rattle.oas_drawing.specs.declared.drawn.Drawn.{Drawn}
 use Rattle.oas_drawing.specs.declared.drawn.Drawn.TheVariants.{Named, PlacementBy, TextBy}
 use Rattle.oas_drawing.specs.declared.kinds.Kind.TheVariants.{Placement, Text, Rectangle, Polygon, Path, Circle}
 use Rattle.oas_drawing.specs.Drawing.{elements_at}
-use Rattle.oas_modal.specs.Names.{cell_names, text_strings, name_of, named}
-use Rattle.oas_modal.specs.References.{cell_by}
-use Rattle.oas_modal.specs.Meaning.{DrawnCell, element_by, with_element, elements_meant, with_named, cells_meant, has_twice, in_last, cells_drawn}
+use Rattle.oas_names.specs.Names.{cell_names, text_strings, name_of, named}
+use Rattle.oas_names.specs.References.{cell_by}
+use Rattle.oas_names.specs.Meaning.{DrawnCell, element_by, with_element, elements_meant, with_named, cells_meant, has_twice, in_last, cells_drawn}
 use Rattle.oas_modal.specs.Stands as stands
 use Rattle.oas_modal.specs.Stands.{number_drawn, records_mean}
 use Rattle.oas_modal.proofs.TakeLemmas.{all_append}

@@ -24,7 +24,7 @@ use Rattle.oas_drawing.specs.Drawing.{kind_of, repeats, place_of, point_from, dr
 use Rattle.oas_drawing.specs.Drawn.{weight_so_far}
 use Rattle.oas_drawing.specs.Reasons.{first_of, weight_if, lacks_if, fits_if, kind_reason, all_fit, reason_if, draw_reason}
 use Rattle.oas_drawing.proofs.Steps.{modal_step}
-use Rattle.oas_modal.specs.Names.{cell_names, text_strings, same_string, name_reason}
+use Rattle.oas_names.specs.Names.{cell_names, text_strings, same_string, name_reason}
 use Rattle.oas_modal.specs.Finish.{IsFit}
 use Rattle.oas_modal.specs.Standing.{element_reason}
 use Rattle.oas_modal.specs.Stands as stands

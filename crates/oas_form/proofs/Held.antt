@@ -18,7 +18,7 @@ use Rattle.oas_layout.specs.Grid.{fits_grid}
 use Rattle.oas_layout.specs.Sound.{Fits, IsSound, IsUnit}
 use Rattle.oas_layout.specs.Meaning.{Meaning, SameLayout, cells_weight}
 use Rattle.oas_drawing.specs.Reasons.{first_of}
-use Rattle.oas_modal.specs.Meaning.{has_twice}
+use Rattle.oas_names.specs.Meaning.{has_twice}
 use Rattle.oas_modal.specs.Stands.{records_mean}
 use Rattle.oas_file.specs.Laws.FileLaws.{one_reading, means_one}
 use Rattle.oas_file.specs.Laws.FileLaws as file

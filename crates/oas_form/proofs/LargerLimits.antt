@@ -16,8 +16,8 @@ use Rattle.oas_drawing.specs.declared.kinds.Kind.{Kind}
 use Rattle.oas_drawing.specs.Modal.{ModalState, stepped}
 use Rattle.oas_drawing.specs.Drawing.{kind_of, repeats, place_of, drawn_by, number_if, lacks_repetition, elements_at}
 use Rattle.oas_drawing.specs.Reasons.{first_of, is_magnified, is_askew, weight_if, lacks_if, is_on_grid, kind_reason, all_fit, reason_if, draw_reason}
-use Rattle.oas_modal.specs.Names.{cell_names, text_strings, named}
-use Rattle.oas_modal.specs.Meaning.{DrawnCell, cells_drawn, cells_meant, lacks_name, has_twice, end_reason}
+use Rattle.oas_names.specs.Names.{cell_names, text_strings, named}
+use Rattle.oas_names.specs.Meaning.{DrawnCell, cells_drawn, cells_meant, lacks_name, has_twice, end_reason}
 use Rattle.oas_modal.specs.Standing.{Standing, cell_weight, element_reason}
 use Rattle.oas_modal.specs.Stands as stands
 use Rattle.oas_modal.specs.Stands.{weight_so_far_of, seen, refused_after}

@@ -28,8 +28,8 @@ use Rattle.oas_drawing.specs.Turns.{turned}
 use Rattle.oas_drawing.specs.Modal.{ModalState, modal_of, moved_by, stepped}
 use Rattle.oas_drawing.specs.Drawing.{point_from, drawn_at, offsets_of, copies_at, elements_at}
 use Rattle.oas_drawing.proofs.Steps.{modal_step}
-use Rattle.oas_modal.specs.Names.{named, cell_names, text_strings}
-use Rattle.oas_modal.specs.Meaning.{DrawnCell, elements_meant, cells_meant, in_last, cells_drawn}
+use Rattle.oas_names.specs.Names.{named, cell_names, text_strings}
+use Rattle.oas_names.specs.Meaning.{DrawnCell, elements_meant, cells_meant, in_last, cells_drawn}
 use Rattle.oas_form.specs.Records.{Cells, spot_at, element_record, line_of, records_of, steps_from}
 use Rattle.oas_form.specs.RecordMeaning.{HavePoints, RecordsSplit, CanonicalMeans}
 

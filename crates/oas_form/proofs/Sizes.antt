@@ -28,8 +28,8 @@ use Rattle.oas_layout.specs.Laws.ContentsLaws.{length-items-with_more, weight-wi
 use Rattle.oas_layout.proofs.LawProofs.{symmetric, transitive}
 use Rattle.oas_layout.proofs.Order.{IsBag-empty, IsBag-put_more}
 use Rattle.oas_layout.proofs.Sealed.{name_cmp}
-use Rattle.oas_modal.specs.Names.{same_string}
-use Rattle.oas_modal.specs.Meaning.{has_twice}
+use Rattle.oas_names.specs.Names.{same_string}
+use Rattle.oas_names.specs.Meaning.{has_twice}
 use Rattle.oas_form.specs.Records.{Cells}
 use Rattle.oas_form.specs.Canonical.{IsOrdered}
 use Rattle.oas_form.specs.Layouts.{SameCount, SameWeight, LeastWeight}

@@ -6,7 +6,7 @@ use Rattle.oas_layout.specs.declared.profile.Profile.{Profile}
 use Rattle.oas_layout.specs.declared.profile.Profile.TheVariants.{One}
 use Rattle.oas_layout.specs.Meaning.{Meaning, SameLayout, element_count, cells_weight}
 use Rattle.oas_layout.specs.Contents.{Contents, IsLayout, expanded, meaning_of}
-use Rattle.oas_modal.specs.Meaning.{has_twice}
+use Rattle.oas_names.specs.Meaning.{has_twice}
 use Rattle.oas_file.specs.Acceptance.{Accepted, Means}
 use Rattle.oas_form.specs.Canonical.{IsOrdered, CanonicalForm, IsCanonicalOf}
 use Rattle.oas_form.specs.Bytes.{canonical_bytes}

@@ -13,7 +13,7 @@ use Rattle.oas_layout.specs.declared.limits.Limits.{Limits}
 use Rattle.oas_layout.specs.Grid.{fits_grid}
 use Rattle.oas_layout.specs.Weight.{lacks_points}
 use Rattle.oas_layout.specs.Meaning.{element_count, cells_weight}
-use Rattle.oas_modal.specs.Meaning.{has_twice}
+use Rattle.oas_names.specs.Meaning.{has_twice}
 use Rattle.oas_modal.specs.Stands.{records_mean}
 use Rattle.oas_file.specs.Files.{FileIn}
 use Rattle.oas_file.specs.Acceptance.{Allowed, IsWhole}

@@ -12,12 +12,13 @@ use Rattle.oas_layout.specs.declared.limits.Limits.{Limits}
 use Rattle.oas_layout.specs.Meaning.{cells_weight}
 use Rattle.oas_drawing.specs.Drawing.{elements_at}
 use Rattle.oas_modal.specs.declared.parts.Parts.{Parts}
-use Rattle.oas_modal.specs.Names.{named, cell_names, text_strings}
-use Rattle.oas_modal.specs.References.{cell_by}
-use Rattle.oas_modal.specs.Meaning.{DrawnCell, elements_meant, with_named, cells_meant, lacks_name, has_twice, end_reason, cells_drawn}
+use Rattle.oas_names.specs.Names.{named, cell_names, text_strings}
+use Rattle.oas_names.specs.References.{cell_by}
+use Rattle.oas_names.specs.Meaning.{DrawnCell, elements_meant, with_named, cells_meant, lacks_name, has_twice, end_reason, cells_drawn}
 use Rattle.oas_modal.specs.Finish.{names_held, with_name_held}
 use Rattle.oas_modal.specs.Stores.{HoldCells, bare}
-use Rattle.oas_modal.specs.Counted.{Counted, capped, AllUsed, counted_store, all_weight}
+use Rattle.oas_names.specs.Weights.{capped, AllUsed}
+use Rattle.oas_modal.specs.Counted.{Counted, counted_store, all_weight}
 use Rattle.oas_modal.specs.Parts.{cells}
 use Rattle.oas_modal.specs.Stands.{ReaderState, StandsFor, end_refusal}
 use Rattle.oas_modal.proofs.WeighLemmas.{all_known}

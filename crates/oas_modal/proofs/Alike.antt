@@ -13,8 +13,8 @@ use Rattle.oas_layout.specs.Same.{same_element}
 use Rattle.oas_layout.specs.Weight.{weight_of}
 use Rattle.oas_layout.specs.Meaning.{elements_of, count_of, cells_weight}
 use Rattle.oas_drawing.specs.declared.drawn.Drawn.{Drawn}
-use Rattle.oas_modal.specs.References.{cell_by}
-use Rattle.oas_modal.specs.Meaning.{DrawnCell, element_by, with_element, elements_meant, with_named, cells_meant, is_unnamed, cell_lacks, lacks_name, has_twice}
+use Rattle.oas_names.specs.References.{cell_by}
+use Rattle.oas_names.specs.Meaning.{DrawnCell, element_by, with_element, elements_meant, with_named, cells_meant, is_unnamed, cell_lacks, lacks_name, has_twice}
 use Rattle.oas_modal.specs.Alike.{SameDrawn, AlikeCells, AlikeMeanings}
 
 -- a test passes where the sum of those that pass is above 0

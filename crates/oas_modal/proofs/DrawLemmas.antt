@@ -17,12 +17,12 @@ use Rattle.oas_drawing.specs.declared.kinds.Kind.{Kind}
 use Rattle.oas_drawing.specs.Positions.{IsNear}
 use Rattle.oas_drawing.specs.declared.positions.Position.{Position}
 use Rattle.oas_drawing.specs.Modal.{ModalState, stepped}
-use Rattle.oas_modal.specs.Names.{cell_names, text_strings}
+use Rattle.oas_names.specs.Names.{cell_names, text_strings}
 use Rattle.oas_drawing.specs.Drawn.{weight_so_far}
 use Rattle.oas_drawing.specs.Drawing.{kind_of, drawn_by, place_of, offset_if, number_if, lacks_repetition}
 use Rattle.oas_drawing.specs.Reasons.{is_magnified, is_askew, weight_if, lacks_if, fault_of, kind_reason}
 use Rattle.oas_modal.specs.Finish.{IsFit}
-use Rattle.oas_modal.specs.Meaning.{DrawnCell, in_last}
+use Rattle.oas_names.specs.Meaning.{DrawnCell, in_last}
 use Rattle.oas_modal.specs.Standing.{Standing, drawn_of, weight_with, open_after, element_reason, reason, drawn_after}
 use Rattle.oas_modal.specs.Copying.{first_copies}
 use Rattle.oas_drawing.proofs.Copies.{drawn_defined}

@@ -21,7 +21,7 @@ use Rattle.oas_drawing.specs.declared.drawn.Drawn.{Drawn}
 use Rattle.oas_drawing.specs.declared.drawn.Drawn.TheVariants.{Named, PlacementBy, TextBy}
 use Rattle.oas_drawing.specs.Drawn.{drawn_cmp, drawn_fits, drawn_lacks_points}
 use Rattle.oas_drawing.specs.Laws.DrawnLaws.{derived_cmp, drawn_total}
-use Rattle.oas_modal.specs.Meaning.{is_unnamed}
+use Rattle.oas_names.specs.Meaning.{is_unnamed}
 use Rattle.oas_modal.specs.Finish.{AllFit, IsFit}
 use Rattle.oas_modal.specs.Held.{Held, IsHeld, IsSplit, with_drawn, is_early, as_drawn}
 

@@ -18,9 +18,9 @@ use Rattle.oas_layout.specs.Meaning.{element_count}
 use Rattle.oas_layout.specs.Contents.{Cell, Contents, names, expanded, cells_with_more, added, refusal}
 use Rattle.oas_drawing.specs.declared.drawn.Drawn.{Drawn}
 use Rattle.oas_drawing.specs.declared.drawn.Drawn.TheVariants.{Named, PlacementBy, TextBy}
-use Rattle.oas_modal.specs.Names.{name_of}
+use Rattle.oas_names.specs.Names.{name_of}
 use Rattle.oas_drawing.specs.Drawn.{drawn_fits, drawn_lacks_points}
-use Rattle.oas_modal.specs.Meaning.{element_by}
+use Rattle.oas_names.specs.Meaning.{element_by}
 use Rattle.oas_modal.specs.Finish.{IsFit, AllFit, with_counted, counted_meant, given}
 use Rattle.oas_modal.proofs.FillLemmas.{length-with_more, refused_many}
 

@@ -18,11 +18,11 @@ use Rattle.oas_layout.specs.declared.profile.Profile.{Profile}
 use Rattle.oas_layout.specs.Plain.{plain_refusal, with_plain, weight_with}
 use Rattle.oas_layout.specs.Same.{IsNormal}
 use Rattle.oas_drawing.specs.declared.drawn.Drawn.{Drawn}
-use Rattle.oas_modal.specs.Names.{same_string}
-use Rattle.oas_modal.specs.References.{cell_by}
+use Rattle.oas_names.specs.Names.{same_string}
+use Rattle.oas_names.specs.References.{cell_by}
 use Rattle.oas_drawing.specs.declared.drawn.Drawn.TheVariants.{Named}
 use Rattle.oas_modal.specs.Held.{Held, IsSplit, is_early, as_drawn}
-use Rattle.oas_modal.specs.Meaning.{has_twice}
+use Rattle.oas_names.specs.Meaning.{has_twice}
 use Rattle.oas_modal.specs.Finish.{AllFit, counted_meant, with_counted_cell, held_meant, names_held, with_name_held, IsFresh, drawn_cells, drawn_total, given, with_all}
 use Rattle.oas_modal.proofs.MeaningLemmas.{counted_length}
 use Rattle.oas_modal.proofs.EarlyLemmas.{early_normal, both_count}

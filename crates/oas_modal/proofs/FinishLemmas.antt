@@ -20,9 +20,9 @@ use Rattle.oas_drawing.specs.declared.drawn.Drawn.TheVariants.{Named, PlacementB
 use Rattle.oas_modal.specs.declared.parts.Parts.{Parts}
 use Rattle.oas_drawing.specs.Drawing.{elements_at}
 use Rattle.oas_drawing.specs.Reasons.{first_of}
-use Rattle.oas_modal.specs.Names.{name_of, named, cell_names, text_strings}
-use Rattle.oas_modal.specs.References.{cell_by}
-use Rattle.oas_modal.specs.Meaning.{DrawnCell, element_by, with_element, elements_meant, with_named, cells_meant, meaning_by, lacks_name, has_twice, end_reason, cells_drawn}
+use Rattle.oas_names.specs.Names.{name_of, named, cell_names, text_strings}
+use Rattle.oas_names.specs.References.{cell_by}
+use Rattle.oas_names.specs.Meaning.{DrawnCell, element_by, with_element, elements_meant, with_named, cells_meant, meaning_by, lacks_name, has_twice, end_reason, cells_drawn}
 use Rattle.oas_modal.specs.Held.{Held}
 use Rattle.oas_modal.specs.Finish.{drawn_cells, IsWithinLimits}
 use Rattle.oas_modal.specs.Stores.{held_store}

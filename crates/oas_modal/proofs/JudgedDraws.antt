@@ -13,11 +13,11 @@ use Rattle.oas_drawing.specs.declared.kinds.Kind.{Kind}
 use Rattle.oas_modal.specs.declared.parts.Parts.{Parts}
 use Rattle.oas_drawing.specs.Positions.{IsNear}
 use Rattle.oas_drawing.specs.Modal.{ModalState, stepped}
-use Rattle.oas_modal.specs.Names.{cell_names, text_strings, with_name, table_reason, same_string}
+use Rattle.oas_names.specs.Names.{cell_names, text_strings, with_name, table_reason, same_string}
 use Rattle.oas_drawing.specs.Drawn.{weight_so_far}
 use Rattle.oas_drawing.specs.Drawing.{kind_of, repeats, drawn_by, place_of, offset_if, number_if}
 use Rattle.oas_drawing.specs.Reasons.{first_of, weight_if, fault_of, kind_reason, all_fit, reason_if, draw_reason}
-use Rattle.oas_modal.specs.Meaning.{DrawnCell}
+use Rattle.oas_names.specs.Meaning.{DrawnCell}
 use Rattle.oas_modal.specs.Stores.{Store, Draws, total_count, HoldCells}
 use Rattle.oas_modal.specs.Standing.{drawn_of, weight_with, open_after, MayWant, drawn_after}
 use Rattle.oas_modal.specs.Parts.{standing, cells, reason_of, Sound, Took}

@@ -1,9 +1,5 @@
 pub mod HeldLemmas
 pub mod EarlyLemmas
-pub mod NamesInOrder
-pub mod NameTables
-pub mod NameLemmas
-pub mod ReferenceLemmas
 pub mod MeaningLemmas
 pub mod FillLemmas
 pub mod Filling

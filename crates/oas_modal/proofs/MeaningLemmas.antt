@@ -14,9 +14,9 @@ use Rattle.oas_layout.specs.Bag.{items}
 use Rattle.oas_layout.specs.Contents.{expanded}
 use Rattle.oas_layout.specs.Meaning.{element_count, cells_weight}
 use Rattle.oas_drawing.specs.declared.drawn.Drawn.{Drawn}
-use Rattle.oas_modal.specs.References.{cell_by}
+use Rattle.oas_names.specs.References.{cell_by}
 use Rattle.oas_modal.specs.Held.{Held}
-use Rattle.oas_modal.specs.Meaning.{element_by, with_element, elements_meant, with_named, cells_meant, is_unnamed, cell_lacks, lacks_name, has_twice, end_reason}
+use Rattle.oas_names.specs.Meaning.{element_by, with_element, elements_meant, with_named, cells_meant, is_unnamed, cell_lacks, lacks_name, has_twice, end_reason}
 use Rattle.oas_modal.specs.Finish.{drawn_cells, drawn_total, with_counted, counted_meant, with_counted_cell, held_meant, names_held, with_name_held}
 
 -- so many of an element, where there is one

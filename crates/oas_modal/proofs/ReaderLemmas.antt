@@ -11,13 +11,13 @@ use Rattle.oas_layout.specs.declared.limits.Limits.{Limits}
 use Rattle.oas_modal.specs.declared.parts.Parts.{Parts}
 use Rattle.oas_drawing.specs.Modal.{modal_of}
 use Rattle.oas_drawing.specs.Drawing.{elements_at}
-use Rattle.oas_modal.specs.Names.{Table, NamesStand, cell_names, text_strings, same_string, table_reason, name_reason}
-use Rattle.oas_modal.specs.Meaning.{DrawnCell, cells_drawn}
+use Rattle.oas_names.specs.Names.{Table, NamesStand, cell_names, text_strings, same_string, table_reason, name_reason}
+use Rattle.oas_names.specs.Meaning.{DrawnCell, cells_drawn}
 use Rattle.oas_modal.specs.Standing.{Standing, took, reason, MayWant, drawn_after}
 use Rattle.oas_modal.specs.Stores.{Store, HoldCells}
 use Rattle.oas_modal.specs.Stands.{seen, refused_after, refusal, ReaderState, StandsFor}
 use Rattle.oas_modal.specs.Parts.{standing, cells, reason_of, Took}
-use Rattle.oas_modal.proofs.NameTables.{same_reason, one_more}
+use Rattle.oas_names.proofs.NameTables.{same_reason, one_more}
 use Rattle.oas_modal.proofs.StandingSteps.{seen_step}
 
 -- ---- what is drawn

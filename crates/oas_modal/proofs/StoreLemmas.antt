@@ -13,7 +13,7 @@ use Rattle.oas_drawing.specs.declared.drawn.Drawn.{Drawn}
 use Rattle.oas_drawing.specs.Drawn.{drawn_cmp}
 use Rattle.oas_drawing.specs.Laws.DrawnLaws.{exact_drawn}
 use Rattle.oas_modal.specs.Held.{Held, with_drawn}
-use Rattle.oas_modal.specs.Meaning.{DrawnCell, in_last}
+use Rattle.oas_names.specs.Meaning.{DrawnCell, in_last}
 use Rattle.oas_modal.specs.Alike.{SameDrawn, AlikeCells}
 use Rattle.oas_modal.specs.Finish.{IsFit, AllFit, drawn_cells, drawn_total}
 use Rattle.oas_modal.specs.Stores.{Store, Draws, IsBegun, total_count, HoldCells, held_store}

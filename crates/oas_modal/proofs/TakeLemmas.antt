@@ -10,8 +10,8 @@ use Rattle.oas_record.specs.declared.records.Record.TheVariants as record_of
 use Rattle.oas_modal.specs.declared.parts.Parts.{Parts}
 use Rattle.oas_drawing.specs.Positions.{IsWithin, IsNear}
 use Rattle.oas_drawing.specs.Modal.{ModalState, stepped, origin}
-use Rattle.oas_modal.specs.Names.{Table, with_name}
-use Rattle.oas_modal.specs.Meaning.{DrawnCell, in_last}
+use Rattle.oas_names.specs.Names.{Table, with_name}
+use Rattle.oas_names.specs.Meaning.{DrawnCell, in_last}
 use Rattle.oas_modal.specs.Standing.{Standing, cell_weight}
 use Rattle.oas_modal.specs.Stores.{Store, IsBegun, total_count, HoldCells}
 use Rattle.oas_modal.specs.Parts.{standing, cells, Sound, Took}

@@ -7,10 +7,10 @@ use Rattle.std.specs.Ordering.{nat_cmp}
 use Rattle.std.specs.declared.cmp.Ordering.{Ordering}
 use Rattle.std.specs.Cmp.Lexicographic.{slice_cmp, nat_list_eq_equiv}
 use Rattle.std.proofs.lemmas.List.Folds.{list_any-append}
-use Rattle.oas_modal.specs.Names.{same_string}
-use Rattle.oas_modal.specs.References.{cell_by}
+use Rattle.oas_names.specs.Names.{same_string}
+use Rattle.oas_names.specs.References.{cell_by}
 use Rattle.oas_modal.specs.Held.{Held}
-use Rattle.oas_modal.specs.Meaning.{has_twice}
+use Rattle.oas_names.specs.Meaning.{has_twice}
 use Rattle.oas_modal.specs.Finish.{names_held, with_name_held}
 use Rattle.oas_modal.specs.Stores.{Store, bare, held_store}
 

@@ -1,6 +1,5 @@
 -- What is counted of a CELL, where none of its elements is kept.
-use Rattle.std.specs.Prelude.{◌≡◌, ℕ, ◌+◌, ◌*◌, ◌<◌, ◌≤◌, ◌-◌, ◌^◌, min, List, [], ◌∷◌, length, sum_by, Option, None, Some}
-use Rattle.std.specs.List.{AllByRecursion}
+use Rattle.std.specs.Prelude.{◌≡◌, ℕ, ◌+◌, ◌*◌, ◌≤◌, List, [], ◌∷◌, sum_by, Option, Some}
 use Rattle.std.specs.List.Sorted.{IsStrictlySortedBy}
 use Rattle.std.specs.Map.{keys_of}
 use Rattle.std.specs.Ordering.{nat_cmp}
@@ -10,8 +9,8 @@ use Rattle.oas_layout.specs.Laws.BagLaws.{total}
 use Rattle.oas_drawing.specs.declared.drawn.Drawn.{Drawn}
 use Rattle.oas_drawing.specs.declared.drawn.Drawn.TheVariants.{Named, PlacementBy, TextBy}
 use Rattle.oas_drawing.specs.Drawn.{weight_so_far}
-use Rattle.oas_modal.specs.Names.{name_of}
-use Rattle.oas_modal.specs.References.{cell_by}
+use Rattle.oas_names.specs.References.{cell_by}
+use Rattle.oas_names.specs.Weights.{AllUsed, capped, joined, names_weight, head_weight}
 use Rattle.oas_modal.specs.Stores.{Store}
 
 -- its reference, how many elements its records draw, what they weigh as long as numbers have no names, and how often each
@@ -22,10 +21,6 @@ pub record Counted : Type 0 where
   pub weight : ℕ
   pub placed : List (ℕ × ℕ)
   pub written : List (ℕ × ℕ)
-
--- a weight, as far as 64 bits tell it: it is more than any limits allow where it isn't exact
-abbrev pub capped : ℕ → ℕ
-capped n = min n (2 ^ 64 - 1)
 
 -- what a number counts for, where a cell is placed by it
 abbrev pub placed_by : (ℕ → ℕ) → Drawn → ℕ
@@ -44,10 +39,6 @@ pub record CountsThese (c : Counted) (ds : List Drawn) : Type 0 where
   pub weight : c.weight ≡ capped (sum_by weight_so_far ds)
   pub placed : (f : ℕ → ℕ) → total f c.placed ≡ sum_by (placed_by f) ds
   pub written : (f : ℕ → ℕ) → total f c.written ≡ sum_by (written_by f) ds
-
--- each number is used at least once
-abbrev pub AllUsed : List (ℕ × ℕ) → Type 0
-AllUsed ps = AllByRecursion (λ p. 0 < p.1) ps
 
 -- what is counted of a cell: it stands for all lists of which each number is used as often, and that weigh as much
 abbrev pub counted_store : Store Counted
@@ -87,27 +78,6 @@ counted_more c d n =
     }
 
 -- ---- the weight with all names; None where a number has no name
-
--- two weights together
-abbrev pub joined : Option ℕ → Option ℕ → Option ℕ
-joined None b = None
-joined (Some a) None = None
-joined (Some a) (Some b) = Some (capped (a + b))
-
--- so many times a name
-abbrev pub name_weight : Option (List ℕ) → ℕ → Option ℕ
-name_weight None n = None
-name_weight (Some name) n = Some (capped (n * length name))
-
--- the names of numbers, each as often as it is used
-abbrev pub names_weight : List (ℕ × List ℕ) → List (ℕ × ℕ) → Option ℕ
-names_weight names [] = Some 0
-names_weight names (p ∷ ps) = joined (name_weight (name_of names p.0) p.1) (names_weight names ps)
-
--- a cell without its elements
-abbrev pub head_weight : Option (List ℕ) → Option ℕ
-head_weight None = None
-head_weight (Some name) = Some (capped (1 + length name))
 
 -- a cell
 abbrev pub counted_weight : List (ℕ × List ℕ) → List (ℕ × List ℕ) → Counted → Option ℕ

@@ -7,9 +7,9 @@ use Rattle.oas_layout.specs.Bag.{items}
 use Rattle.oas_layout.specs.Contents.{Cell, Contents, with_cell, added, has_cell}
 use Rattle.oas_drawing.specs.declared.drawn.Drawn.{Drawn}
 use Rattle.oas_drawing.specs.Drawn.{drawn_fits, drawn_lacks_points}
-use Rattle.oas_modal.specs.References.{cell_by}
+use Rattle.oas_names.specs.References.{cell_by}
 use Rattle.oas_modal.specs.Held.{Held}
-use Rattle.oas_modal.specs.Meaning.{DrawnCell, element_by}
+use Rattle.oas_names.specs.Meaning.{DrawnCell, element_by}
 
 -- what is held, each thing as often as it was drawn
 abbrev pub drawn_cells : List Held → List DrawnCell

@@ -1,3 +1,2 @@
 -- What follows of the definitions. Nothing here has to be believed.
-pub mod NameLaws
 pub mod StoreLaws

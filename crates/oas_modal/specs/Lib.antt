@@ -1,8 +1,4 @@
 pub mod Held
-pub mod Names
-pub mod NamesInOrder
-pub mod References
-pub mod Meaning
 pub mod Finish
 pub mod Alike
 pub mod Stores

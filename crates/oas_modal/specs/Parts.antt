@@ -6,8 +6,8 @@ use Rattle.oas_num.specs.declared.refusals.Why.{Why}
 use Rattle.oas_record.specs.declared.records.Record.{Record}
 use Rattle.oas_modal.specs.declared.parts.Parts.{Parts}
 use Rattle.oas_drawing.specs.Positions.{IsNear}
-use Rattle.oas_modal.specs.Names.{cell_names, text_strings, same_string, table_reason, with_name}
-use Rattle.oas_modal.specs.Meaning.{DrawnCell}
+use Rattle.oas_names.specs.Names.{cell_names, text_strings, same_string, table_reason, with_name}
+use Rattle.oas_names.specs.Meaning.{DrawnCell}
 use Rattle.oas_modal.specs.Stores.{Store, total_count, HoldCells}
 use Rattle.oas_modal.specs.Standing.{Standing, took, reason, drawn_after}
 

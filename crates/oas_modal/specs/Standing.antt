@@ -13,7 +13,7 @@ use Rattle.oas_drawing.specs.Modal.{ModalState, stepped}
 use Rattle.oas_drawing.specs.Drawn.{weight_so_far}
 use Rattle.oas_drawing.specs.Drawing.{copies_at, offsets_of}
 use Rattle.oas_drawing.specs.Reasons.{first_of, draw_reason}
-use Rattle.oas_modal.specs.Meaning.{DrawnCell, in_last}
+use Rattle.oas_names.specs.Meaning.{DrawnCell, in_last}
 
 -- the modal variables, whether a cell is open, how many elements there are, and what all weighs
 pub record Standing : Type 0 where

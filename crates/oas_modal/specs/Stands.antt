@@ -9,8 +9,8 @@ use Rattle.oas_layout.specs.declared.profile.Profile.{Profile}
 use Rattle.oas_layout.specs.Meaning.{Meaning}
 use Rattle.oas_drawing.specs.Modal.{modal_of}
 use Rattle.oas_drawing.specs.Drawing.{elements_at}
-use Rattle.oas_modal.specs.Names.{Table, NamesStand, cell_names, text_strings, same_string, name_reason, named}
-use Rattle.oas_modal.specs.Meaning.{meaning_by, end_reason, cells_drawn}
+use Rattle.oas_names.specs.Names.{Table, NamesStand, cell_names, text_strings, same_string, name_reason, named}
+use Rattle.oas_names.specs.Meaning.{meaning_by, end_reason, cells_drawn}
 use Rattle.oas_modal.specs.Stores.{Store, HoldCells}
 use Rattle.oas_modal.specs.Standing.{Standing, open_after, weight_with, reason}
 

@@ -3,7 +3,7 @@ use Rattle.std.specs.Prelude.{◌≡◌, ℕ, ◌+◌, List, [], ◌∷◌, ◌+
 use Rattle.oas_record.specs.declared.references.CellRef.{CellRef}
 use Rattle.oas_layout.specs.Bag.{items}
 use Rattle.oas_drawing.specs.declared.drawn.Drawn.{Drawn}
-use Rattle.oas_modal.specs.Meaning.{DrawnCell}
+use Rattle.oas_names.specs.Meaning.{DrawnCell}
 use Rattle.oas_modal.specs.Held.{Held}
 use Rattle.oas_modal.specs.Alike.{SameDrawn}
 use Rattle.oas_modal.specs.Finish.{AllFit}

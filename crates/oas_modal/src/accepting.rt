@@ -3,19 +3,19 @@
 ghost use Rattle.std.specs.Prelude.{◌≡◌, ◌⊎◌, List, None, Some, OnOk, IfErr};
 ghost use Rattle.std.specs.List.{AllByRecursion};
 ghost use Rattle.oas_num.specs.declared.refusals.Why.TheVariants.{Memory};
-ghost use Rattle.oas_modal.specs.Meaning.{DrawnCell, end_reason};
-ghost use Rattle.oas_modal.specs.References.{cell_by};
+ghost use Rattle.oas_names.specs.Meaning.{DrawnCell, end_reason};
+ghost use Rattle.oas_names.specs.References.{cell_by};
+ghost use Rattle.oas_names.specs.Weights.{AllUsed, joined, head_weight, names_weight};
 ghost use Rattle.oas_modal.specs.Stores.{HoldCells};
-ghost use Rattle.oas_modal.specs.Counted.{AllUsed, counted_store, joined, head_weight, names_weight, counted_weight, all_weight};
+ghost use Rattle.oas_modal.specs.Counted.{counted_store, counted_weight, all_weight};
 ghost use Rattle.oas_modal.specs.Parts.{Sound, cells};
 
-use crate::counted::{CountedCell, UsedNumbers};
+use crate::counted::CountedCell;
 use crate::finishing::names_twice;
-use crate::names::{NameTable, cell_meant};
 use crate::parts::{Parts, all_cells};
 use oas_layout::Limits;
+use oas_names::{NameTable, cell_meant, cells_weight, strings_weight};
 use oas_num::{Label, Name, Why};
-use oas_record::CellRef;
 use std::alloc::Global;
 
 /// Accepts what is counted: exactly what END doesn't refuse.
@@ -101,28 +101,4 @@ fn counted_weight(
     let written = strings_weight(written, strings)?;
     let drawn = weight.saturating_add(placed.saturating_add(written));
     Some(head.saturating_add(drawn))
-}
-
-/// The bytes of the names of cells that are placed by number.
-fn cells_weight(used: UsedNumbers, names: &NameTable<Name>) -> Option<u64>
-    ensures { result ≡ names_weight names.now.named used }
-{
-    let mut weight = 0u64;
-    for (number, times) in used.times {
-        let bytes = names.get(number)?.as_bytes().len() as u64;
-        weight = weight.saturating_add(times.saturating_mul(bytes));
-    }
-    Some(weight)
-}
-
-/// The bytes of the text strings that are written by number.
-fn strings_weight(used: UsedNumbers, strings: &NameTable<Label>) -> Option<u64>
-    ensures { result ≡ names_weight strings.now.named used }
-{
-    let mut weight = 0u64;
-    for (number, times) in used.times {
-        let bytes = strings.get(number)?.as_bytes().len() as u64;
-        weight = weight.saturating_add(times.saturating_mul(bytes));
-    }
-    Some(weight)
 }

@@ -1,11 +1,6 @@
 //! What is counted of a CELL, where none of its elements is kept.
 
-ghost use Rattle.std.specs.Prelude.{◌≡◌, ◌+◌, ◌<◌, ◌^◌, [], unwrap_or, OnOk, OnErr};
-ghost use Rattle.std.specs.Map.{lookup};
-ghost use Rattle.std.specs.BTreeMap.{is_at};
-ghost use Rattle.std.specs.Ordering.{nat_cmp};
-ghost use Rattle.oas_layout.specs.Bag.{put_more};
-ghost use Rattle.oas_layout.specs.Laws.BagLaws.{total};
+ghost use Rattle.std.specs.Prelude.{◌≡◌, ◌+◌, ◌<◌, ◌^◌, [], OnOk, OnErr};
 ghost use Rattle.oas_drawing.specs.Named.{drawn_once};
 ghost use Rattle.oas_modal.specs.Counted.{counted_store, placed_more, written_more};
 ghost use Rattle.oas_modal.specs.Laws.StoreLaws.{counted_in_any_order};
@@ -13,42 +8,10 @@ ghost use Rattle.oas_modal.specs.Laws.StoreLaws.{counted_in_any_order};
 use crate::copying::weight_so_far;
 use crate::stores::CellStore;
 use oas_drawing::{Drawn, DrawnOnce};
+use oas_names::UsedNumbers;
 use oas_record::{CellRef, TextRef};
 use std::alloc::{AllocError, Global};
-use std::collections::BTreeMap;
 use std::marker::Model;
-
-/// How often each number is used that stands for a name. The map is ordered, so that no choice of numbers makes it slow.
-#[derive(Drop)]
-pub struct UsedNumbers {
-    pub(crate) times: BTreeMap<u64, u64>,
-}
-
-impl Model for UsedNumbers {
-    ghost use Rattle.std.specs.Prelude.{ℕ, List};
-    ghost use Rattle.std.specs.List.Sorted.{IsStrictlySortedBy};
-    ghost use Rattle.std.specs.Map.{keys_of};
-    ghost use Rattle.std.specs.Ordering.{nat_cmp};
-
-    ghost Value = { List (ℕ × ℕ) };
-
-    ghost view = { λ a. a.times.entries };
-
-    ghost invariant = { λ a. IsStrictlySortedBy nat_cmp (keys_of a.times.entries) };
-}
-
-impl UsedNumbers {
-    /// Uses a number so many times more. Where memory is refused nothing changes.
-    fn add(&mut self, number: u64, times: u64) -> Result<(), AllocError>
-        requires { total (λ _. 1) self.old + times < 2 ^ 64 }
-        ensures ok { OnOk result (self.new ≡ put_more nat_cmp self.old number times) }
-        ensures err { OnErr result (self.new ≡ self.old) }
-    {
-        let had = self.times.get(&number).copied().unwrap_or(0);
-        self.times.insert(number, had + times)?;
-        Ok(())
-    }
-}
 
 /// A CELL, by its name or a number, and of what its records draw just what decides at END whether it is refused: how many
 /// elements there are, what they weigh, and how often each number is used. Its memory is that of the numbers.
@@ -126,12 +89,8 @@ impl CellStore for CountedCell {
             cell,
             count: 0,
             weight: 0,
-            placed: UsedNumbers {
-                times: BTreeMap::new(alloc),
-            },
-            written: UsedNumbers {
-                times: BTreeMap::new(alloc),
-            },
+            placed: UsedNumbers::new(alloc),
+            written: UsedNumbers::new(alloc),
         }
     }
 

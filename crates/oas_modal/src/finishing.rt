@@ -7,16 +7,16 @@ ghost use Rattle.oas_num.specs.declared.refusals.Why.TheVariants.{Memory};
 ghost use Rattle.oas_layout.specs.Bag.{items};
 ghost use Rattle.oas_layout.specs.Meaning.{SameLayout};
 ghost use Rattle.oas_layout.specs.Contents.{meaning_of};
-ghost use Rattle.oas_modal.specs.Meaning.{is_unnamed, cell_lacks, has_twice, meaning_by, end_reason};
+ghost use Rattle.oas_names.specs.Meaning.{is_unnamed, cell_lacks, has_twice, meaning_by, end_reason};
 ghost use Rattle.oas_modal.specs.Finish.{drawn_cells, IsWithinLimits, names_held};
 ghost use Rattle.oas_modal.specs.Stores.{bare};
 
 use crate::held::HeldCell;
-use crate::names::{NameTable, cell_meant};
 use crate::putting::put_all;
 use crate::stores::CellStore;
 use oas_drawing::Drawn;
 use oas_layout::{Draft, Layout, Limits, Profile};
+use oas_names::{NameTable, cell_meant, is_unnamed};
 use oas_num::{Fraction, Label, Name, Why};
 use std::alloc::Global;
 use std::collections::{BTreeMap, BTreeSet};
@@ -58,17 +58,6 @@ pub fn finish(
         return Err(Why::Memory);
     };
     Ok(layout)
-}
-
-/// Whether it is a number that has no name.
-fn is_unnamed(drawn: &Drawn, names: &NameTable<Name>, strings: &NameTable<Label>) -> bool
-    ensures { result ≡ is_unnamed names.now.named strings.now.named drawn.now }
-{
-    match drawn {
-        Drawn::Named(_) => false,
-        Drawn::PlacementBy { number, .. } => names.get(*number).is_none(),
-        Drawn::TextBy { number, .. } => strings.get(*number).is_none(),
-    }
 }
 
 /// Whether a cell is a number that has no name, or has one.

@@ -1,18 +1,12 @@
-//! From records to a layout: the numbers of names, what the records draw, held once beside its count, and what END makes
-//! of both.
+//! From records to a layout: what the records draw, held once beside its count, and what END makes of it by their names.
 //!
 //! What this crate promises to the crates above it:
 //!
 //! - [`HeldCell`] holds a CELL's reference and what its records draw, equal things once beside their count: the ascending
 //!   list of both (specs/Held.antt). Placements, texts and rectangles that have their names are held as the layout will hold
 //!   them, and aren't searched for again. A refused growth changes nothing.
-//! - Of the numbers that the name records of one class, CELLNAME or TEXTSTRING, give to strings a table is kept. It refuses
-//!   a record exactly where, and by the first reason that, `table_reason` (specs/Names.antt) says, and for want of memory
-//!   only where it says none; a refusal changes nothing. What it holds afterwards is `with_name` of what it held before.
-//! - The table stands for a list of records (`NamesStand`) if it has their form, and names each number as they do. [`name_laws`]
-//!   says that it then refuses what the records refuse, and that it stands for one record more once that is taken.
 //! - At END a layout is made of what is held, by the tables of the whole file, and it is the same as what the cells mean
-//!   (`meaning_by`, specs/Meaning.antt). It is refused exactly where, and by the first reason that, `end_reason` says, or
+//!   (`meaning_by` of oas_names). It is refused exactly where, and by the first reason that, `end_reason` says, or
 //!   else for want of memory.
 //! - [`laws`] says, over the definitions alone, that more of what is drawn adds to its count alone, and that cells mean the
 //!   same in which each thing is drawn as often.
@@ -33,9 +27,10 @@
 //!   and refuses others by `end_refusal`, or for want of memory.
 //!
 //! For stores of crates above, which are finished there, the `hand_over` of a reader answers what was taken ([`Taken`],
-//! `HandsOver`, specs/Taken.antt), and [`NameTable`], [`cell_meant`], [`element_meant`] and [`names_twice`] are public.
+//! `HandsOver`, specs/Taken.antt), and [`names_twice`] is public.
 //!
-//! The modal variables, and what a record draws by them, are those of `oas_drawing`.
+//! The tables of names, and what cells mean by them, are those of `oas_names`; the modal variables, and what a record draws by
+//! them, those of `oas_drawing`.
 #![tactic(auto)]
 
 mod accepting;
@@ -44,9 +39,7 @@ mod counted;
 mod finishing;
 mod held;
 pub mod laws;
-pub mod name_laws;
 mod named;
-mod names;
 mod parts;
 mod putting;
 mod reader;
@@ -58,8 +51,6 @@ mod taking;
 pub use counted::CountedCell;
 pub use finishing::names_twice;
 pub use held::HeldCell;
-pub use names::{NameTable, Numbering, cell_meant};
-pub use putting::element_meant;
 pub use reader::Reader;
 pub use stores::CellStore;
 pub use taken::Taken;

@@ -5,17 +5,17 @@ ghost use Rattle.std.specs.Option.{option_to_list};
 ghost use Rattle.oas_num.specs.declared.refusals.Why.TheVariants.{Memory};
 ghost use Rattle.oas_layout.specs.Meaning.{SameLayout};
 ghost use Rattle.oas_layout.specs.Contents.{meaning_of};
-ghost use Rattle.oas_modal.specs.Meaning.{meaning_by, end_reason};
+ghost use Rattle.oas_names.specs.Meaning.{meaning_by, end_reason};
 ghost use Rattle.oas_modal.specs.Finish.{drawn_cells};
 ghost use Rattle.oas_modal.specs.Parts.{Sound, cells};
 ghost use Rattle.oas_modal.specs.Stores.{held_store};
 
 use crate::finishing::finish;
 use crate::held::HeldCell;
-use crate::names::NameTable;
 use crate::stores::CellStore;
 use oas_drawing::ModalVariables;
 use oas_layout::{Layout, Limits, Profile};
+use oas_names::NameTable;
 use oas_num::{Fraction, Label, Name, Why};
 use std::alloc::Global;
 

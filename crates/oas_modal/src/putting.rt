@@ -1,6 +1,6 @@
 //! A draft that is filled with what is held, where each number has its name.
 
-ghost use Rattle.std.specs.Prelude.{◌≡◌, ◌+◌, ◌<◌, ◌≤◌, ◌⊎◌, false, [], length, OnOk, IfOk, IfErr};
+ghost use Rattle.std.specs.Prelude.{◌≡◌, ◌+◌, ◌<◌, ◌≤◌, ◌⊎◌, false, [], length, OnOk, IfErr};
 ghost use Rattle.std.specs.List.{AllByRecursion};
 ghost use Rattle.oas_num.specs.declared.refusals.Why.TheVariants.{Memory, TooHeavy};
 ghost use Rattle.oas_layout.specs.Bag.{items};
@@ -8,103 +8,17 @@ ghost use Rattle.oas_layout.specs.Laws.BagLaws.{total};
 ghost use Rattle.oas_layout.specs.Weight.{weight_of};
 ghost use Rattle.oas_layout.specs.Meaning.{element_count, cells_weight};
 ghost use Rattle.oas_layout.specs.Contents.{expanded};
-ghost use Rattle.oas_modal.specs.Names.{name_of};
-ghost use Rattle.oas_modal.specs.References.{cell_by};
-ghost use Rattle.oas_modal.specs.Meaning.{element_by, has_twice};
+ghost use Rattle.oas_names.specs.References.{cell_by};
+ghost use Rattle.oas_names.specs.Meaning.{element_by, has_twice};
 ghost use Rattle.oas_modal.specs.Finish.{drawn_cells, drawn_total, IsFit, AllFit, with_counted, counted_meant, with_counted_cell, held_meant, names_held, IsFresh, given, with_all};
 
 use crate::held::HeldCell;
-use crate::names::NameTable;
 use oas_drawing::Drawn;
-use oas_layout::{Draft, Element};
+use oas_layout::Draft;
+use oas_names::{NameTable, element_meant, name_meant};
 use oas_num::{Label, Name, Why};
-use oas_record::CellRef;
 use std::alloc::Global;
 use std::collections::BTreeMap;
-
-/// The element that is meant; None where its number has no name. A name behind a number is copied.
-pub fn element_meant(
-    alloc: Global,
-    drawn: Drawn,
-    names: &NameTable<Name>,
-    strings: &NameTable<Label>,
-) -> Result<Option<Element>, Why>
-    ensures ok { IfOk result (λ e. e ≡ element_by names.now.named strings.now.named drawn) }
-    ensures err { IfErr result (λ why. why ≡ Memory) }
-{
-    match drawn {
-        Drawn::Named(element) => Ok(Some(element)),
-        Drawn::PlacementBy {
-            number,
-            x,
-            y,
-            turns,
-            flip,
-        } => Ok(name_behind(alloc, number, names)?.map(|cell| Element::Placement {
-            cell,
-            x,
-            y,
-            turns,
-            flip,
-        })),
-        Drawn::TextBy {
-            number,
-            textlayer,
-            texttype,
-            x,
-            y,
-        } => Ok(string_behind(alloc, number, strings)?.map(|string| Element::Text {
-            string,
-            textlayer,
-            texttype,
-            x,
-            y,
-        })),
-    }
-}
-
-/// The name of the cell that is meant; None where it is a number that has none.
-fn name_meant(alloc: Global, cell: CellRef, names: &NameTable<Name>) -> Result<Option<Name>, Why>
-    ensures ok { IfOk result (λ name. name ≡ cell_by names.now.named cell) }
-    ensures err { IfErr result (λ why. why ≡ Memory) }
-{
-    match cell {
-        CellRef::Name(name) => Ok(Some(name)),
-        CellRef::Number(number) => name_behind(alloc, number, names),
-    }
-}
-
-/// A copy of the name of a number; None where it has none.
-fn name_behind(alloc: Global, number: u64, names: &NameTable<Name>) -> Result<Option<Name>, Why>
-    ensures ok { IfOk result (λ name. name ≡ name_of names.now.named number) }
-    ensures err { IfErr result (λ why. why ≡ Memory) }
-{
-    let Some(had) = names.get(number) else {
-        return Ok(None);
-    };
-    match had.try_clone(alloc) {
-        Ok(name) => Ok(Some(name)),
-        Err(_) => Err(Why::Memory),
-    }
-}
-
-/// A copy of the string of a number; None where it has none.
-fn string_behind(
-    alloc: Global,
-    number: u64,
-    strings: &NameTable<Label>,
-) -> Result<Option<Label>, Why>
-    ensures ok { IfOk result (λ string. string ≡ name_of strings.now.named number) }
-    ensures err { IfErr result (λ why. why ≡ Memory) }
-{
-    let Some(had) = strings.get(number) else {
-        return Ok(None);
-    };
-    match had.try_clone(alloc) {
-        Ok(string) => Ok(Some(string)),
-        Err(_) => Err(Why::Memory),
-    }
-}
 
 /// Adds what is drawn so many times to a cell.
 fn put_one(

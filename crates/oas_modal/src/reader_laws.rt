@@ -5,7 +5,7 @@ ghost use Rattle.oas_record.specs.declared.records.Record.{Record as OneRecord};
 ghost use Rattle.oas_modal.specs.Alike.{AlikeCells};
 ghost use Rattle.oas_modal.specs.Finish.{drawn_cells};
 ghost use Rattle.oas_modal.specs.Held.{Held};
-ghost use Rattle.oas_modal.specs.Meaning.{DrawnCell};
+ghost use Rattle.oas_names.specs.Meaning.{DrawnCell};
 ghost use Rattle.oas_modal.specs.Standing.{took};
 ghost use Rattle.oas_modal.specs.Stands.{seen};
 ghost use Rattle.oas_modal.specs.Stores.{HoldCells, held_store};

@@ -5,10 +5,10 @@ ghost use Rattle.oas_num.specs.declared.refusals.Why.TheVariants.{Memory};
 ghost use Rattle.oas_modal.specs.Parts.{Sound};
 ghost use Rattle.oas_modal.specs.Taken.{HasParts};
 
-use crate::names::NameTable;
 use crate::parts::{Parts, all_cells};
 use crate::stores::CellStore;
 use oas_layout::{Limits, Profile};
+use oas_names::NameTable;
 use oas_num::{Fraction, Label, Name, Refusal, Why};
 
 /// What a reader has taken: the names of numbers, and the stores of all cells in the order of the file.

@@ -11,8 +11,8 @@ use Rattle.oas_layout.specs.declared.limits.Limits.{Limits}
 use Rattle.oas_drawing.specs.Drawing.{elements_at}
 use Rattle.oas_drawing.specs.Modal.{modal_of}
 use Rattle.oas_modal.specs.Held.{Held}
-use Rattle.oas_modal.specs.Meaning.{cells_drawn}
-use Rattle.oas_modal.specs.Names.{Table, NamesStand, cell_names, text_strings}
+use Rattle.oas_names.specs.Meaning.{cells_drawn}
+use Rattle.oas_names.specs.Names.{Table, NamesStand, cell_names, text_strings}
 use Rattle.oas_modal.specs.Stands.{StandsFor, ReaderState, seen, is_in_cell, number_drawn, weight_so_far_of}
 use Rattle.oas_modal.specs.Stores.{held_store, HoldCells}
 use Rattle.oas_modal.proofs.StoreLemmas.{hold_none}

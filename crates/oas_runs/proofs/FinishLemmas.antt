@@ -10,8 +10,8 @@ use Rattle.oas_layout.specs.declared.element.Element.{Element}
 use Rattle.oas_layout.specs.Meaning.{Meaning}
 use Rattle.oas_drawing.specs.Drawing.{elements_at}
 use Rattle.oas_modal.specs.declared.taken.Taken.{Taken}
-use Rattle.oas_modal.specs.Names.{cell_names, text_strings, named, NamesStand}
-use Rattle.oas_modal.specs.Meaning.{DrawnCell, cells_meant, cells_drawn, meaning_by, end_reason}
+use Rattle.oas_names.specs.Names.{cell_names, text_strings, named, NamesStand}
+use Rattle.oas_names.specs.Meaning.{DrawnCell, cells_meant, cells_drawn, meaning_by, end_reason}
 use Rattle.oas_modal.specs.Stands.{ReaderState, StandsFor, records_mean, end_refusal}
 use Rattle.oas_modal.specs.Stores.{HoldCells}
 use Rattle.oas_modal.specs.Taken.{HandsOver}

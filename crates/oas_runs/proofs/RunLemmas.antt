@@ -10,8 +10,8 @@ use Rattle.oas_layout.specs.Sound.{IsSound}
 use Rattle.oas_entries.specs.Entries.{Entry}
 use Rattle.oas_entries.specs.Runs.{IsRun}
 use Rattle.oas_drawing.specs.declared.drawn.Drawn.{Drawn}
-use Rattle.oas_modal.specs.Meaning.{DrawnCell, elements_meant, with_named, cells_meant}
-use Rattle.oas_modal.specs.References.{cell_by}
+use Rattle.oas_names.specs.Meaning.{DrawnCell, elements_meant, with_named, cells_meant}
+use Rattle.oas_names.specs.References.{cell_by}
 use Rattle.oas_modal.specs.Stores.{HoldCells}
 use Rattle.oas_compact.specs.Compact.{Compact, IsCompact, Keeps, compact_store}
 use Rattle.oas_compact.specs.Placing.{MeansElements}

@@ -5,8 +5,8 @@ use Rattle.oas_layout.specs.declared.profile.Profile.{Profile}
 use Rattle.oas_layout.specs.Sound.{IsSound}
 use Rattle.oas_entries.specs.Entries.{Entry}
 use Rattle.oas_drawing.specs.declared.drawn.Drawn.{Drawn}
-use Rattle.oas_modal.specs.Meaning.{DrawnCell, elements_meant, cells_meant}
-use Rattle.oas_modal.specs.References.{cell_by}
+use Rattle.oas_names.specs.Meaning.{DrawnCell, elements_meant, cells_meant}
+use Rattle.oas_names.specs.References.{cell_by}
 use Rattle.oas_modal.specs.Stores.{HoldCells}
 use Rattle.oas_compact.specs.Compact.{Compact, Keeps, compact_store}
 use Rattle.oas_runs.specs.Keyed.{keyed, keyed_cells}

@@ -4,7 +4,7 @@ ghost use Rattle.std.specs.Prelude.{◌≡◌, ◌⊎◌, None, Some, List, OnOk
 ghost use Rattle.std.specs.List.{AllByRecursion};
 ghost use Rattle.oas_num.specs.declared.refusals.Why.TheVariants.{Memory};
 ghost use Rattle.oas_record.specs.declared.records.Record.{Record as OneRecord};
-ghost use Rattle.oas_modal.specs.Meaning.{DrawnCell, end_reason};
+ghost use Rattle.oas_names.specs.Meaning.{DrawnCell, end_reason};
 ghost use Rattle.oas_modal.specs.Stands.{StandsFor, records_mean, end_refusal};
 ghost use Rattle.oas_modal.specs.Stores.{HoldCells};
 ghost use Rattle.oas_compact.specs.Compact.{IsCompact, compact_store};
@@ -14,7 +14,8 @@ ghost use Rattle.oas_runs.specs.Finishing.{PutsRun, AreRunsOf};
 use crate::layout::CompactLayout;
 use oas_compact::{CompactCell, KeptBy, accept_cells};
 use oas_entries::Run;
-use oas_modal::{CellStore, NameTable, Reader, Taken, cell_meant};
+use oas_modal::{CellStore, Reader, Taken};
+use oas_names::{NameTable, cell_meant};
 use oas_num::{Label, Name, Refusal, Why};
 use std::alloc::Global;
 use std::collections::BTreeMap;

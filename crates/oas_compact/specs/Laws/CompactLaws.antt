@@ -4,7 +4,7 @@ use Rattle.oas_layout.specs.declared.profile.Profile.{Profile}
 use Rattle.oas_drawing.specs.declared.drawn.Drawn.{Drawn}
 use Rattle.oas_drawing.specs.Drawn.{weight_so_far}
 use Rattle.oas_modal.specs.Alike.{SameDrawn}
-use Rattle.oas_modal.specs.Counted.{capped}
+use Rattle.oas_names.specs.Weights.{capped}
 use Rattle.oas_compact.specs.Compact.{Compact, Keeps, by_key, by_number}
 
 pub kept_in_any_order : (profile : Profile) (c : Compact) (ds es : List Drawn) → Keeps profile c ds → SameDrawn ds es → Keeps profile c es

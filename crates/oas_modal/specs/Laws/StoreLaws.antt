@@ -4,7 +4,8 @@ use Rattle.oas_drawing.specs.declared.drawn.Drawn.{Drawn}
 use Rattle.oas_drawing.specs.Drawn.{weight_so_far}
 use Rattle.oas_modal.specs.Alike.{SameDrawn}
 use Rattle.oas_modal.specs.Held.{Held}
-use Rattle.oas_modal.specs.Counted.{Counted, capped, placed_by, written_by, counted_store}
+use Rattle.oas_names.specs.Weights.{capped}
+use Rattle.oas_modal.specs.Counted.{Counted, placed_by, written_by, counted_store}
 use Rattle.oas_modal.specs.Stores.{held_store}
 
 -- what is held of a cell

@@ -2,7 +2,7 @@ use Rattle.std.proofs.Common.{rules, ◌≡◌, List, ◌∷◌, ◌∙◌, ap, 
 use Rattle.std.specs.Vec.Iter.{into_iter_items}
 use Rattle.oas_drawing.specs.declared.drawn.Drawn.{Drawn}
 use Rattle.oas_modal.specs.Finish.{IsFit}
-use Rattle.oas_modal.specs.Meaning.{element_by}
+use Rattle.oas_names.specs.Meaning.{element_by}
 use Rattle.oas_compact.specs.declared.short.Short.{Short}
 use Rattle.oas_compact.specs.Short.{drawn_of, drawn_once}
 use Rattle.oas_compact.specs.Placing.{with_placed}

@@ -1,5 +1,5 @@
 use Rattle.std.proofs.Common.{rules, ◌≡◌, true, false, None, inr, arith}
-use Rattle.oas_modal.specs.Meaning.{has_twice}
+use Rattle.oas_names.specs.Meaning.{has_twice}
 use Rattle.oas_modal.specs.Finish.{names_held}
 use Rattle.oas_modal.specs.Stores.{bare}
 use Rattle.oas_modal.specs.Counted.{counted_store, all_weight}

@@ -1,6 +1,6 @@
 use Rattle.std.specs.Vec.Iter.{into_iter_items}
 use Rattle.oas_modal.specs.Counted.{all_weight}
-use Rattle.oas_modal.proofs.WeighLemmas.{Adding}
+use Rattle.oas_names.proofs.WeightLemmas.{Adding}
 use Rattle.oas_modal.proofs.accepting.all_weight.Given as goal
 
 abbrev pub invariant-loop-cell : goal.invariant-loop-cell

@@ -2,8 +2,8 @@ use Rattle.std.proofs.Common.{rules, ◌≡◌, ◌∙◌, ◌||◌, ◌++◌, s
 use Rattle.std.specs.Prelude.{is_none}
 use Rattle.std.specs.List.{list_any}
 use Rattle.std.specs.Map.{keys_of}
-use Rattle.oas_modal.specs.References.{cell_by}
-use Rattle.oas_modal.specs.Meaning.{is_unnamed}
+use Rattle.oas_names.specs.References.{cell_by}
+use Rattle.oas_names.specs.Meaning.{is_unnamed}
 use Rattle.oas_modal.specs.Held.{as_drawn}
 use Rattle.oas_modal.proofs.EarlyLemmas.{none_lacks, both_positive}
 use Rattle.oas_modal.proofs.MeaningLemmas.{lacks-is}

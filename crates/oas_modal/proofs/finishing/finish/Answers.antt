@@ -10,7 +10,7 @@ use Rattle.oas_layout.specs.Bag.{items}
 use Rattle.oas_layout.specs.Meaning.{cells_weight, SameLayout}
 use Rattle.oas_layout.specs.Contents.{Contents, expanded, nothing, meaning_of}
 use Rattle.oas_modal.specs.Held.{Held}
-use Rattle.oas_modal.specs.Meaning.{cell_lacks, has_twice, end_reason}
+use Rattle.oas_names.specs.Meaning.{cell_lacks, has_twice, end_reason}
 use Rattle.oas_modal.specs.Finish.{drawn_cells, names_held, held_meant, with_all}
 use Rattle.oas_modal.proofs.MeaningLemmas.{told, end_unknown, end_twice, end_heavy, end_none, cells-expanded}
 use Rattle.oas_modal.proofs.Twice.{bare_names}

@@ -1,9 +1,9 @@
 use Rattle.std.proofs.Common.{rules, ◌≡◌, ℕ, suc, ◌+◌, ◌∷◌, ◌++◌, List, [], cond, true, false, None, Some, take, drop, sym, ◌∙◌, ap, subst, add-one}
 use Rattle.std.specs.BTreeSet.{contains}
 use Rattle.std.specs.Cmp.Lexicographic.{texts_ties}
-use Rattle.oas_modal.specs.References.{cell_by}
+use Rattle.oas_names.specs.References.{cell_by}
 use Rattle.oas_modal.specs.Held.{Held}
-use Rattle.oas_modal.specs.Meaning.{has_twice}
+use Rattle.oas_names.specs.Meaning.{has_twice}
 use Rattle.oas_modal.specs.Finish.{names_held}
 use Rattle.oas_modal.specs.Stores.{bare}
 use Rattle.oas_modal.proofs.Twice.{Seen, ref_cmp, seen_none, seen_some, seen_twice, bare_one, bare_split, was_there, was_new}

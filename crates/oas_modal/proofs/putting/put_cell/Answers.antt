@@ -1,6 +1,6 @@
 use Rattle.std.proofs.Common.{◌≡◌, sym, ◌∙◌, ap, subst, arith, Some}
 use Rattle.oas_layout.specs.Contents.{Contents}
-use Rattle.oas_modal.specs.References.{cell_by}
+use Rattle.oas_names.specs.References.{cell_by}
 use Rattle.oas_modal.specs.Held.{Held}
 use Rattle.oas_modal.specs.Finish.{AllFit}
 use Rattle.oas_modal.proofs.EarlyLemmas.{rest_fit}

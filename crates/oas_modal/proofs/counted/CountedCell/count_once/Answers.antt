@@ -1,6 +1,6 @@
 use Rattle.std.proofs.Common.{arith, subst, sym, ℕ, ◌+◌, ◌≤◌, List}
 use Rattle.oas_layout.specs.Laws.BagLaws.{total}
-use Rattle.oas_modal.proofs.CountLemmas.{few_more}
+use Rattle.oas_names.proofs.UsedLemmas.{few_more}
 use Rattle.oas_modal.proofs.counted.CountedCell.count_once.Goals as goal
 use Rattle.oas_modal.proofs.counted.CountedCell.count_once.Goals.{in-Placement-Number-default-default-default-default+in_ok-add-in-Placement-Number-default-default-default-default, in-Placement+in-Name-1}
 use Rattle.oas_modal.proofs.counted.CountedCell.count_once.Goals.{in-Text-Number-default-default-default-default+in_ok-add-in-Text-Number-default-default-default-default, in-Text+in-Label-1}

@@ -1,6 +1,6 @@
 use Rattle.std.proofs.Common.{arith, subst, sym, ℕ, ◌+◌, ◌≤◌, List}
 use Rattle.oas_layout.specs.Laws.BagLaws.{total}
-use Rattle.oas_modal.proofs.CountLemmas.{few_more}
+use Rattle.oas_names.proofs.UsedLemmas.{few_more}
 use Rattle.oas_modal.proofs.counted.CountedCell.count_up.Goals as goal
 use Rattle.oas_modal.proofs.counted.CountedCell.count_up.Goals.{in-Named, in-PlacementBy+in_ok-add-in-PlacementBy, in-TextBy+in_ok-add-in-TextBy}
 

@@ -1,5 +1,5 @@
 use Rattle.std.proofs.Common.{◌∙◌, ap, ℕ, ◌+◌, ◌*◌}
-use Rattle.oas_modal.specs.Counted.{capped}
+use Rattle.oas_names.specs.Weights.{capped}
 use Rattle.oas_modal.proofs.CountLemmas.{counted_up}
 use Rattle.oas_modal.proofs.counted.CountedCellCellStore.draw.Goals as goal
 

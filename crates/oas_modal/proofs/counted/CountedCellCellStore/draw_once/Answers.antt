@@ -1,8 +1,9 @@
 use Rattle.std.proofs.Common.{◌∙◌, ap, ℕ, ◌+◌, arith}
 use Rattle.oas_drawing.specs.Drawn.{weight_so_far}
 use Rattle.oas_drawing.specs.Named.{drawn_once}
-use Rattle.oas_modal.specs.Counted.{capped}
-use Rattle.oas_modal.proofs.CountLemmas.{capped_once, counted_up}
+use Rattle.oas_names.specs.Weights.{capped}
+use Rattle.oas_names.proofs.WeightLemmas.{capped_once}
+use Rattle.oas_modal.proofs.CountLemmas.{counted_up}
 use Rattle.oas_modal.proofs.counted.CountedCellCellStore.draw_once.Goals as goal
 
 pub returns-clause-ok : goal.returns-clause-ok

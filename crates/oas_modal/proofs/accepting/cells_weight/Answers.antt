@@ -1,6 +1,0 @@
-use Rattle.std.proofs.Common.{◌∙◌}
-use Rattle.oas_modal.proofs.WeighLemmas.{names_begin}
-use Rattle.oas_modal.proofs.accepting.cells_weight.Goals as goal
-
-pub loop-number-init : goal.loop-number-init
-loop-number-init c = names_begin c.args.names.now.named c.into_iter-number-iterator.result c.args.used (c.into_iter-number-iterator.ensures.into_iter_gives.0 ∙ c.used.view_is)
