@@ -49,15 +49,11 @@ impl Chunk {
         self.shorts.len() >= CHUNK
     }
 
-    /// Moves what is there to memory that it fills, where there is some.
-    fn fit(&mut self, alloc: Global)
+    /// Gives back idle memory.
+    fn fit(&mut self)
         ensures { self.new ≡ self.old }
     {
-        if let Ok(mut moved) = Vec::with_capacity(alloc, self.shorts.len())
-            && moved.append(&mut self.shorts).is_ok()
-        {
-            self.shorts = moved;
-        }
+        self.shorts.shrink_to_fit();
     }
 
     /// Puts one more at the end; or, for want of memory, nothing.
@@ -127,7 +123,7 @@ impl Chunks {
     pub(crate) fn rest(&mut self)
         ensures { self.new ≡ self.old }
     {
-        self.last.fit(self.alloc);
+        self.last.fit();
     }
 
     /// All chunks in a row.

@@ -98,13 +98,12 @@ impl Block {
         Ok(())
     }
 
-    /// Moves the bytes to memory that has room for so many more and no others, where there is some.
-    pub fn fit(&mut self, alloc: Global, more: usize)
+    /// Gives back idle memory, but for room for so many bytes more.
+    pub fn fit(&mut self, more: usize)
         ensures { self.new ≡ self.old }
     {
-        if let Ok(bytes) = copy_of(alloc, &self.bytes, more) {
-            self.bytes = bytes;
-        }
+        let wanted = self.bytes.len().saturating_add(more);
+        self.bytes.shrink_to(wanted);
     }
 
     /// The bytes of the entries that are left.
@@ -132,13 +131,4 @@ impl Block {
             self.start += entry.end;
         }
     }
-}
-
-/// A copy of bytes, with room for so many more.
-fn copy_of(alloc: Global, bytes: &[u8], more: usize) -> Result<Vec<u8>, AllocError>
-    ensures { IfOk result (λ copy. copy.items ≡ bytes.now) }
-{
-    let mut copy = Vec::with_capacity(alloc, bytes.len().saturating_add(more))?;
-    copy.extend_from_slice(bytes)?;
-    Ok(copy)
 }

@@ -74,11 +74,11 @@ impl Growing {
         Ok(())
     }
 
-    /// Moves the last bytes to memory that has room for so many more and no others, where there is some.
-    pub fn fit(&mut self, alloc: Global, more: usize)
+    /// Gives back idle memory of the last bytes, but for room for so many more.
+    pub fn fit(&mut self, more: usize)
         ensures { self.new ≡ self.old }
     {
-        self.last.fit(alloc, more);
+        self.last.fit(more);
     }
 
     /// How many bytes were put, about.

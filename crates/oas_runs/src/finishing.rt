@@ -43,20 +43,16 @@ fn put_run<P: KeptBy>(
     Ok(())
 }
 
-/// Fewer cells than so many are left where they are.
-const FEW: usize = 64;
+/// Of which part of the memory of cells that become runs is given back at once.
+const PART: usize = 16;
 
-/// Moves cells to memory that they fill, where they fill half of theirs at most: so it is given back while they become runs.
-fn fit<P: KeptBy>(alloc: Global, cells: &mut Vec<CompactCell<P>>)
+/// Gives back the memory of the cells that are gone, once it is a part of all.
+fn fit<P: KeptBy>(cells: &mut Vec<CompactCell<P>>)
     ensures { cells.new.items ≡ cells.old.items }
 {
-    if cells.len() < FEW || cells.len() > cells.capacity() / 2 {
-        return;
-    }
-    if let Ok(mut fewer) = Vec::with_capacity(alloc, cells.len())
-        && fewer.append(cells).is_ok()
-    {
-        *cells = fewer;
+    let gone = cells.capacity() - cells.len();
+    if gone > cells.capacity() / PART {
+        cells.shrink_to_fit();
     }
 }
 
@@ -75,7 +71,7 @@ fn runs_by_name<P: KeptBy>(
     let mut left = cells;
     while let Some(cell) = left.pop() {
         put_run(alloc, cell, names, strings, &mut runs)?;
-        fit(alloc, &mut left);
+        fit(&mut left);
     }
     Ok(runs)
 }

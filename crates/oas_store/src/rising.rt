@@ -136,10 +136,10 @@ impl Rising<Vec<u8>> {
     }
 
     /// Gives back what is idle but the room for the last entry.
-    pub(crate) fn fit(&mut self, alloc: Global)
+    pub(crate) fn fit(&mut self)
         ensures { self.new ≡ self.old }
     {
-        self.done.fit(alloc, self.last.len().saturating_add(MARGIN));
+        self.done.fit(self.last.len().saturating_add(MARGIN));
     }
 }
 

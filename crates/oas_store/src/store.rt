@@ -74,8 +74,8 @@ impl KeyStore {
     pub fn rest(&mut self)
         ensures { self.new ≡ self.old }
     {
-        self.rising.fit(self.alloc);
-        self.loose.fit(self.alloc, 0);
+        self.rising.fit();
+        self.loose.fit(0);
     }
 
     /// The keys ascending, each with its count; or, for want of memory, the store as it was.
