@@ -43,15 +43,15 @@ fn put_run<P: KeptBy>(
     Ok(())
 }
 
-/// Of which part of the memory of cells that become runs is given back at once.
+/// One in so many of the cells that there is room for may be gone before that room is given back.
 const PART: usize = 16;
 
-/// Gives back the memory of the cells that are gone, once it is a part of all.
+/// Gives back the room of the cells that are gone, once it is a part of all.
 fn fit<P: KeptBy>(cells: &mut Vec<CompactCell<P>>)
     ensures { cells.new.items ≡ cells.old.items }
 {
-    let gone = cells.capacity() - cells.len();
-    if gone > cells.capacity() / PART {
+    let part = cells.capacity() / PART;
+    if cells.len().saturating_add(part) < cells.capacity() {
         cells.shrink_to_fit();
     }
 }
