@@ -144,7 +144,7 @@ fn are(names: &[Name], expected: &[&[u8]]) -> bool {
 
 /// Puts two by three placements of the cell whose name is spelled so.
 fn place(alloc: Global, draft: &mut Draft, cell: usize, spelled: &[u8]) -> Result<(), Fail> {
-    for x in 0..2 {
+    for x in [0, 1] {
         let placed = name(alloc, spelled)?;
         put(draft, cell, Element::placement(placed, x, 0, Turns::T0, false), 3)?;
     }
