@@ -1,3 +1,28 @@
 mod lists;
 mod memory;
 mod repetitions;
+
+use std::alloc::{AllocError, Global};
+
+/// The parts of a row, which `|` keeps apart; those that it lacks are empty.
+fn row_parts(row: &str) -> [&str; 4] {
+    let (first, rest) = row.split_once("|").unwrap_or((row, ""));
+    let (second, rest) = rest.split_once("|").unwrap_or((rest, ""));
+    let (third, fourth) = rest.split_once("|").unwrap_or((rest, ""));
+    [first, second, third, fourth]
+}
+
+/// The bytes of these numbers.
+fn bytes_of(alloc: Global, numbers: &str) -> Result<Vec<u8>, AllocError> {
+    let mut bytes = Vec::new(alloc);
+    for word in numbers.split_whitespace() {
+        bytes.push(word.parse().unwrap_or(0))?;
+    }
+    Ok(bytes)
+}
+
+/// The coordinates of a point.
+fn point(word: &str) -> (i64, i64) {
+    let (x, y) = word.split_once(",").unwrap_or(("", ""));
+    (x.parse().unwrap_or(i64::MAX), y.parse().unwrap_or(i64::MAX))
+}

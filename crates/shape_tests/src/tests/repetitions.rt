@@ -1,82 +1,66 @@
-use oas_num::{GDelta, SliceSource, Why};
+use super::{bytes_of, point, row_parts};
+use oas_num::{GDelta, SliceSource};
 use oas_shape::{Places, RepField, Repetition};
-use std::alloc::Global;
+use std::alloc::{AllocError, Global};
 use std::process::Abort;
 use std::test::Fail;
 
-/// Reads a repetition, and compares its count and its offsets, and those of a copy.
-fn offsets(
-    rt: &impl Abort,
-    alloc: Global,
-    bytes: &[u8],
-    wanted: &[(i128, i128)],
-) -> Result<(), Fail> {
-    let mut source = SliceSource::new(bytes, 1000);
-    let RepField::New(repetition) = RepField::read(alloc, &mut source)? else {
-        assert!(rt; false);
-        return Ok(());
-    };
-    let copy = repetition.try_clone(alloc)?;
-    assert!(rt; wanted.len() < 100);
-    assert_eq!(rt; repetition.count(), Some(wanted.len() as u64));
-    assert_eq!(rt; copy.count(), Some(wanted.len() as u64));
-    for i in 0..wanted.len() {
-        assert_eq!(rt; repetition.offset(i as u64), wanted[i]);
-        assert_eq!(rt; copy.offset(i as u64), wanted[i]);
+/// Reads a repetition that is new.
+fn read(alloc: Global, bytes: &str) -> Result<Repetition, Fail> {
+    let bytes = bytes_of(alloc, bytes)?;
+    match RepField::read(alloc, &mut SliceSource::new(&bytes, 1000))? {
+        RepField::New(repetition) => Ok(repetition),
+        RepField::Again => Err(Fail::new("it isn't new")),
     }
-    Ok(())
 }
 
-/// Why a repetition is refused.
-fn repetition_refused(alloc: Global, bytes: &[u8]) -> Option<Why> {
-    RepField::read(alloc, &mut SliceSource::new(bytes, 1000)).err()
+/// Whether the offset of a copy is that of the word.
+fn is_at(offset: (i128, i128), word: &str) -> bool {
+    let (x, y) = point(word);
+    offset == (i128::from(x), i128::from(y))
 }
+
+/// Whether the repetition has as many copies as there are words, at these offsets.
+fn has(repetition: &Repetition, wanted: &str) -> bool {
+    let mut words = wanted.split_whitespace();
+    let Some(count) = repetition.count() else {
+        return false;
+    };
+    if count >= 100 {
+        return false;
+    }
+    for i in 0..count {
+        if !is_at(repetition.offset(i), words.next().unwrap_or("")) {
+            return false;
+        }
+    }
+    words.next().is_none()
+}
+
+/// The bytes of a repetition, and its offsets: three columns or rows, by each type that has them; displacements that come
+/// back, each from the copy before, on a grid of 3; and two ways.
+const OFFSETS: &str = "2 1 10|0,0 10,0 20,0
+4 1 10 10|0,0 10,0 20,0
+5 1 5 2 2|0,0 10,0 20,0
+9 1 41 0|0,0 10,0 20,0
+10 1 41 0 41 0|0,0 10,0 20,0
+11 1 5 9 0 9 0|0,0 10,0 20,0
+3 1 10|0,0 0,10 0,20
+6 1 10 10|0,0 0,10 0,20
+7 1 5 2 2|0,0 0,10 0,20
+11 2 3 9 2 11 3 24|0,0 6,3 0,0 3,3
+1 1 0 10 7|0,0 10,0 20,0 0,7 10,7 20,7
+8 1 0 41 0 1 20|0,0 10,0 20,0 0,10 10,10 20,10
+8 0 1 9 3 11 4|0,0 2,-1 -2,2 0,1 -4,4 -2,3";
 
 #[test]
-fn repetitions_one_way(rt: HostRuntime) -> Result<(), Fail> {
-    let alloc = rt.alloc();
-    let columns = [(0, 0), (10, 0), (20, 0)];
-    offsets(&rt, alloc, &[2, 1, 10], &columns)?;
-    offsets(&rt, alloc, &[4, 1, 10, 10], &columns)?;
-    offsets(&rt, alloc, &[5, 1, 5, 2, 2], &columns)?;
-    offsets(&rt, alloc, &[9, 1, 0x29, 0], &columns)?;
-    offsets(&rt, alloc, &[10, 1, 0x29, 0, 0x29, 0], &columns)?;
-    offsets(&rt, alloc, &[11, 1, 5, 9, 0, 9, 0], &columns)?;
-    let rows = [(0, 0), (0, 10), (0, 20)];
-    offsets(&rt, alloc, &[3, 1, 10], &rows)?;
-    offsets(&rt, alloc, &[6, 1, 10, 10], &rows)?;
-    offsets(&rt, alloc, &[7, 1, 5, 2, 2], &rows)?;
-    // displacements that come back, each from the copy before, on a grid of 3
-    offsets(
-        &rt,
-        alloc,
-        &[11, 2, 3, 9, 2, 11, 3, 24],
-        &[(0, 0), (6, 3), (0, 0), (3, 3)],
-    )?;
-    Ok(())
-}
-
-#[test]
-fn repetitions_two_ways(rt: HostRuntime) -> Result<(), Fail> {
-    let alloc = rt.alloc();
-    offsets(
-        &rt,
-        alloc,
-        &[1, 1, 0, 10, 7],
-        &[(0, 0), (10, 0), (20, 0), (0, 7), (10, 7), (20, 7)],
-    )?;
-    offsets(
-        &rt,
-        alloc,
-        &[8, 1, 0, 0x29, 0, 1, 0x14],
-        &[(0, 0), (10, 0), (20, 0), (0, 10), (10, 10), (20, 10)],
-    )?;
-    offsets(
-        &rt,
-        alloc,
-        &[8, 0, 1, 9, 3, 11, 4],
-        &[(0, 0), (2, -1), (-2, 2), (0, 1), (-4, 4), (-2, 3)],
-    )?;
+fn offsets(rt: HostRuntime) -> Result<(), Fail> {
+    for row in OFFSETS.lines() {
+        let [bytes, wanted, _, _] = row_parts(row);
+        let repetition = read(rt.alloc(), bytes)?;
+        let copy = repetition.try_clone(rt.alloc())?;
+        assert!(rt; has(&repetition, wanted) && has(&copy, wanted), "at {row}");
+    }
     Ok(())
 }
 
@@ -149,109 +133,40 @@ fn places_of_many(rt: HostRuntime) {
     assert_eq!(rt; none_together.places(), places(7, 1, 1));
 }
 
+/// The number of the reason for which a repetition is refused; 0 where it isn't.
+fn refusal(alloc: Global, bytes: &str) -> Result<u8, AllocError> {
+    let bytes = bytes_of(alloc, bytes)?;
+    match RepField::read(alloc, &mut SliceSource::new(&bytes, 1000)) {
+        Ok(_field) => Ok(0),
+        Err(why) => Ok(why.number()),
+    }
+}
+
+/// The bytes of a repetition, and the number of the reason.
+///
+/// An unknown type; a space of 2^62, which is within the limit, and one more; each sum decides, also one that comes back.
+/// Evenly spaced ones aren't looked at while they are read; a grid times a space past 2^127, and a grid of 0. A dimension of
+/// 2^64 - 1, with nothing there or with some displacements. 4 times 2^61 in x, where the number of y isn't there and where it
+/// is; and a sum past the limit, which comes before the end.
+const REFUSED: &str = "12|17
+4 0 128 128 128 128 128 128 128 128 64|0
+4 0 129 128 128 128 128 128 128 128 64|23
+10 1 1 130 128 128 128 128 128 128 128 128 1 1 3|23
+2 0 128 128 128 128 128 128 128 128 128 1|0
+5 0 255 255 255 255 255 255 255 255 255 1 255 255 255 255 255 255 255 255 255 1|23
+5 0 128 128 128 128 128 128 128 128 128 0 255 255 255 255 255 255 255 255 255 1|0
+10 255 255 255 255 255 255 255 255 255 1|2
+10 255 255 255 255 255 255 255 255 255 1 0 2 4|2
+11 0 4 129 128 128 128 128 128 128 128 128 1|2
+11 0 4 129 128 128 128 128 128 128 128 128 1 0|23
+4 1 129 128 128 128 128 128 128 128 64 128|23";
+
 #[test]
 fn repetitions_refused(rt: HostRuntime) -> Result<(), Fail> {
-    let alloc = rt.alloc();
-    assert_eq!(rt; repetition_refused(alloc, &[12]), Some(Why::RepetitionKind));
-    // a space of 2^62 is within the limit, and one more isn't
-    assert_eq!(rt;
-        repetition_refused(
-            alloc,
-            &[4, 0, 0x80, 0x80, 0x80, 0x80, 0x80, 0x80, 0x80, 0x80, 0x40]
-        ),
-        None
-    );
-    assert_eq!(rt;
-        repetition_refused(
-            alloc,
-            &[4, 0, 0x81, 0x80, 0x80, 0x80, 0x80, 0x80, 0x80, 0x80, 0x40]
-        ),
-        Some(Why::CoordinateRange)
-    );
-    // each sum decides, also one that comes back
-    assert_eq!(rt;
-        repetition_refused(
-            alloc,
-            &[
-                10, 1, 1, 0x82, 0x80, 0x80, 0x80, 0x80, 0x80, 0x80, 0x80, 0x80, 1, 1, 3
-            ]
-        ),
-        Some(Why::CoordinateRange)
-    );
-    Ok(())
-}
-
-#[test]
-fn sums_that_are_not_asked(rt: HostRuntime) -> Result<(), Fail> {
-    let alloc = rt.alloc();
-    // evenly spaced ones aren't looked at while they are read
-    assert_eq!(rt;
-        repetition_refused(
-            alloc,
-            &[
-                2, 0, 0x80, 0x80, 0x80, 0x80, 0x80, 0x80, 0x80, 0x80, 0x80, 1
-            ]
-        ),
-        None
-    );
-    // the grid times a space past 2^127, and a grid of 0
-    let mut wide = [
-        5, 0, 255, 255, 255, 255, 255, 255, 255, 255, 255, 1, 255, 255, 255, 255, 255, 255, 255,
-        255, 255, 1,
-    ];
-    assert_eq!(rt;
-        repetition_refused(alloc, &wide),
-        Some(Why::CoordinateRange)
-    );
-    for i in 2..11 {
-        wide[i] = 0x80;
+    for row in REFUSED.lines() {
+        let [bytes, wanted, _, _] = row_parts(row);
+        let found = refusal(rt.alloc(), bytes)?;
+        assert!(rt; found == wanted.parse().unwrap_or(255), "at {row}");
     }
-    wide[11] = 0;
-    assert_eq!(rt; repetition_refused(alloc, &wide), None);
     Ok(())
-}
-
-#[test]
-fn dimensions_without_displacements(rt: HostRuntime) -> Result<(), Fail> {
-    let alloc = rt.alloc();
-    // a dimension of 2^64 - 1, and nothing there
-    assert_eq!(rt;
-        repetition_refused(alloc, &[10, 255, 255, 255, 255, 255, 255, 255, 255, 255, 1]),
-        Some(Why::Truncated)
-    );
-    // the same, and some displacements
-    assert_eq!(rt;
-        repetition_refused(
-            alloc,
-            &[10, 255, 255, 255, 255, 255, 255, 255, 255, 255, 1, 0, 2, 4]
-        ),
-        Some(Why::Truncated)
-    );
-    Ok(())
-}
-
-/// A displacement is added once it was read as a whole.
-#[test]
-fn displacements_cut_off(rt: HostRuntime) {
-    let alloc = rt.alloc();
-    // 4 times 2^61 in x, and the number of y isn't there
-    let cut = [
-        11, 0, 4, 0x81, 0x80, 0x80, 0x80, 0x80, 0x80, 0x80, 0x80, 0x80, 1,
-    ];
-    assert_eq!(rt; repetition_refused(alloc, &cut), Some(Why::Truncated));
-    let whole = [
-        11, 0, 4, 0x81, 0x80, 0x80, 0x80, 0x80, 0x80, 0x80, 0x80, 0x80, 1, 0,
-    ];
-    assert_eq!(rt;
-        repetition_refused(alloc, &whole),
-        Some(Why::CoordinateRange)
-    );
-    // a sum past the limit comes before the end
-    let past = [
-        4, 1, 0x81, 0x80, 0x80, 0x80, 0x80, 0x80, 0x80, 0x80, 0x40, 0x80,
-    ];
-    assert_eq!(rt;
-        repetition_refused(alloc, &past),
-        Some(Why::CoordinateRange)
-    );
 }
