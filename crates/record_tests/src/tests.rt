@@ -104,34 +104,48 @@ fn first_refusal(alloc: Global, bytes: &[u8]) -> (u8, u64) {
     (0, 0)
 }
 
+/// Whether the file of a row is refused as the row says.
+fn is_refused(alloc: Global, row: &str) -> Result<bool, Fail> {
+    let (number, rest) = row.split_once(' ').unwrap_or(("", ""));
+    let (at, pieces) = rest.split_once(' ').unwrap_or(("", ""));
+    let bytes = bytes_of(alloc, pieces)?;
+    let found = first_refusal(alloc, &bytes);
+    Ok(found.0 == number.parse().unwrap_or(255) && found.1 == at.parse().unwrap_or(9999))
+}
+
 #[test]
 fn refusals(rt: HostRuntime) -> Result<(), Fail> {
     for row in ROWS.lines() {
-        let (number, rest) = row.split_once(' ').unwrap_or(("", ""));
-        let (at, pieces) = rest.split_once(' ').unwrap_or(("", ""));
-        let bytes = bytes_of(rt.alloc(), pieces)?;
-        let found = first_refusal(rt.alloc(), &bytes);
-        assert_eq!(rt; found.0, number.parse().unwrap_or(255), "{row}");
-        assert_eq!(rt; found.1, at.parse().unwrap_or(9999), "{row}");
+        assert!(rt; is_refused(rt.alloc(), row)?, "{row}");
     }
     Ok(())
+}
+
+/// Whether the front of that file stands there.
+fn has_head(alloc: Global, source: &mut SliceSource<'_>) -> bool {
+    match read_head(alloc, source) {
+        Ok(head) => {
+            source.at() == 22 && head.unit.num() == 1000 && head.unit.den() == 1 && head.flag_in_end
+        }
+        Err(_refusal) => false,
+    }
+}
+
+/// Whether a record stands there, up to that place, in a file with its flag in END.
+fn ends_at(alloc: Global, source: &mut SliceSource<'_>, at: u64) -> bool {
+    match Record::read(alloc, source, true) {
+        Ok(_record) => source.at() == at,
+        Err(_refusal) => false,
+    }
 }
 
 #[test]
 fn compact(rt: HostRuntime) -> Result<(), Fail> {
     let bytes = bytes_of(rt.alloc(), COMPACT)?;
     let mut source = SliceSource::new(&bytes, INPUT_MAX);
-    let Ok(head) = read_head(rt.alloc(), &mut source) else {
-        panic!(rt; "no head");
-    };
-    assert_eq!(rt; source.at(), 22);
-    assert_eq!(rt; head.unit.num(), 1000);
-    assert_eq!(rt; head.unit.den(), 1);
-    assert!(rt; head.flag_in_end);
+    assert!(rt; has_head(rt.alloc(), &mut source));
     for at in AT {
-        let record = Record::read(rt.alloc(), &mut source, head.flag_in_end);
-        assert!(rt; record.is_ok());
-        assert_eq!(rt; source.at(), at);
+        assert!(rt; ends_at(rt.alloc(), &mut source, at), "{at}");
     }
     Ok(())
 }
@@ -145,73 +159,104 @@ fn taken(alloc: Global, bytes: &[u8]) -> u64 {
     }
 }
 
-/// Each of these info bits stands for a field of one byte.
-fn bits_of_one_byte(rt: &impl Abort, alloc: Global, id: u8, bits: &[u8]) {
-    for bit in bits {
-        assert_eq!(rt; taken(alloc, &[id, *bit, 0, 0, 0]), 3, "{id} {bit}");
+/// How many bytes a record takes, and bytes that it stands at the beginning of.
+///
+/// A square; a path with an explicit start and an explicit end, one of them, none. A path may have no delta, a polygon has two.
+/// Cells and strings by number, themselves, and N ignored where C is 0; angles and magnifications.
+const TAKEN: &str = "\
+2 140000\n\
+2 1b0000\n\
+2 150000\n\
+2 160000\n\
+3 11c00700\n\
+4 1180014100\n\
+2 11400700\n\
+3 12c00700\n\
+4 1280014100\n\
+2 12400700\n\
+2 148000\n\
+5 16800f020400\n\
+4 16800c020400\n\
+4 168003020400\n\
+3 168009020400\n\
+4 1620020000\n\
+6 15200202282900\n\
+2 11070000\n\
+4 1204000100\n\
+5 120204010100\n\
+3 13600700\n\
+4 1340012000\n\
+2 13200700";
+
+#[test]
+fn bytes_taken(rt: HostRuntime) -> Result<(), Fail> {
+    for row in TAKEN.lines() {
+        let (number, pieces) = row.split_once(' ').unwrap_or(("", ""));
+        let bytes = bytes_of(rt.alloc(), pieces)?;
+        assert!(rt;
+            taken(rt.alloc(), &bytes) == number.parse().unwrap_or(9999),
+            "{row}"
+        );
+    }
+    Ok(())
+}
+
+/// Records, and info bits of theirs that each stand for a field of one byte.
+const BITS: [(u8, &[u8]); 6] = [
+    (20, &[1, 2, 4, 8, 16, 32, 64]),
+    (27, &[1, 2, 4, 8, 16, 32]),
+    (21, &[1, 2, 4, 8, 16]),
+    (22, &[1, 2, 4, 8, 16, 64]),
+    (17, &[8, 16, 32]),
+    (18, &[8, 16, 32]),
+];
+
+#[test]
+fn info_bits_of_one_byte(rt: HostRuntime) {
+    for (id, bits) in BITS {
+        for bit in bits {
+            assert!(rt; taken(rt.alloc(), &[id, *bit, 0, 0, 0]) == 3, "{id} {bit}");
+        }
     }
 }
 
-#[test]
-fn info_bits_of_shapes(rt: HostRuntime) {
-    let alloc = rt.alloc();
-    for id in [20u8, 27, 21, 22] {
-        bits_of_one_byte(&rt, alloc, id, &[1, 2, 4, 8, 16]);
-        assert_eq!(rt; taken(alloc, &[id, 0, 0]), 2);
+/// Whether it is the square, with these fields and no others.
+fn is_square(record: &Record) -> bool {
+    match record {
+        Record::Rectangle(drawn) => {
+            drawn.square
+                && (drawn.layer, drawn.datatype) == (Some(1), Some(2))
+                && (drawn.width, drawn.height) == (Some(10), None)
+                && (drawn.spot.x, drawn.spot.y) == (Some(3), Some(-4))
+                && drawn.spot.repetition.is_none()
+        }
+        _ => false,
     }
-    bits_of_one_byte(&rt, alloc, 20, &[32, 64]);
-    assert_eq!(rt; taken(alloc, &[20, 128, 0]), 2);
-    bits_of_one_byte(&rt, alloc, 27, &[32]);
-    bits_of_one_byte(&rt, alloc, 22, &[64]);
-    // an explicit start and an explicit end; one of them; none
-    assert_eq!(rt; taken(alloc, &[22, 128, 15, 2, 4, 0]), 5);
-    assert_eq!(rt; taken(alloc, &[22, 128, 12, 2, 4, 0]), 4);
-    assert_eq!(rt; taken(alloc, &[22, 128, 3, 2, 4, 0]), 4);
-    assert_eq!(rt; taken(alloc, &[22, 128, 9, 2, 4, 0]), 3);
-    // a path may have no delta, a polygon has two
-    assert_eq!(rt; taken(alloc, &[22, 32, 2, 0, 0]), 4);
-    assert_eq!(rt; taken(alloc, &[21, 32, 2, 2, 40, 41, 0]), 6);
-}
-
-#[test]
-fn info_bits_of_references(rt: HostRuntime) {
-    let alloc = rt.alloc();
-    // cells and strings: by number, themselves, and N ignored where C is 0
-    for id in [17u8, 18] {
-        assert_eq!(rt; taken(alloc, &[id, 0xC0, 7, 0]), 3);
-        assert_eq!(rt; taken(alloc, &[id, 0x80, 1, 0x41, 0]), 4);
-        assert_eq!(rt; taken(alloc, &[id, 0x40, 7, 0]), 2);
-        bits_of_one_byte(&rt, alloc, id, &[8, 16, 32]);
-    }
-    assert_eq!(rt; taken(alloc, &[17, 7, 0, 0]), 2);
-    assert_eq!(rt; taken(alloc, &[18, 4, 0, 1, 0]), 4);
-    assert_eq!(rt; taken(alloc, &[18, 2, 4, 1, 1, 0]), 5);
-    assert_eq!(rt; taken(alloc, &[19, 0x60, 7, 0]), 3);
-    assert_eq!(rt; taken(alloc, &[19, 0x40, 1, 0x20, 0]), 4);
-    assert_eq!(rt; taken(alloc, &[19, 0x20, 7, 0]), 2);
 }
 
 #[test]
 fn values(rt: HostRuntime) {
-    let alloc = rt.alloc();
-    let mut source = SliceSource::new(
-        &[
-            20, 0xDB, 1, 2, 10, 6, 9, 17, 0xF7, 1, 0x41, 3, 4, 22, 0x80, 6, 7,
-        ],
-        100,
-    );
-    let Ok(Record::Rectangle(rectangle)) = Record::read(alloc, &mut source, false) else {
-        panic!(rt; "no rectangle");
-    };
-    assert!(rt; rectangle.square && rectangle.layer == Some(1) && rectangle.datatype == Some(2));
-    assert!(rt; rectangle.width == Some(10) && rectangle.height.is_none());
-    assert!(rt; rectangle.spot.x == Some(3) && rectangle.spot.y == Some(-4));
-    assert!(rt; rectangle.spot.repetition.is_none());
+    let bytes = [
+        20, 0xDB, 1, 2, 10, 6, 9, 17, 0xF7, 1, 0x41, 3, 4, 22, 0x80, 6, 7,
+    ];
+    match Record::read(rt.alloc(), &mut SliceSource::new(&bytes, 100), false) {
+        Ok(record) => assert!(rt; is_square(&record)),
+        Err(_refusal) => panic!(rt; "no rectangle"),
+    }
+}
+
+/// Whether a placement with this info byte is turned so.
+fn is_turned(alloc: Global, info: u8, turns: u8, flip: bool) -> bool {
+    match Record::read(alloc, &mut SliceSource::new(&[17, info], 100), false) {
+        Ok(Record::Placement(placed)) => {
+            placed.turn == Turn::Quarters(turns) && placed.flip == flip
+        }
+        _ => false,
+    }
 }
 
 #[test]
 fn turns(rt: HostRuntime) {
-    let alloc = rt.alloc();
     for (info, turns, flip) in [
         (0u8, 0u8, false),
         (1, 0, true),
@@ -219,13 +264,15 @@ fn turns(rt: HostRuntime) {
         (5, 2, true),
         (6, 3, false),
     ] {
-        let bytes = [17, info];
-        let mut source = SliceSource::new(&bytes, 100);
-        let Ok(Record::Placement(placement)) = Record::read(alloc, &mut source, false) else {
-            panic!(rt; "no placement");
-        };
-        assert!(rt; placement.turn == Turn::Quarters(turns));
-        assert_eq!(rt; placement.flip, flip);
+        assert!(rt; is_turned(rt.alloc(), info, turns, flip), "{info}");
+    }
+}
+
+/// Whether a path stands there, with these extensions.
+fn extends(alloc: Global, source: &mut SliceSource<'_>, start: Extension, end: Extension) -> bool {
+    match Record::read(alloc, source, false) {
+        Ok(Record::Path(path)) => path.extensions == Some(Extensions { start, end }),
+        _ => false,
     }
 }
 
@@ -233,20 +280,13 @@ fn turns(rt: HostRuntime) {
 fn extensions(rt: HostRuntime) {
     let alloc = rt.alloc();
     let mut source = SliceSource::new(&[22, 0x80, 6, 22, 0x80, 13, 5], 100);
-    let Ok(Record::Path(path)) = Record::read(alloc, &mut source, false) else {
-        panic!(rt; "no path");
-    };
-    let want = Extensions {
-        start: Extension::Flush,
-        end: Extension::Half,
-    };
-    assert!(rt; path.extensions == Some(want));
-    let Ok(Record::Path(path)) = Record::read(alloc, &mut source, false) else {
-        panic!(rt; "no path");
-    };
-    let want = Extensions {
-        start: Extension::Explicit(-2),
-        end: Extension::Flush,
-    };
-    assert!(rt; path.extensions == Some(want));
+    assert!(rt; extends(alloc, &mut source, Extension::Flush, Extension::Half));
+    assert!(rt;
+        extends(
+            alloc,
+            &mut source,
+            Extension::Explicit(-2),
+            Extension::Flush
+        )
+    );
 }
