@@ -7,7 +7,7 @@ mod memory;
 mod order;
 mod plain;
 
-use oas_layout::{Draft, Element, Layout, Limits, Profile, Turns};
+use oas_layout::{Draft, Element, Elements, Layout, Limits, Profile, Turns};
 use oas_num::{Fraction, Label, Name, SliceSource, Spelled, Why};
 use oas_ring::{Point, Points};
 use std::alloc::{AllocError, Global};
@@ -174,19 +174,30 @@ fn halves(row: &str) -> (&str, &str) {
     row.split_once("|").unwrap_or((row, ""))
 }
 
-fn profile(word: &str) -> Profile {
-    if word == "one" {
-        Profile::One
-    } else {
-        Profile::Two
+/// A draft of this unit and no cells.
+fn draft_of(
+    alloc: Global,
+    num: u64,
+    den: u64,
+    limits: Limits,
+    profile: Profile,
+) -> Result<Draft, Fail> {
+    let unit = Fraction::reduced(num, den).ok_or("no unit")?;
+    Ok(Draft::new(alloc, unit, limits, profile)?)
+}
+
+/// Adds cells of these names.
+fn add_named(draft: &mut Draft, alloc: Global, all: &mut SplitWhitespace<'_>) -> Result<(), Fail> {
+    for text in all {
+        draft.add_cell(name(alloc, text)?)?;
     }
+    Ok(())
 }
 
 /// A draft of unit 1000/1 with one cell, A.
 fn draft_of_a(alloc: Global, limits: Limits, profile: Profile) -> Result<Draft, Fail> {
-    let unit = Fraction::reduced(1000, 1).ok_or("no unit")?;
-    let mut draft = Draft::new(alloc, unit, limits, profile)?;
-    draft.add_cell(name(alloc, "A")?)?;
+    let mut draft = draft_of(alloc, 1000, 1, limits, profile)?;
+    add_named(&mut draft, alloc, &mut "A".split_whitespace())?;
     Ok(draft)
 }
 
@@ -247,7 +258,20 @@ fn gives(
     line: &str,
 ) -> Result<(), Fail> {
     let (times, wanted) = counted(alloc, line)?;
-    assert!(rt; is_pair(pair, times, &wanted), "at {line}");
+    check(rt, is_pair(pair, times, &wanted), line);
+    Ok(())
+}
+
+/// The next pairs are those of the lines, which `;` keeps apart.
+fn give_all(
+    rt: &impl Abort,
+    alloc: Global,
+    pairs: &mut Elements<'_>,
+    lines: &str,
+) -> Result<(), Fail> {
+    for line in lines.split(";") {
+        gives(rt, alloc, pairs.next(), line)?;
+    }
     Ok(())
 }
 
@@ -263,9 +287,12 @@ fn holds(
         return Err(Fail::new("no such cell"));
     }
     let mut pairs = layout.elements(cell);
-    for line in lines.split(";") {
-        gives(rt, alloc, pairs.next(), line)?;
-    }
-    assert!(rt; pairs.next().is_none(), "more than {lines}");
+    give_all(rt, alloc, &mut pairs, lines)?;
+    check(rt, pairs.next().is_none(), lines);
     Ok(())
+}
+
+/// What is to hold at a row of a table.
+fn check(rt: &impl Abort, holds: bool, row: &str) {
+    assert!(rt; holds, "at {row}");
 }

@@ -1,9 +1,9 @@
 //! The cells of drafts and layouts.
 
 use super::drafts::same;
-use super::{Words, draft_of_a, halves, holds, name, put_all};
+use super::{Words, add_named, check, draft_of, draft_of_a, halves, holds, name, put_all};
 use oas_layout::{Draft, Layout, Limits, Profile};
-use oas_num::{Fraction, Name, Why};
+use oas_num::{Name, Why};
 use std::alloc::Global;
 use std::process::Abort;
 use std::test::Fail;
@@ -43,17 +43,22 @@ fn is_row(
     row: &str,
 ) -> Result<(), Fail> {
     let (text, lines) = halves(row);
-    assert!(rt; is_named(layout, cell, text), "at {text}");
+    check(rt, is_named(layout, cell, text), text);
     holds(rt, alloc, layout, cell, lines)
+}
+
+/// Adds the cells of the rows.
+fn add_rows(draft: &mut Draft, alloc: Global, rows: &str) -> Result<(), Fail> {
+    for row in rows.lines() {
+        add_row(draft, alloc, row)?;
+    }
+    Ok(())
 }
 
 /// The layout of the rows, which define cells in their order.
 fn layout_of_rows(alloc: Global, profile: Profile, rows: &str) -> Result<Layout, Fail> {
-    let unit = Fraction::reduced(2000, 2).ok_or("no unit")?;
-    let mut draft = Draft::new(alloc, unit, Limits::standard(), profile)?;
-    for row in rows.lines() {
-        add_row(&mut draft, alloc, row)?;
-    }
+    let mut draft = draft_of(alloc, 2000, 2, Limits::standard(), profile)?;
+    add_rows(&mut draft, alloc, rows)?;
     Ok(draft.seal()?)
 }
 
@@ -84,20 +89,26 @@ fn is_of(layout: &Layout, profile: Profile, count: u64, weight: u64) -> bool {
         && layout.weight() == weight
 }
 
-/// The layouts of both tables.
-fn seal_both(rt: &impl Abort, alloc: Global, profile: Profile) -> Result<(), Fail> {
-    let all = layout_of_rows(alloc, profile, CELLS)?;
-    assert!(rt; is_of(&all, profile, 13, 32));
-    has_rows(rt, alloc, &all, ASCENDING_CELLS)?;
-    let seven = layout_of_rows(alloc, profile, SEVEN)?;
-    assert!(rt; is_of(&seven, profile, 7, 19));
-    has_rows(rt, alloc, &seven, ASCENDING_SEVEN)
+/// The layout of a table has so many elements and this weight, and the cells of the other.
+fn is_sealed(
+    rt: &impl Abort,
+    alloc: Global,
+    profile: Profile,
+    (given, ascending): (&str, &str),
+    (count, weight): (u64, u64),
+) -> Result<(), Fail> {
+    let layout = layout_of_rows(alloc, profile, given)?;
+    assert!(rt; is_of(&layout, profile, count, weight));
+    has_rows(rt, alloc, &layout, ascending)
 }
 
 #[test]
 fn cells_and_elements_in_their_order(rt: HostRuntime) -> Result<(), Fail> {
-    seal_both(&rt, rt.alloc(), Profile::One)?;
-    seal_both(&rt, rt.alloc(), Profile::Two)
+    for profile in [Profile::One, Profile::Two] {
+        is_sealed(&rt, rt.alloc(), profile, (CELLS, ASCENDING_CELLS), (13, 32))?;
+        is_sealed(&rt, rt.alloc(), profile, (SEVEN, ASCENDING_SEVEN), (7, 19))?;
+    }
+    Ok(())
 }
 
 /// The parts of a unit and the names of empty cells, of two layouts; whether they are the same.
@@ -106,23 +117,27 @@ const EMPTY: &str = "1000 1 A B|2000 2 B A|yes
 1000 1 A B|1000 1 A C|no
 1000 1 A B|1000 1 A|no";
 
-fn empty_cells(alloc: Global, words: &str) -> Result<Layout, Fail> {
-    let mut words = Words::of(words);
+fn empty_cells(alloc: Global, line: &str) -> Result<Layout, Fail> {
+    let mut words = Words::of(line);
     let num = words.unsigned();
-    let unit = Fraction::reduced(num, words.unsigned()).ok_or("no unit")?;
-    let mut draft = Draft::new(alloc, unit, Limits::standard(), Profile::One)?;
-    for text in &mut words.rest {
-        draft.add_cell(name(alloc, text)?)?;
-    }
+    let den = words.unsigned();
+    let mut draft = draft_of(alloc, num, den, Limits::standard(), Profile::One)?;
+    add_named(&mut draft, alloc, &mut words.rest)?;
     Ok(draft.seal()?)
+}
+
+/// Whether the two are the same.
+fn are_same(alloc: Global, first: &str, second: &str) -> Result<bool, Fail> {
+    let a = empty_cells(alloc, first)?;
+    let b = empty_cells(alloc, second)?;
+    Ok(same(&a, &b))
 }
 
 fn empty_row(rt: &impl Abort, alloc: Global, row: &str) -> Result<(), Fail> {
     let (first, rest) = halves(row);
     let (second, answer) = halves(rest);
-    let a = empty_cells(alloc, first)?;
-    let b = empty_cells(alloc, second)?;
-    assert!(rt; same(&a, &b) == (answer == "yes"), "at {row}");
+    let are_same = are_same(alloc, first, second)?;
+    check(rt, are_same == (answer == "yes"), row);
     Ok(())
 }
 
@@ -151,15 +166,30 @@ fn is_of_a(layout: &Layout) -> bool {
         && layout.elements(0).next().is_none()
 }
 
+/// The draft of the cell A that has no room for another.
+fn full_draft(alloc: Global) -> Result<Draft, Fail> {
+    let limits = Limits::new(1, 2, 448).ok_or("these are limits")?;
+    draft_of_a(alloc, limits, Profile::Two)
+}
+
+/// Whether the draft refuses a cell of this name for this reason, and hands the name back.
+fn hands_back(alloc: Global, draft: &mut Draft, text: &str, wanted: Why) -> Result<bool, Fail> {
+    let answer = draft.add_cell(name(alloc, text)?);
+    Ok(is_handed_back(&answer, wanted, text))
+}
+
+/// Whether the layout of the draft is that of the cell A, which is empty.
+fn is_still_of_a(draft: Draft) -> Result<bool, Fail> {
+    let layout = draft.seal()?;
+    Ok(is_of_a(&layout))
+}
+
 /// The draft of the cell A refuses a cell of this name for this reason, and hands the name back.
 fn refuses_cell(rt: &impl Abort, alloc: Global, text: &str, wanted: Why) -> Result<(), Fail> {
-    // no room for another cell
-    let limits = Limits::new(1, 2, 448).ok_or("these are limits")?;
-    let mut draft = draft_of_a(alloc, limits, Profile::Two)?;
-    let answer = draft.add_cell(name(alloc, text)?);
-    assert!(rt; is_handed_back(&answer, wanted, text), "at {text}");
-    let layout = draft.seal()?;
-    assert!(rt; is_of_a(&layout), "at {text}");
+    let mut draft = full_draft(alloc)?;
+    let is_refused = hands_back(alloc, &mut draft, text, wanted)?;
+    check(rt, is_refused, text);
+    check(rt, is_still_of_a(draft)?, text);
     Ok(())
 }
 

@@ -1,6 +1,6 @@
 //! The forms in which elements are kept, and layouts that are the same or not.
 
-use super::{draft_of_a, halves, holds, layout_of_a, profile};
+use super::{check, draft_of_a, halves, holds, is_pair, layout_of_a};
 use oas_layout::{Draft, Element, Layout, Limits, Profile};
 use oas_ring::{Point, Points};
 use std::alloc::{AllocError, Global};
@@ -24,14 +24,26 @@ two|1 polygon 1 0 0,5 0,0 5,0 0,5|1 polygon 1 0 0,0 0,5 0,5 5,0|7
 two|1 polygon 1 0 2,0 1,0 0,0 1,0|1 polygon 1 0 0,0 1,0 2,0 1,0|7
 two|1 polygon 1 0 -1152921504606846976,-1152921504606846976 1152921504606846976,-1152921504606846976 1152921504606846976,1152921504606846976 -1152921504606846976,1152921504606846976|1 rectangle 1 0 2305843009213693952 2305843009213693952 -1152921504606846976 -1152921504606846976|3";
 
+fn profile(word: &str) -> Profile {
+    if word == "one" {
+        Profile::One
+    } else {
+        Profile::Two
+    }
+}
+
 fn is_kept(rt: &impl Abort, alloc: Global, row: &str) -> Result<(), Fail> {
     let (under, rest) = halves(row);
     let (given, rest) = halves(rest);
     let (held, weight) = halves(rest);
     let layout = layout_of_a(alloc, profile(under), given)?;
-    assert!(rt; layout.profile() == profile(under), "at {row}");
-    assert!(rt; layout.weight() == weight.parse().unwrap_or(0), "at {row}");
+    check(rt, weighs(&layout, profile(under), weight), row);
     holds(rt, alloc, &layout, 0, held)
+}
+
+/// Whether the layout is of this profile and weight.
+fn weighs(layout: &Layout, profile: Profile, weight: &str) -> bool {
+    layout.profile() == profile && layout.weight() == weight.parse().unwrap_or(0)
 }
 
 #[test]
@@ -61,13 +73,29 @@ fn answer_alike(a: &Layout, b: &Layout, wanted: bool) -> bool {
     same(a, b) == wanted && same(b, a) == wanted && same(a, a) && same(b, b)
 }
 
+/// Whether these profiles are both, or this one.
+fn is_among(under: Profile, profiles: &str) -> bool {
+    profiles == "both" || (profiles == "two" && under == Profile::Two)
+}
+
+/// Whether the layouts of these lines answer so.
+fn are_alike(
+    alloc: Global,
+    under: Profile,
+    first: &str,
+    second: &str,
+    wanted: bool,
+) -> Result<bool, Fail> {
+    let a = layout_of_a(alloc, under, first)?;
+    let b = layout_of_a(alloc, under, second)?;
+    Ok(answer_alike(&a, &b, wanted))
+}
+
 fn is_same(rt: &impl Abort, alloc: Global, row: &str, under: Profile) -> Result<(), Fail> {
     let (first, rest) = halves(row);
     let (second, profiles) = halves(rest);
-    let wanted = profiles == "both" || (profiles == "two" && under == Profile::Two);
-    let a = layout_of_a(alloc, under, first)?;
-    let b = layout_of_a(alloc, under, second)?;
-    assert!(rt; answer_alike(&a, &b, wanted), "at {row}");
+    let is_so = are_alike(alloc, under, first, second, is_among(under, profiles))?;
+    check(rt, is_so, row);
     Ok(())
 }
 
@@ -105,12 +133,21 @@ fn add_ring(draft: &mut Draft, alloc: Global, from: u32, step: u32) -> Result<()
     Ok(())
 }
 
+fn add_rings(draft: &mut Draft, alloc: Global) -> Result<(), Fail> {
+    add_ring(draft, alloc, 5, 1)?;
+    add_ring(draft, alloc, 40000, u32::MAX)?;
+    add_ring(draft, alloc, 65535, u32::MAX)
+}
+
 fn three_rings(alloc: Global) -> Result<Layout, Fail> {
     let mut draft = draft_of_a(alloc, Limits::standard(), Profile::Two)?;
-    add_ring(&mut draft, alloc, 5, 1)?;
-    add_ring(&mut draft, alloc, 40000, u32::MAX)?;
-    add_ring(&mut draft, alloc, 65535, u32::MAX)?;
+    add_rings(&mut draft, alloc)?;
     Ok(draft.seal()?)
+}
+
+/// Whether the first cell has the ring three times.
+fn has_three(layout: &Layout, ring: &Element) -> bool {
+    layout.cells() > 0 && is_pair(layout.elements(0).next(), 3, ring)
 }
 
 #[test]
@@ -118,9 +155,6 @@ fn a_long_ring_in_three_readings(rt: HostRuntime) -> Result<(), Fail> {
     // the least point has x = 1, and its neighbours x = 2 and x = 65536
     let wanted = long_ring(rt.alloc(), 65535, u32::MAX)?;
     let layout = three_rings(rt.alloc())?;
-    if layout.cells() > 0 {
-        let (held, times) = layout.elements(0).next().ok_or("none is held")?;
-        assert!(rt; *held == wanted && times == 3);
-    }
+    assert!(rt; has_three(&layout, &wanted));
     Ok(())
 }

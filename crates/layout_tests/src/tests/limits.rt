@@ -1,8 +1,7 @@
 //! Limits at and past the bounds of all limits, and drafts at theirs.
 
-use super::{Words, draft_of_a, element, halves, layout_of_a, put, put_many};
+use super::{Words, check, draft_of_a, element, halves, layout_of_a, put, put_many};
 use oas_layout::{Draft, Element, Limits, Profile};
-use oas_num::Why;
 use std::alloc::Global;
 use std::process::Abort;
 use std::test::Fail;
@@ -30,11 +29,17 @@ fn limits_that_there_are(rt: HostRuntime) -> Result<(), Fail> {
     Ok(())
 }
 
-/// Whether the element is handed back for the reason of this number.
-fn is_refusal(answer: &Result<(), (Why, Element)>, number: u8, element: &Element) -> bool {
-    match answer {
+/// Whether the draft hands so many of the element back for the reason of this number.
+fn hands_back(
+    draft: &mut Draft,
+    given: Element,
+    times: u64,
+    number: u8,
+    element: &Element,
+) -> bool {
+    match put_many(draft, 0, given, times) {
         Ok(()) => false,
-        Err((why, back)) => why.number() == number && *back == *element,
+        Err((why, back)) => why.number() == number && back == *element,
     }
 }
 
@@ -49,8 +54,11 @@ fn refuses(
 ) -> Result<(), Fail> {
     let given = element(alloc, line)?;
     let wanted_back = element(alloc, line)?;
-    let answer = put_many(draft, 0, given, times);
-    assert!(rt; is_refusal(&answer, wanted, &wanted_back), "at {line}");
+    check(
+        rt,
+        hands_back(draft, given, times, wanted, &wanted_back),
+        line,
+    );
     Ok(())
 }
 
@@ -79,15 +87,32 @@ const REFUSED: &str = "16777216 268435456 1 16|polygon 1 0 0,0 1,1
 fn is_refused(rt: &impl Abort, alloc: Global, row: &str) -> Result<(), Fail> {
     let (numbers, line) = halves(row);
     let mut numbers = Words::of(numbers);
-    let elements = numbers.unsigned();
-    let weight = numbers.unsigned();
-    let limits = Limits::new(elements, weight, 1 << 38).ok_or("these are limits")?;
+    let limits = limits_of(&mut numbers)?;
     let times = numbers.unsigned();
     let wanted = numbers.unsigned().min(255) as u8;
+    stays_empty(rt, alloc, limits, line, times, wanted)
+}
+
+/// The limits of a row.
+fn limits_of(numbers: &mut Words<'_>) -> Result<Limits, Fail> {
+    let elements = numbers.unsigned();
+    let weight = numbers.unsigned();
+    Ok(Limits::new(elements, weight, 1 << 38).ok_or("these are limits")?)
+}
+
+/// A draft within these limits refuses so many of the element of the line, and has none of them then.
+fn stays_empty(
+    rt: &impl Abort,
+    alloc: Global,
+    limits: Limits,
+    line: &str,
+    times: u64,
+    wanted: u8,
+) -> Result<(), Fail> {
     let mut draft = draft_of_a(alloc, limits, Profile::Two)?;
     refuses(rt, alloc, &mut draft, line, times, wanted)?;
     let layout = draft.seal()?;
-    assert!(rt; layout.count() == 0 && layout.weight() == 2);
+    check(rt, layout.count() == 0 && layout.weight() == 2, line);
     Ok(())
 }
 
@@ -111,7 +136,7 @@ const AT_THE_EDGE: &str =
 #[test]
 fn elements_at_the_edge_of_the_grid(rt: HostRuntime) -> Result<(), Fail> {
     let layout = layout_of_a(rt.alloc(), Profile::One, AT_THE_EDGE)?;
-    assert_eq!(rt; layout.count(), 7);
+    assert!(rt; layout.count() == 7);
     Ok(())
 }
 

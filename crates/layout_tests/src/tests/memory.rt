@@ -4,7 +4,7 @@
 //! of want in its turn. Where the heap cannot be filled, as under a checker of addresses, no call is refused, and the
 //! answers are the same.
 
-use super::{draft_of_a, element, holds, name, put, put_many};
+use super::{add_named, draft_of_a, element, holds, name, put, put_many};
 use oas_layout::{Draft, Element, Layout, Limits, Profile};
 use oas_num::{Fraction, Name, Why};
 use scarce_memory::Hoard;
@@ -210,16 +210,30 @@ fn insist_on_all(
     Some(draft)
 }
 
-#[test]
-fn drafts_without_memory(rt: HostRuntime) -> Result<(), Fail> {
-    let alloc = rt.alloc();
+/// The same where all memory is taken at first.
+fn insist_in_want(
+    rt: &impl Abort,
+    alloc: Global,
+    names: Vec<Name>,
+    elements: Vec<Element>,
+    wanted: &[Element],
+) -> Result<Draft, Fail> {
+    let mut want = Want::new(alloc)?;
+    Ok(insist_on_all(rt, names, elements, wanted, &mut want).ok_or("a draft is never made")?)
+}
+
+/// The draft of twelve cells, the first of them with the elements.
+fn draft_in_want(rt: &impl Abort, alloc: Global) -> Result<Draft, Fail> {
     let names = names(alloc, "A B C D E F G H I J K L")?;
     let given = elements(alloc)?;
     let wanted = elements(alloc)?;
-    let mut want = Want::new(alloc)?;
-    let draft = insist_on_all(&rt, names, given, &wanted, &mut want);
-    drop(want);
-    let layout = draft.ok_or("a draft is never made")?.seal()?;
+    insist_in_want(rt, alloc, names, given, &wanted)
+}
+
+#[test]
+fn drafts_without_memory(rt: HostRuntime) -> Result<(), Fail> {
+    let alloc = rt.alloc();
+    let layout = draft_in_want(&rt, alloc)?.seal()?;
     assert!(rt; layout.cells() == 12 && layout.count() == 325);
     holds(&rt, alloc, &layout, 0, HELD)
 }
@@ -227,9 +241,8 @@ fn drafts_without_memory(rt: HostRuntime) -> Result<(), Fail> {
 /// A draft of 26 cells, the last named first, with three circles.
 fn draft_of_many(alloc: Global) -> Result<Draft, Fail> {
     let mut draft = draft_of_a(alloc, Limits::standard(), Profile::One)?;
-    for name in names(alloc, "Z Y X W V U T S R Q P O N M L K J I H G F E D C B")? {
-        draft.add_cell(name)?;
-    }
+    let mut names = "Z Y X W V U T S R Q P O N M L K J I H G F E D C B".split_whitespace();
+    add_named(&mut draft, alloc, &mut names)?;
     put(&mut draft, alloc, 0, "3 circle 1 0 5 0 0")?;
     Ok(draft)
 }
@@ -258,18 +271,23 @@ fn drafts_of_many(alloc: Global, count: u32) -> Result<Vec<Draft>, Fail> {
     Ok(drafts)
 }
 
-#[test]
-fn seals_without_memory(rt: HostRuntime) -> Result<(), Fail> {
-    let alloc = rt.alloc();
-    let drafts = drafts_of_many(alloc, 200)?;
-    let last = draft_of_many(alloc)?;
+/// Seals them where all memory is taken at first.
+fn seal_in_want(rt: &impl Abort, alloc: Global, drafts: Vec<Draft>) -> Result<(), Fail> {
     let mut want = Want::new(alloc)?;
-    seal_all(&rt, drafts, &mut want);
+    seal_all(rt, drafts, &mut want);
     assert!(rt;
         !want.hoard.is_full() || want.refused > 0,
         "no seal was refused"
     );
-    drop(want);
-    assert!(rt; is_of_many(&last.seal()?));
+    Ok(())
+}
+
+#[test]
+fn seals_without_memory(rt: HostRuntime) -> Result<(), Fail> {
+    let drafts = drafts_of_many(rt.alloc(), 200)?;
+    let last = draft_of_many(rt.alloc())?;
+    seal_in_want(&rt, rt.alloc(), drafts)?;
+    let layout = last.seal()?;
+    assert!(rt; is_of_many(&layout));
     Ok(())
 }

@@ -2,6 +2,8 @@
 
 use super::{holds, layout_of_a};
 use oas_layout::Profile;
+use std::alloc::Global;
+use std::process::Abort;
 use std::test::Fail;
 
 /// By kind, and then by each field in its turn: of two neighbours that agree up to a field, that field decides, against
@@ -53,11 +55,13 @@ const ASCENDING: &str = "2 placement A -7 9 3 1;
 2 circle 1 1 0 0 0;
 2 circle 2 0 0 0 0";
 
+fn are_ascending(rt: &impl Abort, alloc: Global, profile: Profile) -> Result<(), Fail> {
+    let layout = layout_of_a(alloc, profile, ASCENDING)?;
+    holds(rt, alloc, &layout, 0, ASCENDING)
+}
+
 #[test]
 fn elements_are_given_in_their_order(rt: HostRuntime) -> Result<(), Fail> {
-    for profile in [Profile::One, Profile::Two] {
-        let layout = layout_of_a(rt.alloc(), profile, ASCENDING)?;
-        holds(&rt, rt.alloc(), &layout, 0, ASCENDING)?;
-    }
-    Ok(())
+    are_ascending(&rt, rt.alloc(), Profile::One)?;
+    are_ascending(&rt, rt.alloc(), Profile::Two)
 }

@@ -1,7 +1,7 @@
 //! Cells that a draft takes as a whole.
 
 use super::{draft_of_a, holds, name, put_all};
-use oas_layout::{Draft, Element, Limits, PlainElements, Profile};
+use oas_layout::{Draft, Element, Layout, Limits, PlainElements, Profile};
 use oas_num::Why;
 use std::alloc::Global;
 use std::process::Abort;
@@ -36,19 +36,29 @@ fn adds(
     Ok(())
 }
 
-#[test]
-fn cells_taken_as_a_whole(rt: HostRuntime) -> Result<(), Fail> {
-    let alloc = rt.alloc();
-    let mut draft = draft_of_a(alloc, Limits::standard(), Profile::Two)?;
-    adds(&rt, alloc, &mut draft, Ok(1))?;
-    adds(&rt, alloc, &mut draft, Err(Why::DuplicateCell))?;
+/// Adds B once as a whole, and then elements to it.
+fn add_whole(rt: &impl Abort, alloc: Global, draft: &mut Draft) -> Result<(), Fail> {
+    adds(rt, alloc, draft, Ok(1))?;
+    adds(rt, alloc, draft, Err(Why::DuplicateCell))?;
     put_all(
-        &mut draft,
+        draft,
         alloc,
         1,
         "2 circle 1 0 5 0 0;1 rectangle 1 0 10 20 0 0",
-    )?;
-    let layout = draft.seal()?;
+    )
+}
+
+/// The layout of A and of that B.
+fn layout_with_whole(rt: &impl Abort, alloc: Global) -> Result<Layout, Fail> {
+    let mut draft = draft_of_a(alloc, Limits::standard(), Profile::Two)?;
+    add_whole(rt, alloc, &mut draft)?;
+    Ok(draft.seal()?)
+}
+
+#[test]
+fn cells_taken_as_a_whole(rt: HostRuntime) -> Result<(), Fail> {
+    let alloc = rt.alloc();
+    let layout = layout_with_whole(&rt, alloc)?;
     assert!(rt; layout.cells() == 2 && layout.count() == 6 && layout.weight() == 10);
     holds(
         &rt,
