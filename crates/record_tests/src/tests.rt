@@ -1,9 +1,10 @@
-use oas_num::{INPUT_MAX, SliceSource, Source, Why};
-use oas_record::{Extension, Extensions, Record, Turn, read_head};
+use oas_num::{INPUT_MAX, SliceSource, Source};
+use oas_record::{Record, read_head};
 use std::alloc::{AllocError, Global};
 use std::process::Abort;
 use std::test::Fail;
 
+mod fields;
 mod memory;
 
 /// A file in the style of a usual writer, with its names at the end.
@@ -84,6 +85,32 @@ fn bytes_of(alloc: Global, pieces: &str) -> Result<Vec<u8>, Fail> {
     Ok(bytes)
 }
 
+/// What the read of a record comes to.
+#[derive(Clone, Copy)]
+struct Outcome {
+    // The number of a refusal, or 0.
+    number: u8,
+    // Where it is refused, or ends.
+    at: u64,
+    is_end: bool,
+}
+
+/// Reads a record.
+fn read_one(alloc: Global, source: &mut SliceSource<'_>, flag_in_end: bool) -> Outcome {
+    match Record::read(alloc, source, flag_in_end) {
+        Ok(record) => Outcome {
+            number: 0,
+            at: source.at(),
+            is_end: record.is_end(),
+        },
+        Err(refusal) => Outcome {
+            number: refusal.why.number(),
+            at: refusal.at,
+            is_end: false,
+        },
+    }
+}
+
 /// Reads up to the first refusal or END: the number of the refusal, and its place; or 0, and where the file ends.
 fn first_refusal(alloc: Global, bytes: &[u8]) -> (u8, u64) {
     let mut source = SliceSource::new(bytes, INPUT_MAX);
@@ -92,13 +119,9 @@ fn first_refusal(alloc: Global, bytes: &[u8]) -> (u8, u64) {
         Err(refusal) => return (refusal.why.number(), refusal.at),
     };
     for _ in 0..1000u32 {
-        match Record::read(alloc, &mut source, head.flag_in_end) {
-            Ok(record) => {
-                if record.is_end() {
-                    return (0, source.at());
-                }
-            }
-            Err(refusal) => return (refusal.why.number(), refusal.at),
+        let read = read_one(alloc, &mut source, head.flag_in_end);
+        if read.is_end || read.number > 0 {
+            return (read.number, read.at);
         }
     }
     (0, 0)
@@ -133,10 +156,8 @@ fn has_head(alloc: Global, source: &mut SliceSource<'_>) -> bool {
 
 /// Whether a record stands there, up to that place, in a file with its flag in END.
 fn ends_at(alloc: Global, source: &mut SliceSource<'_>, at: u64) -> bool {
-    match Record::read(alloc, source, true) {
-        Ok(_record) => source.at() == at,
-        Err(_refusal) => false,
-    }
+    let read = read_one(alloc, source, true);
+    read.number == 0 && read.at == at
 }
 
 #[test]
@@ -153,10 +174,8 @@ fn compact(rt: HostRuntime) -> Result<(), Fail> {
 /// How many bytes a record takes of these.
 fn taken(alloc: Global, bytes: &[u8]) -> u64 {
     let mut source = SliceSource::new(bytes, INPUT_MAX);
-    match Record::read(alloc, &mut source, false) {
-        Ok(_record) => source.at(),
-        Err(_refusal) => 0,
-    }
+    let read = read_one(alloc, &mut source, false);
+    if read.number == 0 { read.at } else { 0 }
 }
 
 /// How many bytes a record takes, and bytes that it stands at the beginning of.
@@ -218,75 +237,4 @@ fn info_bits_of_one_byte(rt: HostRuntime) {
             assert!(rt; taken(rt.alloc(), &[id, *bit, 0, 0, 0]) == 3, "{id} {bit}");
         }
     }
-}
-
-/// Whether it is the square, with these fields and no others.
-fn is_square(record: &Record) -> bool {
-    match record {
-        Record::Rectangle(drawn) => {
-            drawn.square
-                && (drawn.layer, drawn.datatype) == (Some(1), Some(2))
-                && (drawn.width, drawn.height) == (Some(10), None)
-                && (drawn.spot.x, drawn.spot.y) == (Some(3), Some(-4))
-                && drawn.spot.repetition.is_none()
-        }
-        _ => false,
-    }
-}
-
-#[test]
-fn values(rt: HostRuntime) {
-    let bytes = [
-        20, 0xDB, 1, 2, 10, 6, 9, 17, 0xF7, 1, 0x41, 3, 4, 22, 0x80, 6, 7,
-    ];
-    match Record::read(rt.alloc(), &mut SliceSource::new(&bytes, 100), false) {
-        Ok(record) => assert!(rt; is_square(&record)),
-        Err(_refusal) => panic!(rt; "no rectangle"),
-    }
-}
-
-/// Whether a placement with this info byte is turned so.
-fn is_turned(alloc: Global, info: u8, turns: u8, flip: bool) -> bool {
-    match Record::read(alloc, &mut SliceSource::new(&[17, info], 100), false) {
-        Ok(Record::Placement(placed)) => {
-            placed.turn == Turn::Quarters(turns) && placed.flip == flip
-        }
-        _ => false,
-    }
-}
-
-#[test]
-fn turns(rt: HostRuntime) {
-    for (info, turns, flip) in [
-        (0u8, 0u8, false),
-        (1, 0, true),
-        (2, 1, false),
-        (5, 2, true),
-        (6, 3, false),
-    ] {
-        assert!(rt; is_turned(rt.alloc(), info, turns, flip), "{info}");
-    }
-}
-
-/// Whether a path stands there, with these extensions.
-fn extends(alloc: Global, source: &mut SliceSource<'_>, start: Extension, end: Extension) -> bool {
-    match Record::read(alloc, source, false) {
-        Ok(Record::Path(path)) => path.extensions == Some(Extensions { start, end }),
-        _ => false,
-    }
-}
-
-#[test]
-fn extensions(rt: HostRuntime) {
-    let alloc = rt.alloc();
-    let mut source = SliceSource::new(&[22, 0x80, 6, 22, 0x80, 13, 5], 100);
-    assert!(rt; extends(alloc, &mut source, Extension::Flush, Extension::Half));
-    assert!(rt;
-        extends(
-            alloc,
-            &mut source,
-            Extension::Explicit(-2),
-            Extension::Flush
-        )
-    );
 }

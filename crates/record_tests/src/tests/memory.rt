@@ -1,6 +1,7 @@
 //! Each growth refused in turn: a read answers want of memory, or what stands there.
 
 use super::*;
+use oas_num::Why;
 use scarce_memory::Hoard;
 
 /// What a read under little memory came to.
@@ -14,15 +15,13 @@ enum Trial {
 /// Reads one record.
 fn try_record(alloc: Global, bytes: &[u8]) -> Trial {
     let mut source = SliceSource::new(bytes, INPUT_MAX);
-    match Record::read(alloc, &mut source, false) {
-        Ok(_record) => Trial::Done,
-        Err(refusal) => {
-            if refusal.why == Why::Memory && refusal.at == 0 {
-                Trial::NoMemory
-            } else {
-                Trial::Wrong
-            }
-        }
+    let read = read_one(alloc, &mut source, false);
+    if read.number == 0 {
+        Trial::Done
+    } else if read.number == Why::Memory.number() && read.at == 0 {
+        Trial::NoMemory
+    } else {
+        Trial::Wrong
     }
 }
 
