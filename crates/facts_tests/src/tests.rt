@@ -41,7 +41,12 @@ fn draft_of(alloc: Global, names: &[&[u8]]) -> Result<Draft, Fail> {
 /// Five placements of A.
 fn put_placements(draft: &mut Draft, alloc: Global) -> Result<(), Fail> {
     let cell = name(alloc, b"\x01A")?;
-    put(draft, 1, Element::placement(cell, 0, 0, Turns::T0, false), 5)
+    put(
+        draft,
+        1,
+        Element::placement(cell, 0, 0, Turns::T0, false),
+        5,
+    )
 }
 
 /// Two texts.
@@ -64,7 +69,12 @@ fn put_points(draft: &mut Draft, alloc: Global, is_path: bool) -> Result<(), Fai
 /// Rectangles and a circle in both cells: where they stand, and how many they are.
 fn put_plain(draft: &mut Draft) -> Result<(), Fail> {
     for (cell, place, times) in [(1, 0, 3), (1, 5, 4), (0, 0, 1)] {
-        put(draft, cell, Element::rectangle(1, 0, 10, 20, place, place), times)?;
+        put(
+            draft,
+            cell,
+            Element::rectangle(1, 0, 10, 20, place, place),
+            times,
+        )?;
     }
     put(draft, 0, Element::circle(2, 0, 5, 0, 0), 1)
 }
@@ -146,7 +156,12 @@ fn are(names: &[Name], expected: &[&[u8]]) -> bool {
 fn place(alloc: Global, draft: &mut Draft, cell: usize, spelled: &[u8]) -> Result<(), Fail> {
     for x in [0, 1] {
         let placed = name(alloc, spelled)?;
-        put(draft, cell, Element::placement(placed, x, 0, Turns::T0, false), 3)?;
+        put(
+            draft,
+            cell,
+            Element::placement(placed, x, 0, Turns::T0, false),
+            3,
+        )?;
     }
     Ok(())
 }
