@@ -25,13 +25,24 @@ fn judge(alloc: Global, file: &[u8], reads: bool) -> Result<bool, Refusal> {
     }
 }
 
+/// How many small pieces are given back at once. An allocator may keep what was freed apart by its size, so fewer might never
+/// come to enough.
+const PIECES: usize = 8;
+
+/// Gives back a little memory.
+fn give_back(hoard: &mut Hoard) {
+    for _ in 0..PIECES {
+        hoard.give_back();
+    }
+}
+
 /// Judges a file with a little more memory each time.
 fn expect_growths(rt: &impl Abort, alloc: Global, file: &[u8], reads: bool) -> Result<(), Fail> {
     let mut hoard = Hoard::new(alloc)?;
     let is_full = hoard.is_full();
     let mut refused = 0u64;
     let mut done = 0u64;
-    for _ in 0..hoard.pieces() {
+    for _ in 0..hoard.pieces() / PIECES {
         match judge(alloc, file, reads) {
             Ok(yes) => {
                 assert!(rt; yes);
@@ -42,7 +53,7 @@ fn expect_growths(rt: &impl Abort, alloc: Global, file: &[u8], reads: bool) -> R
                 refused = refused.saturating_add(1);
             }
         }
-        hoard.give_back();
+        give_back(&mut hoard);
     }
     drop(hoard);
     assert!(rt; !is_full || refused > 0, "nothing was refused");
