@@ -5,7 +5,7 @@
 //! - The bytes of an entry and a block's are in specs/Entries.antt; no bytes stand for two lists of entries (specs/Laws).
 //!   [`read_entry`] reads the entry that stands first, and [`after`] has the bytes behind it, which are entries again.
 //! - A [`Block`] is seen as the list of its entries that are left. One more is put at its end, or, for want of memory, none; it is
-//!   cleared, it moves to memory that it fills, and its first entry and the bytes that are left can be looked at.
+//!   cleared, it gives back idle memory, and its first entry and the bytes that are left can be looked at.
 //! - A [`Run`] is seen as the list of its entries that are left. Its first entry can be looked at and taken; a block that is used
 //!   up is given back. [`Run::entries`] goes over all that are left, and `==` compares them (specs/Comparing.antt: it holds of
 //!   equal lists and no others).
