@@ -49,16 +49,14 @@ def of_body(name, limits, body, answer):
     return of_canon(name, limits, f"HEAD {body} TAIL", answer if plain else f"HEAD {answer} TAIL")
 
 
-def of_answer(name, command, files, status, answer):
-    """A row of a command that answers in text, or is refused."""
-    said = answer.replace(";", "\n").encode()
+def of_run(name, command, files, status, answer):
+    """A row of a run, as in runs.rt."""
     named = list(zip(("first", "second"), map(bytes_of, files.split("&"))))
-    return Row(name, command, named, STANDARD, (1, b"", said) if status == "1" else (int(status), said, b""))
-
-
-def of_rekey(name, file, status, answer):
-    wanted = (0, bytes_of(answer), b"") if status == "0" else (int(status), b"", f"{name}{answer}\n".encode())
-    return Row(name, "rekey", [(name, bytes_of(file))], STANDARD, wanted)
+    if answer.startswith("! "):
+        wanted = (int(status), b"", answer[2:].replace(";", "\n").encode())
+    else:
+        wanted = (int(status), bytes_of(answer) if command == "rekey" else answer.replace(";", "\n").encode(), b"")
+    return Row(name, command, named, STANDARD, wanted)
 
 
 def all_rows():
@@ -70,8 +68,5 @@ def all_rows():
         out += of_body(name, STANDARD, body, answer)
     for name, numbers, body, answer in lines("readings_table.rt", "UNDER_LIMITS"):
         out += of_body(name, tuple(map(int, numbers.split())), body, answer)
-    for name, body, listing in lines("readings_table.rt", "LISTED"):
-        out.append(of_answer(name, "show", f"HEAD {body} TAIL", "0", listing))
-    for fields in lines("answers.rt", "ANSWERS") + lines("answers.rt", "REFUSED"):
-        out.append(of_answer(*fields))
-    return out + [of_rekey(*fields) for fields in lines("rekeying.rt", "REKEYED")]
+    runs = [("readings_table.rt", "LISTED"), ("answers.rt", "ANSWERS"), ("answers.rt", "REFUSED"), ("rekeying.rt", "REKEYED")]
+    return out + [of_run(*fields) for it in runs for fields in lines(*it)]

@@ -11,5 +11,6 @@ mod readings;
 mod readings_table;
 mod rekeying;
 mod rows;
+mod runs;
 mod table;
 mod unopened;

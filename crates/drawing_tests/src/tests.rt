@@ -3,7 +3,7 @@ mod named;
 mod places;
 mod rectangles;
 
-ghost use Rattle.std.specs.Prelude.{◌≡◌, None, Some};
+ghost use Rattle.std.specs.Prelude.{◌≡◌, ◌≤◌, ◌^◌, None, Some};
 
 use oas_drawing::{Drawn, Kind, ModalVariables};
 use oas_layout::{Element, Limits, Turns};
@@ -87,10 +87,20 @@ fn last_copy(
     modal.copy(alloc, &kind, repeated, number - 1)
 }
 
+/// Whether the last copy of an element is this.
+fn draws(alloc: Global, modal: &ModalVariables, kind: Kind, repeated: bool, wanted: Drawn) -> bool {
+    last_copy(alloc, modal, kind, repeated) == Ok(wanted)
+}
+
+/// Whether an element is refused for this.
+fn refuses(alloc: Global, modal: &ModalVariables, kind: Kind, repeated: bool, why: Why) -> bool {
+    last_copy(alloc, modal, kind, repeated).err() == Some(why)
+}
+
 /// Whether the rectangle that was drawn last is of layer 1, of this size, and there.
 fn gives(alloc: Global, modal: &ModalVariables, width: u64, height: u64, x: i64, y: i64) -> bool {
-    let wanted = Element::rectangle(1, 0, width, height, x, y);
-    last_copy(alloc, modal, Kind::Rectangle, false) == Ok(Drawn::Named(wanted))
+    let wanted = Drawn::Named(Element::rectangle(1, 0, width, height, x, y));
+    draws(alloc, modal, Kind::Rectangle, false, wanted)
 }
 
 #[test]
@@ -128,49 +138,57 @@ fn line(
     Ok(Element::path(1, 0, half_width, start, end, points))
 }
 
+/// Whether the path that was drawn last is this one.
+fn gives_line(
+    alloc: Global,
+    modal: &ModalVariables,
+    half_width: u64,
+    start: i64,
+    end: i64,
+    from: Point,
+) -> bool {
+    match line(alloc, half_width, start, end, from) {
+        Ok(wanted) => draws(alloc, modal, Kind::Path, false, Drawn::Named(wanted)),
+        Err(AllocError) => false,
+    }
+}
+
+/// By half the width before the beginning, and by 3 less than the end.
+const BOTH: Extensions = Extensions {
+    start: Extension::Half,
+    end: Extension::Explicit(-3),
+};
+
 #[test]
 fn extensions(rt: HostRuntime) -> Result<(), Fail> {
-    let alloc = rt.alloc();
+    let points = eastward(rt.alloc())?;
     let mut modal = ModalVariables::new();
-    let both = Extensions {
-        start: Extension::Half,
-        end: Extension::Explicit(-3),
-    };
-    let points = eastward(alloc)?;
-    modal.draw_path(&mut path(Some(points), 5, Some(both), at(Some(0), Some(0))));
+    modal.draw_path(&mut path(Some(points), 5, Some(BOTH), at(Some(0), Some(0))));
     modal.draw_path(&mut path(None, 9, None, at(None, Some(20))));
-    let wanted = line(alloc, 9, 5, -3, Point { x: 0, y: 20 })?;
-    assert!(rt; last_copy(alloc, &modal, Kind::Path, false) == Ok(Drawn::Named(wanted)));
+    assert!(rt; gives_line(rt.alloc(), &modal, 9, 5, -3, Point { x: 0, y: 20 }));
     Ok(())
 }
 
 #[test]
 fn paths_end_with_their_cell(rt: HostRuntime) -> Result<(), Fail> {
-    let alloc = rt.alloc();
+    let points = eastward(rt.alloc())?;
     let mut modal = ModalVariables::new();
-    let both = Extensions {
-        start: Extension::Half,
-        end: Extension::Explicit(-3),
-    };
-    let points = eastward(alloc)?;
-    modal.draw_path(&mut path(Some(points), 5, Some(both), at(None, None)));
+    modal.draw_path(&mut path(Some(points), 5, Some(BOTH), at(None, None)));
     modal.begin_cell();
-    assert!(rt; last_copy(alloc, &modal, Kind::Path, false) == Err(Why::ModalUndefined));
+    assert!(rt; refuses(rt.alloc(), &modal, Kind::Path, false, Why::ModalUndefined));
     Ok(())
 }
 
 #[test]
 fn flush_extensions(rt: HostRuntime) -> Result<(), Fail> {
-    let alloc = rt.alloc();
-    let mut modal = ModalVariables::new();
     let flush = Extensions {
         start: Extension::Flush,
         end: Extension::Flush,
     };
-    let points = eastward(alloc)?;
+    let points = eastward(rt.alloc())?;
+    let mut modal = ModalVariables::new();
     modal.draw_path(&mut path(Some(points), 9, Some(flush), at(None, None)));
-    let wanted = line(alloc, 9, 0, 0, Point { x: 0, y: 0 })?;
-    assert!(rt; last_copy(alloc, &modal, Kind::Path, false) == Ok(Drawn::Named(wanted)));
+    assert!(rt; gives_line(rt.alloc(), &modal, 9, 0, 0, Point { x: 0, y: 0 }));
     Ok(())
 }
 
@@ -224,29 +242,37 @@ fn relative_steps(rt: HostRuntime) {
     modal.draw_rectangle(&mut bare(false, at(Some(-10), None)));
     assert!(rt; gives(rt.alloc(), &modal, 10, 20, -3, 1));
     modal.place(&mut seventh());
-    let copy = last_copy(rt.alloc(), &modal, turned(false, 0, 1), false);
-    assert!(rt; copy == Ok(placed(Turns::T0)));
+    let kind = turned(false, 0, 1);
+    assert!(rt; draws(rt.alloc(), &modal, kind, false, placed(Turns::T0)));
 }
 
 #[test]
 fn turns(rt: HostRuntime) {
     let alloc = rt.alloc();
     let mut modal = ModalVariables::new();
-    assert!(rt; last_copy(alloc, &modal, turned(false, 45, 2), false) == Err(Why::ModalUndefined));
+    let odd = turned(false, 45, 2);
+    assert!(rt; refuses(alloc, &modal, odd, false, Why::ModalUndefined));
     modal.place(&mut seventh());
-    assert!(rt; last_copy(alloc, &modal, turned(false, 45, 2), true) == Err(Why::ModalUndefined));
-    assert!(rt; last_copy(alloc, &modal, turned(false, 45, 2), false) == Err(Why::Magnification));
-    assert!(rt; last_copy(alloc, &modal, turned(false, 45, 1), false) == Err(Why::Angle));
-    assert!(rt; last_copy(alloc, &modal, turned(true, 90, 1), false) == Ok(placed(Turns::T3)));
-    assert!(rt; last_copy(alloc, &modal, turned(false, 450, 1), false) == Ok(placed(Turns::T1)));
-    assert!(rt; last_copy(alloc, &modal, turned(true, 0, 1), false) == Ok(placed(Turns::T0)));
+    for (kind, repeated, why) in [
+        (turned(false, 45, 2), true, Why::ModalUndefined),
+        (turned(false, 45, 2), false, Why::Magnification),
+        (turned(false, 45, 1), false, Why::Angle),
+    ] {
+        assert!(rt; refuses(alloc, &modal, kind, repeated, why));
+    }
+    for (negative, degrees, turns) in [
+        (true, 90u64, Turns::T3),
+        (false, 450, Turns::T1),
+        (true, 0, Turns::T0),
+    ] {
+        let kind = turned(negative, degrees, 1);
+        assert!(rt; draws(alloc, &modal, kind, false, placed(turns)));
+    }
 }
 
-#[test]
-fn copies(rt: HostRuntime) {
-    let alloc = rt.alloc();
-    let mut modal = ModalVariables::new();
-    modal.draw_circle(&mut Circle {
+/// Three circles of a radius that is the grid's, the last at its edge.
+fn circles() -> Circle {
+    Circle {
         layer: Some(1),
         datatype: Some(2),
         radius: Some(1 << 60),
@@ -255,38 +281,52 @@ fn copies(rt: HostRuntime) {
             y: Some(-5),
             repetition: Some(RepField::New(Repetition::Columns { dim: 1, space: 10 })),
         },
-    });
-    let last = Element::Circle {
+    }
+}
+
+#[test]
+fn copies(rt: HostRuntime) {
+    let mut modal = ModalVariables::new();
+    modal.draw_circle(&mut circles());
+    let last = Drawn::Named(Element::Circle {
         layer: 1,
         datatype: 2,
         radius: 1 << 60,
         x: 1 << 60,
         y: -5,
-    };
-    assert!(rt; last_copy(alloc, &modal, Kind::Circle, true) == Ok(Drawn::Named(last)));
-    assert!(rt; last_copy(alloc, &modal, Kind::Rectangle, true) == Err(Why::ModalUndefined));
-    let limits = Limits::standard();
-    assert_eq!(rt;
-        modal.copies(&Kind::Circle, true, limits, (1 << 24) - 3, 0),
-        Ok(3)
+    });
+    assert!(rt; draws(rt.alloc(), &modal, Kind::Circle, true, last));
+    assert!(rt;
+        refuses(
+            rt.alloc(),
+            &modal,
+            Kind::Rectangle,
+            true,
+            Why::ModalUndefined
+        )
     );
-    assert_eq!(rt;
-        modal.copies(&Kind::Circle, true, limits, (1 << 24) - 2, 0),
-        Err(Why::TooManyElements)
-    );
-    assert_eq!(rt;
-        modal.copies(&Kind::Circle, true, limits, 0, (1 << 28) - 2),
-        Err(Why::TooHeavy)
-    );
-    assert_eq!(rt;
-        modal.copies(&Kind::Circle, false, limits, 0, (1 << 28) - 2),
-        Ok(1)
-    );
+}
+
+/// How many copies of a circle there are beside so many elements of that weight, or why it is refused.
+fn counted(modal: &ModalVariables, repeated: bool, count: u64, weight: u64) -> Result<u64, Why>
+    requires few { count ≤ 2 ^ 24 }
+    requires light { weight ≤ 2 ^ 28 }
+{
+    modal.copies(&Kind::Circle, repeated, Limits::standard(), count, weight)
+}
+
+#[test]
+fn copies_within_limits(rt: HostRuntime) {
+    let mut modal = ModalVariables::new();
+    modal.draw_circle(&mut circles());
+    assert!(rt; counted(&modal, true, (1 << 24) - 3, 0) == Ok(3));
+    assert!(rt; counted(&modal, true, (1 << 24) - 2, 0) == Err(Why::TooManyElements));
+    assert!(rt; counted(&modal, true, 0, (1 << 28) - 2) == Err(Why::TooHeavy));
+    assert!(rt; counted(&modal, false, 0, (1 << 28) - 2) == Ok(1));
 }
 
 #[test]
 fn far_corners(rt: HostRuntime) {
-    let alloc = rt.alloc();
     let mut modal = ModalVariables::new();
     modal.draw_rectangle(&mut Rectangle {
         square: true,
@@ -296,5 +336,13 @@ fn far_corners(rt: HostRuntime) {
         height: None,
         spot: at(Some((1 << 60) - 9), None),
     });
-    assert!(rt; last_copy(alloc, &modal, Kind::Rectangle, false) == Err(Why::CoordinateRange));
+    assert!(rt;
+        refuses(
+            rt.alloc(),
+            &modal,
+            Kind::Rectangle,
+            false,
+            Why::CoordinateRange
+        )
+    );
 }

@@ -59,10 +59,15 @@ fn names_of(rt: &HostRuntime, list: &[u8]) -> Result<String, Fail> {
 
 #[test]
 fn names_of_a_list(rt: HostRuntime) -> Result<(), Fail> {
-    assert_eq!(rt; names_of(&rt, b"")?.as_str(), "");
-    assert_eq!(rt; names_of(&rt, b"a\0b\0")?.as_str(), "a;b;");
-    assert_eq!(rt; names_of(&rt, b"a\0b c\nd")?.as_str(), "a;b c\nd;");
-    assert_eq!(rt; names_of(&rt, b"\0\0-\0")?.as_str(), ";;-;");
-    assert_eq!(rt; names_of(&rt, b"\xff\0a\0")?.as_str(), "?;a;");
+    let rows: [(&[u8], &str); 5] = [
+        (b"", ""),
+        (b"a\0b\0", "a;b;"),
+        (b"a\0b c\nd", "a;b c\nd;"),
+        (b"\0\0-\0", ";;-;"),
+        (b"\xff\0a\0", "?;a;"),
+    ];
+    for (list, names) in rows {
+        assert_eq!(rt; names_of(&rt, list)?.as_str(), names);
+    }
     Ok(())
 }

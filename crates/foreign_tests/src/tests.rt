@@ -8,171 +8,185 @@ use self::corners::{KINDS, TRAPEZOIDS};
 use self::table::ROWS;
 use oas_foreign::{Resolved, Resolver};
 use oas_num::{INPUT_MAX, SliceSource, Source};
-use oas_record::{CellRef, Polygon, Record, Rectangle, Spot};
+use oas_record::{CellRef, Polygon, Record, Spot};
 use oas_ring::Point;
 use oas_shape::RepField;
-use oas_wide::WideRecord;
+use oas_wide::{WideRecord, WideWhy};
 use std::alloc::{AllocError, Global};
 use std::process::Abort;
 use std::test::Fail;
 
-/// A field, or a dash.
-fn field(alloc: Global, given: Option<u64>) -> Result<String, AllocError> {
+/// Adds a field, or a dash.
+fn add_field(line: &mut String, given: Option<u64>) -> Result<(), AllocError> {
     match given {
-        Some(number) => format!(in alloc; "{number}"),
-        None => String::from_str(alloc, "-"),
+        Some(number) => write!(line, " {number}"),
+        None => line.push_str(" -"),
     }
 }
 
-/// A coordinate, or a dash.
-fn coordinate(alloc: Global, given: Option<i64>) -> Result<String, AllocError> {
+/// Adds a coordinate, or a dash.
+fn add_coordinate(line: &mut String, given: Option<i64>) -> Result<(), AllocError> {
     match given {
-        Some(number) => format!(in alloc; "{number}"),
-        None => String::from_str(alloc, "-"),
+        Some(number) => write!(line, " {number}"),
+        None => line.push_str(" -"),
     }
 }
 
-/// Where an element stands, and how often.
-fn spot_listed(alloc: Global, spot: &Spot) -> Result<String, AllocError> {
-    let x = coordinate(alloc, spot.x)?;
-    let y = coordinate(alloc, spot.y)?;
+/// Adds where an element stands, and how often.
+fn add_spot(line: &mut String, spot: &Spot) -> Result<(), AllocError> {
+    add_coordinate(line, spot.x)?;
+    add_coordinate(line, spot.y)?;
     match &spot.repetition {
-        None => format!(in alloc; "{x} {y} once"),
-        Some(RepField::Again) => format!(in alloc; "{x} {y} again"),
+        None => line.push_str(" once"),
+        Some(RepField::Again) => line.push_str(" again"),
         Some(RepField::New(repetition)) => {
-            let count = field(alloc, repetition.count())?;
-            format!(in alloc; "{x} {y} new {count}")
+            line.push_str(" new")?;
+            add_field(line, repetition.count())
         }
     }
 }
 
-/// A rectangle's line.
-fn rectangle_listed(alloc: Global, drawn: &Rectangle) -> Result<String, AllocError> {
-    let word = if drawn.square { "square" } else { "rectangle" };
-    let layer = field(alloc, drawn.layer)?;
-    let datatype = field(alloc, drawn.datatype)?;
-    let width = field(alloc, drawn.width)?;
-    let height = field(alloc, drawn.height)?;
-    let spot = spot_listed(alloc, &drawn.spot)?;
-    format!(in alloc; "{word} {layer} {datatype} {width} {height} {spot}")
+/// Adds a word, fields, and where an element stands.
+fn add_element(
+    line: &mut String,
+    word: &str,
+    fields: &[Option<u64>],
+    spot: &Spot,
+) -> Result<(), AllocError> {
+    line.push_str(word)?;
+    for given in fields {
+        add_field(line, *given)?;
+    }
+    add_spot(line, spot)
 }
 
 /// How far a coordinate may be from 0.
 const FURTHEST: i64 = 1 << 60;
 
-/// The vertices of a polygon that stands on the grid, each after a space; none of one without points.
-fn vertices_listed(alloc: Global, drawn: &Polygon) -> Result<String, AllocError> {
-    let mut line = String::new(alloc);
+/// Adds the vertices of a polygon that stands on the grid, each after a space; none of one without points.
+fn add_vertices(alloc: Global, line: &mut String, drawn: &Polygon) -> Result<(), AllocError> {
     let (x, y) = (drawn.spot.x.unwrap_or(0), drawn.spot.y.unwrap_or(0));
     let is_near = -FURTHEST <= x && x <= FURTHEST && -FURTHEST <= y && y <= FURTHEST;
     let (Some(points), true) = (&drawn.points, is_near) else {
-        return Ok(line);
+        return Ok(());
     };
     let Ok(vertices) = points.vertices(alloc, Point { x, y }) else {
-        return String::from_str(alloc, " off the grid");
+        return line.push_str(" off the grid");
     };
     for vertex in vertices.as_slice() {
-        line.push_str(format!(in alloc; " {},{}", vertex.x, vertex.y)?.as_str())?;
+        write!(line, " {},{}", vertex.x, vertex.y)?;
     }
-    Ok(line)
+    Ok(())
 }
 
-/// A polygon's line: its vertices stand where it does.
-fn polygon_listed(alloc: Global, drawn: &Polygon) -> Result<String, AllocError> {
-    let layer = field(alloc, drawn.layer)?;
-    let datatype = field(alloc, drawn.datatype)?;
-    let spot = spot_listed(alloc, &drawn.spot)?;
-    let mut line = format!(in alloc; "polygon {layer} {datatype} {spot}:")?;
-    line.push_str(vertices_listed(alloc, drawn)?.as_str())?;
-    Ok(line)
+/// Adds a polygon: its vertices stand where it does.
+fn add_polygon(alloc: Global, line: &mut String, drawn: &Polygon) -> Result<(), AllocError> {
+    add_element(line, "polygon", &[drawn.layer, drawn.datatype], &drawn.spot)?;
+    line.push_str(":")?;
+    add_vertices(alloc, line, drawn)
 }
 
-/// A path's line, or a circle's, which begin so, or those of other elements.
-fn element_listed(
-    alloc: Global,
-    word: &str,
-    fields: &[Option<u64>],
-    spot: &Spot,
-) -> Result<String, AllocError> {
-    let mut line = String::from_str(alloc, word)?;
-    for given in fields {
-        line.push_str(" ")?;
-        line.push_str(field(alloc, *given)?.as_str())?;
-    }
-    line.push_str(" ")?;
-    line.push_str(spot_listed(alloc, spot)?.as_str())?;
-    Ok(line)
-}
-
-/// A record's line.
-fn listed(alloc: Global, record: &Record) -> Result<String, AllocError> {
+/// Adds a record.
+fn add_record(alloc: Global, line: &mut String, record: &Record) -> Result<(), AllocError> {
     match record {
-        Record::Cell(_) => String::from_str(alloc, "cell"),
-        Record::XyAbsolute => String::from_str(alloc, "absolute"),
-        Record::XyRelative => String::from_str(alloc, "relative"),
-        Record::Placement(placed) => element_listed(alloc, "placement", &[], &placed.spot),
-        Record::Text(written) => element_listed(alloc, "text", &[], &written.spot),
-        Record::Rectangle(drawn) => rectangle_listed(alloc, drawn),
-        Record::Polygon(drawn) => polygon_listed(alloc, drawn),
+        Record::Cell(_) => line.push_str("cell"),
+        Record::XyAbsolute => line.push_str("absolute"),
+        Record::XyRelative => line.push_str("relative"),
+        Record::Placement(placed) => add_element(line, "placement", &[], &placed.spot),
+        Record::Text(written) => add_element(line, "text", &[], &written.spot),
+        Record::Rectangle(drawn) => {
+            let word = if drawn.square { "square" } else { "rectangle" };
+            let fields = [drawn.layer, drawn.datatype, drawn.width, drawn.height];
+            add_element(line, word, &fields, &drawn.spot)
+        }
+        Record::Polygon(drawn) => add_polygon(alloc, line, drawn),
         Record::Path(drawn) => {
-            element_listed(alloc, "path", &[drawn.layer, drawn.datatype], &drawn.spot)
+            add_element(line, "path", &[drawn.layer, drawn.datatype], &drawn.spot)
         }
         Record::Circle(drawn) => {
             let fields = [drawn.layer, drawn.datatype, drawn.radius];
-            element_listed(alloc, "circle", &fields, &drawn.spot)
+            add_element(line, "circle", &fields, &drawn.spot)
         }
-        _ => String::from_str(alloc, "other"),
+        _ => line.push_str("other"),
     }
 }
 
-/// One more part of a line.
-fn add(line: &mut String, part: &str) -> Result<(), AllocError> {
-    if !line.is_empty() {
-        line.push_str("; ")?;
+/// Begins one more part of a line.
+fn begin_part(line: &mut String) -> Result<(), AllocError> {
+    if line.is_empty() {
+        Ok(())
+    } else {
+        line.push_str("; ")
     }
-    line.push_str(part)
 }
 
-/// The records that were handed out, after those before.
+/// Adds the records that were handed out, after those before.
 fn add_resolved(alloc: Global, line: &mut String, resolved: &Resolved) -> Result<(), AllocError> {
     match resolved {
         Resolved::Nothing => Ok(()),
-        Resolved::One(record) => add(line, listed(alloc, record)?.as_str()),
+        Resolved::One(record) => {
+            begin_part(line)?;
+            add_record(alloc, line, record)
+        }
         Resolved::Absolute(record) => {
-            add(line, "absolute")?;
-            add(line, listed(alloc, record)?.as_str())?;
-            add(line, "relative")
+            begin_part(line)?;
+            line.push_str("absolute; ")?;
+            add_record(alloc, line, record)?;
+            line.push_str("; relative")
         }
     }
 }
 
-/// What is handed out for the records of these bytes behind a CELL, up to the first that is refused.
-fn run(alloc: Global, bytes: &[u8]) -> Result<String, Fail> {
-    let mut source = SliceSource::new(bytes, INPUT_MAX);
+/// A resolver behind a CELL.
+fn in_a_cell(alloc: Global) -> Resolver {
     let mut resolver = Resolver::new();
-    let cell = WideRecord::Profile(Record::Cell(CellRef::Number(0)));
-    let _ = resolver.resolve(alloc, cell);
-    let mut line = String::new(alloc);
-    for _ in 0..bytes.len() {
-        if source.at() >= bytes.len() as u64 {
-            break;
+    let _ = resolver.resolve(alloc, WideRecord::Profile(Record::Cell(CellRef::Number(0))));
+    resolver
+}
+
+/// What is handed out for the next record, or why it is refused.
+fn next(
+    alloc: Global,
+    source: &mut SliceSource<'_>,
+    resolver: &mut Resolver,
+) -> Result<Resolved, WideWhy> {
+    match WideRecord::read(alloc, source, false) {
+        Ok(record) => resolver.resolve(alloc, record),
+        Err(refusal) => Err(refusal.why),
+    }
+}
+
+/// Adds what is handed out for the next record, or why it is refused, and answers whether it is.
+fn add_next(
+    alloc: Global,
+    line: &mut String,
+    source: &mut SliceSource<'_>,
+    resolver: &mut Resolver,
+) -> Result<bool, AllocError> {
+    match next(alloc, source, resolver) {
+        Ok(resolved) => {
+            add_resolved(alloc, line, &resolved)?;
+            Ok(false)
         }
-        let read = match WideRecord::read(alloc, &mut source, false) {
-            Ok(record) => resolver.resolve(alloc, record),
-            Err(refusal) => Err(refusal.why),
-        };
-        match read {
-            Ok(resolved) => add_resolved(alloc, &mut line, &resolved)?,
-            Err(why) => {
-                add(
-                    &mut line,
-                    format!(in alloc; "refused {}", why.number())?.as_str(),
-                )?;
-                break;
-            }
+        Err(why) => {
+            begin_part(line)?;
+            write!(line, "refused {}", why.number())?;
+            Ok(true)
         }
     }
-    Ok(line)
+}
+
+/// Adds what is handed out for the records of these bytes behind a CELL, up to the first that is refused.
+fn add_all(alloc: Global, line: &mut String, bytes: &[u8]) -> Result<(), AllocError> {
+    let mut source = SliceSource::new(bytes, INPUT_MAX);
+    let mut resolver = in_a_cell(alloc);
+    for _ in 0..bytes.len() {
+        let is_end = source.at() >= bytes.len() as u64;
+        if is_end || add_next(alloc, line, &mut source, &mut resolver)? {
+            break;
+        }
+    }
+    Ok(())
 }
 
 /// Each row of a table, bytes and what is handed out.
@@ -181,7 +195,8 @@ fn compare(rt: &impl Abort, alloc: Global, rows: &str) -> Result<(), Fail> {
         let (text, wanted) = row.split_once('=').unwrap_or((row, ""));
         let digits = text.replace(alloc, " ", "")?;
         let bytes = hex::decode(alloc, &digits)?;
-        let line = run(alloc, bytes.as_slice())?;
+        let mut line = String::new(alloc);
+        add_all(alloc, &mut line, bytes.as_slice())?;
         assert_eq!(rt; line.as_str(), wanted, "{row}");
     }
     Ok(())

@@ -2,27 +2,27 @@
 
 use oas_form::FormJudge;
 use oas_layout::{Element, Turns};
-use oas_num::{Label, Name, SliceSource, Spelled};
+use oas_num::{Label, Name, SliceSource, Spelled, Why};
 use std::alloc::Global;
 use std::test::Fail;
 
 /// The name that was spelled so.
-fn name(alloc: Global, spelled: &[u8]) -> Result<Name, Fail> {
-    Ok(Name::read(alloc, &mut SliceSource::new(spelled, 1000))?)
+fn name(alloc: Global, spelled: &[u8]) -> Result<Name, Why> {
+    Name::read(alloc, &mut SliceSource::new(spelled, 1000))
 }
 
 /// The string that was spelled so.
-fn label(alloc: Global, spelled: &[u8]) -> Result<Label, Fail> {
-    Ok(Label::read(alloc, &mut SliceSource::new(spelled, 1000))?)
+fn label(alloc: Global, spelled: &[u8]) -> Result<Label, Why> {
+    Label::read(alloc, &mut SliceSource::new(spelled, 1000))
 }
 
 /// A placement of `BB`.
-fn placement(alloc: Global, x: i64, y: i64, turns: Turns, flip: bool) -> Result<Element, Fail> {
+fn placement(alloc: Global, x: i64, y: i64, turns: Turns, flip: bool) -> Result<Element, Why> {
     Ok(Element::placement(name(alloc, b"\x02BB")?, x, y, turns, flip))
 }
 
 /// A text `Hi`.
-fn text(alloc: Global, layers: (u64, u64), at: (i64, i64)) -> Result<Element, Fail> {
+fn text(alloc: Global, layers: (u64, u64), at: (i64, i64)) -> Result<Element, Why> {
     let label = label(alloc, b"\x02Hi")?;
     Ok(Element::text(label, layers.0, layers.1, at.0, at.1))
 }
@@ -35,15 +35,81 @@ fn behind(element: Element) -> FormJudge {
 }
 
 /// Judges a placement at 0, 0 of the cell of the name that was spelled so, by its fields; what the judge answers.
-fn place(alloc: Global, judge: &mut FormJudge, spelled: &[u8]) -> Result<bool, Fail> {
-    let name = name(alloc, spelled)?;
-    Ok(judge.place_next(name.as_bytes(), (0, 0), Turns::T0, false))
+fn place(alloc: Global, judge: &mut FormJudge, spelled: &[u8]) -> Option<bool> {
+    match name(alloc, spelled) {
+        Ok(name) => Some(judge.place_next(name.as_bytes(), (0, 0), Turns::T0, false)),
+        Err(_) => None,
+    }
 }
 
 /// Judges a text at 0, 0 of the string that was spelled so, by its fields; what the judge answers.
-fn write(alloc: Global, judge: &mut FormJudge, spelled: &[u8]) -> Result<bool, Fail> {
-    let label = label(alloc, spelled)?;
-    Ok(judge.write_next(label.as_bytes(), (0, 0), (0, 0)))
+fn write(alloc: Global, judge: &mut FormJudge, spelled: &[u8]) -> Option<bool> {
+    match label(alloc, spelled) {
+        Ok(label) => Some(judge.write_next(label.as_bytes(), (0, 0), (0, 0))),
+        Err(_) => None,
+    }
+}
+
+/// Judges a placement of `BB` as an element, and answers whether the judge then holds.
+fn draw_placement(
+    alloc: Global,
+    judge: &mut FormJudge,
+    x: i64,
+    y: i64,
+    turns: Turns,
+    flip: bool,
+) -> Option<bool> {
+    match placement(alloc, x, y, turns, flip) {
+        Ok(element) => judge.draw_spelled(element),
+        Err(_) => return None,
+    }
+    Some(judge.holds())
+}
+
+/// Judges a text `Hi` as an element, and answers whether the judge then holds.
+fn draw_text(
+    alloc: Global,
+    judge: &mut FormJudge,
+    layers: (u64, u64),
+    at: (i64, i64),
+) -> Option<bool> {
+    match text(alloc, layers, at) {
+        Ok(element) => judge.draw_spelled(element),
+        Err(_) => return None,
+    }
+    Some(judge.holds())
+}
+
+/// Whether a judge holds after these two elements.
+fn holds_behind(first: Element, second: Element) -> bool {
+    let mut judge = behind(first);
+    judge.draw_spelled(second);
+    judge.holds()
+}
+
+/// Whether a judge holds after an element and a placement that it judges by its fields; `None` where it doesn't judge it.
+fn holds_next_to(
+    first: Element,
+    name: &Name,
+    at: (i64, i64),
+    turns: Turns,
+    flip: bool,
+) -> Option<bool> {
+    let mut judge = behind(first);
+    let is_judged = judge.place_next(name.as_bytes(), at, turns, flip);
+    is_judged.then_some(judge.holds())
+}
+
+/// The same of a text.
+fn holds_text_next_to(
+    first: Element,
+    label: &Label,
+    layers: (u64, u64),
+    at: (i64, i64),
+) -> Option<bool> {
+    let mut judge = behind(first);
+    let is_judged = judge.write_next(label.as_bytes(), layers, at);
+    is_judged.then_some(judge.holds())
 }
 
 #[test]
@@ -69,12 +135,10 @@ fn placements_next_are_judged_as_drawn(rt: HostRuntime) -> Result<(), Fail> {
     ];
     for (spelled, x, y, turns, flip, holds) in seconds {
         let name = name(alloc, spelled)?;
-        let mut next = behind(placement(alloc, 5, 5, Turns::T1, false)?);
-        assert!(rt; next.place_next(name.as_bytes(), (x, y), turns, flip));
-        assert!(rt; next.holds() == holds);
-        let mut drawn = behind(placement(alloc, 5, 5, Turns::T1, false)?);
-        drawn.draw_spelled(Element::placement(name, x, y, turns, flip));
-        assert!(rt; drawn.holds() == holds);
+        let first = placement(alloc, 5, 5, Turns::T1, false)?;
+        assert!(rt; holds_next_to(first, &name, (x, y), turns, flip) == Some(holds));
+        let first = placement(alloc, 5, 5, Turns::T1, false)?;
+        assert!(rt; holds_behind(first, Element::placement(name, x, y, turns, flip)) == holds);
     }
     Ok(())
 }
@@ -101,86 +165,76 @@ fn texts_next_are_judged_as_drawn(rt: HostRuntime) -> Result<(), Fail> {
     ];
     for (spelled, layers, at, holds) in seconds {
         let label = label(alloc, spelled)?;
-        let mut next = behind(text(alloc, (3, 2), (5, 5))?);
-        assert!(rt; next.write_next(label.as_bytes(), layers, at));
-        assert!(rt; next.holds() == holds);
-        let mut drawn = behind(text(alloc, (3, 2), (5, 5))?);
-        drawn.draw_spelled(Element::text(label, layers.0, layers.1, at.0, at.1));
-        assert!(rt; drawn.holds() == holds);
+        let first = text(alloc, (3, 2), (5, 5))?;
+        assert!(rt; holds_text_next_to(first, &label, layers, at) == Some(holds));
+        let first = text(alloc, (3, 2), (5, 5))?;
+        let second = Element::text(label, layers.0, layers.1, at.0, at.1);
+        assert!(rt; holds_behind(first, second) == holds);
     }
     Ok(())
 }
 
 #[test]
-fn the_placement_that_came_next_is_the_latest(rt: HostRuntime) -> Result<(), Fail> {
-    let alloc = rt.alloc();
-    let mut judge = behind(placement(alloc, 9, 9, Turns::T3, true)?);
-    assert!(rt; place(alloc, &mut judge, b"\x09BBBBBBBBB")?);
-    assert!(rt; place(alloc, &mut judge, b"\x01C")?);
-    assert!(rt; place(alloc, &mut judge, b"\x01C")?);
-    assert!(rt; judge.holds());
-    judge.draw_spelled(placement(alloc, 9, 9, Turns::T3, true)?);
-    assert!(rt; !judge.holds());
-    Ok(())
-}
-
-#[test]
-fn the_text_that_came_next_is_the_latest(rt: HostRuntime) -> Result<(), Fail> {
-    let alloc = rt.alloc();
-    let mut judge = behind(text(alloc, (9, 9), (9, 9))?);
-    assert!(rt; write(alloc, &mut judge, b"\x09Hiiiiiiii")?);
-    assert!(rt; write(alloc, &mut judge, b"\x01I")?);
-    assert!(rt; write(alloc, &mut judge, b"\x01I")?);
-    assert!(rt; judge.holds());
-    judge.draw_spelled(text(alloc, (9, 9), (9, 9))?);
-    assert!(rt; !judge.holds());
-    Ok(())
-}
-
-#[test]
-fn nothing_comes_next_to_no_element(rt: HostRuntime) -> Result<(), Fail> {
+fn the_placement_that_came_next_is_the_latest(rt: HostRuntime) {
     let alloc = rt.alloc();
     let mut judge = FormJudge::new();
-    assert!(rt; !place(alloc, &mut judge, b"\x02BB")?);
-    assert!(rt; !write(alloc, &mut judge, b"\x02Hi")?);
-    judge.draw_spelled(placement(alloc, -9, 0, Turns::T0, false)?);
+    assert!(rt; draw_placement(alloc, &mut judge, 9, 9, Turns::T3, true) == Some(true));
+    assert!(rt; place(alloc, &mut judge, b"\x09BBBBBBBBB") == Some(true));
+    assert!(rt; place(alloc, &mut judge, b"\x01C") == Some(true));
+    assert!(rt; place(alloc, &mut judge, b"\x01C") == Some(true));
     assert!(rt; judge.holds());
-    Ok(())
+    assert!(rt; draw_placement(alloc, &mut judge, 9, 9, Turns::T3, true) == Some(false));
 }
 
 #[test]
-fn a_text_next_to_a_placement_changes_nothing(rt: HostRuntime) -> Result<(), Fail> {
+fn the_text_that_came_next_is_the_latest(rt: HostRuntime) {
     let alloc = rt.alloc();
-    let mut judge = behind(placement(alloc, 5, 5, Turns::T1, false)?);
-    assert!(rt; !write(alloc, &mut judge, b"\x02BB")?);
-    judge.draw_spelled(placement(alloc, 5, 5, Turns::T1, false)?);
+    let mut judge = FormJudge::new();
+    assert!(rt; draw_text(alloc, &mut judge, (9, 9), (9, 9)) == Some(true));
+    assert!(rt; write(alloc, &mut judge, b"\x09Hiiiiiiii") == Some(true));
+    assert!(rt; write(alloc, &mut judge, b"\x01I") == Some(true));
+    assert!(rt; write(alloc, &mut judge, b"\x01I") == Some(true));
     assert!(rt; judge.holds());
-    assert!(rt; !write(alloc, &mut judge, b"\x02BB")?);
-    judge.draw_spelled(placement(alloc, 5, 4, Turns::T1, false)?);
-    assert!(rt; !judge.holds());
-    Ok(())
+    assert!(rt; draw_text(alloc, &mut judge, (9, 9), (9, 9)) == Some(false));
 }
 
 #[test]
-fn a_placement_next_to_a_text_changes_nothing(rt: HostRuntime) -> Result<(), Fail> {
+fn nothing_comes_next_to_no_element(rt: HostRuntime) {
     let alloc = rt.alloc();
-    let mut judge = behind(text(alloc, (3, 2), (5, 5))?);
-    assert!(rt; !place(alloc, &mut judge, b"\x02Hi")?);
-    judge.draw_spelled(text(alloc, (3, 2), (5, 5))?);
-    assert!(rt; judge.holds());
-    assert!(rt; !place(alloc, &mut judge, b"\x02Hi")?);
-    judge.draw_spelled(text(alloc, (3, 2), (5, 4))?);
-    assert!(rt; !judge.holds());
-    Ok(())
+    let mut judge = FormJudge::new();
+    assert!(rt; place(alloc, &mut judge, b"\x02BB") == Some(false));
+    assert!(rt; write(alloc, &mut judge, b"\x02Hi") == Some(false));
+    assert!(rt; draw_placement(alloc, &mut judge, -9, 0, Turns::T0, false) == Some(true));
 }
 
 #[test]
-fn neither_comes_next_to_a_rectangle(rt: HostRuntime) -> Result<(), Fail> {
+fn a_text_next_to_a_placement_changes_nothing(rt: HostRuntime) {
+    let alloc = rt.alloc();
+    let mut judge = FormJudge::new();
+    assert!(rt; draw_placement(alloc, &mut judge, 5, 5, Turns::T1, false) == Some(true));
+    assert!(rt; write(alloc, &mut judge, b"\x02BB") == Some(false));
+    assert!(rt; draw_placement(alloc, &mut judge, 5, 5, Turns::T1, false) == Some(true));
+    assert!(rt; write(alloc, &mut judge, b"\x02BB") == Some(false));
+    assert!(rt; draw_placement(alloc, &mut judge, 5, 4, Turns::T1, false) == Some(false));
+}
+
+#[test]
+fn a_placement_next_to_a_text_changes_nothing(rt: HostRuntime) {
+    let alloc = rt.alloc();
+    let mut judge = FormJudge::new();
+    assert!(rt; draw_text(alloc, &mut judge, (3, 2), (5, 5)) == Some(true));
+    assert!(rt; place(alloc, &mut judge, b"\x02Hi") == Some(false));
+    assert!(rt; draw_text(alloc, &mut judge, (3, 2), (5, 5)) == Some(true));
+    assert!(rt; place(alloc, &mut judge, b"\x02Hi") == Some(false));
+    assert!(rt; draw_text(alloc, &mut judge, (3, 2), (5, 4)) == Some(false));
+}
+
+#[test]
+fn neither_comes_next_to_a_rectangle(rt: HostRuntime) {
     let alloc = rt.alloc();
     let mut judge = behind(Element::rectangle(1, 0, 10, 20, 0, 0));
-    assert!(rt; !place(alloc, &mut judge, b"\x02BB")?);
-    assert!(rt; !write(alloc, &mut judge, b"\x02Hi")?);
+    assert!(rt; place(alloc, &mut judge, b"\x02BB") == Some(false));
+    assert!(rt; write(alloc, &mut judge, b"\x02Hi") == Some(false));
     judge.draw_spelled(Element::rectangle(1, 0, 10, 20, 0, 0));
     assert!(rt; judge.holds());
-    Ok(())
 }

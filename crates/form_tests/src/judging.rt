@@ -65,39 +65,46 @@ fn names_hold(alloc: Global, names: &[&[u8]]) -> Result<bool, Fail> {
     Ok(judge.holds())
 }
 
+/// Judges a placement and a text.
+fn draw_named(alloc: Global, judge: &mut FormJudge) -> Result<(), Fail> {
+    let cell = name(alloc, b"\x01B")?;
+    let placement = Element::placement(cell, 0, 0, Turns::T1, false);
+    draw(judge, placement, b"\x11\xB2\x01B\x00\x00");
+    let label = Label::read(alloc, &mut SliceSource::new(b"\x02Hi", 1000))?;
+    let text = Element::text(label, 3, 0, 0, 0);
+    draw(judge, text, b"\x13\x5B\x02Hi\x03\x00\x00\x00");
+    Ok(())
+}
+
+/// Judges a polygon and a path.
+fn draw_lists(alloc: Global, judge: &mut FormJudge) -> Result<(), Fail> {
+    let ring = points(alloc, &[(0, 0), (0, 20), (10, 20), (10, 0)])?;
+    let spelled = b"\x15\x3B\x01\x00\x04\x03\x01\x28\x29\x00\x01\x29\x00\x00";
+    draw(judge, Element::polygon(1, 0, ring), spelled);
+    let line = points(alloc, &[(0, 0), (10, 0)])?;
+    let spelled = b"\x16\xFB\x01\x00\x05\x0F\x0A\x0A\x04\x01\x29\x00\x00\x00";
+    draw(judge, Element::path(1, 0, 5, 5, 5, line), spelled);
+    Ok(())
+}
+
+/// A circle of layer 1, as it is spelled.
+const CIRCLE: &[u8] = b"\x1B\x3B\x01\x00\x05\x00\x00";
+
+/// Judges that circle.
+fn draw_circle(judge: &mut FormJudge) {
+    draw(judge, Element::circle(1, 0, 5, 0, 0), CIRCLE);
+}
+
 #[test]
 fn an_element_of_each_kind_holds(rt: HostRuntime) -> Result<(), Fail> {
-    let alloc = rt.alloc();
     let mut judge = FormJudge::new();
     assert!(rt; judge.holds());
-    open(alloc, &mut judge, b"\x01A", b"\x0E\x01A")?;
-    let placement = Element::placement(name(alloc, b"\x01B")?, 0, 0, Turns::T1, false);
-    draw(&mut judge, placement, b"\x11\xB2\x01B\x00\x00");
-    let label = Label::read(alloc, &mut SliceSource::new(b"\x02Hi", 1000))?;
-    draw(
-        &mut judge,
-        Element::text(label, 3, 0, 0, 0),
-        b"\x13\x5B\x02Hi\x03\x00\x00\x00",
-    );
+    open(rt.alloc(), &mut judge, b"\x01A", b"\x0E\x01A")?;
+    draw_named(rt.alloc(), &mut judge)?;
     draw(&mut judge, rectangle(1), FIRST);
     draw(&mut judge, rectangle(1), FIRST);
-    let ring = points(alloc, &[(0, 0), (0, 20), (10, 20), (10, 0)])?;
-    draw(
-        &mut judge,
-        Element::polygon(1, 0, ring),
-        b"\x15\x3B\x01\x00\x04\x03\x01\x28\x29\x00\x01\x29\x00\x00",
-    );
-    let line = points(alloc, &[(0, 0), (10, 0)])?;
-    draw(
-        &mut judge,
-        Element::path(1, 0, 5, 5, 5, line),
-        b"\x16\xFB\x01\x00\x05\x0F\x0A\x0A\x04\x01\x29\x00\x00\x00",
-    );
-    draw(
-        &mut judge,
-        Element::circle(1, 0, 5, 0, 0),
-        b"\x1B\x3B\x01\x00\x05\x00\x00",
-    );
+    draw_lists(rt.alloc(), &mut judge)?;
+    draw_circle(&mut judge);
     assert!(rt; judge.holds());
     Ok(())
 }
@@ -122,11 +129,7 @@ fn elements_ascend_in_each_cell(rt: HostRuntime) -> Result<(), Fail> {
     open(alloc, &mut judge, b"\x01B", b"\x0E\x01B")?;
     draw(&mut judge, rectangle(1), FIRST);
     assert!(rt; judge.holds());
-    draw(
-        &mut judge,
-        Element::circle(1, 0, 5, 0, 0),
-        b"\x1B\x3B\x01\x00\x05\x00\x00",
-    );
+    draw_circle(&mut judge);
     draw(&mut judge, rectangle(1), FIRST);
     assert!(rt; !judge.holds());
     Ok(())

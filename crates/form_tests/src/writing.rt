@@ -7,6 +7,7 @@ use oas_ring::{Point, Points};
 use std::alloc::{AllocError, Global};
 use std::io;
 use std::io::Write;
+use std::process::Abort;
 use std::test::Fail;
 
 /// A writer that takes at most `most` bytes a call and `room` in all, and then answers an error, or 0.
@@ -102,6 +103,16 @@ fn points(alloc: Global, list: &[(i64, i64)]) -> Result<Points, AllocError> {
     Ok(Points::new(points))
 }
 
+/// A polygon of layer 1 with these vertices.
+fn polygon(alloc: Global, list: &[(i64, i64)]) -> Result<Element, AllocError> {
+    Ok(Element::polygon(1, 0, points(alloc, list)?))
+}
+
+/// A path of layer 1 and half-width 5 with these extensions and points.
+fn path(alloc: Global, start: i64, end: i64, list: &[(i64, i64)]) -> Result<Element, AllocError> {
+    Ok(Element::path(1, 0, 5, start, end, points(alloc, list)?))
+}
+
 /// A draft with no cell.
 fn draft(alloc: Global, num: u64, den: u64) -> Result<Draft, Fail> {
     let unit = Fraction::reduced(num, den).ok_or("no unit")?;
@@ -124,15 +135,33 @@ fn copies(alloc: Global, times: u64) -> Result<Layout, Fail> {
     Ok(draft.seal()?)
 }
 
-/// The layout of the cell `A` and these elements.
-fn of_a(alloc: Global, elements: Vec<Element>) -> Result<Layout, Fail> {
-    let mut draft = draft_of_a(alloc)?;
-    for element in elements {
-        if draft.cells() == 1 {
-            draft.add(0, element)?;
-        }
+/// Adds an element to the cell.
+fn add(draft: &mut Draft, element: Element) -> Result<(), Fail> {
+    if draft.cells() == 1 {
+        draft.add(0, element)?;
     }
-    Ok(draft.seal()?)
+    Ok(())
+}
+
+/// Adds a text and two placements.
+fn add_named(alloc: Global, draft: &mut Draft) -> Result<(), Fail> {
+    let text = Label::read(alloc, &mut SliceSource::new(b"\x02Hi", 1000))?;
+    add(draft, Element::text(text, 3, 0, 0, 0))?;
+    let cell = name(alloc, b"\x01B")?;
+    add(draft, Element::placement(cell, 0, 0, Turns::T3, true))?;
+    let cell = name(alloc, b"\x01B")?;
+    add(draft, Element::placement(cell, 0, 0, Turns::T1, false))
+}
+
+/// Adds a circle, a path, a polygon and a rectangle.
+fn add_figures(alloc: Global, draft: &mut Draft) -> Result<(), Fail> {
+    add(draft, Element::circle(1, 0, 5, 0, 0))?;
+    add(draft, path(alloc, 5, 5, &[(0, 0), (10, 0)])?)?;
+    add(
+        draft,
+        polygon(alloc, &[(10, 20), (10, 0), (0, 0), (0, 20)])?,
+    )?;
+    add(draft, Element::rectangle(1, 0, 10, 20, 0, 0))
 }
 
 /// Whether the layout's bytes are the front of these.
@@ -167,42 +196,34 @@ fn no_cell_is_start_and_end(rt: HostRuntime) -> Result<(), Fail> {
     Ok(())
 }
 
+/// Whether the bytes of the draft's layout are those of a unit of 1000 and this body.
+fn is_spelled(rt: &HostRuntime, draft: Draft, body: &str) -> Result<bool, Fail> {
+    let wanted = file(rt.alloc(), "00E807", body)?;
+    match draft.seal() {
+        Ok(layout) => Ok(gives(rt, &layout, wanted.as_slice())),
+        Err(_) => Ok(false),
+    }
+}
+
 #[test]
 fn each_kind_has_all_its_fields(rt: HostRuntime) -> Result<(), Fail> {
-    let alloc = rt.alloc();
-    let ring = points(alloc, &[(10, 20), (10, 0), (0, 0), (0, 20)])?;
-    let line = points(alloc, &[(0, 0), (10, 0)])?;
-    let text = Label::read(alloc, &mut SliceSource::new(b"\x02Hi", 1000))?;
-    let cell = name(alloc, b"\x01B")?;
-    let again = cell.try_clone(alloc)?;
-    let elements = vec![in alloc;
-        Element::circle(1, 0, 5, 0, 0),
-        Element::path(1, 0, 5, 5, 5, line),
-        Element::polygon(1, 0, ring),
-        Element::rectangle(1, 0, 10, 20, 0, 0),
-        Element::text(text, 3, 0, 0, 0),
-        Element::placement(cell, 0, 0, Turns::T3, true),
-        Element::placement(again, 0, 0, Turns::T1, false),
-        Element::rectangle(1, 0, 10, 20, 0, 0),
-    ]?;
-    let layout = of_a(alloc, elements)?;
-    let wanted = file(alloc, "00E807", EACH_KIND)?;
-    assert!(rt; gives(&rt, &layout, wanted.as_slice()));
+    let mut draft = draft_of_a(rt.alloc())?;
+    add_figures(rt.alloc(), &mut draft)?;
+    add_named(rt.alloc(), &mut draft)?;
+    add(&mut draft, Element::rectangle(1, 0, 10, 20, 0, 0))?;
+    assert!(rt; is_spelled(&rt, draft, EACH_KIND)?);
     Ok(())
 }
 
 #[test]
 fn steps_are_as_long_as_the_grid(rt: HostRuntime) -> Result<(), Fail> {
-    let alloc = rt.alloc();
-    let ring = points(alloc, &[(-END, 0), (END, 0), (END, 1)])?;
-    let line = points(alloc, &[(END, 0)])?;
-    let elements = vec![in alloc;
-        Element::path(1, 0, 5, 0, 0, line),
-        Element::polygon(1, 0, ring),
-    ]?;
-    let layout = of_a(alloc, elements)?;
-    let wanted = file(alloc, "00E807", FAR)?;
-    assert!(rt; gives(&rt, &layout, wanted.as_slice()));
+    let mut draft = draft_of_a(rt.alloc())?;
+    add(&mut draft, path(rt.alloc(), 0, 0, &[(END, 0)])?)?;
+    add(
+        &mut draft,
+        polygon(rt.alloc(), &[(-END, 0), (END, 0), (END, 1)])?,
+    )?;
+    assert!(rt; is_spelled(&rt, draft, FAR)?);
     Ok(())
 }
 
@@ -219,24 +240,32 @@ fn equal_elements_are_each_put(rt: HostRuntime) -> Result<(), Fail> {
     Ok(())
 }
 
+/// Asserts that writing fails where the writer does, which then took the front of the whole.
+fn expect_fault(rt: &impl Abort, layout: &Layout, whole: &[u8], writer: Narrow) {
+    let mut writer = writer;
+    let room = writer.room;
+    let refusal = Refusal {
+        at: room as u64,
+        why: Why::Write,
+    };
+    assert!(rt;
+        write_canonical(layout, &mut writer) == Err(refusal),
+        "at {room}"
+    );
+    assert_eq!(rt; writer.took.len(), room);
+    assert!(rt; whole.starts_with(writer.took.as_slice()), "at {room}");
+}
+
 #[test]
 fn a_fault_comes_with_what_was_taken(rt: HostRuntime) -> Result<(), Fail> {
     let alloc = rt.alloc();
     let layout = copies(alloc, 1)?;
     let mut whole = Vec::new(alloc);
-    assert_eq!(rt; write_canonical(&layout, &mut whole), Ok(301));
+    assert!(rt; write_canonical(&layout, &mut whole) == Ok(301));
     for room in [0, 1, 44, 45, 100, 300] {
         for most in [1, 7, usize::MAX] {
-            for fails in [false, true] {
-                let mut writer = Narrow::of(alloc, most, room, fails);
-                let refusal = Refusal {
-                    at: room as u64,
-                    why: Why::Write,
-                };
-                assert_eq!(rt; write_canonical(&layout, &mut writer), Err(refusal));
-                assert_eq!(rt; writer.took.len(), room);
-                assert!(rt; whole.starts_with(writer.took.as_slice()));
-            }
+            expect_fault(&rt, &layout, &whole, Narrow::of(alloc, most, room, false));
+            expect_fault(&rt, &layout, &whole, Narrow::of(alloc, most, room, true));
         }
     }
     Ok(())
@@ -245,13 +274,10 @@ fn a_fault_comes_with_what_was_taken(rt: HostRuntime) -> Result<(), Fail> {
 #[test]
 fn a_fault_of_the_flush_comes_after_all(rt: HostRuntime) -> Result<(), Fail> {
     let layout = copies(rt.alloc(), 1)?;
+    let mut whole = Vec::new(rt.alloc());
+    assert!(rt; write_canonical(&layout, &mut whole) == Ok(301));
     let mut writer = Narrow::of(rt.alloc(), 9, 301, true);
     writer.flushes = false;
-    let refusal = Refusal {
-        at: 301,
-        why: Why::Write,
-    };
-    assert_eq!(rt; write_canonical(&layout, &mut writer), Err(refusal));
-    assert_eq!(rt; writer.took.len(), 301);
+    expect_fault(&rt, &layout, &whole, writer);
     Ok(())
 }

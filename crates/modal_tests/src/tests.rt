@@ -8,12 +8,13 @@ mod rectangles;
 mod table;
 
 use self::table::ROWS;
-use oas_layout::{Element, Layout, Limits, Profile, Turns};
+use itoa::Buffer;
+use oas_layout::{Elements, Layout, Limits, Profile};
+use oas_listing::{put_element, put_name, put_unit};
 use oas_modal::Reader;
-use oas_num::{Fraction, INPUT_MAX, Label, Name, Refusal, SliceSource, Source, Why};
+use oas_num::{Fraction, INPUT_MAX, Outlet, Refusal, Sink, SinkFault, SliceSource, Source, Why};
 use oas_record::{CellRef, Record};
-use oas_ring::Points;
-use std::alloc::{AllocError, Global};
+use std::alloc::Global;
 use std::process::Abort;
 use std::test::Fail;
 
@@ -28,8 +29,8 @@ fn unit() -> Result<Fraction, Fail> {
     Ok(Fraction::reduced(1000, 1).ok_or("no unit")?)
 }
 
-/// Has the reader take the records of these bytes, and finish where they end.
-fn read(alloc: Global, bytes: &[u8], mut reader: Reader) -> Result<Layout, Refusal> {
+/// Has the reader take the records of these bytes.
+fn take_all(alloc: Global, bytes: &[u8], reader: &mut Reader) -> Result<(), Refusal> {
     let mut source = SliceSource::new(bytes, INPUT_MAX);
     for _ in 0..bytes.len() {
         let at = source.at();
@@ -39,157 +40,50 @@ fn read(alloc: Global, bytes: &[u8], mut reader: Reader) -> Result<Layout, Refus
         let record = Record::read(alloc, &mut source, false)?;
         reader.take(at, record)?;
     }
-    reader.finish(bytes.len() as u64)
+    Ok(())
 }
 
-/// The points of a list, each after a space.
-fn points_listed(alloc: Global, points: &Points) -> Result<String, AllocError> {
-    let mut text = String::new(alloc);
-    for point in points.as_slice() {
-        let one = format!(in alloc; " {},{}", point.x, point.y)?;
-        text.push_str(one.as_str())?;
-    }
-    Ok(text)
-}
-
-/// A placement's line.
-fn placement_listed(
-    alloc: Global,
-    cell: &Name,
-    x: i64,
-    y: i64,
-    turns: Turns,
-    flip: bool,
-) -> Result<String, AllocError> {
-    let name = String::from_utf8_lossy(alloc, cell.as_bytes())?;
-    let quarters = match turns {
-        Turns::T0 => 0u8,
-        Turns::T1 => 1,
-        Turns::T2 => 2,
-        Turns::T3 => 3,
-    };
-    let flip = u8::from(flip);
-    format!(in alloc; "placement {name} {x} {y} {quarters} {flip}")
-}
-
-/// A text's line.
-fn text_listed(
-    alloc: Global,
-    string: &Label,
-    textlayer: u64,
-    texttype: u64,
-    x: i64,
-    y: i64,
-) -> Result<String, AllocError> {
-    let string = String::from_utf8_lossy(alloc, string.as_bytes())?;
-    format!(in alloc; "text {textlayer} {texttype} {x} {y} {string}")
-}
-
-/// A path's line.
-fn path_listed(
-    alloc: Global,
-    layer: u64,
-    datatype: u64,
-    half_width: u64,
-    start: i64,
-    end: i64,
-    points: &Points,
-) -> Result<String, AllocError> {
-    let points = points_listed(alloc, points)?;
-    format!(in alloc; "path {layer} {datatype} {half_width} {start} {end}{points}")
-}
-
-/// The line of a rectangle, a polygon or a circle.
-fn figure_listed(alloc: Global, element: &Element) -> Result<String, AllocError> {
-    match element {
-        Element::Rectangle {
-            layer,
-            datatype,
-            width,
-            height,
-            x,
-            y,
-        } => { format!(in alloc; "rectangle {layer} {datatype} {width} {height} {x} {y}") }
-        Element::Polygon {
-            layer,
-            datatype,
-            points,
-        } => {
-            let points = points_listed(alloc, points)?;
-            format!(in alloc; "polygon {layer} {datatype}{points}")
-        }
-        Element::Circle {
-            layer,
-            datatype,
-            radius,
-            x,
-            y,
-        } => { format!(in alloc; "circle {layer} {datatype} {radius} {x} {y}") }
-        _ => Ok(String::new(alloc)),
+/// Has the reader take the records of these bytes, and finish where they end.
+fn read(alloc: Global, bytes: &[u8], mut reader: Reader) -> Result<Layout, Refusal> {
+    match take_all(alloc, bytes, &mut reader) {
+        Ok(()) => reader.finish(bytes.len() as u64),
+        Err(refusal) => Err(refusal),
     }
 }
 
-/// An element's line: its kind, and its fields in their order, but of a text the string last.
-fn element_listed(alloc: Global, element: &Element) -> Result<String, AllocError> {
-    match element {
-        Element::Placement {
-            cell,
-            x,
-            y,
-            turns,
-            flip,
-        } => placement_listed(alloc, cell, *x, *y, *turns, *flip),
-        Element::Text {
-            string,
-            textlayer,
-            texttype,
-            x,
-            y,
-        } => text_listed(alloc, string, *textlayer, *texttype, *x, *y),
-        Element::Path {
-            layer,
-            datatype,
-            half_width,
-            start,
-            end,
-            points,
-        } => path_listed(alloc, *layer, *datatype, *half_width, *start, *end, points),
-        _ => figure_listed(alloc, element),
+/// Puts the lines of elements, each behind its count.
+fn put_counted<K: Sink>(sink: &mut K, elements: Elements<'_>) -> Result<(), SinkFault> {
+    for (element, count) in elements {
+        sink.put_all(Buffer::new().format(count).as_bytes())?;
+        sink.put(b' ')?;
+        put_element(sink, element)?;
     }
+    Ok(())
 }
 
-/// A cell's lines: its name, and each distinct element with its count.
-fn cell_listed(alloc: Global, layout: &Layout, cell: usize) -> Result<String, AllocError> {
-    if cell >= layout.cells() {
-        return Ok(String::new(alloc));
-    }
-    let name = String::from_utf8_lossy(alloc, layout.cell_name(cell).as_bytes())?;
-    let mut text = format!(in alloc; "cell {name};")?;
-    for (element, count) in layout.elements(cell) {
-        let element = element_listed(alloc, element)?;
-        let line = format!(in alloc; "{count} {element};")?;
-        text.push_str(line.as_str())?;
-    }
-    Ok(text)
-}
-
-/// A layout's lines, each of which `;` ends.
-fn layout_listed(alloc: Global, layout: &Layout) -> Result<String, AllocError> {
-    let unit = layout.unit();
-    let num = unit.num();
-    let den = unit.den();
-    let mut text = format!(in alloc; "unit {num}/{den};")?;
+/// Puts the listing of a layout, but each distinct element once.
+fn put_layout<K: Sink>(sink: &mut K, layout: &Layout) -> Result<(), SinkFault> {
+    put_unit(sink, layout.unit())?;
     for cell in 0..layout.cells() {
-        let lines = cell_listed(alloc, layout, cell)?;
-        text.push_str(lines.as_str())?;
+        put_name(sink, layout.cell_name(cell).as_bytes())?;
+        put_counted(sink, layout.elements(cell))?;
     }
-    Ok(text)
+    Ok(())
+}
+
+/// The listing of a layout, but each distinct element once, behind its count, and with `;` at the end of each line.
+fn lines_of(alloc: Global, layout: &Layout) -> Result<String, Fail> {
+    let mut bytes: Vec<u8> = Vec::new(alloc);
+    let mut out = Outlet::new(&mut bytes);
+    put_layout(&mut out, layout)?;
+    out.close()?;
+    Ok(str::from_utf8(&bytes)?.replace(alloc, "\n", ";")?)
 }
 
 /// The lines of a layout, or NUMBER@OFFSET of a refusal.
-fn answer_listed(alloc: Global, answer: Result<Layout, Refusal>) -> Result<String, Fail> {
+fn listed(alloc: Global, answer: Result<Layout, Refusal>) -> Result<String, Fail> {
     match answer {
-        Ok(layout) => Ok(layout_listed(alloc, &layout)?),
+        Ok(layout) => lines_of(alloc, &layout),
         Err(Refusal { at, why }) => {
             let number = why.number();
             Ok(format!(in alloc; "{number}@{at}")?)
@@ -197,21 +91,28 @@ fn answer_listed(alloc: Global, answer: Result<Layout, Refusal>) -> Result<Strin
     }
 }
 
-/// What comes of the bytes of a text in hex.
-fn answer(alloc: Global, text: &str, reader: Reader) -> Result<String, Fail> {
+/// The bytes of a text in hex.
+fn bytes_of(alloc: Global, text: &str) -> Result<Vec<u8>, Fail> {
     let mut bytes = Vec::new(alloc);
     for piece in text.split_whitespace() {
         bytes.extend_from_slice(hex::decode(alloc, piece)?.as_slice())?;
     }
-    answer_listed(alloc, read(alloc, bytes.as_slice(), reader))
+    Ok(bytes)
+}
+
+/// What comes of records in hex by a reader of these limits and this profile.
+fn answer(alloc: Global, text: &str, limits: Limits, profile: Profile) -> Result<String, Fail> {
+    let unit = unit()?;
+    let bytes = bytes_of(alloc, text)?;
+    let reader = Reader::new(alloc, unit, limits, profile);
+    listed(alloc, read(alloc, &bytes, reader))
 }
 
 /// Asserts what one row says.
 fn expect_row(rt: &impl Abort, alloc: Global, row: &str) -> Result<(), Fail> {
     let (name, rest) = row.split_once(" | ").ok_or("a row has bytes")?;
     let (bytes, wanted) = rest.split_once(" | ").ok_or("a row has an answer")?;
-    let reader = Reader::new(alloc, unit()?, Limits::standard(), Profile::One);
-    let found = answer(alloc, bytes, reader)?;
+    let found = answer(alloc, bytes, Limits::standard(), Profile::One)?;
     assert!(rt; found.as_str() == wanted, "at {name}: {found}");
     Ok(())
 }
@@ -252,7 +153,7 @@ fn expect(
     wanted: &str,
 ) -> Result<(), Fail> {
     let limits = limits.ok_or("these are limits")?;
-    let found = answer(alloc, bytes, Reader::new(alloc, unit()?, limits, profile))?;
+    let found = answer(alloc, bytes, limits, profile)?;
     assert!(rt; found.as_str() == wanted, "at {bytes}: {found}");
     Ok(())
 }

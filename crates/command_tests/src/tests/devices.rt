@@ -76,6 +76,19 @@ pub struct Writer {
     pub flush_fails: bool,
 }
 
+impl Writer {
+    /// One that takes all.
+    pub fn new(taken: Vec<u8>) -> Writer {
+        Writer {
+            taken,
+            most: usize::MAX,
+            room: usize::MAX,
+            full: Full::Fault,
+            flush_fails: false,
+        }
+    }
+}
+
 impl Write for Writer {
     fn write(&mut self, buf: &[u8]) -> io::Result<usize> {
         let count = buf.len().min(self.most).min(self.room);

@@ -3,12 +3,24 @@
 //! The process's heap is filled with pieces, down to the smallest, and then emptied a piece at a time, so that each run
 //! has a little more memory than the one before. (Under `rt try` the heap can't be filled, and nothing is refused.)
 
-use super::answers::{Run, answering, answering_by_name, writer};
+use super::answers::{ANSWERS, NAMED};
 use super::devices::Writer;
+use super::runs::Run;
 use scarce_memory::Hoard;
-use std::alloc::Global;
+use std::alloc::{AllocError, Global};
 use std::process::Abort;
 use std::test::Fail;
+
+/// Rows of `canon`, as in `runs`.
+const CANON: &str = "\
+rectangle | canon | HEAD CELL RECT TAIL | 0 | HEAD CELL RECT TAIL
+sorted | canon | HEAD 0E0142 RECT 147B02000A140000 RECT 147B00000A140000 RECT CELL RECT 0E0143 TAIL | 0 | HEAD CELL RECT 0E0142 147B00000A140000 RECT RECT RECT 147B02000A140000 0E0143 TAIL
+";
+
+/// A writer that takes all, with the memory for it.
+fn writer(alloc: Global) -> Result<Writer, AllocError> {
+    Ok(Writer::new(Vec::with_capacity(alloc, 1024)?))
+}
 
 /// Runs a command once, and asserts that it answers as it is to, or says that memory was refused and writes nothing. Answers
 /// whether it was.
@@ -27,44 +39,40 @@ fn is_refused(
         assert_eq!(rt; out.taken.as_slice(), run.answer.as_slice());
         return false;
     }
+    let line = str::from_utf8(&err.taken).unwrap_or("");
     assert_eq!(rt; status, 1);
     assert!(rt; out.taken.is_empty());
-    match str::from_utf8(err.taken.as_slice()) {
-        Ok(line) => assert!(rt; line.contains(": refused 34 at ")),
-        Err(_) => assert!(rt; false, "the line is no text"),
-    }
+    assert!(rt; line.contains(": refused 34 at "), "it said {line}");
     true
 }
 
 /// Runs a command with a little more memory each time. Answers how often it was refused, or `None` where not all memory can be
 /// taken.
-fn refusals(rt: &impl Abort, alloc: Global, run: &Run<'_>) -> Result<Option<u64>, Fail> {
-    let mut out = writer(alloc, usize::MAX)?;
-    let mut err = writer(alloc, usize::MAX)?;
+fn refusals(rt: &impl Abort, alloc: Global, run: &Run<'_>) -> Result<Option<u64>, AllocError> {
+    let mut out = writer(alloc)?;
+    let mut err = writer(alloc)?;
     let mut hoard = Hoard::new(alloc)?;
     let is_full = hoard.is_full();
-    let mut refused = 0u64;
-    let mut done = 0u64;
-    for _ in 0..hoard.pieces() {
-        if is_refused(rt, alloc, run, &mut out, &mut err) {
-            refused = refused.saturating_add(1);
-        } else {
-            done = done.saturating_add(1);
-        }
+    let pieces = hoard.pieces();
+    let mut refused = 0usize;
+    for _ in 0..pieces {
+        let is_one = is_refused(rt, alloc, run, &mut out, &mut err);
+        refused = refused.saturating_add(usize::from(is_one));
         hoard.give_back();
     }
     drop(hoard);
-    assert!(rt; !is_full || done > 0, "all was refused");
-    Ok(if is_full { Some(refused) } else { None })
+    assert!(rt; !is_full || refused < pieces, "all was refused");
+    Ok(is_full.then_some(refused as u64))
 }
 
-/// Refuses each growth of each of the commands. One that takes little may be refused none: what earlier runs gave back serves
-/// it.
-pub fn expect_growths(rt: &impl Abort, alloc: Global, runs: &[Run<'_>]) -> Result<(), Fail> {
+/// Refuses each growth of the command of each of these rows. One that takes little may be refused none: what earlier runs gave
+/// back serves it.
+pub fn expect_growths(rt: &impl Abort, alloc: Global, rows: &str) -> Result<(), Fail> {
     let mut refused = 0u64;
     let mut is_full = true;
-    for run in runs {
-        match refusals(rt, alloc, run)? {
+    for row in rows.lines() {
+        let run = Run::of_row(alloc, row)?;
+        match refusals(rt, alloc, &run)? {
             Some(more) => refused = refused.saturating_add(more),
             None => is_full = false,
         }
@@ -75,24 +83,15 @@ pub fn expect_growths(rt: &impl Abort, alloc: Global, runs: &[Run<'_>]) -> Resul
 
 #[test]
 fn each_growth_of_canon(rt: HostRuntime) -> Result<(), Fail> {
-    let alloc = rt.alloc();
-    let rectangle = Run::of_canon(alloc, "HEAD CELL RECT TAIL", "HEAD CELL RECT TAIL")?;
-    let cells =
-        "HEAD 0E0142 RECT 147B02000A140000 RECT 147B00000A140000 RECT CELL RECT 0E0143 TAIL";
-    let ordered =
-        "HEAD CELL RECT 0E0142 147B00000A140000 RECT RECT RECT 147B02000A140000 0E0143 TAIL";
-    let sorted = Run::of_canon(alloc, cells, ordered)?;
-    expect_growths(&rt, alloc, &[rectangle, sorted])
+    expect_growths(&rt, rt.alloc(), CANON)
 }
 
 #[test]
 fn each_growth_of_an_answer(rt: HostRuntime) -> Result<(), Fail> {
-    let alloc = rt.alloc();
-    expect_growths(&rt, alloc, &answering(alloc)?)
+    expect_growths(&rt, rt.alloc(), ANSWERS)
 }
 
 #[test]
 fn each_growth_of_a_named_answer(rt: HostRuntime) -> Result<(), Fail> {
-    let alloc = rt.alloc();
-    expect_growths(&rt, alloc, &answering_by_name(alloc)?)
+    expect_growths(&rt, rt.alloc(), NAMED)
 }

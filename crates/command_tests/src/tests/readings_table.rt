@@ -257,8 +257,7 @@ padding-of-any-byte | HEAD 02FC01 FF*252 00 | HEAD TAIL
 end-without-its-offsets | MAGIC START 00E807 01 TAIL | 28@22
 ";
 
-/// Rows of `show`: a name, what stands between HEAD and TAIL, and the listing, with `;` for the end of a line.
+/// A row of `show`, as in `runs`, of an element of each kind: equal ones are listed each, in the order of the standard's fields.
 pub const LISTED: &str = "\
-# equal elements are listed once, or fields in another order
-elements-of-each-kind | CELL 11B701420206 135B02486903040103 RECT RECT 153B01000402012829000000 16FB0100050F030404012900010A 1B3B0100050000 | unit 1000/1;cell A;placement B 1 3 3 1;text 3 4 0 -1 Hi;rectangle 1 0 10 20 0 0;rectangle 1 0 10 20 0 0;polygon 1 0 0,0 0,20 10,20;path 1 0 5 -1 2 0,5 10,5;circle 1 0 5 0 0;
+elements-of-each-kind | show | HEAD CELL 11B701420206 135B02486903040103 RECT RECT 153B01000402012829000000 16FB0100050F030404012900010A 1B3B0100050000 TAIL | 0 | unit 1000/1;cell A;placement B 1 3 3 1;text 3 4 0 -1 Hi;rectangle 1 0 10 20 0 0;rectangle 1 0 10 20 0 0;polygon 1 0 0,0 0,20 10,20;path 1 0 5 -1 2 0,5 10,5;circle 1 0 5 0 0;
 ";

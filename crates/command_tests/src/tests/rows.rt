@@ -1,15 +1,19 @@
 //! The worked rows through `run_canon`, over a slice.
 
+use super::runs::refusal_of;
 use super::table::ROWS;
 use oas_canon::Limits;
 use oas_command::run_canon;
-use oas_num::{INPUT_MAX, SliceSource};
+use oas_num::{INPUT_MAX, SliceSource, Source};
 use std::alloc::Global;
 use std::process::Abort;
 use std::test::Fail;
 
 /// A file of one cell with one rectangle, of 301 bytes, which is canonical as it stands.
 pub const RECTANGLE: &str = "HEAD CELL RECT TAIL";
+
+/// The name of each input.
+pub const INPUT: &str = "standard input";
 
 /// The hex of a word, and how often it stands; any other piece is hex itself.
 fn meaning_of<'a>(piece: &'a str) -> (&'a str, usize) {
@@ -37,9 +41,8 @@ fn add_piece(alloc: Global, bytes: &mut Vec<u8>, piece: &str) -> Result<(), Fail
     Ok(())
 }
 
-/// The bytes of a file that is given in pieces.
-pub fn bytes_of(alloc: Global, pieces: &str) -> Result<Vec<u8>, Fail> {
-    let mut bytes = Vec::new(alloc);
+/// Appends the bytes of these pieces.
+fn add_pieces(alloc: Global, bytes: &mut Vec<u8>, pieces: &str) -> Result<(), Fail> {
     for piece in pieces.split_whitespace() {
         let parts = match piece {
             "HEAD" => ["MAGIC", "START", "00E807", "OFFSETS"],
@@ -47,33 +50,57 @@ pub fn bytes_of(alloc: Global, pieces: &str) -> Result<Vec<u8>, Fail> {
             _ => [piece, "-", "-", "-"],
         };
         for part in parts {
-            add_piece(alloc, &mut bytes, part)?;
+            add_piece(alloc, bytes, part)?;
         }
     }
+    Ok(())
+}
+
+/// The pieces before and behind those of a row.
+#[derive(Clone, Copy)]
+pub struct Frame {
+    before: &'static str,
+    behind: &'static str,
+}
+
+/// The frame of a row of whole files.
+pub const WHOLE_FILE: Frame = Frame {
+    before: "",
+    behind: "",
+};
+
+/// The frame of a row of what stands between the beginning of a file and its END.
+pub const BODY: Frame = Frame {
+    before: "HEAD",
+    behind: "TAIL",
+};
+
+/// The bytes of a file that is given in pieces, within a frame.
+fn bytes_within(alloc: Global, frame: Frame, pieces: &str) -> Result<Vec<u8>, Fail> {
+    let mut bytes = Vec::new(alloc);
+    add_pieces(alloc, &mut bytes, frame.before)?;
+    add_pieces(alloc, &mut bytes, pieces)?;
+    add_pieces(alloc, &mut bytes, frame.behind)?;
     Ok(bytes)
 }
 
-/// Runs `canon` on the bytes of a source, under limits, and asserts what comes of it: a refusal, as `NUMBER at OFFSET`, with
-/// no output, or the output.
-fn expect(
+/// The bytes of a file that is given in pieces.
+pub fn bytes_of(alloc: Global, pieces: &str) -> Result<Vec<u8>, Fail> {
+    bytes_within(alloc, WHOLE_FILE, pieces)
+}
+
+/// Runs `canon` on a source, under limits, and asserts what comes of it: the output, or a refusal by its number and offset,
+/// with no output.
+pub fn expect(
     rt: &impl Abort,
     alloc: Global,
     name: &str,
     limits: Limits,
-    from: SliceSource<'_>,
-    wanted: Result<&[u8], &str>,
-) -> Result<(), Fail> {
-    let mut from = from;
-    let mut out: Vec<u8> = Vec::new(alloc);
-    let mut err: Vec<u8> = Vec::new(alloc);
-    let status = run_canon(
-        alloc,
-        "standard input",
-        &mut from,
-        &mut out,
-        &mut err,
-        limits,
-    );
+    from: &mut impl Source,
+    wanted: Result<&[u8], (u8, usize)>,
+) {
+    let (mut out, mut err): (Vec<u8>, Vec<u8>) = (Vec::new(alloc), Vec::new(alloc));
+    let status = run_canon(alloc, INPUT, from, &mut out, &mut err, limits);
     match wanted {
         Ok(bytes) => {
             assert_eq!(rt; status, 0, "at {name}");
@@ -83,11 +110,15 @@ fn expect(
         Err(refusal) => {
             assert_eq!(rt; status, 1, "at {name}");
             assert!(rt; out.is_empty(), "at {name}");
-            let line = format!(in alloc; "standard input: refused {refusal}\n")?;
-            assert_eq!(rt; err.as_slice(), line.as_bytes(), "at {name}");
+            assert!(rt; refusal_of(&err, INPUT) == Some(refusal), "at {name}");
         }
     }
-    Ok(())
+}
+
+/// The number and the offset of a refusal, where a row says one.
+fn refused(answer: &str) -> Option<(u8, usize)> {
+    let (number, at) = answer.split_once('@')?;
+    Some((number.parse().ok()?, at.parse().ok()?))
 }
 
 /// A source that is read to its end.
@@ -95,37 +126,58 @@ fn whole<'a>(input: &'a [u8]) -> SliceSource<'a> {
     SliceSource::new(input, INPUT_MAX)
 }
 
-/// Asserts what one row says, under limits.
-pub fn expect_row(rt: &impl Abort, alloc: Global, limits: Limits, row: &str) -> Result<(), Fail> {
-    let (name, rest) = row.split_once(" | ").ok_or("a row has a file")?;
-    let (file, answer) = rest.split_once(" | ").ok_or("a row has an answer")?;
-    let file = bytes_of(alloc, file)?;
-    let input = file.as_slice();
-    if let Some((number, at)) = answer.split_once('@') {
-        let refusal = format!(in alloc; "{number} at {at}")?;
-        let wanted = Err(refusal.as_str());
-        return expect(rt, alloc, name, limits, whole(input), wanted);
+/// Asserts what comes of the file of a row of this name, under limits, and then of what it is to be.
+pub fn expect_row(
+    rt: &impl Abort,
+    alloc: Global,
+    limits: Limits,
+    frame: Frame,
+    name: &str,
+    row: &str,
+) -> Result<(), Fail> {
+    let (pieces, answer) = row.split_once(" | ").ok_or("a row has an answer")?;
+    let file = bytes_within(alloc, frame, pieces)?;
+    if let Some(refusal) = refused(answer) {
+        expect(rt, alloc, name, limits, &mut whole(&file), Err(refusal));
+        return Ok(());
     }
-    if answer == "same" {
-        return expect(rt, alloc, name, limits, whole(input), Ok(input));
+    let answer = if answer == "same" { pieces } else { answer };
+    let canonical = bytes_within(alloc, frame, answer)?;
+    expect(rt, alloc, name, limits, &mut whole(&file), Ok(&canonical));
+    expect(
+        rt,
+        alloc,
+        name,
+        limits,
+        &mut whole(&canonical),
+        Ok(&canonical),
+    );
+    Ok(())
+}
+
+/// Asserts what each row of a table says, under the standard limits, and how many there are.
+pub fn expect_rows(
+    rt: &impl Abort,
+    alloc: Global,
+    frame: Frame,
+    table: &str,
+    wanted: u64,
+) -> Result<(), Fail> {
+    let mut count = 0u64;
+    for row in table.lines() {
+        if !row.starts_with('#') {
+            let (name, row) = row.split_once(" | ").ok_or("a row has a file")?;
+            expect_row(rt, alloc, Limits::standard(), frame, name, row)?;
+            count = count.saturating_add(1);
+        }
     }
-    let canonical = bytes_of(alloc, answer)?;
-    let output = canonical.as_slice();
-    expect(rt, alloc, name, limits, whole(input), Ok(output))?;
-    expect(rt, alloc, name, limits, whole(output), Ok(output))
+    assert_eq!(rt; count, wanted);
+    Ok(())
 }
 
 #[test]
 fn each_row(rt: HostRuntime) -> Result<(), Fail> {
-    let mut count = 0u64;
-    for row in ROWS.lines() {
-        if !row.starts_with('#') {
-            expect_row(&rt, rt.alloc(), Limits::standard(), row)?;
-            count = count.saturating_add(1);
-        }
-    }
-    assert_eq!(rt; count, 199);
-    Ok(())
+    expect_rows(&rt, rt.alloc(), WHOLE_FILE, ROWS, 199)
 }
 
 /// The first offset of the record that stands at an offset of the rectangle file, which is where a file that ends there is
@@ -147,17 +199,16 @@ fn each_prefix(rt: HostRuntime) -> Result<(), Fail> {
     let file = bytes_of(alloc, RECTANGLE)?;
     assert_eq!(rt; file.len(), 301);
     for len in 0..301usize {
-        let (front, _) = file.as_slice().split_at(len);
-        let at = record_at(len);
-        let refusal = format!(in alloc; "2 at {at}")?;
+        let front = file.as_slice().split_at(len).0;
+        let wanted = Err((2, record_at(len)));
         expect(
             &rt,
             alloc,
             "a prefix",
             Limits::standard(),
-            whole(front),
-            Err(refusal.as_str()),
-        )?;
+            &mut whole(front),
+            wanted,
+        );
     }
     Ok(())
 }
@@ -167,28 +218,24 @@ fn expect_limit(
     rt: &impl Abort,
     alloc: Global,
     input: &[u8],
-    limit: u64,
-    wanted: Result<&[u8], &str>,
-) -> Result<(), Fail> {
-    let from = SliceSource::new(input, limit);
-    expect(rt, alloc, "a limit", Limits::standard(), from, wanted)
+    limit: usize,
+    wanted: Result<&[u8], (u8, usize)>,
+) {
+    let mut from = SliceSource::new(input, limit as u64);
+    expect(rt, alloc, "a limit", Limits::standard(), &mut from, wanted);
 }
 
 #[test]
 fn each_limit(rt: HostRuntime) -> Result<(), Fail> {
     let alloc = rt.alloc();
-    let file = bytes_of(alloc, RECTANGLE)?;
-    let file = file.as_slice();
-    let mut longer = bytes_of(alloc, RECTANGLE)?;
-    longer.push(0)?;
-    let longer = longer.as_slice();
+    let longer = bytes_of(alloc, "HEAD CELL RECT TAIL 00")?;
+    assert_eq!(rt; longer.len(), 302);
+    let file = longer.as_slice().split_at(301).0;
     for limit in 0..301usize {
-        let at = record_at(limit);
-        let refusal = format!(in alloc; "31 at {at}")?;
-        let wanted = Err(refusal.as_str());
-        expect_limit(&rt, alloc, file, limit as u64, wanted)?;
+        expect_limit(&rt, alloc, file, limit, Err((31, record_at(limit))));
     }
-    expect_limit(&rt, alloc, file, 301, Ok(file))?;
-    expect_limit(&rt, alloc, longer, 301, Err("31 at 301"))?;
-    expect_limit(&rt, alloc, longer, 302, Err("30 at 301"))
+    expect_limit(&rt, alloc, file, 301, Ok(file));
+    expect_limit(&rt, alloc, &longer, 301, Err((31, 301)));
+    expect_limit(&rt, alloc, &longer, 302, Err((30, 301)));
+    Ok(())
 }

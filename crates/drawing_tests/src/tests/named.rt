@@ -5,7 +5,7 @@ ghost use Rattle.oas_ahead.specs.Named.{GivesName, named_record};
 ghost use Rattle.oas_drawing.specs.Positions.{IsNear};
 ghost use Rattle.oas_drawing.specs.Modal.{stepped};
 
-use super::{at, last_copy};
+use super::{at, draws};
 use oas_ahead::{Given, NamedOnce};
 use oas_drawing::{Drawn, Kind, ModalVariables};
 use oas_layout::{Element, Limits, Turns};
@@ -106,9 +106,10 @@ fn placements(rt: HostRuntime) -> Result<(), Fail> {
         turn: Turn::Quarters(3),
         flip: true,
     };
+    let cell = name(alloc)?;
+    let modal_cell = CellRef::Name(name(alloc)?);
     let mut modal = ModalVariables::new();
-    let cell = CellRef::Name(name(alloc)?);
-    modal.place(&mut placement(Some(cell), 5, Some(-6)));
+    modal.place(&mut placement(Some(modal_cell), 5, Some(-6)));
     modal.set_relative(true);
     let next = NamedOnce::Placement {
         cell: Given::Bytes(b"AB"),
@@ -118,23 +119,24 @@ fn placements(rt: HostRuntime) -> Result<(), Fail> {
         y: None,
     };
     let wanted = Drawn::Named(Element::Placement {
-        cell: name(alloc)?,
+        cell,
         x: -2,
         y: -6,
         turns: Turns::T3,
         flip: true,
     });
     assert!(rt; drawn(alloc, &mut modal, &next)? == wanted);
-    assert!(rt; last_copy(alloc, &modal, kind, false) == Ok(wanted));
+    assert!(rt; draws(alloc, &modal, kind, false, wanted));
     Ok(())
 }
 
 #[test]
 fn texts(rt: HostRuntime) -> Result<(), Fail> {
     let alloc = rt.alloc();
+    let string = label(alloc)?;
+    let modal_string = TextRef::Label(label(alloc)?);
     let mut modal = ModalVariables::new();
-    let string = TextRef::Label(label(alloc)?);
-    modal.write(&mut text(Some(string), Some(0), 5, Some(-6)));
+    modal.write(&mut text(Some(modal_string), Some(0), 5, Some(-6)));
     let next = NamedOnce::Text {
         string: Given::Bytes(b"AB"),
         textlayer: None,
@@ -143,14 +145,14 @@ fn texts(rt: HostRuntime) -> Result<(), Fail> {
         y: None,
     };
     let wanted = Drawn::Named(Element::Text {
-        string: label(alloc)?,
+        string,
         textlayer: 4,
         texttype: 2,
         x: -7,
         y: -6,
     });
     assert!(rt; drawn(alloc, &mut modal, &next)? == wanted);
-    assert!(rt; last_copy(alloc, &modal, Kind::Text, false) == Ok(wanted));
+    assert!(rt; draws(alloc, &modal, Kind::Text, false, wanted));
     Ok(())
 }
 
@@ -194,20 +196,25 @@ fn numbers(rt: HostRuntime) -> Result<(), Fail> {
 }
 
 #[test]
-fn named_reasons(rt: HostRuntime) -> Result<(), Fail> {
-    let alloc = rt.alloc();
+fn reasons_of_placements(rt: HostRuntime) -> Result<(), Fail> {
+    let cell = CellRef::Name(name(rt.alloc())?);
     let mut modal = ModalVariables::new();
     let next = placed(Given::Modal);
     assert!(rt; weighs(&modal, &next, 1 << 24, 1 << 28) == Err(Why::ModalUndefined));
-    let cell = CellRef::Name(name(alloc)?);
     modal.place(&mut placement(Some(cell), 1 << 60, None));
     assert!(rt; weighs(&modal, &next, (1 << 24) - 1, (1 << 28) - 3) == Ok(3));
     modal.place(&mut placement(None, (1 << 60) + 1, None));
     assert!(rt; weighs(&modal, &next, 1 << 24, 1 << 28) == Err(Why::TooManyElements));
     assert!(rt; weighs(&modal, &next, 0, (1 << 28) - 2) == Err(Why::TooHeavy));
     assert!(rt; weighs(&modal, &next, 0, 0) == Err(Why::CoordinateRange));
+    Ok(())
+}
+
+#[test]
+fn reasons_of_texts(rt: HostRuntime) -> Result<(), Fail> {
+    let string = TextRef::Label(label(rt.alloc())?);
+    let mut modal = ModalVariables::new();
     let next = written(Given::Modal);
-    let string = TextRef::Label(label(alloc)?);
     modal.write(&mut text(Some(string), None, 5, Some(-6)));
     assert!(rt; weighs(&modal, &next, 1 << 24, 1 << 28) == Err(Why::ModalUndefined));
     modal.write(&mut text(None, Some(0), 5, Some(-(1 << 60) - 1)));
@@ -220,13 +227,13 @@ fn named_reasons(rt: HostRuntime) -> Result<(), Fail> {
 /// A name that is given weighs what it does before it is the modal one, whatever that is.
 #[test]
 fn names_weighed_before_they_are_modal(rt: HostRuntime) -> Result<(), Fail> {
-    let alloc = rt.alloc();
     let limits = Limits::standard();
+    let cell = CellRef::Name(name(rt.alloc())?);
     let mut modal = ModalVariables::new();
     let next = placed(Given::Bytes(b"ABC"));
     assert!(rt; modal.check_named(&next, limits, 0, (1 << 28) - 4) == Ok(()));
     assert!(rt; modal.check_named(&next, limits, 0, (1 << 28) - 3) == Err(Why::TooHeavy));
-    modal.place(&mut placement(Some(CellRef::Name(name(alloc)?)), 5, None));
+    modal.place(&mut placement(Some(cell), 5, None));
     assert!(rt; modal.check_named(&next, limits, 0, (1 << 28) - 4) == Ok(()));
     assert!(rt; modal.check_named(&next, limits, 0, (1 << 28) - 3) == Err(Why::TooHeavy));
     let next = placed(Given::Number(7));

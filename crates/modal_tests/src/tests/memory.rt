@@ -45,14 +45,19 @@ fn take_cells(reader: &mut Reader, second: Name) -> Result<(), Refusal> {
     reader.take(16, rectangle())
 }
 
-/// Has the reader take a name of a cell, and two cells; if it was refused, it refuses a record more.
-fn run(rt: &impl Abort, mut reader: Reader, first: Name, second: Name) -> Result<Layout, Refusal> {
+/// Has the reader take a name of a cell, and two cells.
+fn take_all(reader: &mut Reader, first: Name, second: Name) -> Result<(), Refusal> {
     let first = Record::CellName {
         name: first,
         number: None,
     };
     reader.take(0, first)?;
-    if let Err(refusal) = take_cells(&mut reader, second) {
+    take_cells(reader, second)
+}
+
+/// Has the reader take them, and finish; if it was refused, it refuses a record more.
+fn run(rt: &impl Abort, mut reader: Reader, first: Name, second: Name) -> Result<Layout, Refusal> {
+    if let Err(refusal) = take_all(&mut reader, first, second) {
         assert!(rt; refuses_on(&mut reader, END, refusal));
         return Err(refusal);
     }
@@ -115,22 +120,19 @@ fn reader_without_memory(rt: HostRuntime) -> Result<(), Fail> {
 }
 
 /// A reader that has taken a name of a cell, and two cells.
-fn ready(alloc: Global, unit: Fraction, first: Name, second: Name) -> Result<Reader, Refusal> {
+fn ready(alloc: Global, unit: Fraction) -> Result<Reader, Fail> {
+    let first = name(alloc, b"\x01A")?;
+    let second = name(alloc, b"\x01B")?;
     let mut reader = Reader::new(alloc, unit, Limits::standard(), Profile::One);
-    let first = Record::CellName {
-        name: first,
-        number: None,
-    };
-    reader.take(0, first)?;
-    take_cells(&mut reader, second)?;
+    take_all(&mut reader, first, second)?;
     Ok(reader)
 }
 
 /// So many of them.
 fn all_ready(alloc: Global, unit: Fraction, count: u32) -> Result<Vec<Reader>, Fail> {
     let mut readers = Vec::new(alloc);
-    for (first, second) in pairs(alloc, count)? {
-        readers.push(ready(alloc, unit, first, second)?)?;
+    for _ in 0..count {
+        readers.push(ready(alloc, unit)?)?;
     }
     Ok(readers)
 }
@@ -167,11 +169,11 @@ fn finish_without_memory(rt: HostRuntime) -> Result<(), Fail> {
 
 /// Has the reader take the names one after another, each at its number. How many it takes; if it was refused, it refuses a
 /// record more.
-fn taken(rt: &impl Abort, mut reader: Reader, names: Vec<Name>) -> u64 {
+fn taken(rt: &impl Abort, reader: &mut Reader, names: Vec<Name>) -> u64 {
     let mut at = 0u64;
     for name in names {
         if let Err(refusal) = reader.take(at, Record::CellName { name, number: None }) {
-            let is_kept = refuses_on(&mut reader, END, refusal);
+            let is_kept = refuses_on(reader, END, refusal);
             let why = Why::Memory;
             assert!(rt; is_kept && refusal == Refusal { at, why });
             return at;
@@ -201,8 +203,9 @@ fn insist_on_names(
     let mut pieces = 0u32;
     for names in runs {
         let all = names.len() as u64;
-        let reader = Reader::new(alloc, unit, Limits::standard(), Profile::One);
-        let count = taken(rt, reader, names);
+        let mut reader = Reader::new(alloc, unit, Limits::standard(), Profile::One);
+        let count = taken(rt, &mut reader, names);
+        drop(reader);
         if count == all {
             return true;
         }

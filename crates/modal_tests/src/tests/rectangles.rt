@@ -2,7 +2,7 @@
 
 ghost use Rattle.std.specs.Prelude.{◌≡◌, None};
 
-use super::{answer_listed, refuses_on, unit};
+use super::{listed, refuses_on, unit};
 use oas_layout::{Layout, Limits, Profile};
 use oas_modal::Reader;
 use oas_num::{Name, Refusal, SliceSource, Spelled, Why};
@@ -55,15 +55,18 @@ fn take_three(reader: &mut Reader, alone: bool, cell: Name) -> Result<(), Refusa
 
 /// The layout of a cell and three rectangles.
 fn layout_of_three(mut reader: Reader, alone: bool, cell: Name) -> Result<Layout, Refusal> {
-    take_three(&mut reader, alone, cell)?;
-    reader.finish(23)
+    match take_three(&mut reader, alone, cell) {
+        Ok(()) => reader.finish(23),
+        Err(refusal) => Err(refusal),
+    }
 }
 
 /// What comes of three rectangles, within these limits: the lines of the layout, or NUMBER@OFFSET.
 fn three(alloc: Global, alone: bool, limits: Limits) -> Result<String, Fail> {
+    let unit = unit()?;
     let cell = Name::read(alloc, &mut SliceSource::new(b"\x01A", 100))?;
-    let reader = Reader::new(alloc, unit()?, limits, Profile::One);
-    answer_listed(alloc, layout_of_three(reader, alone, cell))
+    let reader = Reader::new(alloc, unit, limits, Profile::One);
+    listed(alloc, layout_of_three(reader, alone, cell))
 }
 
 /// Asserts that this comes of three rectangles, taken by themselves and as records.
@@ -74,10 +77,10 @@ fn expect_three(
     wanted: &str,
 ) -> Result<(), Fail> {
     let limits = limits.ok_or("these are limits")?;
-    let by_itself = three(alloc, true, limits)?;
-    assert!(rt; by_itself.as_str() == wanted, "{by_itself}");
-    let as_a_record = three(alloc, false, limits)?;
-    assert!(rt; as_a_record.as_str() == wanted, "{as_a_record}");
+    for alone in [true, false] {
+        let found = three(alloc, alone, limits)?;
+        assert!(rt; found.as_str() == wanted, "{found}");
+    }
     Ok(())
 }
 

@@ -1,6 +1,6 @@
 //! The rows, one a line: a name, the records in hex, and what comes of them.
 //!
-//! What comes of them is the lines of the layout (see `layout_listed`), or a refusal, as NUMBER@OFFSET, where the first
+//! What comes of them is the lines of the layout (see `listed`), or a refusal, as NUMBER@OFFSET, where the first
 //! record is at 0. The answers are those of the plain program in tests/reference, from the same records in a whole file.
 
 /// The rows.

@@ -1,7 +1,7 @@
 //! Readers and writers that fail at each byte.
 
 use super::devices::{Narrow, Torn};
-use super::rows::{bytes_of, dropping_of};
+use super::rows::{NAME, bytes_of, dropping_of, expect, refusal_of};
 use oas_canon::Limits;
 use oas_num::{INPUT_MAX, ReaderSource, SliceSource};
 use oas_preparing::run_prepare;
@@ -28,31 +28,17 @@ fn record_at(offset: usize) -> usize {
     }
 }
 
-/// Runs from a reader that fails behind these bytes, and asserts that it is refused and that nothing is written.
-fn expect_torn(rt: &impl Abort, alloc: Global, front: &[u8]) -> Result<(), Fail> {
-    let mut from = ReaderSource::new(alloc, Torn { rest: front }, INPUT_MAX)?;
-    let mut out: Vec<u8> = Vec::new(alloc);
-    let mut err: Vec<u8> = Vec::new(alloc);
-    let (limits, dropping) = (Limits::standard(), dropping_of("properties"));
-    let status = run_prepare(
-        alloc, "chip.oas", &mut from, &mut out, &mut err, limits, dropping,
-    );
-    let at = record_at(front.len());
-    let line = format!(in alloc; "chip.oas: refused 32 at {at}\n")?;
-    assert_eq!(rt; err.as_slice(), line.as_bytes());
-    assert_eq!(rt; status, 1, "at {at}");
-    assert!(rt; out.is_empty(), "at {at}");
-    Ok(())
-}
-
 #[test]
 fn readers_that_fail(rt: HostRuntime) -> Result<(), Fail> {
     let alloc = rt.alloc();
     let file = bytes_of(alloc, FILE)?;
+    let dropping = dropping_of("properties");
     assert_eq!(&rt; file.len(), 304);
     for len in 0..305usize {
-        let (front, _) = file.as_slice().split_at(len);
-        expect_torn(&rt, alloc, front)?;
+        let front = file.as_slice().split_at(len).0;
+        let mut from = ReaderSource::new(alloc, Torn { rest: front }, INPUT_MAX)?;
+        let refusal = (32, record_at(len));
+        expect(&rt, alloc, "a reader", &mut from, dropping, Err(refusal));
     }
     Ok(())
 }
@@ -61,7 +47,7 @@ fn readers_that_fail(rt: HostRuntime) -> Result<(), Fail> {
 fn run(alloc: Global, file: &[u8], out: &mut Narrow, err: &mut Narrow) -> u8 {
     let mut from = SliceSource::new(file, INPUT_MAX);
     let (limits, dropping) = (Limits::standard(), dropping_of("properties"));
-    run_prepare(alloc, "chip.oas", &mut from, out, err, limits, dropping)
+    run_prepare(alloc, NAME, &mut from, out, err, limits, dropping)
 }
 
 /// A writer with so much room.
@@ -79,12 +65,14 @@ fn writers_that_fail(rt: HostRuntime) -> Result<(), Fail> {
     assert_eq!(&rt; prepared.len(), 301);
     for room in 0..301usize {
         let (mut out, mut err) = (narrow(alloc, room), narrow(alloc, usize::MAX));
-        let status = run(alloc, file.as_slice(), &mut out, &mut err);
-        let line = format!(in alloc; "chip.oas: refused 33 at {room}\n")?;
-        assert_eq!(&rt; err.taken.as_slice(), line.as_bytes());
+        let status = run(alloc, &file, &mut out, &mut err);
         assert_eq!(&rt; status, 1, "at {room}");
-        let (front, _) = prepared.as_slice().split_at(room);
-        assert_eq!(&rt; out.taken.as_slice(), front, "at {room}");
+        assert!(&rt; refusal_of(&err.taken) == Some((33, room)), "at {room}");
+        assert_eq!(&rt;
+            out.taken.as_slice(),
+            prepared.split_at(room).0,
+            "at {room}"
+        );
     }
     Ok(())
 }
@@ -96,10 +84,10 @@ fn error_outputs_that_fail(rt: HostRuntime) -> Result<(), Fail> {
     let line = "chip.oas: left out 1 property name\n".as_bytes();
     for room in 0..36usize {
         let (mut out, mut err) = (narrow(alloc, usize::MAX), narrow(alloc, room));
-        let status = run(alloc, file.as_slice(), &mut out, &mut err);
+        let status = run(alloc, &file, &mut out, &mut err);
         assert_eq!(&rt; status, 0, "at {room}");
-        assert_eq!(&rt; out.taken.as_slice(), prepared.as_slice(), "at {room}");
-        let (front, _) = line.split_at(room.min(line.len()));
+        assert!(&rt; out.taken == prepared, "at {room}");
+        let front = line.split_at(room.min(line.len())).0;
         assert_eq!(&rt; err.taken.as_slice(), front, "at {room}");
     }
     Ok(())

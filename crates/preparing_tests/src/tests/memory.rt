@@ -32,10 +32,11 @@ fn is_prepared(
         return true;
     }
     assert!(rt; out.taken.is_empty());
-    match str::from_utf8(err.taken.as_slice()) {
-        Ok(line) => assert!(rt; line.starts_with("chip.oas: refused 34 at ")),
-        Err(_) => assert!(rt; false, "the line is no text"),
-    }
+    let line = str::from_utf8(&err.taken).unwrap_or("");
+    assert!(rt;
+        line.starts_with("chip.oas: refused 34 at "),
+        "it said {line}"
+    );
     false
 }
 
@@ -58,14 +59,7 @@ fn without_memory(rt: HostRuntime) -> Result<(), Fail> {
     let is_full = hoard.is_full();
     let (mut refused, mut done) = (0u32, false);
     for _ in 0..4000u32 {
-        done = is_prepared(
-            &rt,
-            alloc,
-            file.as_slice(),
-            prepared.as_slice(),
-            &mut out,
-            &mut err,
-        );
+        done = is_prepared(&rt, alloc, &file, &prepared, &mut out, &mut err);
         if done {
             break;
         }

@@ -2,7 +2,7 @@
 
 use oas_canon::Limits;
 use oas_narrow::Dropping;
-use oas_num::{INPUT_MAX, SliceSource};
+use oas_num::{INPUT_MAX, SliceSource, Source};
 use oas_preparing::run_prepare;
 use std::alloc::Global;
 use std::process::Abort;
@@ -62,19 +62,14 @@ fn add_piece(alloc: Global, bytes: &mut Vec<u8>, piece: &str) -> Result<(), Fail
 pub fn bytes_of(alloc: Global, pieces: &str) -> Result<Vec<u8>, Fail> {
     let mut bytes = Vec::new(alloc);
     for piece in pieces.split_whitespace() {
-        match piece {
-            "HEAD" => {
-                add_piece(alloc, &mut bytes, "MAGIC")?;
-                add_piece(alloc, &mut bytes, "START")?;
-                add_piece(alloc, &mut bytes, "00E807")?;
-                add_piece(alloc, &mut bytes, "00*13")?;
-            }
-            "OFFSETS" => add_piece(alloc, &mut bytes, "00*13")?,
-            "TAIL" => {
-                add_piece(alloc, &mut bytes, "02FC01")?;
-                add_piece(alloc, &mut bytes, "00*253")?;
-            }
-            _ => add_piece(alloc, &mut bytes, piece)?,
+        let parts = match piece {
+            "HEAD" => ["MAGIC", "START", "00E807", "00*13"],
+            "OFFSETS" => ["00*13", "", "", ""],
+            "TAIL" => ["02FC01", "00*253", "", ""],
+            _ => [piece, "", "", ""],
+        };
+        for part in parts {
+            add_piece(alloc, &mut bytes, part)?;
         }
     }
     Ok(bytes)
@@ -90,62 +85,81 @@ pub fn dropping_of(word: &str) -> Dropping {
     }
 }
 
-/// Asserts what comes of a file: the status, the output, and the line.
-fn expect(
+/// The name of each file.
+pub const NAME: &str = "chip.oas";
+
+/// The number and the place of a refusal, where this is its line.
+pub fn refusal_of(line: &[u8]) -> Option<(u8, usize)> {
+    let line = str::from_utf8(line).ok()?;
+    let refused = line.strip_prefix(NAME)?.strip_prefix(": refused ")?;
+    let (number, at) = refused.strip_suffix('\n')?.split_once(" at ")?;
+    Some((number.parse().ok()?, at.parse().ok()?))
+}
+
+/// What this line says was left out; a dash where there is no line.
+fn left_out<'a>(line: &'a [u8]) -> Option<&'a str> {
+    if line.is_empty() {
+        return Some("-");
+    }
+    let line = str::from_utf8(line).ok()?;
+    let said = line.strip_prefix(NAME)?.strip_prefix(": left out ")?;
+    said.strip_suffix('\n')
+}
+
+/// Asserts what comes of a source: the output, with what is said to be left out, or a refusal by its number and offset.
+pub fn expect(
     rt: &impl Abort,
     alloc: Global,
-    input: &[u8],
+    name: &str,
+    from: &mut impl Source,
     dropping: Dropping,
-    status: u8,
-    output: &[u8],
-    line: &str,
-) -> Result<(), Fail> {
-    let mut from = SliceSource::new(input, INPUT_MAX);
-    let mut out: Vec<u8> = Vec::new(alloc);
-    let mut err: Vec<u8> = Vec::new(alloc);
+    wanted: Result<(&[u8], &str), (u8, usize)>,
+) {
+    let (mut out, mut err): (Vec<u8>, Vec<u8>) = (Vec::new(alloc), Vec::new(alloc));
     let limits = Limits::standard();
-    let ended = run_prepare(
-        alloc, "chip.oas", &mut from, &mut out, &mut err, limits, dropping,
-    );
-    assert_eq!(rt; err.as_slice(), line.as_bytes());
-    assert_eq!(rt; ended, status, "at {line}");
-    assert_eq!(rt; out.as_slice(), output, "at {line}");
-    Ok(())
+    let status = run_prepare(alloc, NAME, from, &mut out, &mut err, limits, dropping);
+    match wanted {
+        Ok((output, said)) => {
+            assert_eq!(rt; status, 0, "at {name}");
+            assert_eq!(rt; out.as_slice(), output, "at {name}");
+            assert!(rt; left_out(&err) == Some(said), "at {name}");
+        }
+        Err(refusal) => {
+            assert_eq!(rt; status, 1, "at {name}");
+            assert!(rt; out.is_empty(), "at {name}");
+            assert!(rt; refusal_of(&err) == Some(refusal), "at {name}");
+        }
+    }
+}
+
+/// The number and the offset of a refusal, where a row says one.
+fn refused(answer: &str) -> Option<(u8, usize)> {
+    let (number, at) = answer.split_once('@')?;
+    Some((number.parse().ok()?, at.parse().ok()?))
 }
 
 /// Asserts what one row says.
 fn expect_row(rt: &impl Abort, alloc: Global, row: &str) -> Result<(), Fail> {
-    let (_, rest) = row.split_once(" | ").ok_or("a row has a word")?;
+    let (name, rest) = row.split_once(" | ").ok_or("a row has a word")?;
     let (word, rest) = rest.split_once(" | ").ok_or("a row has a file")?;
     let (file, rest) = rest.split_once(" | ").ok_or("a row has an answer")?;
     let (answer, said) = rest.split_once(" | ").ok_or("a row has a line")?;
-    let (input, dropping) = (bytes_of(alloc, file)?, dropping_of(word));
-    if let Some((number, at)) = answer.split_once('@') {
-        let line = format!(in alloc; "chip.oas: refused {number} at {at}\n")?;
-        return expect(rt, alloc, input.as_slice(), dropping, 1, &[], line.as_str());
+    let input = bytes_of(alloc, file)?;
+    let mut from = SliceSource::new(&input, INPUT_MAX);
+    if let Some(refusal) = refused(answer) {
+        expect(rt, alloc, name, &mut from, dropping_of(word), Err(refusal));
+        return Ok(());
     }
     let output = bytes_of(alloc, answer)?;
-    if said == "-" {
-        return expect(
-            rt,
-            alloc,
-            input.as_slice(),
-            dropping,
-            0,
-            output.as_slice(),
-            "",
-        );
-    }
-    let line = format!(in alloc; "chip.oas: left out {said}\n")?;
     expect(
         rt,
         alloc,
-        input.as_slice(),
-        dropping,
-        0,
-        output.as_slice(),
-        line.as_str(),
-    )
+        name,
+        &mut from,
+        dropping_of(word),
+        Ok((&output, said)),
+    );
+    Ok(())
 }
 
 #[test]
