@@ -1,7 +1,7 @@
 //! The command `diff`: its arguments, and what they ask for.
 
-use crate::usage::{About, pair};
-use clap::{Arg, ArgAction, ArgMatches, Command, Error, value_parser};
+use crate::arguments::{About, pair, with_flag};
+use clap::{Arg, ArgMatches, Command, Error, value_parser};
 use oas_difference::{Detail, Options};
 use std::alloc::Global;
 
@@ -23,20 +23,28 @@ pub fn diff<'a>(alloc: Global) -> Result<Command<'a>, Error> {
         about: "Lists what one of two files has more often than the other",
         after: AFTER_DIFF,
     };
-    let brief = Arg::new(alloc, "brief")
-        .long("brief")
-        .action(ArgAction::SetTrue)
-        .help("Prints for each cell how many elements only one has");
+    let brief = "Prints for each cell how many elements only one has";
+    let command = with_flag(alloc, pair(alloc, about)?, "brief", brief)?;
+    with_markers(alloc, with_limit(alloc, command)?)
+}
+
+/// The command, with a number of lines.
+fn with_limit<'a>(alloc: Global, command: Command<'a>) -> Result<Command<'a>, Error> {
     let limit = Arg::new(alloc, "limit")
         .long("limit")
         .value_name("N")
         .value_parser(value_parser!(u64))
         .help("Prints N lines, and a line ... where there are more");
+    Ok(command.arg(limit)?)
+}
+
+/// The command, with a file for the markers.
+fn with_markers<'a>(alloc: Global, command: Command<'a>) -> Result<Command<'a>, Error> {
     let markers = Arg::new(alloc, "markers")
         .long("markers")
         .value_name("FILE")
         .help("Writes the whole difference to FILE too, for KLayout");
-    Ok(pair(alloc, about)?.arg(brief)?.arg(limit)?.arg(markers)?)
+    Ok(command.arg(markers)?)
 }
 
 /// What these matches ask for.

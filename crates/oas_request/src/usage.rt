@@ -1,7 +1,8 @@
 //! The command line: its commands, their arguments and the help on them, by `clap`.
 
+use crate::arguments::{About, asker, command_of, pair, reader, with_file, with_flag};
 use crate::differing::diff;
-use clap::{Arg, ArgAction, Command, Error};
+use clap::{Arg, Command, Error};
 use std::alloc::Global;
 
 /// The program's version, and the profiles that it knows.
@@ -92,33 +93,28 @@ Status:
   1  standard output failed
   2  the command line isn't understood, or no reason has the number";
 
-/// What a command is for, in a line, and what stands below its help.
-#[derive(Clone, Copy)]
-pub struct About<'a> {
-    pub name: &'a str,
-    pub about: &'a str,
-    pub after: &'a str,
-}
-
 /// The program's command line.
 pub fn oascanon<'a>(alloc: Global) -> Result<Command<'a>, Error> {
-    Ok(
-        Command::new(alloc, "oascanon")
-            .about("The canonical form of OASIS mask layouts (SEMI P39)")
-            .after_help(EXAMPLES)
-            .version(VERSION)
-            .subcommand_required(true)
-            .subcommand(canon(alloc)?)?
-            .subcommand(check(alloc)?)?
-            .subcommand(same(alloc)?)?
-            .subcommand(diff(alloc)?)?
-            .subcommand(show(alloc)?)?
-            .subcommand(key(alloc)?)?
-            .subcommand(keys(alloc)?)?
-            .subcommand(info(alloc)?)?
-            .subcommand(rekey(alloc)?)?
-            .subcommand(explain(alloc)?)?,
-    )
+    let command = Command::new(alloc, "oascanon")
+        .about("The canonical form of OASIS mask layouts (SEMI P39)")
+        .after_help(EXAMPLES)
+        .version(VERSION)
+        .subcommand_required(true);
+    let command = with(command, canon(alloc))?;
+    let command = with(command, check(alloc))?;
+    let command = with(command, same(alloc))?;
+    let command = with(command, diff(alloc))?;
+    let command = with(command, show(alloc))?;
+    let command = with(command, key(alloc))?;
+    let command = with(command, keys(alloc))?;
+    let command = with(command, info(alloc))?;
+    let command = with(command, rekey(alloc))?;
+    with(command, explain(alloc))
+}
+
+/// The command line, with a command more.
+fn with<'a>(line: Command<'a>, command: Result<Command<'a>, Error>) -> Result<Command<'a>, Error> {
+    Ok(line.subcommand(command?)?)
 }
 
 /// `canon [IN [OUT]]`
@@ -128,10 +124,11 @@ fn canon<'a>(alloc: Global) -> Result<Command<'a>, Error> {
         about: "Writes the canonical form of a file",
         after: AFTER_CANON,
     };
+    let command = reader(alloc, about)?;
     let out = Arg::new(alloc, "OUT").help(
         "The file to write, or replace, once IN was read whole [default: standard output]",
     );
-    Ok(reader(alloc, about)?.arg(out)?)
+    Ok(command.arg(out)?)
 }
 
 /// `check [IN]..`
@@ -191,11 +188,8 @@ fn info<'a>(alloc: Global) -> Result<Command<'a>, Error> {
         about: "Counts what a file holds, by kind and by layer",
         after: AFTER_INFO,
     };
-    let json = Arg::new(alloc, "json")
-        .long("json")
-        .action(ArgAction::SetTrue)
-        .help("Prints a JSON object in place of lines");
-    Ok(reader(alloc, about)?.arg(json)?)
+    let help = "Prints a JSON object in place of lines";
+    with_flag(alloc, reader(alloc, about)?, "json", help)
 }
 
 /// `rekey OLD NEW`
@@ -205,13 +199,10 @@ fn rekey<'a>(alloc: Global) -> Result<Command<'a>, Error> {
         about: "Makes a canonical file of profile 2 from one of profile 1",
         after: AFTER_REKEY,
     };
-    let old = Arg::new(alloc, "OLD").required(true);
-    let new = Arg::new(alloc, "NEW").required(true);
-    Ok(
-        command_of(alloc, about)?
-            .arg(old.help("An OASIS file that is canonical by profile 1"))?
-            .arg(new.help("The file to write, or replace, once OLD was read whole"))?,
-    )
+    let old = "An OASIS file that is canonical by profile 1";
+    let command = with_file(alloc, command_of(alloc, about)?, "OLD", old)?;
+    let new = "The file to write, or replace, once OLD was read whole";
+    with_file(alloc, command, "NEW", new)
 }
 
 /// `explain [N]`
@@ -222,69 +213,5 @@ fn explain<'a>(alloc: Global) -> Result<Command<'a>, Error> {
             .about("Says what a reason for a refusal means, and what to do")
             .after_help(AFTER_EXPLAIN)
             .arg(number)?,
-    )
-}
-
-/// A command with `A B`.
-pub fn pair<'a>(alloc: Global, about: About<'a>) -> Result<Command<'a>, Error> {
-    let a = Arg::new(alloc, "A").required(true);
-    let b = Arg::new(alloc, "B").required(true);
-    Ok(
-        command_of(alloc, about)?
-            .arg(a.help("An OASIS file, or - for standard input"))?
-            .arg(b.help("Another"))?,
-    )
-}
-
-/// A command with `[IN]`.
-fn reader<'a>(alloc: Global, about: About<'a>) -> Result<Command<'a>, Error> {
-    let input = Arg::new(alloc, "IN").help("The OASIS file to read [default: standard input]");
-    Ok(command_of(alloc, about)?.arg(input)?)
-}
-
-/// A command with `[IN]..`.
-fn asker<'a>(alloc: Global, about: About<'a>) -> Result<Command<'a>, Error> {
-    let inputs = Arg::new(alloc, "IN")
-        .action(ArgAction::Append)
-        .num_args(0..)
-        .help("The OASIS files to read [default: standard input]");
-    let names = Arg::new(alloc, "names")
-        .long("names")
-        .action(ArgAction::SetTrue)
-        .help("Gives the answer a name, of one file too");
-    let list = Arg::new(alloc, "files0-from")
-        .long("files0-from")
-        .value_name("F")
-        .conflicts_with("IN")?
-        .help("Reads names from F, each ended by a zero byte");
-    Ok(
-        command_of(alloc, about)?
-            .arg(inputs)?
-            .arg(names)?
-            .arg(list)?,
-    )
-}
-
-/// A command with the flags that each has, without its files.
-fn command_of<'a>(alloc: Global, about: About<'a>) -> Result<Command<'a>, Error> {
-    let large = Arg::new(alloc, "large")
-        .long("large")
-        .action(ArgAction::SetTrue)
-        .help("Takes up to 2^26 elements and 2^38 bytes [else 2^24, 2^36]");
-    let explains = Arg::new(alloc, "explain")
-        .long("explain")
-        .action(ArgAction::SetTrue)
-        .help("Says below a refusal what its reason means");
-    let progress = Arg::new(alloc, "progress")
-        .long("progress")
-        .action(ArgAction::SetTrue)
-        .help("Shows how many bytes were read and written");
-    Ok(
-        Command::new(alloc, about.name)
-            .about(about.about)
-            .after_help(about.after)
-            .arg(large)?
-            .arg(explains)?
-            .arg(progress)?,
     )
 }
