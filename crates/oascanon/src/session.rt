@@ -30,6 +30,23 @@ impl<'a> Session<'a> {
         Voice::new(self.rt.stderr(), self.explains, self.shows_progress)
     }
 
+    /// A name as it is printed, or the status where there is no memory for it.
+    pub fn printed<'n>(&self, name: &'n str) -> Result<Printed<'n>, u8> {
+        Printed::new(self.rt.alloc(), name).map_err(|_| self.unbegun("?"))
+    }
+
+    /// Room for what a run says of files whose names have so many bytes, or the status where there is no memory for it, which
+    /// is said under this name.
+    pub fn room(&self, name: &str, bytes: usize) -> Result<Vec<u8>, u8> {
+        self.voice().room(self.rt.alloc(), name, bytes)
+    }
+
+    /// The status of a run for which there is no memory, after its line on standard error under this name.
+    fn unbegun(&self, name: &str) -> u8 {
+        let why = Why::Memory;
+        self.voice().refused(name, Refusal { at: 0, why })
+    }
+
     /// The source of an input, or the status where there is none, after its line on standard error under this name.
     pub fn source(&self, input: Option<&str>, name: &str) -> Result<Incoming, u8> {
         let opened = match Input::open(self.rt, input) {
@@ -42,10 +59,9 @@ impl<'a> Session<'a> {
             None
         };
         let reader = Reading::new(opened, meter);
-        ReaderSource::new(self.rt.alloc(), reader, self.limits.input()).map_err(|_| {
-            let why = Why::Memory;
-            self.voice().refused(name, Refusal { at: 0, why })
-        })
+        ReaderSource::new(self.rt.alloc(), reader, self.limits.input()).map_err(|_| self.unbegun(
+            name,
+        ))
     }
 
     /// The output of this name, or standard output.
