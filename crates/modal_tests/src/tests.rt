@@ -4,6 +4,7 @@ mod ends;
 mod held;
 mod memory;
 mod named;
+mod named_table;
 mod rectangles;
 mod table;
 

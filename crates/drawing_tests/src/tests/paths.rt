@@ -1,0 +1,111 @@
+//! Paths, whose point list and extensions are modal variables.
+
+ghost use Rattle.std.specs.Prelude.{◌≡◌};
+
+use super::{at, draws, refuses};
+use oas_drawing::{Drawn, Kind, ModalVariables};
+use oas_layout::Element;
+use oas_num::{SliceSource, Why};
+use oas_record::{Extension, Extensions, Path, Spot};
+use oas_ring::{Point, Points};
+use oas_shape::{ListUse, PointList};
+use std::alloc::{AllocError, Global};
+use std::process::Abort;
+use std::test::Fail;
+
+/// A path of layer 1 and no other field but these and its half-width.
+fn path(
+    points: Option<PointList>,
+    half_width: u64,
+    extensions: Option<Extensions>,
+    spot: Spot,
+) -> Path
+    ensures { result.spot ≡ spot }
+{
+    Path {
+        layer: Some(1),
+        datatype: Some(0),
+        half_width: Some(half_width),
+        extensions,
+        points,
+        spot,
+    }
+}
+
+/// The list of a path that goes 10 to the east.
+fn eastward(alloc: Global) -> Result<PointList, Fail> {
+    let mut source = SliceSource::new(b"\x04\x01\x29\x00", 10);
+    Ok(PointList::read(alloc, &mut source, ListUse::Path)?)
+}
+
+/// The path that goes 10 to the east from there.
+fn line(
+    alloc: Global,
+    half_width: u64,
+    start: i64,
+    end: i64,
+    from: Point,
+) -> Result<Element, AllocError> {
+    let mut points = Vec::new(alloc);
+    points.push(from)?;
+    points.push(Point {
+        x: from.x.saturating_add(10),
+        y: from.y,
+    })?;
+    let points = Points::new(points);
+    Ok(Element::path(1, 0, half_width, start, end, points))
+}
+
+/// Whether the path that was drawn last is this one.
+fn gives_line(
+    alloc: Global,
+    modal: &ModalVariables,
+    half_width: u64,
+    start: i64,
+    end: i64,
+    from: Point,
+) -> bool {
+    match line(alloc, half_width, start, end, from) {
+        Ok(wanted) => draws(alloc, modal, Kind::Path, false, Drawn::Named(wanted)),
+        Err(AllocError) => false,
+    }
+}
+
+/// By half the width before the beginning, and by 3 less than the end.
+const BOTH: Extensions = Extensions {
+    start: Extension::Half,
+    end: Extension::Explicit(-3),
+};
+
+#[test]
+fn extensions(rt: HostRuntime) -> Result<(), Fail> {
+    let points = eastward(rt.alloc())?;
+    let mut modal = ModalVariables::new();
+    modal.draw_path(&mut path(Some(points), 5, Some(BOTH), at(Some(0), Some(0))));
+    modal.draw_path(&mut path(None, 9, None, at(None, Some(20))));
+    assert!(rt; gives_line(rt.alloc(), &modal, 9, 5, -3, Point { x: 0, y: 20 }));
+    Ok(())
+}
+
+#[test]
+fn paths_end_with_their_cell(rt: HostRuntime) -> Result<(), Fail> {
+    let points = eastward(rt.alloc())?;
+    let mut modal = ModalVariables::new();
+    modal.draw_path(&mut path(Some(points), 5, Some(BOTH), at(None, None)));
+    modal.begin_cell();
+    assert!(rt; refuses(rt.alloc(), &modal, Kind::Path, false, Why::ModalUndefined));
+    Ok(())
+}
+
+#[test]
+fn flush_extensions(rt: HostRuntime) -> Result<(), Fail> {
+    let flush = Extensions {
+        start: Extension::Flush,
+        end: Extension::Flush,
+    };
+    let points = eastward(rt.alloc())?;
+    let mut modal = ModalVariables::new();
+    modal.draw_path(&mut path(Some(points), 9, Some(flush), at(None, None)));
+    assert!(rt; gives_line(rt.alloc(), &modal, 9, 0, 0, Point { x: 0, y: 0 }));
+    Ok(())
+}
