@@ -16,7 +16,8 @@ use std::alloc::{AllocError, Global};
 use std::process::Abort;
 use std::test::Fail;
 
-/// A command, and the files that it is run on, of which all but `same` read the first alone.
+/// A command, and the files that it is run on, of which all but `same` read the first alone. Its answer is put, or `is_said` on
+/// the error output, and the other output takes nothing.
 #[derive(Drop)]
 pub struct Run<'a> {
     name: &'a str,
@@ -25,11 +26,11 @@ pub struct Run<'a> {
     second: Vec<u8>,
     pub status: u8,
     pub answer: Vec<u8>,
-    pub is_said: bool,
+    is_said: bool,
 }
 
 /// The bytes of a text, with `;` for the end of a line.
-pub fn lines_of(alloc: Global, text: &str) -> Result<Vec<u8>, AllocError> {
+fn lines_of(alloc: Global, text: &str) -> Result<Vec<u8>, AllocError> {
     let mut lines = Vec::new(alloc);
     for byte in text.as_bytes() {
         lines.push(if *byte == b';' { b'\n' } else { *byte })?;
