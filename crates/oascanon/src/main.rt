@@ -18,7 +18,7 @@ use many::ask;
 use oas_command::{Form, limits_of};
 use oas_explain::{REASONS, run_explain};
 use oas_request::{Request, Task, parse};
-use runs::{OfOne, OfTwo, mark};
+use runs::{OfOne, OfTwo, ended, mark};
 use session::Session;
 use std::process::ExitCode;
 
@@ -41,10 +41,7 @@ fn answer(rt: &HostRuntime, request: Request<'_>) -> u8 {
         explains: request.explains,
         shows_progress: request.shows_progress,
     };
-    match run(&session, request.task) {
-        Ok(status) => status,
-        Err(status) => status,
-    }
+    ended(run(&session, request.task))
 }
 
 /// Runs a task, and answers the status; or that of a run that could not begin.

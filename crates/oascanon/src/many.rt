@@ -1,6 +1,6 @@
 //! Questions that are asked of many files.
 
-use crate::runs::OfOne;
+use crate::runs::{OfOne, ended};
 use crate::session::Session;
 use oas_canon::{Refusal, Why};
 use oas_command::{name_of, worse};
@@ -25,14 +25,6 @@ pub fn ask(session: &Session<'_>, question: Question, inputs: Inputs<'_>) -> u8 
             status
         }
         Inputs::Listed(list) => ended(ask_listed(session, question, list)),
-    }
-}
-
-/// The status of a run, or of one that could not begin.
-fn ended(status: Result<u8, u8>) -> u8 {
-    match status {
-        Ok(status) => status,
-        Err(status) => status,
     }
 }
 

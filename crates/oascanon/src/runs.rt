@@ -143,3 +143,11 @@ pub fn mark<'a>(
     }
     Ok(status)
 }
+
+/// The status of a run, or of one that could not begin.
+pub fn ended(status: Result<u8, u8>) -> u8 {
+    match status {
+        Ok(status) => status,
+        Err(status) => status,
+    }
+}
