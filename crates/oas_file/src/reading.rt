@@ -24,8 +24,33 @@ pub fn take_record<S: Source>(
     }
 }
 
-/// Has the reader take the next record, which starts at byte `at`, and answers false where it is END. A rectangle, a placement, a
-/// text, a polygon or a path that is at hand goes the short way.
+/// Has the reader take the next record, which starts at byte `at`, and answers false where it is END. A polygon or a path that is
+/// at hand goes the short way.
+///
+/// It stands apart since whole records are moved here, and a call begins by clearing room for each of them.
+fn take_other<S: Source, C: CellStore>(
+    alloc: Global,
+    source: &mut S,
+    flag_in_end: bool,
+    at: u64,
+    reader: &mut Reader<C>,
+) -> Result<bool, Refusal>
+    requires { at ≡ (S.script source.old).given }
+    ensures { TakesOne C.store flag_in_end (S.script source.old) reader.old result (S.script source.new) reader.new }
+{
+    if let Some(figure) = figure_ahead(alloc, source.ahead()) {
+        source.skip(figure.length);
+        reader.take(at, figure.record)?;
+        return Ok(true);
+    }
+    let Some(record) = take_record(alloc, source, flag_in_end)? else {
+        return Ok(false);
+    };
+    reader.take(at, record)?;
+    Ok(true)
+}
+
+/// The same, by which a rectangle, a placement or a text that is at hand goes the short way too.
 fn take_next<S: Source, C: CellStore>(
     alloc: Global,
     source: &mut S,
@@ -48,16 +73,7 @@ fn take_next<S: Source, C: CellStore>(
         taken?;
         return Ok(true);
     }
-    if let Some(figure) = figure_ahead(alloc, source.ahead()) {
-        source.skip(figure.length);
-        reader.take(at, figure.record)?;
-        return Ok(true);
-    }
-    let Some(record) = take_record(alloc, source, flag_in_end)? else {
-        return Ok(false);
-    };
-    reader.take(at, record)?;
-    Ok(true)
+    take_other(alloc, source, flag_in_end, at, reader)
 }
 
 /// Has the reader take the records up to END, and answers END's offset.

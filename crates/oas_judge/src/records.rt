@@ -103,7 +103,31 @@ fn next_at_hand<S: Source, C: CellStore>(
     next_figure(alloc, source, head, at, reader, judge)
 }
 
-/// Has the reader take the next record, which starts at byte `at`, and the judge see it. Answers false where it is END.
+/// Has the reader take the next record, which starts at byte `at`, as one that is read, and the judge see it. Answers false where it
+/// is END.
+///
+/// It stands apart since whole records are moved here, and a call begins by clearing room for each of them.
+fn judge_read<S: Source, C: CellStore>(
+    alloc: Global,
+    source: &mut S,
+    head: &Head,
+    at: u64,
+    reader: &mut Reader<C>,
+    judge: &mut FileJudge,
+) -> Result<bool, Refusal>
+    requires { at ≡ (S.script source.old).given }
+    ensures { JudgesOne C.store head.now (S.script source.old) reader.old judge.old result (S.script source.new) reader.new judge.new }
+{
+    let Some(record) = judge.next(alloc, source, head.flag_in_end)? else {
+        return Ok(false);
+    };
+    let candidate = judge.candidate(alloc, at, &record)?;
+    reader.take(at, record)?;
+    judge.judge(candidate);
+    Ok(true)
+}
+
+/// The same, by which a record that is at hand goes the short way.
 fn judge_next<S: Source, C: CellStore>(
     alloc: Global,
     source: &mut S,
@@ -118,13 +142,7 @@ fn judge_next<S: Source, C: CellStore>(
     if next_at_hand(alloc, source, head, at, reader, judge)? {
         return Ok(true);
     }
-    let Some(record) = judge.next(alloc, source, head.flag_in_end)? else {
-        return Ok(false);
-    };
-    let candidate = judge.candidate(alloc, at, &record)?;
-    reader.take(at, record)?;
-    judge.judge(candidate);
-    Ok(true)
+    judge_read(alloc, source, head, at, reader, judge)
 }
 
 /// Has the reader take the records up to END, and the judge see them. Answers END's offset.
