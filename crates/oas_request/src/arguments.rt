@@ -1,91 +1,163 @@
-//! Commands with the arguments that several of them have, by `clap`. Each argument is made and added before the next.
+//! The arguments of commands, as help names them, made by `clap`.
 
-use clap::{Arg, ArgAction, Command, Error};
-use std::alloc::Global;
+use clap::{Arg, ArgAction, value_parser};
+use std::alloc::{AllocError, Global};
 
-/// What a command is for, in a line, and what stands below its help.
+/// An argument of a command. The name of a flag or an option is its word too.
 #[derive(Clone, Copy)]
-pub struct About<'a> {
-    pub name: &'a str,
-    pub about: &'a str,
-    pub after: &'a str,
-}
-
-/// A command with `A B`.
-pub fn pair<'a>(alloc: Global, about: About<'a>) -> Result<Command<'a>, Error> {
-    let a = "An OASIS file, or - for standard input";
-    let command = with_file(alloc, command_of(alloc, about)?, "A", a)?;
-    with_file(alloc, command, "B", "Another")
-}
-
-/// A command with `[IN]`.
-pub fn reader<'a>(alloc: Global, about: About<'a>) -> Result<Command<'a>, Error> {
-    let command = command_of(alloc, about)?;
-    let input = Arg::new(alloc, "IN").help("The OASIS file to read [default: standard input]");
-    Ok(command.arg(input)?)
-}
-
-/// A command with `[IN]..`.
-pub fn asker<'a>(alloc: Global, about: About<'a>) -> Result<Command<'a>, Error> {
-    let command = with_inputs(alloc, command_of(alloc, about)?)?;
-    let names = "Gives the answer a name, of one file too";
-    let command = with_flag(alloc, command, "names", names)?;
-    with_list(alloc, command)
-}
-
-/// The command, with `[IN]..`.
-fn with_inputs<'a>(alloc: Global, command: Command<'a>) -> Result<Command<'a>, Error> {
-    let inputs = Arg::new(alloc, "IN")
-        .action(ArgAction::Append)
-        .num_args(0..)
-        .help("The OASIS files to read [default: standard input]");
-    Ok(command.arg(inputs)?)
-}
-
-/// The command, with a list of inputs in their place.
-fn with_list<'a>(alloc: Global, command: Command<'a>) -> Result<Command<'a>, Error> {
-    let list = Arg::new(alloc, "files0-from")
-        .long("files0-from")
-        .value_name("F")
-        .conflicts_with("IN")?
-        .help("Reads names from F, each ended by a zero byte");
-    Ok(command.arg(list)?)
-}
-
-/// The command, with a file that has to be named.
-pub fn with_file<'a>(
-    alloc: Global,
-    command: Command<'a>,
+pub struct Argument<'a> {
     name: &'a str,
+    kind: Kind<'a>,
     help: &'a str,
-) -> Result<Command<'a>, Error> {
-    let file = Arg::new(alloc, name).required(true).help(help);
-    Ok(command.arg(file)?)
 }
 
-/// The command, with a flag.
-pub fn with_flag<'a>(
+/// What kind of argument it is; an option has a name of its value.
+#[derive(Clone, Copy)]
+enum Kind<'a> {
+    /// A word that may be left out.
+    Optional,
+    /// A word that has to be there.
+    Required,
+    /// As many words as there are.
+    Many,
+    Flag,
+    Option(&'a str),
+    /// An option whose value is a number.
+    Number(&'a str),
+    /// An option in place of the words `IN`.
+    InPlaceOfInputs(&'a str),
+}
+
+pub const LARGE: Argument<'static> = Argument {
+    name: "large",
+    kind: Kind::Flag,
+    help: "Takes up to 2^26 elements and 2^38 bytes [else 2^24, 2^36]",
+};
+
+pub const EXPLAIN: Argument<'static> = Argument {
+    name: "explain",
+    kind: Kind::Flag,
+    help: "Says below a refusal what its reason means",
+};
+
+pub const PROGRESS: Argument<'static> = Argument {
+    name: "progress",
+    kind: Kind::Flag,
+    help: "Shows how many bytes were read and written",
+};
+
+pub const IN: Argument<'static> = Argument {
+    name: "IN",
+    kind: Kind::Optional,
+    help: "The OASIS file to read [default: standard input]",
+};
+
+pub const OUT: Argument<'static> = Argument {
+    name: "OUT",
+    kind: Kind::Optional,
+    help: "The file to write, or replace, once IN was read whole [default: standard output]",
+};
+
+pub const INPUTS: Argument<'static> = Argument {
+    name: "IN",
+    kind: Kind::Many,
+    help: "The OASIS files to read [default: standard input]",
+};
+
+pub const NAMES: Argument<'static> = Argument {
+    name: "names",
+    kind: Kind::Flag,
+    help: "Gives the answer a name, of one file too",
+};
+
+pub const LIST: Argument<'static> = Argument {
+    name: "files0-from",
+    kind: Kind::InPlaceOfInputs("F"),
+    help: "Reads names from F, each ended by a zero byte",
+};
+
+pub const A: Argument<'static> = Argument {
+    name: "A",
+    kind: Kind::Required,
+    help: "An OASIS file, or - for standard input",
+};
+
+pub const B: Argument<'static> = Argument {
+    name: "B",
+    kind: Kind::Required,
+    help: "Another",
+};
+
+pub const BRIEF: Argument<'static> = Argument {
+    name: "brief",
+    kind: Kind::Flag,
+    help: "Prints for each cell how many elements only one has",
+};
+
+pub const LIMIT: Argument<'static> = Argument {
+    name: "limit",
+    kind: Kind::Number("N"),
+    help: "Prints N lines, and a line ... where there are more",
+};
+
+pub const MARKERS: Argument<'static> = Argument {
+    name: "markers",
+    kind: Kind::Option("FILE"),
+    help: "Writes the whole difference to FILE too, for KLayout",
+};
+
+pub const JSON: Argument<'static> = Argument {
+    name: "json",
+    kind: Kind::Flag,
+    help: "Prints a JSON object in place of lines",
+};
+
+pub const OLD: Argument<'static> = Argument {
+    name: "OLD",
+    kind: Kind::Required,
+    help: "An OASIS file that is canonical by profile 1",
+};
+
+pub const NEW: Argument<'static> = Argument {
+    name: "NEW",
+    kind: Kind::Required,
+    help: "The file to write, or replace, once OLD was read whole",
+};
+
+pub const NUMBER: Argument<'static> = Argument {
+    name: "N",
+    kind: Kind::Optional,
+    help: "The number of a reason, 1 to 34 [default: all]",
+};
+
+/// Puts these arguments.
+pub fn put_arguments<'a>(
+    all: &mut Vec<Arg<'a>>,
     alloc: Global,
-    command: Command<'a>,
-    name: &'a str,
-    help: &'a str,
-) -> Result<Command<'a>, Error> {
-    let flag = Arg::new(alloc, name)
-        .long(name)
-        .action(ArgAction::SetTrue)
-        .help(help);
-    Ok(command.arg(flag)?)
+    arguments: &[Argument<'a>],
+) -> Result<(), AllocError> {
+    for argument in arguments {
+        all.push(argument_of(alloc, argument)?)?;
+    }
+    Ok(())
 }
 
-/// A command with the flags that each has, without its files.
-pub fn command_of<'a>(alloc: Global, about: About<'a>) -> Result<Command<'a>, Error> {
-    let command = Command::new(alloc, about.name)
-        .about(about.about)
-        .after_help(about.after);
-    let large = "Takes up to 2^26 elements and 2^38 bytes [else 2^24, 2^36]";
-    let command = with_flag(alloc, command, "large", large)?;
-    let explains = "Says below a refusal what its reason means";
-    let command = with_flag(alloc, command, "explain", explains)?;
-    let progress = "Shows how many bytes were read and written";
-    with_flag(alloc, command, "progress", progress)
+/// The argument, as `clap` takes it.
+fn argument_of<'a>(alloc: Global, argument: &Argument<'a>) -> Result<Arg<'a>, AllocError> {
+    let word = Arg::new(alloc, argument.name).help(argument.help);
+    let option = argument.name;
+    match argument.kind {
+        Kind::Optional => Ok(word),
+        Kind::Required => Ok(word.required(true)),
+        Kind::Many => Ok(word.action(ArgAction::Append).num_args(0..)),
+        Kind::Flag => Ok(word.long(option).action(ArgAction::SetTrue)),
+        Kind::Option(value) => Ok(word.long(option).value_name(value)),
+        Kind::Number(value) => {
+            let number = value_parser!(u64);
+            Ok(word.long(option).value_name(value).value_parser(number))
+        }
+        Kind::InPlaceOfInputs(value) => {
+            word.long(option).value_name(value).conflicts_with(IN.name)
+        }
+    }
 }

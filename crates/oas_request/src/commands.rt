@@ -1,10 +1,9 @@
 //! What the words of the command line ask for.
 
-use crate::differing::options_of;
 use crate::usage::oascanon;
 use clap::error::ErrorKind;
-use clap::{ArgMatches, Error};
-use oas_difference::Options;
+use clap::{ArgMatches, Command, Error};
+use oas_difference::{Detail, Options};
 use oas_files::file_meant;
 use std::alloc::{AllocError, Global};
 use std::convert::AsStr;
@@ -86,13 +85,37 @@ pub enum Inputs<'a> {
 /// What the words ask for.
 pub fn parse<'a, S: AsStr>(alloc: Global, words: &'a [S]) -> Result<Request<'a>, Error> {
     let mut command = oascanon(alloc)?;
-    let matches = command.try_get_matches_from_mut(words)?;
-    match request_of(alloc, &matches)? {
+    request_by(alloc, &mut command, words)
+}
+
+/// What the words ask this command line for.
+fn request_by<'a, S: AsStr>(
+    alloc: Global,
+    command: &mut Command<'a>,
+    words: &'a [S],
+) -> Result<Request<'a>, Error> {
+    match found_by(alloc, command, words)? {
         Some(request) => Ok(request),
-        None => Err(command.error(
-            ErrorKind::ArgumentConflict,
-            "standard input and standard output can each stand for one file only",
-        )?),
+        None => Err(conflict(command)),
+    }
+}
+
+/// What the words ask this command line for, where [`request_of`] their matches answers something.
+fn found_by<'a, S: AsStr>(
+    alloc: Global,
+    command: &mut Command<'a>,
+    words: &'a [S],
+) -> Result<Option<Request<'a>>, Error> {
+    let matches = command.try_get_matches_from_mut(words)?;
+    Ok(request_of(alloc, &matches)?)
+}
+
+/// The error of words that ask for standard input or output twice.
+fn conflict(command: &mut Command<'_>) -> Error {
+    let message = "standard input and standard output can each stand for one file only";
+    match command.error(ErrorKind::ArgumentConflict, message) {
+        Ok(error) => error,
+        Err(error) => Error::from(error),
     }
 }
 
@@ -178,6 +201,19 @@ fn diff_of<'a>(found: &ArgMatches<'a>) -> Option<Task<'a>> {
     })
 }
 
+/// How `diff` is asked to tell the difference.
+fn options_of(found: &ArgMatches<'_>) -> Options {
+    let detail = if found.get_flag("brief") {
+        Detail::Counts
+    } else {
+        Detail::Elements
+    };
+    Options {
+        detail,
+        limit: found.get_one::<u64>("limit"),
+    }
+}
+
 /// The files A and B, unless both are standard input.
 fn two_of<'a>(found: &ArgMatches<'a>) -> Option<(Option<&'a str>, Option<&'a str>)> {
     let (first, second) = (file_of(found, "A"), file_of(found, "B"));
@@ -209,15 +245,26 @@ fn inputs_of<'a>(alloc: Global, found: &ArgMatches<'a>) -> Result<Option<Inputs<
         return Ok(Some(Inputs::One(file_of(found, "IN"))));
     }
     let mut inputs = Vec::with_capacity(alloc, words.len().max(1))?;
+    put_inputs(&mut inputs, words)?;
+    Ok(named(inputs))
+}
+
+/// Puts the inputs that these words name. No word is standard input.
+fn put_inputs<'a>(inputs: &mut Vec<Option<&'a str>>, words: &[&'a str]) -> Result<(), AllocError> {
+    if words.is_empty() {
+        inputs.push(None)?;
+    }
     for word in words {
         inputs.push(file_meant(word))?;
     }
-    if inputs.is_empty() {
-        inputs.push(None)?;
+    Ok(())
+}
+
+/// These inputs, unless two of them are standard input.
+fn named<'a>(inputs: Vec<Option<&'a str>>) -> Option<Inputs<'a>> {
+    if inputs.iter().filter(|input| input.is_none()).count() > 1 {
+        None
+    } else {
+        Some(Inputs::Named(inputs))
     }
-    let standard = inputs.iter().filter(|input| input.is_none()).count();
-    if standard > 1 {
-        return Ok(None);
-    }
-    Ok(Some(Inputs::Named(inputs)))
 }

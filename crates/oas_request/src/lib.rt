@@ -1,13 +1,12 @@
 //! What the words of a command line ask for.
 //!
 //! Which words `clap` understands, and what [`parse`] answers for them, no clause says: request_tests has tests of it. The
-//! commands stand in src/usage.rt, `diff` in src/differing.rt, and what several of them have in src/arguments.rt. Calls of
-//! `clap` are long to prove, so this crate has neither tests nor wrong bodies, for which the gate would prove it again.
+//! commands stand in src/usage.rt, and their arguments in src/arguments.rt. Calls of `clap` are long to prove, so this crate has
+//! neither tests nor wrong bodies, for which the gate would prove it again.
 #![tactic(auto)]
 
 mod arguments;
 mod commands;
-mod differing;
 mod usage;
 
 pub use commands::{Inputs, Question, Request, Task, parse, request_of};

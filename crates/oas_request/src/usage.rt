@@ -1,9 +1,20 @@
-//! The command line: its commands, their arguments and the help on them, by `clap`.
+//! The command line: its commands and the help on them, by `clap`.
 
-use crate::arguments::{About, asker, command_of, pair, reader, with_file, with_flag};
-use crate::differing::diff;
-use clap::{Arg, Command, Error};
+use crate::arguments::{
+    A, Argument, B, BRIEF, EXPLAIN, IN, INPUTS, JSON, LARGE, LIMIT, LIST, MARKERS, NAMES, NEW,
+    NUMBER, OLD, OUT, PROGRESS, put_arguments,
+};
+use clap::{Command, Error};
 use std::alloc::Global;
+
+/// A command: what it is for, in a line, what stands below its help, and its arguments.
+#[derive(Clone, Copy)]
+struct Described<'a> {
+    name: &'a str,
+    about: &'a str,
+    after: &'a str,
+    arguments: &'a [Argument<'a>],
+}
 
 /// The program's version, and the profiles that it knows.
 const VERSION: &str = "0.2.0 (profiles one and two; answers by profile two)";
@@ -34,6 +45,16 @@ Status:
 
 const AFTER_SAME: &str = "Example:
   oascanon same before.oas after.oas
+
+Status:
+  0  the same layout
+  1  refused (NAME: refused REASON at OFFSET), or a file can't be opened
+  2  the command line isn't understood
+  3  different layouts";
+
+const AFTER_DIFF: &str = "Example:
+  oascanon diff --brief before.oas after.oas
+  oascanon diff --markers changes.lyrdb before.oas after.oas
 
 Status:
   0  the same layout
@@ -93,125 +114,96 @@ Status:
   1  standard output failed
   2  the command line isn't understood, or no reason has the number";
 
+/// The commands, in the order of the help.
+const COMMANDS: [Described<'static>; 10] = [
+    Described {
+        name: "canon",
+        about: "Writes the canonical form of a file",
+        after: AFTER_CANON,
+        arguments: &[LARGE, EXPLAIN, PROGRESS, IN, OUT],
+    },
+    Described {
+        name: "check",
+        about: "Says whether files are canonical as they stand",
+        after: AFTER_CHECK,
+        arguments: &[LARGE, EXPLAIN, PROGRESS, INPUTS, NAMES, LIST],
+    },
+    Described {
+        name: "same",
+        about: "Says whether two files mean the same layout",
+        after: AFTER_SAME,
+        arguments: &[LARGE, EXPLAIN, PROGRESS, A, B],
+    },
+    Described {
+        name: "diff",
+        about: "Lists what one of two files has more often than the other",
+        after: AFTER_DIFF,
+        arguments: &[LARGE, EXPLAIN, PROGRESS, A, B, BRIEF, LIMIT, MARKERS],
+    },
+    Described {
+        name: "show",
+        about: "Lists the layout that a file means",
+        after: AFTER_SHOW,
+        arguments: &[LARGE, EXPLAIN, PROGRESS, IN],
+    },
+    Described {
+        name: "key",
+        about: "Writes the SHA-256 of the canonical forms of files",
+        after: AFTER_KEY,
+        arguments: &[LARGE, EXPLAIN, PROGRESS, INPUTS, NAMES, LIST],
+    },
+    Described {
+        name: "keys",
+        about: "Writes such a key of each cell alone, and its name",
+        after: AFTER_KEYS,
+        arguments: &[LARGE, EXPLAIN, PROGRESS, IN],
+    },
+    Described {
+        name: "info",
+        about: "Counts what a file holds, by kind and by layer",
+        after: AFTER_INFO,
+        arguments: &[LARGE, EXPLAIN, PROGRESS, IN, JSON],
+    },
+    Described {
+        name: "rekey",
+        about: "Makes a canonical file of profile 2 from one of profile 1",
+        after: AFTER_REKEY,
+        arguments: &[LARGE, EXPLAIN, PROGRESS, OLD, NEW],
+    },
+    Described {
+        name: "explain",
+        about: "Says what a reason for a refusal means, and what to do",
+        after: AFTER_EXPLAIN,
+        arguments: &[NUMBER],
+    },
+];
+
 /// The program's command line.
 pub fn oascanon<'a>(alloc: Global) -> Result<Command<'a>, Error> {
-    let command = Command::new(alloc, "oascanon")
+    let mut commands = Vec::with_capacity(alloc, COMMANDS.len())?;
+    put_commands(&mut commands, alloc)?;
+    let line = Command::new(alloc, "oascanon")
         .about("The canonical form of OASIS mask layouts (SEMI P39)")
         .after_help(EXAMPLES)
         .version(VERSION)
         .subcommand_required(true);
-    let command = with(command, canon(alloc))?;
-    let command = with(command, check(alloc))?;
-    let command = with(command, same(alloc))?;
-    let command = with(command, diff(alloc))?;
-    let command = with(command, show(alloc))?;
-    let command = with(command, key(alloc))?;
-    let command = with(command, keys(alloc))?;
-    let command = with(command, info(alloc))?;
-    let command = with(command, rekey(alloc))?;
-    with(command, explain(alloc))
+    Ok(line.subcommands(commands)?)
 }
 
-/// The command line, with a command more.
-fn with<'a>(line: Command<'a>, command: Result<Command<'a>, Error>) -> Result<Command<'a>, Error> {
-    Ok(line.subcommand(command?)?)
+/// Puts all commands.
+fn put_commands<'a>(commands: &mut Vec<Command<'a>>, alloc: Global) -> Result<(), Error> {
+    for described in &COMMANDS {
+        commands.push(command_of(alloc, described)?)?;
+    }
+    Ok(())
 }
 
-/// `canon [IN [OUT]]`
-fn canon<'a>(alloc: Global) -> Result<Command<'a>, Error> {
-    let about = About {
-        name: "canon",
-        about: "Writes the canonical form of a file",
-        after: AFTER_CANON,
-    };
-    let command = reader(alloc, about)?;
-    let out = Arg::new(alloc, "OUT").help(
-        "The file to write, or replace, once IN was read whole [default: standard output]",
-    );
-    Ok(command.arg(out)?)
-}
-
-/// `check [IN]..`
-fn check<'a>(alloc: Global) -> Result<Command<'a>, Error> {
-    let about = About {
-        name: "check",
-        about: "Says whether files are canonical as they stand",
-        after: AFTER_CHECK,
-    };
-    asker(alloc, about)
-}
-
-/// `same A B`
-fn same<'a>(alloc: Global) -> Result<Command<'a>, Error> {
-    let about = About {
-        name: "same",
-        about: "Says whether two files mean the same layout",
-        after: AFTER_SAME,
-    };
-    pair(alloc, about)
-}
-
-/// `show [IN]`
-fn show<'a>(alloc: Global) -> Result<Command<'a>, Error> {
-    let about = About {
-        name: "show",
-        about: "Lists the layout that a file means",
-        after: AFTER_SHOW,
-    };
-    reader(alloc, about)
-}
-
-/// `key [IN]..`
-fn key<'a>(alloc: Global) -> Result<Command<'a>, Error> {
-    let about = About {
-        name: "key",
-        about: "Writes the SHA-256 of the canonical forms of files",
-        after: AFTER_KEY,
-    };
-    asker(alloc, about)
-}
-
-/// `keys [IN]`
-fn keys<'a>(alloc: Global) -> Result<Command<'a>, Error> {
-    let about = About {
-        name: "keys",
-        about: "Writes such a key of each cell alone, and its name",
-        after: AFTER_KEYS,
-    };
-    reader(alloc, about)
-}
-
-/// `info [IN]`
-fn info<'a>(alloc: Global) -> Result<Command<'a>, Error> {
-    let about = About {
-        name: "info",
-        about: "Counts what a file holds, by kind and by layer",
-        after: AFTER_INFO,
-    };
-    let help = "Prints a JSON object in place of lines";
-    with_flag(alloc, reader(alloc, about)?, "json", help)
-}
-
-/// `rekey OLD NEW`
-fn rekey<'a>(alloc: Global) -> Result<Command<'a>, Error> {
-    let about = About {
-        name: "rekey",
-        about: "Makes a canonical file of profile 2 from one of profile 1",
-        after: AFTER_REKEY,
-    };
-    let old = "An OASIS file that is canonical by profile 1";
-    let command = with_file(alloc, command_of(alloc, about)?, "OLD", old)?;
-    let new = "The file to write, or replace, once OLD was read whole";
-    with_file(alloc, command, "NEW", new)
-}
-
-/// `explain [N]`
-fn explain<'a>(alloc: Global) -> Result<Command<'a>, Error> {
-    let number = Arg::new(alloc, "N").help("The number of a reason, 1 to 34 [default: all]");
-    Ok(
-        Command::new(alloc, "explain")
-            .about("Says what a reason for a refusal means, and what to do")
-            .after_help(AFTER_EXPLAIN)
-            .arg(number)?,
-    )
+/// The command that this describes.
+fn command_of<'a>(alloc: Global, described: &Described<'a>) -> Result<Command<'a>, Error> {
+    let mut arguments = Vec::with_capacity(alloc, described.arguments.len())?;
+    put_arguments(&mut arguments, alloc, described.arguments)?;
+    let command = Command::new(alloc, described.name)
+        .about(described.about)
+        .after_help(described.after);
+    Ok(command.args(arguments)?)
 }
