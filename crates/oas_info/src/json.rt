@@ -1,15 +1,15 @@
 //! The JSON in which a layout's facts are told.
 
-ghost use Rattle.std.specs.Prelude.{◌≡◌, ◌++◌, map, IfOk, OnOk};
+ghost use Rattle.std.specs.Prelude.{◌≡◌, ◌++◌, ◌∷◌, [], map, IfOk, OnOk};
 ghost use Rattle.oas_facts.specs.Groups.{number_of};
-ghost use Rattle.serde_json.specs.Data.{string, array};
-ghost use Rattle.serde_json.specs.View.{view, items_of};
+ghost use Rattle.serde_json.specs.Data.{string, array, object, no_members};
+ghost use Rattle.serde_json.specs.View.{view, items_of, members_view};
 ghost use Rattle.oas_info.specs.Json.{strings, unit_data, kinds_data, layer_data, textlayer_data, as_layer, as_textlayer, layers, textlayers, info_data, info_json};
 
 use crate::info::Info;
 use oas_facts::Group;
 use oas_num::{Fraction, Name};
-use serde_json::{Value, json};
+use serde_json::{Map, Value, json, put};
 use std::alloc::{AllocError, Global};
 use std::collections::BTreeMap;
 
@@ -20,13 +20,20 @@ fn name_value(alloc: Global, name: &Name) -> Result<Value, AllocError>
     Ok(Value::from(String::from_utf8_lossy(alloc, name.as_bytes())?))
 }
 
+/// Adds a name as a string.
+fn push_name(alloc: Global, list: &mut Vec<Value>, name: &Name) -> Result<(), AllocError>
+    ensures { OnOk result (map view list.new.items ≡ map view list.old.items ++ string name.now ∷ []) }
+{
+    Ok(list.push(name_value(alloc, name)?)?)
+}
+
 /// Names as strings.
 fn names_value(alloc: Global, names: &[Name]) -> Result<Value, AllocError>
     ensures { IfOk result (λ value. view value ≡ strings names.now) }
 {
     let mut list = Vec::new(alloc);
     for name in names {
-        list.push(name_value(alloc, name)?)?;
+        push_name(alloc, &mut list, name)?;
     }
     Ok(Value::Array(list))
 }
@@ -135,29 +142,41 @@ fn textlayers_value(alloc: Global, groups: &BTreeMap<Group, u64>) -> Result<Valu
     Ok(Value::Array(list))
 }
 
+/// Puts the members of the object that tells a layout into an empty one.
+fn put_members(
+    members: &mut Map<String, Value>,
+    alloc: Global,
+    info: &Info,
+) -> Result<(), AllocError>
+    requires { members_view members.old.entries ≡ no_members }
+    ensures { OnOk result (object (members_view members.new.entries) ≡ info_data info.now) }
+{
+    let facts = &info.facts;
+    put(members, alloc, "cells", Value::from(facts.cells))?;
+    put(members, alloc, "elements", Value::from(facts.elements))?;
+    let kinds = kinds_value(alloc, &facts.groups)?;
+    put(members, alloc, "kinds", kinds)?;
+    let layers = layers_value(alloc, &facts.groups)?;
+    put(members, alloc, "layers", layers)?;
+    put(members, alloc, "size", Value::from(info.size))?;
+    let textlayers = textlayers_value(alloc, &facts.groups)?;
+    put(members, alloc, "textlayers", textlayers)?;
+    let undefined = names_value(alloc, &facts.undefined)?;
+    put(members, alloc, "undefined", undefined)?;
+    let unit = unit_value(alloc, facts.unit)?;
+    put(members, alloc, "unit", unit)?;
+    let unplaced = names_value(alloc, &facts.unplaced)?;
+    put(members, alloc, "unplaced", unplaced)?;
+    put(members, alloc, "weight", Value::from(facts.weight))
+}
+
 /// What is told of a layout, as an object.
 fn info_value(alloc: Global, info: &Info) -> Result<Value, AllocError>
     ensures { IfOk result (λ value. view value ≡ info_data info.now) }
 {
-    let facts = &info.facts;
-    let unit = unit_value(alloc, facts.unit)?;
-    let kinds = kinds_value(alloc, &facts.groups)?;
-    let layers = layers_value(alloc, &facts.groups)?;
-    let textlayers = textlayers_value(alloc, &facts.groups)?;
-    let undefined = names_value(alloc, &facts.undefined)?;
-    let unplaced = names_value(alloc, &facts.unplaced)?;
-    json!(in alloc; {
-        "cells": facts.cells,
-        "elements": facts.elements,
-        "kinds": kinds,
-        "layers": layers,
-        "size": info.size,
-        "textlayers": textlayers,
-        "undefined": undefined,
-        "unit": unit,
-        "unplaced": unplaced,
-        "weight": facts.weight
-    })
+    let mut members = Map::new(alloc);
+    put_members(&mut members, alloc, info)?;
+    Ok(Value::Object(members))
 }
 
 /// What is told of a layout, as the compact text of a JSON object.

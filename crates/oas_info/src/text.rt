@@ -18,12 +18,19 @@ fn put_field(text: &mut Vec<u8>, field: &[u8]) -> Result<(), AllocError>
     text.extend_from_slice(field)
 }
 
+/// Puts a number behind a space.
+fn put_number(text: &mut Vec<u8>, number: u64) -> Result<(), AllocError>
+    ensures { OnOk result (text.new.items ≡ text.old.items ++ spaced_number number) }
+{
+    put_field(text, Buffer::new().format(number).as_bytes())
+}
+
 /// Puts numbers, each behind a space.
 fn put_numbers(text: &mut Vec<u8>, numbers: &[u64]) -> Result<(), AllocError>
     ensures { OnOk result (text.new.items ≡ text.old.items ++ flat_map spaced_number numbers.now) }
 {
     for number in numbers {
-        put_field(text, Buffer::new().format(*number).as_bytes())?;
+        put_number(text, *number)?;
     }
     Ok(())
 }
@@ -89,24 +96,33 @@ fn put_unit(text: &mut Vec<u8>, unit: Fraction) -> Result<(), AllocError>
     ensures { OnOk result (text.new.items ≡ text.old.items ++ unit_line unit) }
 {
     text.extend_from_slice(b"unit")?;
-    put_field(text, Buffer::new().format(unit.num()).as_bytes())?;
+    put_number(text, unit.num())?;
     text.push(b'/')?;
     text.extend_from_slice(Buffer::new().format(unit.den()).as_bytes())
+}
+
+/// Puts all lines, without the last one's end.
+fn put_lines(text: &mut Vec<u8>, info: &Info) -> Result<(), AllocError>
+    requires { text.old.items ≡ [] }
+    ensures { OnOk result (text.new.items ≡ info_text info.now) }
+{
+    let facts = &info.facts;
+    put_unit(text, facts.unit)?;
+    put_line(text, b"cells", &[facts.cells])?;
+    put_name_line(text, b"undefined", &facts.undefined)?;
+    put_name_line(text, b"unplaced", &facts.unplaced)?;
+    put_line(text, b"elements", &[facts.elements])?;
+    put_groups(text, &facts.groups)?;
+    put_line(text, b"weight", &[facts.weight])?;
+    put_line(text, b"size", &[info.size])?;
+    Ok(())
 }
 
 /// The text of what is told of a layout, without the last line's end.
 pub fn text_of(alloc: Global, info: &Info) -> Result<Vec<u8>, AllocError>
     ensures { IfOk result (λ text. text.items ≡ info_text info.now) }
 {
-    let facts = &info.facts;
     let mut text = Vec::new(alloc);
-    put_unit(&mut text, facts.unit)?;
-    put_line(&mut text, b"cells", &[facts.cells])?;
-    put_name_line(&mut text, b"undefined", &facts.undefined)?;
-    put_name_line(&mut text, b"unplaced", &facts.unplaced)?;
-    put_line(&mut text, b"elements", &[facts.elements])?;
-    put_groups(&mut text, &facts.groups)?;
-    put_line(&mut text, b"weight", &[facts.weight])?;
-    put_line(&mut text, b"size", &[info.size])?;
+    put_lines(&mut text, info)?;
     Ok(text)
 }
