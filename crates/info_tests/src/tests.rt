@@ -1,7 +1,7 @@
 //! The texts of a layout, beside those that were written by hand. Its canonical form has 35 bytes of head, 52 of the cell A, 19 of
 //! TOP, and 256 of END.
 
-use oas_info::{info_of, json_of, text_of};
+use oas_info::{Info, info_of, json_of, text_of};
 use oas_layout::{Draft, Element, Layout, Limits, Profile, Turns};
 use oas_num::{Fraction, Label, Name, SliceSource, Spelled};
 use std::alloc::Global;
@@ -19,24 +19,45 @@ fn put(draft: &mut Draft, cell: usize, element: Element, times: u64) -> Result<(
     Ok(())
 }
 
+/// The cell NO, which isn't there.
+fn placement(alloc: Global) -> Result<Element, Fail> {
+    let cell = name(alloc, b"\x02NO")?;
+    Ok(Element::placement(cell, 0, 0, Turns::T0, false))
+}
+
+/// The text `hi`.
+fn text_element(alloc: Global) -> Result<Element, Fail> {
+    let string = Label::read(alloc, &mut SliceSource::new(b"\x02hi", 1000))?;
+    Ok(Element::text(string, 1, 7, 0, 0))
+}
+
+/// Adds the cells and their elements.
+fn fill(draft: &mut Draft, alloc: Global) -> Result<(), Fail> {
+    let top = draft.add_cell(name(alloc, b"\x03TOP")?)?;
+    let a = draft.add_cell(name(alloc, b"\x01A")?)?;
+    put(draft, top, placement(alloc)?, 2)?;
+    put(draft, a, text_element(alloc)?, 1)?;
+    put(draft, a, Element::rectangle(30, 4, 10, 20, 0, 0), 5)
+}
+
 /// Two cells, of which one places a third, that isn't there.
 fn two_cells(alloc: Global) -> Result<Layout, Fail> {
     let unit = Fraction::reduced(2000, 3).ok_or("no unit")?;
     let mut draft = Draft::new(alloc, unit, Limits::standard(), Profile::Two)?;
-    let top = draft.add_cell(name(alloc, b"\x03TOP")?)?;
-    let a = draft.add_cell(name(alloc, b"\x01A")?)?;
-    let string = Label::read(alloc, &mut SliceSource::new(b"\x02hi", 1000))?;
-    let placement = Element::placement(name(alloc, b"\x02NO")?, 0, 0, Turns::T0, false);
-    put(&mut draft, top, placement, 2)?;
-    put(&mut draft, a, Element::text(string, 1, 7, 0, 0), 1)?;
-    put(&mut draft, a, Element::rectangle(30, 4, 10, 20, 0, 0), 5)?;
+    fill(&mut draft, alloc)?;
     Ok(draft.seal()?)
+}
+
+/// What is told of them.
+fn told(alloc: Global) -> Result<Info, Fail> {
+    let layout = two_cells(alloc)?;
+    Ok(info_of(alloc, &layout)?)
 }
 
 #[test]
 fn text_of_two_cells(rt: HostRuntime) -> Result<(), Fail> {
     let alloc = rt.alloc();
-    let info = info_of(alloc, &two_cells(alloc)?)?;
+    let text = text_of(alloc, &told(alloc)?)?;
     let expected = b"unit 2000/3
 cells 2
 undefined 1 NO
@@ -49,19 +70,19 @@ layer 30 4 5
 textlayer 1 7 1
 weight 20
 size 362";
-    assert_eq!(rt; text_of(alloc, &info)?.as_slice(), expected.as_slice());
+    assert_eq!(rt; text.as_slice(), expected.as_slice());
     Ok(())
 }
 
 #[test]
 fn json_of_two_cells(rt: HostRuntime) -> Result<(), Fail> {
     let alloc = rt.alloc();
-    let info = info_of(alloc, &two_cells(alloc)?)?;
+    let text = json_of(alloc, &told(alloc)?)?;
     let expected = "{\"cells\":2,\"elements\":8,\
         \"kinds\":{\"circles\":0,\"paths\":0,\"placements\":2,\"polygons\":0,\"rectangles\":5,\"texts\":1},\
         \"layers\":[{\"datatype\":4,\"elements\":5,\"layer\":30}],\"size\":362,\
         \"textlayers\":[{\"elements\":1,\"textlayer\":1,\"texttype\":7}],\
         \"undefined\":[\"NO\"],\"unit\":{\"den\":3,\"num\":2000},\"unplaced\":[\"A\",\"TOP\"],\"weight\":20}";
-    assert_eq!(rt; json_of(alloc, &info)?.as_slice(), expected.as_bytes());
+    assert_eq!(rt; text.as_slice(), expected.as_bytes());
     Ok(())
 }
