@@ -1,5 +1,6 @@
 //! Outputs: standard output, or a file that is created, or replaced, from its first byte on.
 ghost use Rattle.std.specs.Prelude.{◌≡◌, ◌<◌, true, false, IfOk};
+ghost use Rattle.std.specs.Io.{WritesAtMost};
 ghost use Rattle.oas_files.specs.Creating.{is_created, IsOutput};
 
 use crate::replacing::Replacement;
@@ -68,6 +69,18 @@ impl<'a> NewFile<'a> {
             file: None,
         }
     }
+
+    /// Creates the file, and writes to it.
+    fn begin(&mut self, buf: &[u8]) -> io::Result<usize>
+        ensures bound { WritesAtMost result buf.now }
+        ensures taken { IfOk result (λ _. is_created self.new ≡ true) }
+        ensures path { self.new.path ≡ self.old.path }
+    {
+        let mut file = Destination::open(self.rt, self.path)?;
+        let count = file.write(buf);
+        self.file = Some(file);
+        count
+    }
 }
 
 impl Write for NewFile<'_> {
@@ -88,12 +101,7 @@ impl Write for NewFile<'_> {
         }
         match &mut self.file {
             Some(file) => file.write(buf),
-            None => {
-                let mut file = Destination::open(self.rt, self.path)?;
-                let count = file.write(buf);
-                self.file = Some(file);
-                count
-            }
+            None => self.begin(buf),
         }
     }
 
