@@ -181,7 +181,7 @@ const COMMANDS: [Described<'static>; 10] = [
 /// The program's command line.
 pub fn oascanon<'a>(alloc: Global) -> Result<Command<'a>, Error> {
     let mut commands = Vec::with_capacity(alloc, COMMANDS.len())?;
-    put_commands(&mut commands, alloc)?;
+    put_commands(&mut commands, alloc, &COMMANDS)?;
     let line = Command::new(alloc, "oascanon")
         .about("The canonical form of OASIS mask layouts (SEMI P39)")
         .after_help(EXAMPLES)
@@ -190,9 +190,13 @@ pub fn oascanon<'a>(alloc: Global) -> Result<Command<'a>, Error> {
     Ok(line.subcommands(commands)?)
 }
 
-/// Puts all commands.
-fn put_commands<'a>(commands: &mut Vec<Command<'a>>, alloc: Global) -> Result<(), Error> {
-    for described in &COMMANDS {
+/// Puts the commands of a table.
+fn put_commands<'a>(
+    commands: &mut Vec<Command<'a>>,
+    alloc: Global,
+    table: &[Described<'a>],
+) -> Result<(), Error> {
+    for described in table {
         commands.push(command_of(alloc, described)?)?;
     }
     Ok(())
