@@ -1,5 +1,5 @@
 -- A whole file: it is accepted, and the judge says whether it is a canonical form.
-use Rattle.std.proofs.Common.{◌≡◌, ◌↔◌, ℕ, Bool, true, false, IsTrue, List, [], ◌++◌, None, refl, sym, ap, subst, ◌∙◌, append_assoc}
+use Rattle.std.proofs.Common.{◌≡◌, ◌↔◌, ℕ, Bool, true, false, IsTrue, List, [], ◌++◌, None, Result, Ok, Err, OnOk, IfOk, refl, sym, ap, subst, ◌∙◌, append_assoc}
 use Rattle.std.specs.Prelude.{◌&&◌}
 use Rattle.std.proofs.lemmas.List.{append-nil}
 use Rattle.oas_num.specs.declared.refusals.Refusal.{Refusal}
@@ -49,6 +49,27 @@ has_begun {old = old} begun stands = record { origin = old; begun = begun; stand
 -- limits that are the reader's
 pub kept_within : {limits reader : Limits} {old new : Script} {refusal : Refusal} → reader ≡ limits → RefusesKept reader old refusal new → RefusesKept limits old refusal new
 kept_within {old = old} {new = new} {refusal = refusal} same r = subst (λ (l : Limits). RefusesKept l old refusal new) same r
+
+-- what two clauses say of a call that succeeded
+pub both_ok : {T E A B : Type 0} {P Q : T → Type 0} (r : Result T E) → OnOk r A → (B → IfOk r P) → ((x : T) → A → (B → P x) → Q x) → IfOk r Q
+both_ok (Ok x) a p f = f x a p
+both_ok (Err e) a p f = tt
+
+-- nothing stands behind END
+pub seen_to_end : {C : Type 0} {t : Store C} {profile : Profile} {head : Head} {start : List ℕ} {origin mid new : Script} {first s : ReaderState C} {k : FileJudge} {at : ℕ} →
+    HasSeenAll t profile head start origin first at mid s k → Takes mid [] new → HasSeenAll t profile head start origin first at new s k
+seen_to_end {start = start} {origin = origin} {mid = mid} {new = new} m takes = record {
+  entries = m.entries;
+  last = m.last;
+  takes = subst (λ (bytes : List ℕ). Takes origin bytes new) (append-nil ((start ++ entry_bytes m.entries) ++ m.last))
+      (Takes-then origin mid new ((start ++ entry_bytes m.entries) ++ m.last) [] m.takes takes);
+  each = m.each;
+  end = m.end;
+  place = m.place;
+  taken = m.taken;
+  judging = m.judging;
+  tied = m.tied;
+}
 
 module _ {C : Type 0} {t : Store C} {profile : Profile} {head : Head} {now mid : Script} {first s : ReaderState C} {j k : FileJudge} {at : ℕ} (b : HasBegun t profile head now first j)
     (m : HasSeenAll t profile head b.begun.start b.origin first at mid s k) where

@@ -1,6 +1,10 @@
 //! Whether a file is canonical, and reading one that is judged as it is read.
-ghost use Rattle.std.specs.Prelude.{◌≡◌, IfOk, IfErr};
-ghost use Rattle.oas_judge.specs.Judged.{IsJudged, IsReadAndJudged};
+ghost use Rattle.std.specs.Prelude.{◌≡◌, ◌↔◌, Bool, IsTrue, OnOk, IfOk, IfErr};
+ghost use Rattle.oas_num.specs.Script.{Script, IsAtEnd};
+ghost use Rattle.oas_layout.specs.declared.profile.Profile.{Profile as OneProfile};
+ghost use Rattle.oas_form.specs.Bytes.{end_bytes};
+ghost use Rattle.oas_judge.specs.FileJudges.{holds, BeginsJudging};
+ghost use Rattle.oas_judge.specs.Judged.{JudgesRecords, IsJudged, IsReadAndJudged};
 ghost use Rattle.oas_judge.specs.Kept.{RefusesKept};
 
 use crate::judge::FileJudge;
@@ -8,10 +12,62 @@ use crate::records::judge_records;
 use oas_compact::{CompactCell, KeptBy};
 use oas_file::find_end_of_input;
 use oas_layout::{Limits, Profile};
-use oas_modal::{CountedCell, Reader};
+use oas_modal::{CellStore, CountedCell, Reader};
 use oas_num::{Refusal, Source};
+use oas_record::Head;
 use oas_runs::{CompactLayout, finish_compact};
 use std::alloc::Global;
+
+/// Has the reader take the records up to END, and the judge see them, and finds the end of the input. Answers END's offset.
+fn judge_to_end<S: Source, C: CellStore>(
+    alloc: Global,
+    source: &mut S,
+    head: Head,
+    reader: &mut Reader<C>,
+    judge: &mut FileJudge,
+) -> Result<u64, Refusal>
+    ensures judged { JudgesRecords C.store head (S.script source.old) reader.old judge.old result (S.script source.new) reader.new judge.new }
+    ensures ended { OnOk result (IsAtEnd (S.script source.new)) }
+{
+    let end = judge_records(alloc, source, head, reader, judge)?;
+    find_end_of_input(source)?;
+    Ok(end)
+}
+
+/// Accepts what stands behind the front of a file, which the judge sees.
+fn accept_behind<S: Source>(
+    alloc: Global,
+    source: &mut S,
+    head: Head,
+    limits: Limits,
+    profile: Profile,
+    judge: &mut FileJudge,
+) -> Result<(), Refusal>
+    ensures judged { (origin : Script) → BeginsJudging profile origin head judge.old (S.script source.old) →
+        OnOk result ((yes : Bool) → IsTrue yes ↔ (IsTrue (holds judge.new) × (end_bytes ≡ judge.new.bytes.items)) → IsJudged limits profile origin yes (S.script source.new)) }
+    ensures refused { (origin : Script) → BeginsJudging profile origin head judge.old (S.script source.old) → IfErr result (λ refusal. RefusesKept limits origin refusal (S.script source.new)) }
+{
+    let mut reader: Reader<CountedCell> = Reader::new(alloc, head.unit, limits, profile);
+    let end = judge_to_end(alloc, source, head, &mut reader, judge)?;
+    reader.finish_counting(end)
+}
+
+/// Reads what stands behind the front of a file, which the judge sees.
+fn read_behind<S: Source, P: KeptBy>(
+    alloc: Global,
+    source: &mut S,
+    head: Head,
+    limits: Limits,
+    judge: &mut FileJudge,
+) -> Result<CompactLayout, Refusal>
+    ensures read { (judged_by : OneProfile) (origin : Script) → BeginsJudging judged_by origin head judge.old (S.script source.old) →
+        IfOk result (λ k. (yes : Bool) → IsTrue yes ↔ (IsTrue (holds judge.new) × (end_bytes ≡ judge.new.bytes.items)) → IsReadAndJudged limits judged_by P.profile origin k yes (S.script source.new)) }
+    ensures refused { (judged_by : OneProfile) (origin : Script) → BeginsJudging judged_by origin head judge.old (S.script source.old) → IfErr result (λ refusal. RefusesKept limits origin refusal (S.script source.new)) }
+{
+    let mut reader: Reader<CompactCell<P>> = Reader::new(alloc, head.unit, limits, P::profile());
+    let end = judge_to_end(alloc, source, head, &mut reader, judge)?;
+    finish_compact(alloc, reader, end)
+}
 
 /// Whether what a source gives is an accepted file that is canonical by the profile.
 ///
@@ -28,10 +84,7 @@ pub fn is_canonical<S: Source>(
     ensures refused { IfErr result (λ refusal. RefusesKept limits (S.script source.old) refusal (S.script source.new)) }
 {
     let (head, mut judge) = FileJudge::begin(alloc, source, profile)?;
-    let mut reader: Reader<CountedCell> = Reader::new(alloc, head.unit, limits, profile);
-    let end = judge_records(alloc, source, head, &mut reader, &mut judge)?;
-    find_end_of_input(source)?;
-    reader.finish_counting(end)?;
+    accept_behind(alloc, source, head, limits, profile, &mut judge)?;
     Ok(judge.is_done())
 }
 
@@ -50,9 +103,6 @@ pub fn read_judged<S: Source, P: KeptBy>(
     ensures refused { IfErr result (λ refusal. RefusesKept limits (S.script source.old) refusal (S.script source.new)) }
 {
     let (head, mut judge) = FileJudge::begin(alloc, source, judged_by)?;
-    let mut reader: Reader<CompactCell<P>> = Reader::new(alloc, head.unit, limits, P::profile());
-    let end = judge_records(alloc, source, head, &mut reader, &mut judge)?;
-    find_end_of_input(source)?;
-    let layout = finish_compact(alloc, reader, end)?;
+    let layout = read_behind::<S, P>(alloc, source, head, limits, &mut judge)?;
     Ok((layout, judge.is_done()))
 }
