@@ -3,13 +3,14 @@ mod named;
 mod paths;
 mod places;
 mod rectangles;
+mod turns;
 
 ghost use Rattle.std.specs.Prelude.{◌≡◌, ◌≤◌, ◌^◌, None, Some};
 
 use oas_drawing::{Drawn, Kind, ModalVariables};
-use oas_layout::{Element, Limits, Turns};
-use oas_num::{Real, Why};
-use oas_record::{CellRef, Circle, Placement, Rectangle, Spot, Turn};
+use oas_layout::{Element, Limits};
+use oas_num::Why;
+use oas_record::{Circle, Rectangle, Spot};
 use oas_shape::{RepField, Repetition};
 use std::alloc::Global;
 use std::process::Abort;
@@ -68,108 +69,64 @@ fn last_copy(
 }
 
 /// Whether the last copy of an element is this.
-fn draws(alloc: Global, modal: &ModalVariables, kind: Kind, repeated: bool, wanted: Drawn) -> bool {
-    last_copy(alloc, modal, kind, repeated) == Ok(wanted)
+fn draws(
+    alloc: Global,
+    modal: &ModalVariables,
+    kind: Kind,
+    repeated: bool,
+    wanted: &Drawn,
+) -> bool {
+    match last_copy(alloc, modal, kind, repeated) {
+        Ok(drawn) => drawn == *wanted,
+        Err(_) => false,
+    }
 }
 
-/// Whether an element is refused for this.
-fn refuses(alloc: Global, modal: &ModalVariables, kind: Kind, repeated: bool, why: Why) -> bool {
-    last_copy(alloc, modal, kind, repeated).err() == Some(why)
+/// Why an element is refused, if it is.
+fn refusal(alloc: Global, modal: &ModalVariables, kind: Kind, repeated: bool) -> Option<Why> {
+    last_copy(alloc, modal, kind, repeated).err()
 }
 
-/// Whether the rectangle that was drawn last is of layer 1, of this size, and there.
-fn gives(alloc: Global, modal: &ModalVariables, width: u64, height: u64, x: i64, y: i64) -> bool {
-    let wanted = Drawn::Named(Element::rectangle(1, 0, width, height, x, y));
-    draws(alloc, modal, Kind::Rectangle, false, wanted)
+/// The width, the height and the place of a rectangle of layer 1, datatype 0.
+type Seen = (u64, u64, i64, i64);
+
+/// What is seen of a rectangle; None of any other element.
+fn seen(drawn: Drawn) -> Option<Seen> {
+    match drawn {
+        Drawn::Named(
+            Element::Rectangle {
+                layer: 1,
+                datatype: 0,
+                width,
+                height,
+                x,
+                y,
+            },
+        ) => Some((width, height, x, y)),
+        _ => None,
+    }
+}
+
+/// What is seen of the rectangle that was drawn last.
+fn last_seen(alloc: Global, modal: &ModalVariables) -> Option<Seen> {
+    seen(last_copy(alloc, modal, Kind::Rectangle, false).ok()?)
+}
+
+/// A rectangle, a square of its width, and a rectangle of that square's size.
+fn squares_seen(alloc: Global) -> [Option<Seen>; 3] {
+    let mut modal = ModalVariables::new();
+    modal.draw_rectangle(&mut full(10, 20, at(Some(0), Some(0))));
+    let rectangle = last_seen(alloc, &modal);
+    modal.draw_rectangle(&mut bare(true, at(Some(20), None)));
+    let square = last_seen(alloc, &modal);
+    modal.draw_rectangle(&mut bare(false, at(None, Some(30))));
+    [rectangle, square, last_seen(alloc, &modal)]
 }
 
 #[test]
 fn squares(rt: HostRuntime) {
-    let mut modal = ModalVariables::new();
-    modal.draw_rectangle(&mut full(10, 20, at(Some(0), Some(0))));
-    assert!(rt; gives(rt.alloc(), &modal, 10, 20, 0, 0));
-    modal.draw_rectangle(&mut bare(true, at(Some(20), None)));
-    assert!(rt; gives(rt.alloc(), &modal, 10, 10, 20, 0));
-    modal.draw_rectangle(&mut bare(false, at(None, Some(30))));
-    assert!(rt; gives(rt.alloc(), &modal, 10, 10, 20, 30));
-}
-
-/// Placement 7, with no coordinate.
-fn seventh() -> Placement
-    ensures { result.spot ≡ record { x = None; y = None; repetition = None } }
-{
-    Placement {
-        cell: Some(CellRef::Number(7)),
-        turn: Turn::Quarters(0),
-        flip: false,
-        spot: at(None, None),
-    }
-}
-
-/// A placement turned by an angle, with a magnification.
-fn turned(negative: bool, degrees: u64, magnification: u64) -> Kind {
-    Kind::Placement {
-        turn: Turn::Degrees {
-            magnification: Some(Real {
-                negative: false,
-                num: magnification,
-                den: 1,
-            }),
-            angle: Some(Real {
-                negative,
-                num: degrees,
-                den: 1,
-            }),
-        },
-        flip: true,
-    }
-}
-
-/// Placement 7 at the origin.
-fn placed(turns: Turns) -> Drawn {
-    Drawn::PlacementBy {
-        number: 7,
-        x: 0,
-        y: 0,
-        turns,
-        flip: true,
-    }
-}
-
-#[test]
-fn relative_steps(rt: HostRuntime) {
-    let mut modal = ModalVariables::new();
-    modal.draw_rectangle(&mut full(10, 20, at(Some(7), Some(1))));
-    modal.set_relative(true);
-    modal.draw_rectangle(&mut bare(false, at(Some(-10), None)));
-    assert!(rt; gives(rt.alloc(), &modal, 10, 20, -3, 1));
-    modal.place(&mut seventh());
-    let kind = turned(false, 0, 1);
-    assert!(rt; draws(rt.alloc(), &modal, kind, false, placed(Turns::T0)));
-}
-
-#[test]
-fn turns(rt: HostRuntime) {
-    let alloc = rt.alloc();
-    let mut modal = ModalVariables::new();
-    let odd = turned(false, 45, 2);
-    assert!(rt; refuses(alloc, &modal, odd, false, Why::ModalUndefined));
-    modal.place(&mut seventh());
-    for (kind, repeated, why) in [
-        (turned(false, 45, 2), true, Why::ModalUndefined),
-        (turned(false, 45, 2), false, Why::Magnification),
-        (turned(false, 45, 1), false, Why::Angle),
-    ] {
-        assert!(rt; refuses(alloc, &modal, kind, repeated, why));
-    }
-    for (negative, degrees, turns) in [
-        (true, 90u64, Turns::T3),
-        (false, 450, Turns::T1),
-        (true, 0, Turns::T0),
-    ] {
-        let kind = turned(negative, degrees, 1);
-        assert!(rt; draws(alloc, &modal, kind, false, placed(turns)));
-    }
+    let wanted = [(10, 20, 0, 0), (10, 10, 20, 0), (10, 10, 20, 30)];
+    assert_eq!(rt; squares_seen(rt.alloc()), wanted.map(Some));
 }
 
 /// Three circles of a radius that is the grid's, the last at its edge.
@@ -186,8 +143,8 @@ fn circles() -> Circle {
     }
 }
 
-#[test]
-fn copies(rt: HostRuntime) {
+/// Whether the last of the circles is drawn, and why a rectangle behind them is refused.
+fn copies_drawn(alloc: Global) -> (bool, Option<Why>) {
     let mut modal = ModalVariables::new();
     modal.draw_circle(&mut circles());
     let last = Drawn::Named(Element::Circle {
@@ -197,16 +154,14 @@ fn copies(rt: HostRuntime) {
         x: 1 << 60,
         y: -5,
     });
-    assert!(rt; draws(rt.alloc(), &modal, Kind::Circle, true, last));
-    assert!(rt;
-        refuses(
-            rt.alloc(),
-            &modal,
-            Kind::Rectangle,
-            true,
-            Why::ModalUndefined
-        )
-    );
+    let is_drawn = draws(alloc, &modal, Kind::Circle, true, &last);
+    (is_drawn, refusal(alloc, &modal, Kind::Rectangle, true))
+}
+
+#[test]
+fn copies(rt: HostRuntime) {
+    let wanted = (true, Some(Why::ModalUndefined));
+    assert_eq!(rt; copies_drawn(rt.alloc()), wanted);
 }
 
 /// How many copies of a circle there are beside so many elements of that weight, or why it is refused.
@@ -217,18 +172,26 @@ fn counted(modal: &ModalVariables, repeated: bool, count: u64, weight: u64) -> R
     modal.copies(&Kind::Circle, repeated, Limits::standard(), count, weight)
 }
 
-#[test]
-fn copies_within_limits(rt: HostRuntime) {
+/// The counts of three circles and of one at the limits, and one past them.
+fn counts() -> [Result<u64, Why>; 4] {
     let mut modal = ModalVariables::new();
     modal.draw_circle(&mut circles());
-    assert!(rt; counted(&modal, true, (1 << 24) - 3, 0) == Ok(3));
-    assert!(rt; counted(&modal, true, (1 << 24) - 2, 0) == Err(Why::TooManyElements));
-    assert!(rt; counted(&modal, true, 0, (1 << 28) - 2) == Err(Why::TooHeavy));
-    assert!(rt; counted(&modal, false, 0, (1 << 28) - 2) == Ok(1));
+    [
+        counted(&modal, true, (1 << 24) - 3, 0),
+        counted(&modal, true, (1 << 24) - 2, 0),
+        counted(&modal, true, 0, (1 << 28) - 2),
+        counted(&modal, false, 0, (1 << 28) - 2),
+    ]
 }
 
 #[test]
-fn far_corners(rt: HostRuntime) {
+fn copies_within_limits(rt: HostRuntime) {
+    let wanted = [Ok(3), Err(Why::TooManyElements), Err(Why::TooHeavy), Ok(1)];
+    assert_eq!(rt; counts(), wanted);
+}
+
+/// Why a square is refused whose corner is past the edge of the grid.
+fn far_corner(alloc: Global) -> Option<Why> {
     let mut modal = ModalVariables::new();
     modal.draw_rectangle(&mut Rectangle {
         square: true,
@@ -238,13 +201,10 @@ fn far_corners(rt: HostRuntime) {
         height: None,
         spot: at(Some((1 << 60) - 9), None),
     });
-    assert!(rt;
-        refuses(
-            rt.alloc(),
-            &modal,
-            Kind::Rectangle,
-            false,
-            Why::CoordinateRange
-        )
-    );
+    refusal(alloc, &modal, Kind::Rectangle, false)
+}
+
+#[test]
+fn far_corners(rt: HostRuntime) {
+    assert_eq!(rt; far_corner(rt.alloc()), Some(Why::CoordinateRange));
 }

@@ -1,9 +1,10 @@
-//! Placements and texts at hand: what is drawn against what their records draw, and each reason in its
-//! turn, where 2^24 elements may weigh 2^28.
+//! Placements and texts at hand: what is drawn against what their records draw.
+mod weights;
+
 ghost use Rattle.std.specs.Prelude.{◌≡◌, ◌≤◌, ◌^◌, None, Some, OnOk};
 ghost use Rattle.oas_ahead.specs.Named.{GivesName, named_record};
 ghost use Rattle.oas_drawing.specs.Positions.{IsNear};
-ghost use Rattle.oas_drawing.specs.Modal.{stepped};
+ghost use Rattle.oas_drawing.specs.Modal.{fresh, stepped};
 
 use super::{at, draws};
 use oas_ahead::{Given, NamedOnce};
@@ -23,28 +24,6 @@ fn name(alloc: Global) -> Result<Name, Fail> {
 /// The string AB.
 fn label(alloc: Global) -> Result<Label, Fail> {
     Ok(Label::read(alloc, &mut SliceSource::new(b"\x02AB", 10))?)
-}
-
-/// A placement that gives no coordinate.
-fn placed(cell: Given<'_>) -> NamedOnce<'_> {
-    NamedOnce::Placement {
-        cell,
-        quarters: 0,
-        flip: false,
-        x: None,
-        y: None,
-    }
-}
-
-/// A text that gives no other field.
-fn written(string: Given<'_>) -> NamedOnce<'_> {
-    NamedOnce::Text {
-        string,
-        textlayer: None,
-        texttype: None,
-        x: None,
-        y: None,
-    }
 }
 
 /// The record of a placement of a cell, or of the modal one.
@@ -83,8 +62,13 @@ fn weighs(modal: &ModalVariables, next: &NamedOnce<'_>, count: u64, weight: u64)
     }
 }
 
-/// The element, once the record has set what it gives.
-fn drawn(alloc: Global, modal: &mut ModalVariables, next: &NamedOnce<'_>) -> Result<Drawn, Fail>
+/// Whether the element is this, once the record has set what it gives.
+fn draws_next(
+    alloc: Global,
+    modal: &mut ModalVariables,
+    next: &NamedOnce<'_>,
+    wanted: &Drawn,
+) -> Result<bool, Fail>
     requires placement { IsNear modal.old.placement }
     requires text { IsNear modal.old.text }
     requires named { GivesName next.now }
@@ -94,20 +78,29 @@ fn drawn(alloc: Global, modal: &mut ModalVariables, next: &NamedOnce<'_>) -> Res
     modal.check_named(next, Limits::standard(), 0, 0)?;
     modal.set_name(alloc, next)?;
     match modal.one_named(next) {
-        Some(once) => Ok(once.try_drawn(alloc)?),
-        None => Err(Fail::new("it isn't drawn")),
+        Some(once) => Ok(once.try_drawn(alloc)? == *wanted),
+        None => Ok(false),
     }
 }
 
-#[test]
-fn placements(rt: HostRuntime) -> Result<(), Fail> {
-    let alloc = rt.alloc();
-    let kind = Kind::Placement {
-        turn: Turn::Quarters(3),
-        flip: true,
-    };
-    let cell = name(alloc)?;
-    let modal_cell = CellRef::Name(name(alloc)?);
+/// The same, and whether its record, which is of that kind, draws this too.
+fn draws_both(
+    alloc: Global,
+    modal: &mut ModalVariables,
+    next: &NamedOnce<'_>,
+    kind: Kind,
+    wanted: &Drawn,
+) -> Result<(bool, bool), Fail>
+    requires placement { IsNear modal.old.placement }
+    requires text { IsNear modal.old.text }
+    requires named { GivesName next.now }
+{
+    let is_drawn = draws_next(alloc, modal, next, wanted)?;
+    Ok((is_drawn, draws(alloc, modal, kind, false, wanted)))
+}
+
+/// Whether a placement of AB, a step from the one before, is drawn as this.
+fn places(alloc: Global, modal_cell: CellRef, wanted: &Drawn) -> Result<(bool, bool), Fail> {
     let mut modal = ModalVariables::new();
     modal.place(&mut placement(Some(modal_cell), 5, Some(-6)));
     modal.set_relative(true);
@@ -118,23 +111,34 @@ fn placements(rt: HostRuntime) -> Result<(), Fail> {
         x: Some(-7),
         y: None,
     };
-    let wanted = Drawn::Named(Element::Placement {
-        cell,
+    let kind = Kind::Placement {
+        turn: Turn::Quarters(3),
+        flip: true,
+    };
+    draws_both(alloc, &mut modal, &next, kind, wanted)
+}
+
+/// The placement that is drawn.
+fn placed_element(alloc: Global) -> Result<Drawn, Fail> {
+    Ok(Drawn::Named(Element::Placement {
+        cell: name(alloc)?,
         x: -2,
         y: -6,
         turns: Turns::T3,
         flip: true,
-    });
-    assert!(rt; drawn(alloc, &mut modal, &next)? == wanted);
-    assert!(rt; draws(alloc, &modal, kind, false, wanted));
-    Ok(())
+    }))
 }
 
 #[test]
-fn texts(rt: HostRuntime) -> Result<(), Fail> {
+fn placements(rt: HostRuntime) -> Result<(), Fail> {
     let alloc = rt.alloc();
-    let string = label(alloc)?;
-    let modal_string = TextRef::Label(label(alloc)?);
+    let drawn = places(alloc, CellRef::Name(name(alloc)?), &placed_element(alloc)?)?;
+    assert_eq!(rt; drawn, (true, true));
+    Ok(())
+}
+
+/// Whether a text of AB is drawn as this.
+fn writes(alloc: Global, modal_string: TextRef, wanted: &Drawn) -> Result<(bool, bool), Fail> {
     let mut modal = ModalVariables::new();
     modal.write(&mut text(Some(modal_string), Some(0), 5, Some(-6)));
     let next = NamedOnce::Text {
@@ -144,101 +148,97 @@ fn texts(rt: HostRuntime) -> Result<(), Fail> {
         x: Some(-7),
         y: None,
     };
-    let wanted = Drawn::Named(Element::Text {
-        string,
+    draws_both(alloc, &mut modal, &next, Kind::Text, wanted)
+}
+
+/// The text that is drawn.
+fn written_element(alloc: Global) -> Result<Drawn, Fail> {
+    Ok(Drawn::Named(Element::Text {
+        string: label(alloc)?,
         textlayer: 4,
         texttype: 2,
         x: -7,
         y: -6,
-    });
-    assert!(rt; drawn(alloc, &mut modal, &next)? == wanted);
-    assert!(rt; draws(alloc, &modal, Kind::Text, false, wanted));
+    }))
+}
+
+#[test]
+fn texts(rt: HostRuntime) -> Result<(), Fail> {
+    let alloc = rt.alloc();
+    let drawn = writes(
+        alloc,
+        TextRef::Label(label(alloc)?),
+        &written_element(alloc)?,
+    )?;
+    assert_eq!(rt; drawn, (true, true));
     Ok(())
 }
 
-/// A number sets its variable, and the element has it.
-#[test]
-fn numbers(rt: HostRuntime) -> Result<(), Fail> {
-    let alloc = rt.alloc();
+/// Whether a placement and a text of numbers are drawn one after another, and what the text weighs.
+fn draws_numbers(
+    alloc: Global,
+    placement: &NamedOnce<'_>,
+    text: &NamedOnce<'_>,
+    placed: &Drawn,
+    written: &Drawn,
+) -> Result<(bool, bool, Result<u64, Why>), Fail>
+    requires placement { GivesName placement.now }
+    requires text { GivesName text.now }
+    requires near { IsNear (stepped fresh (named_record placement.now)).placement }
+    requires text_near { IsNear (stepped fresh (named_record placement.now)).text }
+{
     let mut modal = ModalVariables::new();
-    let next = NamedOnce::Placement {
+    let is_placed = draws_next(alloc, &mut modal, placement, placed)?;
+    let is_written = draws_next(alloc, &mut modal, text, written)?;
+    Ok((is_placed, is_written, weighs(&modal, text, 0, 0)))
+}
+
+/// Placement 9 and text 8 at hand.
+const NUMBERED: (NamedOnce<'static>, NamedOnce<'static>) = (
+    NamedOnce::Placement {
         cell: Given::Number(9),
         quarters: 1,
         flip: false,
         x: None,
         y: Some(3),
-    };
-    let wanted = Drawn::PlacementBy {
-        number: 9,
-        x: 0,
-        y: 3,
-        turns: Turns::T1,
-        flip: false,
-    };
-    assert!(rt; drawn(alloc, &mut modal, &next)? == wanted);
-    let next = NamedOnce::Text {
+    },
+    NamedOnce::Text {
         string: Given::Number(8),
         textlayer: Some(1),
         texttype: Some(2),
         x: Some(4),
         y: None,
-    };
-    let wanted = Drawn::TextBy {
+    },
+);
+
+/// What these draw.
+const BY_NUMBER: (Drawn, Drawn) = (
+    Drawn::PlacementBy {
+        number: 9,
+        x: 0,
+        y: 3,
+        turns: Turns::T1,
+        flip: false,
+    },
+    Drawn::TextBy {
         number: 8,
         textlayer: 1,
         texttype: 2,
         x: 4,
         y: 0,
-    };
-    assert!(rt; drawn(alloc, &mut modal, &next)? == wanted);
-    assert!(rt; weighs(&modal, &next, 0, 0) == Ok(1));
-    Ok(())
+    },
+);
+
+/// Whether these are drawn so, and what the text weighs.
+fn numbers_drawn(alloc: Global) -> Result<(bool, bool, Result<u64, Why>), Fail> {
+    let (placement, text) = NUMBERED;
+    let (placed, written) = BY_NUMBER;
+    draws_numbers(alloc, &placement, &text, &placed, &written)
 }
 
+/// A number sets its variable, and the element has it.
 #[test]
-fn reasons_of_placements(rt: HostRuntime) -> Result<(), Fail> {
-    let cell = CellRef::Name(name(rt.alloc())?);
-    let mut modal = ModalVariables::new();
-    let next = placed(Given::Modal);
-    assert!(rt; weighs(&modal, &next, 1 << 24, 1 << 28) == Err(Why::ModalUndefined));
-    modal.place(&mut placement(Some(cell), 1 << 60, None));
-    assert!(rt; weighs(&modal, &next, (1 << 24) - 1, (1 << 28) - 3) == Ok(3));
-    modal.place(&mut placement(None, (1 << 60) + 1, None));
-    assert!(rt; weighs(&modal, &next, 1 << 24, 1 << 28) == Err(Why::TooManyElements));
-    assert!(rt; weighs(&modal, &next, 0, (1 << 28) - 2) == Err(Why::TooHeavy));
-    assert!(rt; weighs(&modal, &next, 0, 0) == Err(Why::CoordinateRange));
-    Ok(())
-}
-
-#[test]
-fn reasons_of_texts(rt: HostRuntime) -> Result<(), Fail> {
-    let string = TextRef::Label(label(rt.alloc())?);
-    let mut modal = ModalVariables::new();
-    let next = written(Given::Modal);
-    modal.write(&mut text(Some(string), None, 5, Some(-6)));
-    assert!(rt; weighs(&modal, &next, 1 << 24, 1 << 28) == Err(Why::ModalUndefined));
-    modal.write(&mut text(None, Some(0), 5, Some(-(1 << 60) - 1)));
-    assert!(rt; weighs(&modal, &next, 1 << 24, 1 << 28) == Err(Why::TooManyElements));
-    assert!(rt; weighs(&modal, &next, 0, (1 << 28) - 2) == Err(Why::TooHeavy));
-    assert!(rt; weighs(&modal, &next, 0, 0) == Err(Why::CoordinateRange));
-    Ok(())
-}
-
-/// A name that is given weighs what it does before it is the modal one, whatever that is.
-#[test]
-fn names_weighed_before_they_are_modal(rt: HostRuntime) -> Result<(), Fail> {
-    let limits = Limits::standard();
-    let cell = CellRef::Name(name(rt.alloc())?);
-    let mut modal = ModalVariables::new();
-    let next = placed(Given::Bytes(b"ABC"));
-    assert!(rt; modal.check_named(&next, limits, 0, (1 << 28) - 4) == Ok(()));
-    assert!(rt; modal.check_named(&next, limits, 0, (1 << 28) - 3) == Err(Why::TooHeavy));
-    modal.place(&mut placement(Some(cell), 5, None));
-    assert!(rt; modal.check_named(&next, limits, 0, (1 << 28) - 4) == Ok(()));
-    assert!(rt; modal.check_named(&next, limits, 0, (1 << 28) - 3) == Err(Why::TooHeavy));
-    let next = placed(Given::Number(7));
-    assert!(rt; modal.check_named(&next, limits, 0, (1 << 28) - 1) == Ok(()));
-    let next = written(Given::Bytes(b"ABC"));
-    assert!(rt; modal.check_named(&next, limits, 1 << 24, 1 << 28) == Err(Why::ModalUndefined));
+fn numbers(rt: HostRuntime) -> Result<(), Fail> {
+    assert_eq!(rt; numbers_drawn(rt.alloc())?, (true, true, Ok(1)));
     Ok(())
 }

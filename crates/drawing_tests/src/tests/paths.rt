@@ -2,7 +2,7 @@
 
 ghost use Rattle.std.specs.Prelude.{◌≡◌};
 
-use super::{at, draws, refuses};
+use super::{at, draws, refusal};
 use oas_drawing::{Drawn, Kind, ModalVariables};
 use oas_layout::Element;
 use oas_num::{SliceSource, Why};
@@ -66,7 +66,7 @@ fn gives_line(
     from: Point,
 ) -> bool {
     match line(alloc, half_width, start, end, from) {
-        Ok(wanted) => draws(alloc, modal, Kind::Path, false, Drawn::Named(wanted)),
+        Ok(wanted) => draws(alloc, modal, Kind::Path, false, &Drawn::Named(wanted)),
         Err(AllocError) => false,
     }
 }
@@ -77,35 +77,50 @@ const BOTH: Extensions = Extensions {
     end: Extension::Explicit(-3),
 };
 
-#[test]
-fn extensions(rt: HostRuntime) -> Result<(), Fail> {
-    let points = eastward(rt.alloc())?;
+/// Whether a path has the extensions of the path before it, by the half-width of that.
+fn keeps_extensions(alloc: Global) -> Result<bool, Fail> {
+    let points = eastward(alloc)?;
     let mut modal = ModalVariables::new();
     modal.draw_path(&mut path(Some(points), 5, Some(BOTH), at(Some(0), Some(0))));
     modal.draw_path(&mut path(None, 9, None, at(None, Some(20))));
-    assert!(rt; gives_line(rt.alloc(), &modal, 9, 5, -3, Point { x: 0, y: 20 }));
+    Ok(gives_line(alloc, &modal, 9, 5, -3, Point { x: 0, y: 20 }))
+}
+
+#[test]
+fn extensions(rt: HostRuntime) -> Result<(), Fail> {
+    assert!(rt; keeps_extensions(rt.alloc())?);
     Ok(())
+}
+
+/// Why a path is refused in the cell behind that of a path.
+fn behind_their_cell(alloc: Global) -> Result<Option<Why>, Fail> {
+    let points = eastward(alloc)?;
+    let mut modal = ModalVariables::new();
+    modal.draw_path(&mut path(Some(points), 5, Some(BOTH), at(None, None)));
+    modal.begin_cell();
+    Ok(refusal(alloc, &modal, Kind::Path, false))
 }
 
 #[test]
 fn paths_end_with_their_cell(rt: HostRuntime) -> Result<(), Fail> {
-    let points = eastward(rt.alloc())?;
-    let mut modal = ModalVariables::new();
-    modal.draw_path(&mut path(Some(points), 5, Some(BOTH), at(None, None)));
-    modal.begin_cell();
-    assert!(rt; refuses(rt.alloc(), &modal, Kind::Path, false, Why::ModalUndefined));
+    assert_eq!(rt; behind_their_cell(rt.alloc())?, Some(Why::ModalUndefined));
     Ok(())
 }
 
-#[test]
-fn flush_extensions(rt: HostRuntime) -> Result<(), Fail> {
+/// Whether a path has flush ends.
+fn is_flush(alloc: Global) -> Result<bool, Fail> {
     let flush = Extensions {
         start: Extension::Flush,
         end: Extension::Flush,
     };
-    let points = eastward(rt.alloc())?;
+    let points = eastward(alloc)?;
     let mut modal = ModalVariables::new();
     modal.draw_path(&mut path(Some(points), 9, Some(flush), at(None, None)));
-    assert!(rt; gives_line(rt.alloc(), &modal, 9, 0, 0, Point { x: 0, y: 0 }));
+    Ok(gives_line(alloc, &modal, 9, 0, 0, Point { x: 0, y: 0 }))
+}
+
+#[test]
+fn flush_extensions(rt: HostRuntime) -> Result<(), Fail> {
+    assert!(rt; is_flush(rt.alloc())?);
     Ok(())
 }
