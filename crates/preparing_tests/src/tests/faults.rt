@@ -1,7 +1,7 @@
 //! Readers and writers that fail at each byte.
 
 use super::devices::{Narrow, Torn};
-use super::rows::{NAME, bytes_of, dropping_of, expect, refusal_of};
+use super::rows::{Answer, NAME, answer, bytes_of, dropping_of};
 use oas_canon::Limits;
 use oas_num::{INPUT_MAX, ReaderSource, SliceSource};
 use oas_preparing::run_prepare;
@@ -28,26 +28,37 @@ fn record_at(offset: usize) -> usize {
     }
 }
 
+/// How many bytes the file has, and what it becomes.
+fn lengths(alloc: Global) -> Result<(usize, usize), Fail> {
+    Ok((
+        bytes_of(alloc, FILE)?.len(),
+        bytes_of(alloc, PREPARED)?.len(),
+    ))
+}
+
 #[test]
-fn readers_that_fail(rt: HostRuntime) -> Result<(), Fail> {
-    let alloc = rt.alloc();
-    let file = bytes_of(alloc, FILE)?;
-    let dropping = dropping_of("properties");
-    assert_eq!(&rt; file.len(), 304);
-    for len in 0..305usize {
-        let front = file.as_slice().split_at(len).0;
-        let mut from = ReaderSource::new(alloc, Torn { rest: front }, INPUT_MAX)?;
-        let refusal = (32, record_at(len));
-        expect(&rt, alloc, "a reader", &mut from, dropping, Err(refusal));
-    }
+fn lengths_of_the_files(rt: HostRuntime) -> Result<(), Fail> {
+    assert_eq!(rt; lengths(rt.alloc())?, (304, 301));
     Ok(())
 }
 
-/// Runs to an output and an error output with so much room.
-fn run(alloc: Global, file: &[u8], out: &mut Narrow, err: &mut Narrow) -> u8 {
-    let mut from = SliceSource::new(file, INPUT_MAX);
-    let (limits, dropping) = (Limits::standard(), dropping_of("properties"));
-    run_prepare(alloc, NAME, &mut from, out, err, limits, dropping)
+/// What comes of a reader that fails at an offset of the file.
+fn answer_of_reader(alloc: Global, offset: usize) -> Result<Answer, Fail> {
+    let file = bytes_of(alloc, FILE)?;
+    let rest = file.get(..offset).unwrap_or(&[]);
+    let mut from = ReaderSource::new(alloc, Torn { rest }, INPUT_MAX)?;
+    let dropping = dropping_of("properties");
+    let line = format!(in alloc; "{NAME}: refused 32 at {}\n", record_at(offset))?;
+    Ok(answer(alloc, &mut from, dropping, &[], &line))
+}
+
+#[test]
+fn readers_that_fail(rt: HostRuntime) -> Result<(), Fail> {
+    for offset in 0..305usize {
+        let found = answer_of_reader(rt.alloc(), offset)?;
+        assert_eq!(rt; found, (1, true, true), "at {offset}");
+    }
+    Ok(())
 }
 
 /// A writer with so much room.
@@ -58,37 +69,56 @@ fn narrow(alloc: Global, room: usize) -> Narrow {
     }
 }
 
+/// What comes of the file at an output and an error output with so much room, beside what they take.
+fn answer_of_writers(
+    alloc: Global,
+    out_room: usize,
+    err_room: usize,
+    output: &[u8],
+    line: &[u8],
+) -> Result<Answer, Fail> {
+    let file = bytes_of(alloc, FILE)?;
+    let from = &mut SliceSource::new(&file, INPUT_MAX);
+    let (mut out, mut err) = (narrow(alloc, out_room), narrow(alloc, err_room));
+    let (limits, dropping) = (Limits::standard(), dropping_of("properties"));
+    let status = run_prepare(alloc, NAME, from, &mut out, &mut err, limits, dropping);
+    Ok((
+        status,
+        out.taken.as_slice() == output,
+        err.taken.as_slice() == line,
+    ))
+}
+
+/// What comes of an output with so much room, which takes the front of what is prepared.
+fn answer_of_output(alloc: Global, room: usize) -> Result<Answer, Fail> {
+    let prepared = bytes_of(alloc, PREPARED)?;
+    let front = prepared.get(..room).unwrap_or(&[]);
+    let line = format!(in alloc; "{NAME}: refused 33 at {room}\n")?;
+    answer_of_writers(alloc, room, usize::MAX, front, line.as_bytes())
+}
+
 #[test]
 fn writers_that_fail(rt: HostRuntime) -> Result<(), Fail> {
-    let alloc = rt.alloc();
-    let (file, prepared) = (bytes_of(alloc, FILE)?, bytes_of(alloc, PREPARED)?);
-    assert_eq!(&rt; prepared.len(), 301);
     for room in 0..301usize {
-        let (mut out, mut err) = (narrow(alloc, room), narrow(alloc, usize::MAX));
-        let status = run(alloc, &file, &mut out, &mut err);
-        assert_eq!(&rt; status, 1, "at {room}");
-        assert!(&rt; refusal_of(&err.taken) == Some((33, room)), "at {room}");
-        assert_eq!(&rt;
-            out.taken.as_slice(),
-            prepared.split_at(room).0,
-            "at {room}"
-        );
+        let found = answer_of_output(rt.alloc(), room)?;
+        assert_eq!(rt; found, (1, true, true), "at {room}");
     }
     Ok(())
 }
 
+/// What comes of an error output with so much room, which takes the front of the line.
+fn answer_of_error_output(alloc: Global, room: usize) -> Result<Answer, Fail> {
+    let prepared = bytes_of(alloc, PREPARED)?;
+    let line = b"chip.oas: left out 1 property name\n";
+    let front = line.get(..room).unwrap_or(line);
+    answer_of_writers(alloc, usize::MAX, room, &prepared, front)
+}
+
 #[test]
 fn error_outputs_that_fail(rt: HostRuntime) -> Result<(), Fail> {
-    let alloc = rt.alloc();
-    let (file, prepared) = (bytes_of(alloc, FILE)?, bytes_of(alloc, PREPARED)?);
-    let line = "chip.oas: left out 1 property name\n".as_bytes();
     for room in 0..36usize {
-        let (mut out, mut err) = (narrow(alloc, usize::MAX), narrow(alloc, room));
-        let status = run(alloc, &file, &mut out, &mut err);
-        assert_eq!(&rt; status, 0, "at {room}");
-        assert!(&rt; out.taken == prepared, "at {room}");
-        let front = line.split_at(room.min(line.len())).0;
-        assert_eq!(&rt; err.taken.as_slice(), front, "at {room}");
+        let found = answer_of_error_output(rt.alloc(), room)?;
+        assert_eq!(rt; found, (0, true, true), "at {room}");
     }
     Ok(())
 }

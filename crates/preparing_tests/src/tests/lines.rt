@@ -4,30 +4,41 @@ use oas_narrow::{Place, Rejection, Report};
 use oas_num::Outlet;
 use oas_preparing::{put_rejection, put_report};
 use oas_wide::WideWhy;
-use std::test::Fail;
+use std::alloc::Global;
+use std::process::Abort;
+
+/// Whether the line of a rejection is put and closed, and is this.
+fn tells_rejection(alloc: Global, rejection: Rejection, wanted: &str) -> [bool; 3] {
+    let mut line: Vec<u8> = Vec::new(alloc);
+    let mut told = Outlet::new(&mut line);
+    let is_put = put_rejection(&mut told, "chip.oas", rejection).is_ok();
+    let is_closed = told.close().is_ok();
+    [is_put, is_closed, line.as_slice() == wanted.as_bytes()]
+}
 
 #[test]
-fn place_in_a_block(rt: HostRuntime) -> Result<(), Fail> {
-    let mut line: Vec<u8> = Vec::new(rt.alloc());
-    let mut told = Outlet::new(&mut line);
+fn place_in_a_block(rt: HostRuntime) {
     let place = Place::Block {
         block: 41,
         within: 7,
     };
     let why = WideWhy::CblockBorder;
-    assert!(&rt; put_rejection(&mut told, "chip.oas", Rejection { place, why }).is_ok());
-    assert!(&rt; told.close().is_ok());
-    assert_eq!(&rt;
-        line.as_slice(),
-        "chip.oas: refused 107 at 41+7\n".as_bytes()
-    );
-    Ok(())
+    let wanted = "chip.oas: refused 107 at 41+7\n";
+    let told = tells_rejection(rt.alloc(), Rejection { place, why }, wanted);
+    assert_eq!(rt; told, [true; 3], "{wanted}");
+}
+
+/// Whether the line of a report is put and closed, and is this.
+fn tells_report(alloc: Global, report: Report, wanted: &str) -> [bool; 3] {
+    let mut line: Vec<u8> = Vec::new(alloc);
+    let mut told = Outlet::new(&mut line);
+    let is_put = put_report(&mut told, "-", report).is_ok();
+    let is_closed = told.close().is_ok();
+    [is_put, is_closed, line.as_slice() == wanted.as_bytes()]
 }
 
 #[test]
-fn largest_numbers(rt: HostRuntime) -> Result<(), Fail> {
-    let mut line: Vec<u8> = Vec::new(rt.alloc());
-    let mut told = Outlet::new(&mut line);
+fn largest_numbers(rt: HostRuntime) {
     let report = Report {
         property_names: 0,
         properties: u64::MAX,
@@ -35,9 +46,10 @@ fn largest_numbers(rt: HostRuntime) -> Result<(), Fail> {
         extension_names: 1,
         extensions: 0,
     };
-    assert!(&rt; put_report(&mut told, "-", report).is_ok());
-    assert!(&rt; told.close().is_ok());
     let wanted = "-: left out 18446744073709551615 properties, 1 extension name\n";
-    assert_eq!(&rt; line.as_slice(), wanted.as_bytes());
-    Ok(())
+    assert_eq!(rt;
+        tells_report(rt.alloc(), report, wanted),
+        [true; 3],
+        "{wanted}"
+    );
 }

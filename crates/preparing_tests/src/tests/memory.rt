@@ -13,33 +13,6 @@ use std::alloc::Global;
 use std::process::Abort;
 use std::test::Fail;
 
-/// Runs once, and asserts that it prepares, or says that memory was refused and writes nothing. Answers whether it prepared.
-fn is_prepared(
-    rt: &impl Abort,
-    alloc: Global,
-    file: &[u8],
-    prepared: &[u8],
-    out: &mut Narrow,
-    err: &mut Narrow,
-) -> bool {
-    out.taken.clear();
-    err.taken.clear();
-    let mut from = SliceSource::new(file, INPUT_MAX);
-    let (limits, dropping) = (Limits::standard(), dropping_of("all"));
-    let status = run_prepare(alloc, "chip.oas", &mut from, out, err, limits, dropping);
-    if status == 0 {
-        assert_eq!(rt; out.taken.as_slice(), prepared);
-        return true;
-    }
-    assert!(rt; out.taken.is_empty());
-    let line = str::from_utf8(&err.taken).unwrap_or("");
-    assert!(rt;
-        line.starts_with("chip.oas: refused 34 at "),
-        "it said {line}"
-    );
-    false
-}
-
 /// A writer that has its memory.
 fn roomy(alloc: Global) -> Result<Narrow, Fail> {
     Ok(Narrow {
@@ -48,26 +21,71 @@ fn roomy(alloc: Global) -> Result<Narrow, Fail> {
     })
 }
 
-#[test]
-fn without_memory(rt: HostRuntime) -> Result<(), Fail> {
-    let alloc = rt.alloc();
+/// Whether this says that memory was refused.
+fn is_refusal(line: &[u8]) -> bool {
+    str::from_utf8(line).is_ok_and(|line| line.starts_with("chip.oas: refused 34 at "))
+}
+
+/// Runs once. Whether it was `prepared`, or memory was `refused` and nothing written; `wrong` where it was neither.
+fn run(
+    alloc: Global,
+    file: &[u8],
+    prepared: &[u8],
+    out: &mut Narrow,
+    err: &mut Narrow,
+) -> &'static str {
+    out.taken.clear();
+    err.taken.clear();
+    let mut from = SliceSource::new(file, INPUT_MAX);
+    let (limits, dropping) = (Limits::standard(), dropping_of("all"));
+    let status = run_prepare(alloc, "chip.oas", &mut from, out, err, limits, dropping);
+    if status == 0 && out.taken.as_slice() == prepared {
+        "prepared"
+    } else if status != 0 && out.taken.is_empty() && is_refusal(&err.taken) {
+        "refused"
+    } else {
+        "wrong"
+    }
+}
+
+/// Runs until it isn't refused, and gives back a piece of memory after each refusal. How the last run ended, and how many were
+/// refused.
+fn insist(
+    alloc: Global,
+    file: &[u8],
+    prepared: &[u8],
+    hoard: &mut Hoard,
+    out: &mut Narrow,
+    err: &mut Narrow,
+) -> (&'static str, u32) {
+    for refused in 0..4000u32 {
+        let end = run(alloc, file, prepared, out, err);
+        if end != "refused" {
+            return (end, refused);
+        }
+        hoard.give_back();
+    }
+    ("refused", 4000)
+}
+
+/// How the last run on a file ended, and whether memory was refused before, where the heap could be filled.
+fn ends(alloc: Global, file: &[u8], prepared: &[u8]) -> Result<(&'static str, bool), Fail> {
+    let (mut out, mut err) = (roomy(alloc)?, roomy(alloc)?);
+    let mut hoard = Hoard::new(alloc)?;
+    let (end, refused) = insist(alloc, file, prepared, &mut hoard, &mut out, &mut err);
+    Ok((end, !hoard.is_full() || refused > 0))
+}
+
+/// The same of a file of which each kind of record is left out.
+fn ends_of_each_kind(alloc: Global) -> Result<(&'static str, bool), Fail> {
     let pieces = "HEAD 070150 0B014C0000 CELL RECT 1C1401500805 20000159 TAIL";
     let file = bytes_of(alloc, pieces)?;
     let prepared = bytes_of(alloc, "HEAD CELL RECT TAIL")?;
-    let (mut out, mut err) = (roomy(alloc)?, roomy(alloc)?);
-    let mut hoard = Hoard::new(alloc)?;
-    let is_full = hoard.is_full();
-    let (mut refused, mut done) = (0u32, false);
-    for _ in 0..4000u32 {
-        done = is_prepared(&rt, alloc, &file, &prepared, &mut out, &mut err);
-        if done {
-            break;
-        }
-        refused = refused.saturating_add(1);
-        hoard.give_back();
-    }
-    drop(hoard);
-    assert!(&rt; done, "it is never prepared");
-    assert!(&rt; !is_full || refused > 0, "nothing was refused");
+    ends(alloc, &file, &prepared)
+}
+
+#[test]
+fn without_memory(rt: HostRuntime) -> Result<(), Fail> {
+    assert_eq!(rt; ends_of_each_kind(rt.alloc())?, ("prepared", true));
     Ok(())
 }

@@ -88,84 +88,83 @@ pub fn dropping_of(word: &str) -> Dropping {
 /// The name of each file.
 pub const NAME: &str = "chip.oas";
 
-/// The number and the place of a refusal, where this is its line.
-pub fn refusal_of(line: &[u8]) -> Option<(u8, usize)> {
-    let line = str::from_utf8(line).ok()?;
-    let refused = line.strip_prefix(NAME)?.strip_prefix(": refused ")?;
-    let (number, at) = refused.strip_suffix('\n')?.split_once(" at ")?;
-    Some((number.parse().ok()?, at.parse().ok()?))
-}
+/// The status of a run, whether its output is as it is wanted, and whether what it says is.
+pub type Answer = (u8, bool, bool);
 
-/// What this line says was left out; a dash where there is no line.
-fn left_out<'a>(line: &'a [u8]) -> Option<&'a str> {
-    if line.is_empty() {
-        return Some("-");
-    }
-    let line = str::from_utf8(line).ok()?;
-    let said = line.strip_prefix(NAME)?.strip_prefix(": left out ")?;
-    said.strip_suffix('\n')
-}
-
-/// Asserts what comes of a source: the output, with what is said to be left out, or a refusal by its number and offset.
-pub fn expect(
-    rt: &impl Abort,
+/// What comes of a source, beside an output and what is said.
+pub fn answer(
     alloc: Global,
-    name: &str,
     from: &mut impl Source,
     dropping: Dropping,
-    wanted: Result<(&[u8], &str), (u8, usize)>,
-) {
+    output: &[u8],
+    line: &str,
+) -> Answer {
     let (mut out, mut err): (Vec<u8>, Vec<u8>) = (Vec::new(alloc), Vec::new(alloc));
     let limits = Limits::standard();
     let status = run_prepare(alloc, NAME, from, &mut out, &mut err, limits, dropping);
-    match wanted {
-        Ok((output, said)) => {
-            assert_eq!(rt; status, 0, "at {name}");
-            assert_eq!(rt; out.as_slice(), output, "at {name}");
-            assert!(rt; left_out(&err) == Some(said), "at {name}");
-        }
-        Err(refusal) => {
-            assert_eq!(rt; status, 1, "at {name}");
-            assert!(rt; out.is_empty(), "at {name}");
-            assert!(rt; refusal_of(&err) == Some(refusal), "at {name}");
-        }
+    (
+        status,
+        out.as_slice() == output,
+        err.as_slice() == line.as_bytes(),
+    )
+}
+
+/// What comes of a file that is refused, which has no output.
+fn answer_of_refused(
+    alloc: Global,
+    from: &mut impl Source,
+    dropping: Dropping,
+    number: &str,
+    at: &str,
+) -> Result<Answer, Fail> {
+    let line = format!(in alloc; "{NAME}: refused {number} at {at}\n")?;
+    Ok(answer(alloc, from, dropping, &[], &line))
+}
+
+/// What comes of a file, beside its output and what is said of what was left out.
+fn answer_of_prepared(
+    alloc: Global,
+    from: &mut impl Source,
+    dropping: Dropping,
+    output: &str,
+    said: &str,
+) -> Result<Answer, Fail> {
+    let output = bytes_of(alloc, output)?;
+    if said == "-" {
+        return Ok(answer(alloc, from, dropping, &output, ""));
     }
+    let line = format!(in alloc; "{NAME}: left out {said}\n")?;
+    Ok(answer(alloc, from, dropping, &output, &line))
 }
 
-/// The number and the offset of a refusal, where a row says one.
-fn refused(answer: &str) -> Option<(u8, usize)> {
-    let (number, at) = answer.split_once('@')?;
-    Some((number.parse().ok()?, at.parse().ok()?))
+/// What stands in a row behind its name: what is left out, the file, what comes of it, and what is said.
+fn fields_of(row: &str) -> [&str; 4] {
+    let mut fields = row.split(" | ").skip(1);
+    [
+        fields.next().unwrap_or(""),
+        fields.next().unwrap_or(""),
+        fields.next().unwrap_or(""),
+        fields.next().unwrap_or(""),
+    ]
 }
 
-/// Asserts what one row says.
-fn expect_row(rt: &impl Abort, alloc: Global, row: &str) -> Result<(), Fail> {
-    let (name, rest) = row.split_once(" | ").ok_or("a row has a word")?;
-    let (word, rest) = rest.split_once(" | ").ok_or("a row has a file")?;
-    let (file, rest) = rest.split_once(" | ").ok_or("a row has an answer")?;
-    let (answer, said) = rest.split_once(" | ").ok_or("a row has a line")?;
+/// The status that a row says, and what comes of its file.
+fn answer_of_row(alloc: Global, row: &str) -> Result<(u8, Answer), Fail> {
+    let [word, file, output, said] = fields_of(row);
+    let dropping = dropping_of(word);
     let input = bytes_of(alloc, file)?;
-    let mut from = SliceSource::new(&input, INPUT_MAX);
-    if let Some(refusal) = refused(answer) {
-        expect(rt, alloc, name, &mut from, dropping_of(word), Err(refusal));
-        return Ok(());
+    let from = &mut SliceSource::new(&input, INPUT_MAX);
+    match output.split_once('@') {
+        Some((number, at)) => Ok((1, answer_of_refused(alloc, from, dropping, number, at)?)),
+        None => Ok((0, answer_of_prepared(alloc, from, dropping, output, said)?)),
     }
-    let output = bytes_of(alloc, answer)?;
-    expect(
-        rt,
-        alloc,
-        name,
-        &mut from,
-        dropping_of(word),
-        Ok((&output, said)),
-    );
-    Ok(())
 }
 
 #[test]
 fn each_row(rt: HostRuntime) -> Result<(), Fail> {
     for row in ROWS.lines() {
-        expect_row(&rt, rt.alloc(), row)?;
+        let (status, answer) = answer_of_row(rt.alloc(), row)?;
+        assert_eq!(rt; answer, (status, true, true), "{row}");
     }
     Ok(())
 }
