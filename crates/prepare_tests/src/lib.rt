@@ -7,6 +7,8 @@ mod block_rows;
 #[cfg(test)]
 mod blocks;
 #[cfg(test)]
+mod devices;
+#[cfg(test)]
 mod runs;
 #[cfg(test)]
 mod signatures;

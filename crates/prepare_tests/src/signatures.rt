@@ -1,13 +1,13 @@
 //! Files with a signature. The values are those that zlib 1.2.13 gives of all bytes before them, and sums of these; each file
 //! is a front and an END by either scheme.
 
+use crate::devices::Failing;
 use oas_canon::{Limits, PROFILE, ReaderSource, SliceSource, Source, Why};
 use oas_narrow::{Dropping, Place, Rejection};
 use oas_prepare::prepare;
 use oas_wide::WideWhy;
 use std::alloc::{AllocError, Global};
-use std::io;
-use std::io::{ErrorKind, Read};
+use std::process::Abort;
 use std::test::Fail;
 
 /// The magic, START with unit 1000, and one cell `A` with one rectangle.
@@ -53,116 +53,148 @@ fn prepared<S: Source>(alloc: Global, from: &mut S) -> Result<Vec<u8>, Rejection
     Ok(out)
 }
 
-/// Whether a file is refused there, by that reason.
-fn is_refused(alloc: Global, file: &[u8], at: u64, why: WideWhy) -> bool {
-    let expected = Rejection {
-        place: Place::File(at),
-        why,
-    };
+/// Where and why a file isn't prepared; None where it is.
+fn refused(alloc: Global, file: &[u8]) -> Option<(Place, WideWhy)> {
     let mut from = SliceSource::new(file, 1000);
-    matches!(prepared(alloc, &mut from), Err(rejection) if rejection == expected)
+    let rejection = prepared(alloc, &mut from).err()?;
+    Some((rejection.place, rejection.why))
+}
+
+/// The first front, and an END without a signature.
+fn canonical(alloc: Global) -> Result<Vec<u8>, AllocError> {
+    let mut file = Vec::from_slice(alloc, &FRONT)?;
+    file.extend_from_slice(&[0x02, 0xFC, 0x01])?;
+    file.extend_from_slice(&[0; 253])?;
+    Ok(file)
+}
+
+/// Whether the first front is prepared with that signature, and how many bytes are read.
+fn is_prepared(alloc: Global, scheme: u8, signature: u32) -> Result<(bool, u64), AllocError> {
+    let canonical = canonical(alloc)?;
+    let file = signed(alloc, &FRONT, scheme, signature)?;
+    let mut from = SliceSource::new(&file, 1000);
+    let is_canonical = prepared(alloc, &mut from).is_ok_and(|bytes| bytes == canonical);
+    Ok((is_canonical, from.at()))
 }
 
 #[test]
 fn right_ones(rt: HostRuntime) -> Result<(), Fail> {
-    let alloc = rt.alloc();
-    let mut canonical = Vec::from_slice(alloc, &FRONT)?;
-    canonical.extend_from_slice(&[0x02, 0xFC, 0x01])?;
-    canonical.extend_from_slice(&[0; 253])?;
     for (scheme, signature) in [(1, CRC), (2, SUM)] {
-        let file = signed(alloc, &FRONT, scheme, signature)?;
-        let mut from = SliceSource::new(&file, 1000);
-        assert!(rt;
-            matches!(prepared(alloc, &mut from), Ok(bytes) if bytes.as_slice() == canonical.as_slice())
-        );
-        assert_eq!(rt; from.at(), 301);
+        let found = is_prepared(rt.alloc(), scheme, signature)?;
+        assert_eq!(rt; found, (true, 301), "{scheme}");
     }
     Ok(())
 }
+
+/// Schemes and wrong signatures: of the bytes from START on, of those before END, of those before the scheme, of the other
+/// scheme, and the right one with its bytes the other way round.
+const WRONG: [(u8, u32); 10] = [
+    (1, 12345),
+    (1, 0x2AAD_0B1D),
+    (1, 0x1683_686C),
+    (1, SUM),
+    (1, 0x4A9C_EF62),
+    (2, 12345),
+    (2, 0x37D),
+    (2, 0x691),
+    (2, CRC),
+    (2, 0x9306_0000),
+];
 
 #[test]
 fn wrong_ones(rt: HostRuntime) -> Result<(), Fail> {
-    let alloc = rt.alloc();
-    // Of the bytes from START on, of those before END, of those before the scheme, of the other scheme, and the right one
-    // with its bytes the other way round.
-    let crcs = [12345, 0x2AAD_0B1D, 0x1683_686C, SUM, 0x4A9C_EF62];
-    for crc in crcs {
-        let file = signed(alloc, &FRONT, 1, crc)?;
-        assert!(rt; is_refused(alloc, &file, 45, WideWhy::Checksum), "{crc:x}");
-    }
-    for sum in [12345, 0x37D, 0x691, CRC, 0x9306_0000] {
-        let file = signed(alloc, &FRONT, 2, sum)?;
-        assert!(rt; is_refused(alloc, &file, 45, WideWhy::Checksum), "{sum:x}");
-    }
-    for (scheme, signature) in [(1, CRC), (2, SUM)] {
-        let mut file = signed(alloc, &FRONT, scheme, signature)?;
-        // One bit of the rectangle's height.
-        if let Some(height) = file.get_mut(42) {
-            *height ^= 4;
-        }
-        assert!(rt; is_refused(alloc, &file, 45, WideWhy::Checksum));
+    for (scheme, signature) in WRONG {
+        let found = refused(rt.alloc(), &signed(rt.alloc(), &FRONT, scheme, signature)?);
+        let wanted = (Place::File(45), WideWhy::Checksum);
+        assert_eq!(rt; found, Some(wanted), "{signature:x}");
     }
     Ok(())
 }
 
+/// Where and why a file isn't prepared in which one bit of the rectangle's height is the other one.
+fn refused_height(
+    alloc: Global,
+    scheme: u8,
+    signature: u32,
+) -> Result<Option<(Place, WideWhy)>, AllocError> {
+    let mut file = signed(alloc, &FRONT, scheme, signature)?;
+    if let Some(height) = file.get_mut(42) {
+        *height ^= 4;
+    }
+    Ok(refused(alloc, &file))
+}
+
 #[test]
-fn before_the_records_of_the_end(rt: HostRuntime) -> Result<(), Fail> {
-    let alloc = rt.alloc();
-    let unknown = WideWhy::Profile(Why::UnknownReference);
-    let rows = [
-        (1, 0xAE5E_B578, unknown),
-        (1, 0xAE5E_B579, WideWhy::Checksum),
-        (2, 0x650, unknown),
-        (2, 0x651, WideWhy::Checksum),
-    ];
-    for (scheme, signature, why) in rows {
-        let file = signed(alloc, &UNNAMED, scheme, signature)?;
-        assert!(rt; is_refused(alloc, &file, 44, why), "{signature:x}");
+fn one_wrong_bit(rt: HostRuntime) -> Result<(), Fail> {
+    for (scheme, signature) in [(1, CRC), (2, SUM)] {
+        let found = refused_height(rt.alloc(), scheme, signature)?;
+        let wanted = (Place::File(45), WideWhy::Checksum);
+        assert_eq!(rt; found, Some(wanted), "{scheme}");
     }
     Ok(())
+}
+
+/// Schemes and signatures of the second front, and why it isn't prepared.
+const UNNAMED_ONES: [(u8, u32, WideWhy); 4] = [
+    (1, 0xAE5E_B578, WideWhy::Profile(Why::UnknownReference)),
+    (1, 0xAE5E_B579, WideWhy::Checksum),
+    (2, 0x650, WideWhy::Profile(Why::UnknownReference)),
+    (2, 0x651, WideWhy::Checksum),
+];
+
+#[test]
+fn before_the_records_of_the_end(rt: HostRuntime) -> Result<(), Fail> {
+    for (scheme, signature, why) in UNNAMED_ONES {
+        let found = refused(
+            rt.alloc(),
+            &signed(rt.alloc(), &UNNAMED, scheme, signature)?,
+        );
+        assert_eq!(rt; found, Some((Place::File(44), why)), "{signature:x}");
+    }
+    Ok(())
+}
+
+/// Why a file isn't prepared that is a byte too short, and one that is a byte too long.
+fn refused_lengths(
+    alloc: Global,
+    scheme: u8,
+    signature: u32,
+) -> Result<[Option<(Place, WideWhy)>; 2], AllocError> {
+    let mut file = signed(alloc, &FRONT, scheme, signature)?;
+    let short = refused(alloc, file.get(..300).unwrap_or(&[]));
+    file.push(0)?;
+    Ok([short, refused(alloc, &file)])
 }
 
 #[test]
 fn behind_the_end(rt: HostRuntime) -> Result<(), Fail> {
-    let alloc = rt.alloc();
+    let wanted = [
+        Some((Place::File(45), WideWhy::Profile(Why::Truncated))),
+        Some((Place::File(301), WideWhy::Profile(Why::TrailingBytes))),
+    ];
     for (scheme, signature) in [(1, CRC), (2, SUM), (2, 12345)] {
-        let mut file = signed(alloc, &FRONT, scheme, signature)?;
-        let short = file.get(..300).unwrap_or(&[]);
-        assert!(rt; is_refused(alloc, short, 45, WideWhy::Profile(Why::Truncated)));
-        file.push(0)?;
-        assert!(rt; is_refused(alloc, &file, 301, WideWhy::Profile(Why::TrailingBytes)));
+        let found = refused_lengths(rt.alloc(), scheme, signature)?;
+        assert_eq!(rt; found, wanted, "{signature:x}");
     }
     Ok(())
 }
 
-/// Gives its bytes, and then fails.
-#[derive(Drop)]
-struct Failing<'a> {
-    rest: &'a [u8],
-}
-
-impl Read for Failing<'_> {
-    fn read(&mut self, buf: &mut [u8]) -> io::Result<usize> {
-        if self.rest.is_empty() {
-            return Err(io::Error::from(ErrorKind::Other));
-        }
-        let count = self.rest.len().min(buf.len());
-        let (now, later) = self.rest.split_at(count);
-        buf[..count].copy_from_slice(now);
-        self.rest = later;
-        Ok(count)
+/// Why a file isn't prepared of which a reader gives so many bytes.
+fn why_of_reader(alloc: Global, count: usize) -> Result<Option<WideWhy>, Fail> {
+    let file = signed(alloc, &FRONT, 1, CRC)?;
+    let rest = file.get(..count).unwrap_or(&[]);
+    let mut from = ReaderSource::new(alloc, Failing { rest }, 1000)?;
+    match prepared(alloc, &mut from) {
+        Ok(_) => Ok(None),
+        Err(rejection) => Ok(Some(rejection.why)),
     }
 }
 
 #[test]
 fn a_device_that_fails(rt: HostRuntime) -> Result<(), Fail> {
-    let alloc = rt.alloc();
-    let file = signed(alloc, &FRONT, 1, CRC)?;
-    for length in 0..=file.len() {
-        let (rest, _) = file.split_at(length);
-        let mut from = ReaderSource::new(alloc, Failing { rest }, 1000)?;
-        let why = WideWhy::Profile(Why::Read);
-        assert!(rt; matches!(prepared(alloc, &mut from), Err(rejection) if rejection.why == why));
+    for count in 0..=301usize {
+        let found = why_of_reader(rt.alloc(), count)?;
+        assert_eq!(rt; found, Some(WideWhy::Profile(Why::Read)), "{count}");
     }
     Ok(())
 }
