@@ -1,240 +1,231 @@
 //! Placements and texts that come next to one of their kind, judged by their fields alone and as elements.
 
+use self::Step::{Drawn, Next};
+use crate::elements::{Plain, label, name};
 use oas_form::FormJudge;
-use oas_layout::{Element, Turns};
-use oas_num::{Label, Name, SliceSource, Spelled, Why};
+use oas_layout::Turns;
 use std::alloc::Global;
-use std::test::Fail;
 
-/// The name that was spelled so.
-fn name(alloc: Global, spelled: &[u8]) -> Result<Name, Why> {
-    Name::read(alloc, &mut SliceSource::new(spelled, 1000))
+/// What a judge is given.
+#[derive(Clone, Copy)]
+enum Step {
+    /// An element.
+    Drawn(Plain),
+    /// The fields of a placement or of a text.
+    Next(Plain),
 }
 
-/// The string that was spelled so.
-fn label(alloc: Global, spelled: &[u8]) -> Result<Label, Why> {
-    Label::read(alloc, &mut SliceSource::new(spelled, 1000))
-}
+/// A placement, and second ones with whether a judge holds after the first and then them.
+const PLACEMENT: Plain = Plain::Placement(b"\x02BB", (5, 5), Turns::T1, false);
 
-/// A placement of `BB`.
-fn placement(alloc: Global, x: i64, y: i64, turns: Turns, flip: bool) -> Result<Element, Why> {
-    Ok(Element::placement(name(alloc, b"\x02BB")?, x, y, turns, flip))
-}
+const SECOND_PLACEMENTS: [(Plain, bool); 16] = [
+    (Plain::Placement(b"\x02BB", (5, 5), Turns::T1, false), true),
+    (Plain::Placement(b"\x02BB", (5, 5), Turns::T1, true), true),
+    (Plain::Placement(b"\x02BB", (5, 5), Turns::T3, false), true),
+    (Plain::Placement(b"\x02BB", (5, 6), Turns::T0, false), true),
+    (Plain::Placement(b"\x02BB", (6, -7), Turns::T0, false), true),
+    (Plain::Placement(b"\x02BB", (5, 5), Turns::T0, true), false),
+    (Plain::Placement(b"\x02BB", (5, 4), Turns::T3, true), false),
+    (Plain::Placement(b"\x02BB", (4, 9), Turns::T3, true), false),
+    (
+        Plain::Placement(b"\x02BB", (i64::MIN, i64::MAX), Turns::T1, false),
+        false,
+    ),
+    (Plain::Placement(b"\x01C", (4, 4), Turns::T0, false), true),
+    (Plain::Placement(b"\x02BC", (4, 4), Turns::T0, false), true),
+    (Plain::Placement(b"\x03BBA", (4, 4), Turns::T0, false), true),
+    (Plain::Placement(b"\x01B", (6, 6), Turns::T3, true), false),
+    (Plain::Placement(b"\x02BA", (6, 6), Turns::T3, true), false),
+    (Plain::Placement(b"\x03BAZ", (6, 6), Turns::T3, true), false),
+    (
+        Plain::Placement(b"\x09AZZZZZZZZ", (6, 6), Turns::T3, true),
+        false,
+    ),
+];
 
-/// A text `Hi`.
-fn text(alloc: Global, layers: (u64, u64), at: (i64, i64)) -> Result<Element, Why> {
-    let label = label(alloc, b"\x02Hi")?;
-    Ok(Element::text(label, layers.0, layers.1, at.0, at.1))
-}
+/// A text, and second ones with whether a judge holds after the first and then them.
+const TEXT: Plain = Plain::Text(b"\x02Hi", (3, 2), (5, 5));
 
-/// A judge whose latest element is this one.
-fn behind(element: Element) -> FormJudge {
-    let mut judge = FormJudge::new();
-    judge.draw_spelled(element);
-    judge
-}
+const SECOND_TEXTS: [(Plain, bool); 15] = [
+    (Plain::Text(b"\x02Hi", (3, 2), (5, 5)), true),
+    (Plain::Text(b"\x02Hi", (3, 2), (5, 6)), true),
+    (Plain::Text(b"\x02Hi", (3, 2), (6, -7)), true),
+    (Plain::Text(b"\x02Hi", (3, 3), (-7, -7)), true),
+    (Plain::Text(b"\x02Hi", (4, 0), (-7, -7)), true),
+    (Plain::Text(b"\x02Hi", (3, 2), (5, 4)), false),
+    (Plain::Text(b"\x02Hi", (3, 1), (9, 9)), false),
+    (Plain::Text(b"\x02Hi", (2, 9), (9, 9)), false),
+    (Plain::Text(b"\x01I", (0, 0), (4, 4)), true),
+    (Plain::Text(b"\x02Hj", (0, 0), (4, 4)), true),
+    (Plain::Text(b"\x03Hi ", (0, 0), (4, 4)), true),
+    (Plain::Text(b"\x00", (9, 9), (9, 9)), false),
+    (Plain::Text(b"\x01H", (9, 9), (9, 9)), false),
+    (Plain::Text(b"\x02Hh", (9, 9), (9, 9)), false),
+    (Plain::Text(b"\x03Hhi", (9, 9), (9, 9)), false),
+];
 
-/// Judges a placement at 0, 0 of the cell of the name that was spelled so, by its fields; what the judge answers.
-fn place(alloc: Global, judge: &mut FormJudge, spelled: &[u8]) -> Option<bool> {
-    match name(alloc, spelled) {
-        Ok(name) => Some(judge.place_next(name.as_bytes(), (0, 0), Turns::T0, false)),
-        Err(_) => None,
+/// A placement and a text that come late.
+const LATE_PLACEMENT: Plain = Plain::Placement(b"\x02BB", (9, 9), Turns::T3, true);
+
+const LATE_TEXT: Plain = Plain::Text(b"\x02Hi", (9, 9), (9, 9));
+
+/// Placements at 0, 0.
+const OF_BB: Plain = Plain::Placement(b"\x02BB", (0, 0), Turns::T0, false);
+
+const OF_MANY_BS: Plain = Plain::Placement(b"\x09BBBBBBBBB", (0, 0), Turns::T0, false);
+
+const OF_C: Plain = Plain::Placement(b"\x01C", (0, 0), Turns::T0, false);
+
+const OF_HI: Plain = Plain::Placement(b"\x02Hi", (0, 0), Turns::T0, false);
+
+/// Texts at 0, 0.
+const SAYS_BB: Plain = Plain::Text(b"\x02BB", (0, 0), (0, 0));
+
+const SAYS_HI: Plain = Plain::Text(b"\x02Hi", (0, 0), (0, 0));
+
+const SAYS_MORE: Plain = Plain::Text(b"\x09Hiiiiiiii", (0, 0), (0, 0));
+
+const SAYS_I: Plain = Plain::Text(b"\x01I", (0, 0), (0, 0));
+
+/// Steps, each with whether it is judged and whether the judge then holds.
+const ROWS: [(&str, &[(Step, bool, bool)]); 6] = [
+    (
+        "the placement that came next is the latest",
+        &[
+            (Drawn(LATE_PLACEMENT), true, true),
+            (Next(OF_MANY_BS), true, true),
+            (Next(OF_C), true, true),
+            (Next(OF_C), true, true),
+            (Drawn(LATE_PLACEMENT), true, false),
+        ],
+    ),
+    (
+        "the text that came next is the latest",
+        &[
+            (Drawn(LATE_TEXT), true, true),
+            (Next(SAYS_MORE), true, true),
+            (Next(SAYS_I), true, true),
+            (Next(SAYS_I), true, true),
+            (Drawn(LATE_TEXT), true, false),
+        ],
+    ),
+    (
+        "nothing comes next to no element",
+        &[
+            (Next(OF_BB), false, true),
+            (Next(SAYS_HI), false, true),
+            (
+                Drawn(Plain::Placement(b"\x02BB", (-9, 0), Turns::T0, false)),
+                true,
+                true,
+            ),
+        ],
+    ),
+    (
+        "a text next to a placement changes nothing",
+        &[
+            (Drawn(PLACEMENT), true, true),
+            (Next(SAYS_BB), false, true),
+            (Drawn(PLACEMENT), true, true),
+            (Next(SAYS_BB), false, true),
+            (
+                Drawn(Plain::Placement(b"\x02BB", (5, 4), Turns::T1, false)),
+                true,
+                false,
+            ),
+        ],
+    ),
+    (
+        "a placement next to a text changes nothing",
+        &[
+            (Drawn(TEXT), true, true),
+            (Next(OF_HI), false, true),
+            (Drawn(TEXT), true, true),
+            (Next(OF_HI), false, true),
+            (Drawn(Plain::Text(b"\x02Hi", (3, 2), (5, 4))), true, false),
+        ],
+    ),
+    (
+        "neither comes next to a rectangle",
+        &[
+            (Drawn(Plain::Rectangle(1)), true, true),
+            (Next(OF_BB), false, true),
+            (Next(SAYS_HI), false, true),
+            (Drawn(Plain::Rectangle(1)), true, true),
+        ],
+    ),
+];
+
+/// Judges a placement or a text by its fields, and answers whether it was judged.
+fn follow(alloc: Global, judge: &mut FormJudge, next: Plain) -> Option<bool> {
+    match next {
+        Plain::Placement(spelled, at, turns, flip) => {
+            let name = name(alloc, spelled)?;
+            Some(judge.place_next(name.as_bytes(), at, turns, flip))
+        }
+        Plain::Text(spelled, layers, at) => {
+            let label = label(alloc, spelled)?;
+            Some(judge.write_next(label.as_bytes(), layers, at))
+        }
+        _ => None,
     }
 }
 
-/// Judges a text at 0, 0 of the string that was spelled so, by its fields; what the judge answers.
-fn write(alloc: Global, judge: &mut FormJudge, spelled: &[u8]) -> Option<bool> {
-    match label(alloc, spelled) {
-        Ok(label) => Some(judge.write_next(label.as_bytes(), (0, 0), (0, 0))),
-        Err(_) => None,
+/// Judges an element, and answers whether there is such a one.
+fn draw(alloc: Global, judge: &mut FormJudge, element: Plain) -> Option<bool> {
+    judge.draw_spelled(element.element(alloc)?);
+    Some(true)
+}
+
+/// Takes a step, and answers whether it was judged and whether the judge then holds.
+fn take(alloc: Global, judge: &mut FormJudge, step: Step) -> (Option<bool>, bool) {
+    let is_judged = match step {
+        Drawn(element) => draw(alloc, judge, element),
+        Next(next) => follow(alloc, judge, next),
+    };
+    (is_judged, judge.holds())
+}
+
+/// How many of the steps, taken one after another, are answered as they are given.
+fn steps_right(alloc: Global, steps: &[(Step, bool, bool)]) -> usize {
+    let mut judge = FormJudge::new();
+    let mut right = 0usize;
+    for (step, is_judged, holds) in steps {
+        if take(alloc, &mut judge, *step) == (Some(*is_judged), *holds) {
+            right = right.saturating_add(1);
+        }
+    }
+    right
+}
+
+#[test]
+fn each_row(rt: HostRuntime) {
+    for (name, steps) in ROWS {
+        assert_eq!(rt; steps_right(rt.alloc(), steps), steps.len(), "{name}");
     }
 }
 
-/// Judges a placement of `BB` as an element, and answers whether the judge then holds.
-fn draw_placement(
-    alloc: Global,
-    judge: &mut FormJudge,
-    x: i64,
-    y: i64,
-    turns: Turns,
-    flip: bool,
-) -> Option<bool> {
-    match placement(alloc, x, y, turns, flip) {
-        Ok(element) => judge.draw_spelled(element),
-        Err(_) => return None,
+/// How many of two elements are judged as they are given, the second by its fields, and the second as an element.
+fn pair_right(alloc: Global, first: Plain, second: Plain, holds: bool) -> [usize; 2] {
+    let first = (Drawn(first), true, true);
+    [
+        steps_right(alloc, &[first, (Next(second), true, holds)]),
+        steps_right(alloc, &[first, (Drawn(second), true, holds)]),
+    ]
+}
+
+#[test]
+fn placements_next_are_judged_as_drawn(rt: HostRuntime) {
+    for (row, (second, holds)) in SECOND_PLACEMENTS.iter().enumerate() {
+        let right = pair_right(rt.alloc(), PLACEMENT, *second, *holds);
+        assert_eq!(rt; right, [2, 2], "row {row}");
     }
-    Some(judge.holds())
 }
 
-/// Judges a text `Hi` as an element, and answers whether the judge then holds.
-fn draw_text(
-    alloc: Global,
-    judge: &mut FormJudge,
-    layers: (u64, u64),
-    at: (i64, i64),
-) -> Option<bool> {
-    match text(alloc, layers, at) {
-        Ok(element) => judge.draw_spelled(element),
-        Err(_) => return None,
+#[test]
+fn texts_next_are_judged_as_drawn(rt: HostRuntime) {
+    for (row, (second, holds)) in SECOND_TEXTS.iter().enumerate() {
+        let right = pair_right(rt.alloc(), TEXT, *second, *holds);
+        assert_eq!(rt; right, [2, 2], "row {row}");
     }
-    Some(judge.holds())
-}
-
-/// Whether a judge holds after these two elements.
-fn holds_behind(first: Element, second: Element) -> bool {
-    let mut judge = behind(first);
-    judge.draw_spelled(second);
-    judge.holds()
-}
-
-/// Whether a judge holds after an element and a placement that it judges by its fields; `None` where it doesn't judge it.
-fn holds_next_to(
-    first: Element,
-    name: &Name,
-    at: (i64, i64),
-    turns: Turns,
-    flip: bool,
-) -> Option<bool> {
-    let mut judge = behind(first);
-    let is_judged = judge.place_next(name.as_bytes(), at, turns, flip);
-    is_judged.then_some(judge.holds())
-}
-
-/// The same of a text.
-fn holds_text_next_to(
-    first: Element,
-    label: &Label,
-    layers: (u64, u64),
-    at: (i64, i64),
-) -> Option<bool> {
-    let mut judge = behind(first);
-    let is_judged = judge.write_next(label.as_bytes(), layers, at);
-    is_judged.then_some(judge.holds())
-}
-
-#[test]
-fn placements_next_are_judged_as_drawn(rt: HostRuntime) -> Result<(), Fail> {
-    let alloc = rt.alloc();
-    let seconds: [(&[u8], i64, i64, Turns, bool, bool); 16] = [
-        (b"\x02BB", 5, 5, Turns::T1, false, true),
-        (b"\x02BB", 5, 5, Turns::T1, true, true),
-        (b"\x02BB", 5, 5, Turns::T3, false, true),
-        (b"\x02BB", 5, 6, Turns::T0, false, true),
-        (b"\x02BB", 6, -7, Turns::T0, false, true),
-        (b"\x02BB", 5, 5, Turns::T0, true, false),
-        (b"\x02BB", 5, 4, Turns::T3, true, false),
-        (b"\x02BB", 4, 9, Turns::T3, true, false),
-        (b"\x02BB", i64::MIN, i64::MAX, Turns::T1, false, false),
-        (b"\x01C", 4, 4, Turns::T0, false, true),
-        (b"\x02BC", 4, 4, Turns::T0, false, true),
-        (b"\x03BBA", 4, 4, Turns::T0, false, true),
-        (b"\x01B", 6, 6, Turns::T3, true, false),
-        (b"\x02BA", 6, 6, Turns::T3, true, false),
-        (b"\x03BAZ", 6, 6, Turns::T3, true, false),
-        (b"\x09AZZZZZZZZ", 6, 6, Turns::T3, true, false),
-    ];
-    for (spelled, x, y, turns, flip, holds) in seconds {
-        let name = name(alloc, spelled)?;
-        let first = placement(alloc, 5, 5, Turns::T1, false)?;
-        assert!(rt; holds_next_to(first, &name, (x, y), turns, flip) == Some(holds));
-        let first = placement(alloc, 5, 5, Turns::T1, false)?;
-        assert!(rt; holds_behind(first, Element::placement(name, x, y, turns, flip)) == holds);
-    }
-    Ok(())
-}
-
-#[test]
-fn texts_next_are_judged_as_drawn(rt: HostRuntime) -> Result<(), Fail> {
-    let alloc = rt.alloc();
-    let seconds: [(&[u8], (u64, u64), (i64, i64), bool); 15] = [
-        (b"\x02Hi", (3, 2), (5, 5), true),
-        (b"\x02Hi", (3, 2), (5, 6), true),
-        (b"\x02Hi", (3, 2), (6, -7), true),
-        (b"\x02Hi", (3, 3), (-7, -7), true),
-        (b"\x02Hi", (4, 0), (-7, -7), true),
-        (b"\x02Hi", (3, 2), (5, 4), false),
-        (b"\x02Hi", (3, 1), (9, 9), false),
-        (b"\x02Hi", (2, 9), (9, 9), false),
-        (b"\x01I", (0, 0), (4, 4), true),
-        (b"\x02Hj", (0, 0), (4, 4), true),
-        (b"\x03Hi ", (0, 0), (4, 4), true),
-        (b"\x00", (9, 9), (9, 9), false),
-        (b"\x01H", (9, 9), (9, 9), false),
-        (b"\x02Hh", (9, 9), (9, 9), false),
-        (b"\x03Hhi", (9, 9), (9, 9), false),
-    ];
-    for (spelled, layers, at, holds) in seconds {
-        let label = label(alloc, spelled)?;
-        let first = text(alloc, (3, 2), (5, 5))?;
-        assert!(rt; holds_text_next_to(first, &label, layers, at) == Some(holds));
-        let first = text(alloc, (3, 2), (5, 5))?;
-        let second = Element::text(label, layers.0, layers.1, at.0, at.1);
-        assert!(rt; holds_behind(first, second) == holds);
-    }
-    Ok(())
-}
-
-#[test]
-fn the_placement_that_came_next_is_the_latest(rt: HostRuntime) {
-    let alloc = rt.alloc();
-    let mut judge = FormJudge::new();
-    assert!(rt; draw_placement(alloc, &mut judge, 9, 9, Turns::T3, true) == Some(true));
-    assert!(rt; place(alloc, &mut judge, b"\x09BBBBBBBBB") == Some(true));
-    assert!(rt; place(alloc, &mut judge, b"\x01C") == Some(true));
-    assert!(rt; place(alloc, &mut judge, b"\x01C") == Some(true));
-    assert!(rt; judge.holds());
-    assert!(rt; draw_placement(alloc, &mut judge, 9, 9, Turns::T3, true) == Some(false));
-}
-
-#[test]
-fn the_text_that_came_next_is_the_latest(rt: HostRuntime) {
-    let alloc = rt.alloc();
-    let mut judge = FormJudge::new();
-    assert!(rt; draw_text(alloc, &mut judge, (9, 9), (9, 9)) == Some(true));
-    assert!(rt; write(alloc, &mut judge, b"\x09Hiiiiiiii") == Some(true));
-    assert!(rt; write(alloc, &mut judge, b"\x01I") == Some(true));
-    assert!(rt; write(alloc, &mut judge, b"\x01I") == Some(true));
-    assert!(rt; judge.holds());
-    assert!(rt; draw_text(alloc, &mut judge, (9, 9), (9, 9)) == Some(false));
-}
-
-#[test]
-fn nothing_comes_next_to_no_element(rt: HostRuntime) {
-    let alloc = rt.alloc();
-    let mut judge = FormJudge::new();
-    assert!(rt; place(alloc, &mut judge, b"\x02BB") == Some(false));
-    assert!(rt; write(alloc, &mut judge, b"\x02Hi") == Some(false));
-    assert!(rt; draw_placement(alloc, &mut judge, -9, 0, Turns::T0, false) == Some(true));
-}
-
-#[test]
-fn a_text_next_to_a_placement_changes_nothing(rt: HostRuntime) {
-    let alloc = rt.alloc();
-    let mut judge = FormJudge::new();
-    assert!(rt; draw_placement(alloc, &mut judge, 5, 5, Turns::T1, false) == Some(true));
-    assert!(rt; write(alloc, &mut judge, b"\x02BB") == Some(false));
-    assert!(rt; draw_placement(alloc, &mut judge, 5, 5, Turns::T1, false) == Some(true));
-    assert!(rt; write(alloc, &mut judge, b"\x02BB") == Some(false));
-    assert!(rt; draw_placement(alloc, &mut judge, 5, 4, Turns::T1, false) == Some(false));
-}
-
-#[test]
-fn a_placement_next_to_a_text_changes_nothing(rt: HostRuntime) {
-    let alloc = rt.alloc();
-    let mut judge = FormJudge::new();
-    assert!(rt; draw_text(alloc, &mut judge, (3, 2), (5, 5)) == Some(true));
-    assert!(rt; place(alloc, &mut judge, b"\x02Hi") == Some(false));
-    assert!(rt; draw_text(alloc, &mut judge, (3, 2), (5, 5)) == Some(true));
-    assert!(rt; place(alloc, &mut judge, b"\x02Hi") == Some(false));
-    assert!(rt; draw_text(alloc, &mut judge, (3, 2), (5, 4)) == Some(false));
-}
-
-#[test]
-fn neither_comes_next_to_a_rectangle(rt: HostRuntime) {
-    let alloc = rt.alloc();
-    let mut judge = behind(Element::rectangle(1, 0, 10, 20, 0, 0));
-    assert!(rt; place(alloc, &mut judge, b"\x02BB") == Some(false));
-    assert!(rt; write(alloc, &mut judge, b"\x02Hi") == Some(false));
-    judge.draw_spelled(Element::rectangle(1, 0, 10, 20, 0, 0));
-    assert!(rt; judge.holds());
 }

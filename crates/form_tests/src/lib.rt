@@ -3,6 +3,8 @@
 #![tactic(auto)]
 
 #[cfg(test)]
+mod elements;
+#[cfg(test)]
 mod following;
 #[cfg(test)]
 mod judging;
