@@ -6,14 +6,12 @@ mod memory;
 mod rekeying;
 
 use oas_canon::{
-    Limits, ReaderSource, Refusal, Rekeyed, SliceSource, Source, Which, Why, canonicalize,
-    is_canonical, key, rekey, same_files,
+    Limits, ReaderSource, Refusal, SliceSource, Source, Which, Why, canonicalize, is_canonical,
+    key, same_files,
 };
-use std::alloc::{AllocError, Global};
+use std::alloc::Global;
 use std::io;
-use std::io::{ErrorKind, Read, Write};
-use std::process::Abort;
-use std::test::Fail;
+use std::io::{ErrorKind, Read};
 
 /// The magic, START with unit 1000, and one cell `A` with one rectangle.
 const FRONT: [u8; 45] = [
@@ -31,13 +29,29 @@ const KEY: [u8; 32] = [
     0x0B, 0x00, 0xA5, 0x48, 0x80, 0xEA, 0xCF, 0x1B, 0xFE, 0xBA, 0x45, 0xA6, 0xCC, 0x34, 0x8D, 0x77,
 ];
 
+/// A PAD record.
+const PAD: [u8; 1] = [0x00];
+
+/// The id of a RECTANGLE and an info-byte that none has, and what comes of them behind the front.
+const BAD: [u8; 2] = [0x14, 0xFC];
+
+const REFUSAL: Refusal = Refusal {
+    at: 45,
+    why: Why::InfoByte,
+};
+
+/// A file of these bytes, those, and the canonical END.
+fn ended(alloc: Global, front: &[u8], more: &[u8]) -> Option<Vec<u8>> {
+    let mut file = Vec::from_slice(alloc, front).ok()?;
+    file.extend_from_slice(more).ok()?;
+    file.extend_from_slice(&[0x02, 0xFC, 0x01]).ok()?;
+    file.extend_from_slice(&[0; 253]).ok()?;
+    Some(file)
+}
+
 /// A file of that front, these bytes, and the canonical END.
-fn file_of(alloc: Global, more: &[u8]) -> Result<Vec<u8>, AllocError> {
-    let mut file = Vec::from_slice(alloc, &FRONT)?;
-    file.extend_from_slice(more)?;
-    file.extend_from_slice(&[0x02, 0xFC, 0x01])?;
-    file.extend_from_slice(&[0; 253])?;
-    Ok(file)
+fn file_of(alloc: Global, more: &[u8]) -> Option<Vec<u8>> {
+    ended(alloc, &FRONT, more)
 }
 
 /// Gives its bytes, and then fails.
@@ -59,100 +73,139 @@ impl Read for Failing<'_> {
     }
 }
 
-#[test]
-fn a_canonical_file(rt: HostRuntime) -> Result<(), Fail> {
-    let alloc = rt.alloc();
-    let limits = Limits::standard();
+/// What is answered when the file of the front alone is written anew, and whether it is that file again.
+fn written(alloc: Global) -> Option<(Result<u64, Refusal>, bool)> {
     let file = file_of(alloc, &[])?;
     let mut out: Vec<u8> = Vec::new(alloc);
     let mut from = SliceSource::new(&file, 301);
-    assert!(rt; matches!(canonicalize(alloc, &mut from, &mut out, limits), Ok(301)));
-    assert_eq!(rt; out.as_slice(), file.as_slice());
-    let mut from = SliceSource::new(&file, 301);
-    assert!(rt; matches!(is_canonical(alloc, &mut from, limits), Ok(true)));
-    let mut from = SliceSource::new(&file, 301);
-    assert!(rt; matches!(key(alloc, &mut from, limits), Ok(digest) if digest == KEY));
-    Ok(())
+    let count = canonicalize(alloc, &mut from, &mut out, Limits::standard());
+    Some((count, out.as_slice() == file.as_slice()))
+}
+
+/// Whether the file of the front and these bytes is canonical, where so many bytes may be read.
+fn judged(alloc: Global, more: &[u8], limit: u64) -> Option<Result<bool, Refusal>> {
+    let file = file_of(alloc, more)?;
+    let mut from = SliceSource::new(&file, limit);
+    Some(is_canonical(alloc, &mut from, Limits::standard()))
+}
+
+/// The key of that file.
+fn keyed(alloc: Global, more: &[u8], limit: u64) -> Option<Result<[u8; 32], Refusal>> {
+    let file = file_of(alloc, more)?;
+    let mut from = SliceSource::new(&file, limit);
+    Some(key(alloc, &mut from, Limits::standard()))
 }
 
 #[test]
-fn another_spelling(rt: HostRuntime) -> Result<(), Fail> {
-    let alloc = rt.alloc();
-    let limits = Limits::standard();
-    let file = file_of(alloc, &[])?;
-    // A PAD record more.
-    let padded = file_of(alloc, &[0x00])?;
-    let twice = file_of(alloc, &AGAIN)?;
-    let mut from = SliceSource::new(&padded, 1000);
-    assert!(rt; matches!(is_canonical(alloc, &mut from, limits), Ok(false)));
-    let mut from = SliceSource::new(&padded, 1000);
-    assert!(rt; matches!(key(alloc, &mut from, limits), Ok(digest) if digest == KEY));
-    let mut from = SliceSource::new(&twice, 1000);
-    assert!(rt; matches!(is_canonical(alloc, &mut from, limits), Ok(true)));
-    let mut a = SliceSource::new(&file, 1000);
-    let mut b = SliceSource::new(&padded, 1000);
-    assert!(rt; matches!(same_files(alloc, &mut a, &mut b, limits), Ok(true)));
-    let mut a = SliceSource::new(&file, 1000);
-    let mut b = SliceSource::new(&twice, 1000);
-    assert!(rt; matches!(same_files(alloc, &mut a, &mut b, limits), Ok(false)));
-    Ok(())
+fn a_canonical_file_is_written_as_it_is(rt: HostRuntime) {
+    assert_eq!(rt; written(rt.alloc()), Some((Ok(301), true)));
 }
 
 #[test]
-fn a_refused_file(rt: HostRuntime) -> Result<(), Fail> {
+fn each_file_is_judged(rt: HostRuntime) {
     let alloc = rt.alloc();
-    let limits = Limits::standard();
-    let file = file_of(alloc, &[])?;
-    let bad = file_of(alloc, &[0x14, 0xFC])?;
-    let expected = Refusal {
-        at: 45,
-        why: Why::InfoByte,
-    };
-    let mut from = SliceSource::new(&bad, 1000);
-    assert!(rt;
-        matches!(is_canonical(alloc, &mut from, limits), Err(refusal) if refusal == expected)
-    );
-    let mut from = SliceSource::new(&bad, 1000);
-    assert!(rt; matches!(key(alloc, &mut from, limits), Err(refusal) if refusal == expected));
-    let mut a = SliceSource::new(&bad, 1000);
-    let mut b = SliceSource::new(&bad, 1000);
-    assert!(rt;
-        matches!(same_files(alloc, &mut a, &mut b, limits), Err((Which::First, refusal)) if refusal == expected)
-    );
-    assert_eq!(rt; b.at(), 0);
-    let mut a = SliceSource::new(&file, 1000);
-    let mut b = SliceSource::new(&bad, 1000);
-    assert!(rt;
-        matches!(same_files(alloc, &mut a, &mut b, limits), Err((Which::Second, refusal)) if refusal == expected)
-    );
-    assert_eq!(rt; a.at(), 301);
-    Ok(())
+    let found = [
+        judged(alloc, &[], 301),
+        judged(alloc, &PAD, 1000),
+        judged(alloc, &AGAIN, 1000),
+        judged(alloc, &BAD, 1000),
+    ];
+    let wanted = [
+        Some(Ok(true)),
+        Some(Ok(false)),
+        Some(Ok(true)),
+        Some(Err(REFUSAL)),
+    ];
+    assert_eq!(rt; found, wanted);
 }
 
 #[test]
-fn a_device_that_fails(rt: HostRuntime) -> Result<(), Fail> {
+fn each_file_has_its_key(rt: HostRuntime) {
     let alloc = rt.alloc();
-    let limits = Limits::standard();
+    let found = [
+        keyed(alloc, &[], 301),
+        keyed(alloc, &PAD, 1000),
+        keyed(alloc, &BAD, 1000),
+    ];
+    assert_eq!(rt; found, [Some(Ok(KEY)), Some(Ok(KEY)), Some(Err(REFUSAL))]);
+}
+
+/// What is answered of two files, each of the front and such bytes, and how many bytes were read of each.
+fn compared(
+    alloc: Global,
+    more: &[u8],
+    other: &[u8],
+) -> Option<(Result<bool, (Which, Refusal)>, [u64; 2])> {
+    let file = file_of(alloc, more)?;
+    let other = file_of(alloc, other)?;
+    let mut a = SliceSource::new(&file, 1000);
+    let mut b = SliceSource::new(&other, 1000);
+    let same = same_files(alloc, &mut a, &mut b, Limits::standard());
+    Some((same, [a.at(), b.at()]))
+}
+
+#[test]
+fn files_are_the_same_however_they_are_spelled(rt: HostRuntime) {
+    let alloc = rt.alloc();
+    let found = [compared(alloc, &[], &PAD), compared(alloc, &[], &AGAIN)];
+    assert_eq!(rt;
+        found,
+        [Some((Ok(true), [301, 302])), Some((Ok(false), [301, 309]))]
+    );
+}
+
+#[test]
+fn a_refused_file_is_told(rt: HostRuntime) {
+    let alloc = rt.alloc();
+    let found = [compared(alloc, &BAD, &BAD), compared(alloc, &[], &BAD)];
+    let first = Some((Err((Which::First, REFUSAL)), [47, 0]));
+    let second = Some((Err((Which::Second, REFUSAL)), [301, 47]));
+    assert_eq!(rt; found, [first, second]);
+}
+
+/// Why it isn't told whether the first bytes of the file of the front are canonical behind which a device fails, and how
+/// many bytes were read.
+fn judged_failing(alloc: Global, length: usize) -> Option<(Option<Why>, u64)> {
     let file = file_of(alloc, &[])?;
-    for length in 0..file.len() {
-        let mut from = ReaderSource::new(
-            alloc,
-            Failing {
-                rest: &file[..length],
-            },
-            1000,
-        )?;
-        assert!(rt;
-            matches!(is_canonical(alloc, &mut from, limits), Err(refusal) if refusal.why == Why::Read)
-        );
-        assert_eq!(rt; from.at(), length as u64);
+    let rest = file.as_slice().get(..length)?;
+    let mut from = ReaderSource::new(alloc, Failing { rest }, 1000).ok()?;
+    match is_canonical(alloc, &mut from, Limits::standard()) {
+        Ok(_) => Some((None, from.at())),
+        Err(refusal) => Some((Some(refusal.why), from.at())),
     }
-    let mut from = ReaderSource::new(alloc, Failing { rest: &file }, 1000)?;
-    assert!(rt; matches!(key(alloc, &mut from, limits), Err(refusal) if refusal.why == Why::Read));
-    let mut a = ReaderSource::new(alloc, Failing { rest: &file }, 1000)?;
+}
+
+#[test]
+fn a_device_that_fails(rt: HostRuntime) {
+    for length in 0..301usize {
+        let found = judged_failing(rt.alloc(), length);
+        assert_eq!(rt; found, Some((Some(Why::Read), length as u64)));
+    }
+}
+
+/// Why there is no key of that file behind which a device fails.
+fn keyed_failing(alloc: Global) -> Option<Why> {
+    let file = file_of(alloc, &[])?;
+    let mut from = ReaderSource::new(alloc, Failing { rest: &file }, 1000).ok()?;
+    match key(alloc, &mut from, Limits::standard()) {
+        Ok(_) => None,
+        Err(refusal) => Some(refusal.why),
+    }
+}
+
+/// Which of that file behind which a device fails and the same file isn't read, and why.
+fn compared_failing(alloc: Global) -> Option<(Which, Why)> {
+    let file = file_of(alloc, &[])?;
+    let mut a = ReaderSource::new(alloc, Failing { rest: &file }, 1000).ok()?;
     let mut b = SliceSource::new(&file, 1000);
-    assert!(rt;
-        matches!(same_files(alloc, &mut a, &mut b, limits), Err((Which::First, refusal)) if refusal.why == Why::Read)
-    );
-    Ok(())
+    match same_files(alloc, &mut a, &mut b, Limits::standard()) {
+        Ok(_) => None,
+        Err((which, refusal)) => Some((which, refusal.why)),
+    }
+}
+
+#[test]
+fn a_device_that_fails_behind_the_file(rt: HostRuntime) {
+    let found = (keyed_failing(rt.alloc()), compared_failing(rt.alloc()));
+    assert_eq!(rt; found, (Some(Why::Read), Some((Which::First, Why::Read))));
 }

@@ -1,11 +1,12 @@
 //! The keys of cells: what `sha256sum` prints of the files of one cell each.
 
-use super::file_of;
-use oas_canon::{Limits, PROFILE, SliceSource, Why, cell_key, key, read_layout, write_cell_keys};
-use std::alloc::{AllocError, Global};
+use super::{KEY, file_of};
+use oas_canon::{
+    Layout, Limits, PROFILE, Refusal, SliceSource, Why, cell_key, key, read_layout, write_cell_keys,
+};
+use std::alloc::Global;
 use std::io;
 use std::io::Write;
-use std::test::Fail;
 
 /// A CELL record: the name `B`.
 const B: [u8; 3] = [0x0E, 0x01, 0x42];
@@ -36,53 +37,61 @@ impl Write for Narrow {
     }
 }
 
-fn with_room(alloc: Global, room: usize) -> Result<Narrow, AllocError> {
-    Ok(Narrow {
-        took: Vec::with_capacity(alloc, 256)?,
-        room,
-    })
-}
-
-#[test]
-fn each_cell_has_its_line(rt: HostRuntime) -> Result<(), Fail> {
-    let alloc = rt.alloc();
-    let file = file_of(alloc, &B)?;
+/// The layout of the file of the front and these bytes.
+fn layout_of(alloc: Global, more: &[u8]) -> Option<Layout> {
+    let file = file_of(alloc, more)?;
     let mut from = SliceSource::new(&file, 1000);
-    let layout = read_layout(alloc, &mut from, Limits::standard(), PROFILE)?;
-    let mut out = with_room(alloc, 1000)?;
-    assert!(rt; matches!(write_cell_keys(&layout, &mut out), Ok(136)));
-    assert_eq!(rt; out.took.as_slice(), LINES.as_bytes());
-    Ok(())
+    read_layout(alloc, &mut from, Limits::standard(), PROFILE).ok()
+}
+
+/// Writes the keys of the cells `A` and `B` to a writer with so much room: what is answered, how many bytes the writer
+/// took, and whether they are the first of the lines.
+fn written(alloc: Global, room: usize) -> Option<(Result<u64, Refusal>, usize, bool)> {
+    let layout = layout_of(alloc, &B)?;
+    let took = Vec::with_capacity(alloc, 256).ok()?;
+    let mut out = Narrow { took, room };
+    let answer = write_cell_keys(&layout, &mut out);
+    let is_front = LINES.as_bytes().starts_with(out.took.as_slice());
+    Some((answer, out.took.len(), is_front))
 }
 
 #[test]
-fn a_file_of_one_cell_has_its_key(rt: HostRuntime) -> Result<(), Fail> {
-    let alloc = rt.alloc();
+fn each_cell_has_its_line(rt: HostRuntime) {
+    assert_eq!(rt; written(rt.alloc(), 1000), Some((Ok(136), 136, true)));
+}
+
+/// The keys of the cells of the file of the front alone, if there is one, and of that file.
+fn keys(alloc: Global) -> Option<[[u8; 32]; 2]> {
+    let layout = layout_of(alloc, &[])?;
+    if layout.cells() != 1 {
+        return None;
+    }
+    Some([cell_key(&layout, 0), file_key(alloc)?])
+}
+
+/// The key of the file of the front alone.
+fn file_key(alloc: Global) -> Option<[u8; 32]> {
     let file = file_of(alloc, &[])?;
-    let mut from = SliceSource::new(&file, 1000);
-    let layout = read_layout(alloc, &mut from, Limits::standard(), PROFILE)?;
-    let mut again = SliceSource::new(&file, 1000);
-    let own = key(alloc, &mut again, Limits::standard())?;
-    if layout.cells() == 1 {
-        assert_eq!(rt; cell_key(&layout, 0), own);
-    }
-    assert_eq!(rt; layout.cells(), 1);
-    Ok(())
+    key(
+        alloc,
+        &mut SliceSource::new(&file, 1000),
+        Limits::standard(),
+    )
+    .ok()
 }
 
 #[test]
-fn a_writer_that_fails(rt: HostRuntime) -> Result<(), Fail> {
-    let alloc = rt.alloc();
-    let file = file_of(alloc, &B)?;
-    let mut from = SliceSource::new(&file, 1000);
-    let layout = read_layout(alloc, &mut from, Limits::standard(), PROFILE)?;
-    for room in [0, 1, 67, 68, 135] {
-        let mut out = with_room(alloc, room)?;
-        assert!(rt;
-            matches!(write_cell_keys(&layout, &mut out), Err(refusal) if refusal.why == Why::Write && refusal.at == room as u64)
-        );
-        assert_eq!(rt; out.took.len(), room);
-        assert!(rt; LINES.as_bytes().starts_with(out.took.as_slice()));
+fn a_file_of_one_cell_has_its_key(rt: HostRuntime) {
+    assert_eq!(rt; keys(rt.alloc()), Some([KEY; 2]));
+}
+
+#[test]
+fn a_writer_that_fails(rt: HostRuntime) {
+    for room in [0usize, 1, 67, 68, 135] {
+        let refusal = Refusal {
+            at: room as u64,
+            why: Why::Write,
+        };
+        assert_eq!(rt; written(rt.alloc(), room), Some((Err(refusal), room, true)));
     }
-    Ok(())
 }

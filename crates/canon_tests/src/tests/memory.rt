@@ -4,11 +4,13 @@
 //! has a little more memory than the one before. (Under `rt try` the heap can't be filled, and nothing is refused.)
 
 use super::rekeying::{Short, boxed};
-use super::*;
+use super::{AGAIN, file_of};
+use oas_canon::{Limits, Refusal, Rekeyed, SliceSource, Why, is_canonical, key, rekey, same_files};
 use scarce_memory::Hoard;
+use std::alloc::Global;
 
-/// A call under test, and what it answers where memory is there.
-#[derive(Clone, Copy, Debug, PartialEq, Eq)]
+/// A call under test.
+#[derive(Clone, Copy, Debug)]
 enum Call {
     IsCanonical,
     Key,
@@ -16,75 +18,94 @@ enum Call {
     Rekey,
 }
 
-/// Runs the call once, and answers whether memory was refused. Any other refusal, and a wrong answer, is a failure.
-fn is_refused(rt: &impl Abort, alloc: Global, call: Call, file: &[u8], digest: &[u8; 32]) -> bool {
-    let limits = Limits::standard();
+/// Whether two files of these bytes are the same.
+fn is_same(alloc: Global, file: &[u8]) -> Result<bool, Refusal> {
     let mut from = SliceSource::new(file, 10000);
     let mut other = SliceSource::new(file, 10000);
-    let (is_right, why) = match call {
-        Call::IsCanonical => match is_canonical(alloc, &mut from, limits) {
-            Ok(yes) => (yes, None),
-            Err(refusal) => (false, Some(refusal.why)),
-        },
-        Call::Key => match key(alloc, &mut from, limits) {
-            Ok(found) => (found == *digest, None),
-            Err(refusal) => (false, Some(refusal.why)),
-        },
-        Call::SameFiles => match same_files(alloc, &mut from, &mut other, limits) {
-            Ok(same) => (same, None),
-            Err((_, refusal)) => (false, Some(refusal.why)),
-        },
-        Call::Rekey => match rekey(alloc, &mut from, &mut Short { room: 301 }, limits) {
-            Ok(rekeyed) => (rekeyed == Rekeyed::Done(301), None),
-            Err(refusal) => (false, Some(refusal.why)),
-        },
-    };
-    assert!(rt; is_right || why == Some(Why::Memory));
-    !is_right
+    match same_files(alloc, &mut from, &mut other, Limits::standard()) {
+        Ok(same) => Ok(same),
+        Err((_, refusal)) => Err(refusal),
+    }
 }
 
-/// Runs the call on one file with a little more memory each time.
-fn expect_growths(
-    rt: &impl Abort,
+/// Makes the call once, and answers whether what it answers is right.
+fn is_right(alloc: Global, call: Call, file: &[u8], digest: &[u8; 32]) -> Result<bool, Refusal> {
+    let limits = Limits::standard();
+    let mut from = SliceSource::new(file, 10000);
+    match call {
+        Call::IsCanonical => is_canonical(alloc, &mut from, limits),
+        Call::Key => Ok(key(alloc, &mut from, limits)? == *digest),
+        Call::SameFiles => is_same(alloc, file),
+        Call::Rekey => {
+            let rekeyed = rekey(alloc, &mut from, &mut Short { room: 301 }, limits)?;
+            Ok(rekeyed == Rekeyed::Done(301))
+        }
+    }
+}
+
+/// Makes the call with a little more memory each time: how often memory is refused, how often the right thing is answered,
+/// and how often anything else.
+fn counts(
     alloc: Global,
     call: Call,
     file: &[u8],
     digest: &[u8; 32],
-) -> Result<(), Fail> {
-    let mut hoard = Hoard::new(alloc)?;
-    let is_full = hoard.is_full();
+    hoard: &mut Hoard,
+) -> [u64; 3] {
     let mut refused = 0u64;
     let mut done = 0u64;
+    let mut wrong = 0u64;
     for _ in 0..hoard.pieces() {
-        if is_refused(rt, alloc, call, file, digest) {
-            refused = refused.saturating_add(1);
-        } else {
-            done = done.saturating_add(1);
+        match is_right(alloc, call, file, digest) {
+            Ok(true) => done = done.saturating_add(1),
+            Err(
+                Refusal {
+                    why: Why::Memory,
+                    ..
+                },
+            ) => refused = refused.saturating_add(1),
+            _ => wrong = wrong.saturating_add(1),
         }
         hoard.give_back();
     }
-    drop(hoard);
-    assert!(rt; !is_full || refused > 0, "nothing was refused");
-    assert!(rt; !is_full || done > 0, "all was refused");
-    Ok(())
+    [refused, done, wrong]
+}
+
+/// A file with more elements than there is room for at first; of a call that re-keys, a file with a box.
+fn file_for(alloc: Global, call: Call) -> Option<Vec<u8>> {
+    if matches!(call, Call::Rekey) {
+        return boxed(alloc);
+    }
+    let mut rectangles: Vec<u8> = Vec::new(alloc);
+    for _ in 0..150u32 {
+        rectangles.extend_from_slice(&AGAIN).ok()?;
+    }
+    file_of(alloc, &rectangles)
+}
+
+/// What comes of the call with all memory taken and given back little by little: whether no answer is wrong, and, where the
+/// heap can be filled, whether memory is refused and whether the right thing is answered.
+fn at_each_growth(alloc: Global, call: Call) -> Option<[bool; 3]> {
+    let file = file_for(alloc, call)?;
+    let digest = key(
+        alloc,
+        &mut SliceSource::new(&file, 10000),
+        Limits::standard(),
+    )
+    .ok()?;
+    let mut hoard = Hoard::new(alloc).ok()?;
+    let is_full = hoard.is_full();
+    let [refused, done, wrong] = counts(alloc, call, &file, &digest, &mut hoard);
+    Some([wrong == 0, !is_full || refused > 0, !is_full || done > 0])
 }
 
 #[test]
-fn each_growth(rt: HostRuntime) -> Result<(), Fail> {
-    let alloc = rt.alloc();
-    // More bytes than there is room for at first.
-    let mut rectangles: Vec<u8> = Vec::new(alloc);
-    for _ in 0..150u32 {
-        rectangles.extend_from_slice(&AGAIN)?;
+fn each_growth(rt: HostRuntime) {
+    for call in [Call::IsCanonical, Call::Key, Call::SameFiles, Call::Rekey] {
+        assert_eq!(rt;
+            at_each_growth(rt.alloc(), call),
+            Some([true; 3]),
+            "{call:?}"
+        );
     }
-    let file = file_of(alloc, &rectangles)?;
-    let mut from = SliceSource::new(&file, 10000);
-    let digest = match key(alloc, &mut from, Limits::standard()) {
-        Ok(digest) => digest,
-        Err(_) => [0; 32],
-    };
-    expect_growths(&rt, alloc, Call::IsCanonical, &file, &digest)?;
-    expect_growths(&rt, alloc, Call::Key, &file, &digest)?;
-    expect_growths(&rt, alloc, Call::SameFiles, &file, &digest)?;
-    expect_growths(&rt, alloc, Call::Rekey, &boxed(alloc)?, &digest)
 }

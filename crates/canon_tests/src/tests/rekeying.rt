@@ -1,14 +1,15 @@
 //! Re-keying: its answers of small files, and a writer that fails.
 
-use super::*;
+use super::{AGAIN, FRONT, ended};
+use oas_canon::{Limits, Refusal, Rekeyed, SliceSource, Source, Why, rekey};
+use std::alloc::Global;
+use std::io;
+use std::io::{ErrorKind, Write};
 
 /// The rectangle of the front as a polygon.
 const BOX: [u8; 14] = [
     0x15, 0x3B, 0x01, 0x00, 0x04, 0x03, 0x01, 0x28, 0x29, 0x00, 0x01, 0x29, 0x00, 0x00,
 ];
-
-/// A rectangle of layer 2 in the same place.
-const HIGHER: [u8; 8] = [0x14, 0x7B, 0x02, 0x00, 0x0A, 0x14, 0x00, 0x00];
 
 /// Takes so many bytes, and then fails.
 #[derive(Drop)]
@@ -32,93 +33,103 @@ impl Write for Short {
 }
 
 /// A file whose cell has these elements alone.
-fn file_with(alloc: Global, elements: &[u8]) -> Result<Vec<u8>, AllocError> {
-    let mut file = Vec::from_slice(alloc, &FRONT[..37])?;
-    file.extend_from_slice(elements)?;
-    file.extend_from_slice(&[0x02, 0xFC, 0x01])?;
-    file.extend_from_slice(&[0; 253])?;
-    Ok(file)
+fn file_with(alloc: Global, elements: &[u8]) -> Option<Vec<u8>> {
+    ended(alloc, &FRONT[..37], elements)
 }
 
 /// The sample file with its rectangle as a polygon.
-pub(super) fn boxed(alloc: Global) -> Result<Vec<u8>, AllocError> {
+pub(super) fn boxed(alloc: Global) -> Option<Vec<u8>> {
     file_with(alloc, &BOX)
 }
 
-/// Re-keys the file, and expects these bytes.
-fn expect_done(rt: &impl Abort, alloc: Global, file: &[u8], expected: &[u8]) {
+/// A rectangle of layer 2 in the same place, and that polygon behind it.
+const HIGHER_AND_BOX: [u8; 22] = [
+    0x14, 0x7B, 0x02, 0x00, 0x0A, 0x14, 0x00, 0x00, 0x15, 0x3B, 0x01, 0x00, 0x04, 0x03, 0x01, 0x28,
+    0x29, 0x00, 0x01, 0x29, 0x00, 0x00,
+];
+
+/// The rectangle of the front, and that of layer 2 behind it.
+const BOTH: [u8; 16] = [
+    0x14, 0x7B, 0x01, 0x00, 0x0A, 0x14, 0x00, 0x00, 0x14, 0x7B, 0x02, 0x00, 0x0A, 0x14, 0x00, 0x00,
+];
+
+/// Re-keys the file of the cell with these elements: how many bytes it has, what is answered, and whether the file of the
+/// cell with those elements is written.
+fn rekeyed(
+    alloc: Global,
+    elements: &[u8],
+    wanted: &[u8],
+) -> Option<(usize, Result<Rekeyed, Refusal>, bool)> {
+    let old = file_with(alloc, elements)?;
+    let new = file_with(alloc, wanted)?;
     let mut out: Vec<u8> = Vec::new(alloc);
-    let mut from = SliceSource::new(file, 1000);
-    let done = Rekeyed::Done(expected.len() as u64);
-    assert!(rt;
-        matches!(rekey(alloc, &mut from, &mut out, Limits::standard()), Ok(found) if found == done)
-    );
-    assert!(rt; out.as_slice() == expected);
+    let mut from = SliceSource::new(&old, 1000);
+    let answer = rekey(alloc, &mut from, &mut out, Limits::standard());
+    Some((old.len(), answer, out.as_slice() == new.as_slice()))
 }
 
 #[test]
-fn a_box_becomes_a_rectangle(rt: HostRuntime) -> Result<(), Fail> {
+fn a_box_becomes_a_rectangle(rt: HostRuntime) {
     let alloc = rt.alloc();
-    let sample = file_of(alloc, &[])?;
-    let old = boxed(alloc)?;
-    assert_eq!(rt; old.len(), 307);
-    expect_done(&rt, alloc, &old, &sample);
-    // It is already re-keyed.
-    expect_done(&rt, alloc, &sample, &sample);
-    // The rectangle of the lower layer comes first.
-    let mut elements = Vec::from_slice(alloc, &HIGHER)?;
-    elements.extend_from_slice(&BOX)?;
-    let old = file_with(alloc, &elements)?;
-    let new = file_of(alloc, &HIGHER)?;
-    assert_eq!(rt; new.len(), 309);
-    expect_done(&rt, alloc, &old, &new);
-    Ok(())
+    let found = [
+        rekeyed(alloc, &BOX, &AGAIN),
+        // It is already re-keyed.
+        rekeyed(alloc, &AGAIN, &AGAIN),
+        // The rectangle of the lower layer comes first.
+        rekeyed(alloc, &HIGHER_AND_BOX, &BOTH),
+    ];
+    let wanted = [
+        Some((307, Ok(Rekeyed::Done(301)), true)),
+        Some((301, Ok(Rekeyed::Done(301)), true)),
+        Some((315, Ok(Rekeyed::Done(309)), true)),
+    ];
+    assert_eq!(rt; found, wanted);
+}
+
+/// The record of a name and a CELL that calls it by its number, the rectangle of the front, and a PAD record.
+const NUMBERED: [u8; 14] = [
+    0x03, 0x01, 0x41, 0x0D, 0x00, 0x14, 0x7B, 0x01, 0x00, 0x0A, 0x14, 0x00, 0x00, 0x00,
+];
+
+/// What is answered of the file of these bytes behind START, how many bytes were read, and how many were written.
+fn unwritten(alloc: Global, more: &[u8]) -> Option<(Result<Rekeyed, Refusal>, u64, usize)> {
+    let file = ended(alloc, &FRONT[..34], more)?;
+    let mut out: Vec<u8> = Vec::new(alloc);
+    let mut from = SliceSource::new(&file, 1000);
+    let answer = rekey(alloc, &mut from, &mut out, Limits::standard());
+    Some((answer, from.at(), out.len()))
 }
 
 #[test]
-fn a_file_that_is_not_rekeyed(rt: HostRuntime) -> Result<(), Fail> {
+fn a_file_that_is_not_rekeyed(rt: HostRuntime) {
     let alloc = rt.alloc();
-    let limits = Limits::standard();
-    // The name of the cell by number, and a PAD record more.
-    let mut numbered = Vec::from_slice(alloc, &FRONT[..34])?;
-    numbered.extend_from_slice(&[0x03, 0x01, 0x41, 0x0D, 0x00])?;
-    numbered.extend_from_slice(&FRONT[37..])?;
-    numbered.extend_from_slice(&[0x00, 0x02, 0xFC, 0x01])?;
-    numbered.extend_from_slice(&[0; 253])?;
-    let mut out: Vec<u8> = Vec::new(alloc);
-    let mut from = SliceSource::new(&numbered, 1000);
-    assert!(rt;
-        matches!(
-            rekey(alloc, &mut from, &mut out, limits),
-            Ok(Rekeyed::NotProfile1)
-        )
-    );
-    assert_eq!(rt; from.at(), numbered.len() as u64);
-    let left_out = file_with(alloc, &[0x22])?;
-    let expected = Refusal {
+    let found = [
+        unwritten(alloc, &NUMBERED),
+        unwritten(alloc, &[0x0E, 0x01, 0x41, 0x22]),
+    ];
+    let refusal = Refusal {
         at: 37,
         why: Why::RecordLeftOut(34),
     };
-    let mut from = SliceSource::new(&left_out, 1000);
-    assert!(rt;
-        matches!(rekey(alloc, &mut from, &mut out, limits), Err(refusal) if refusal == expected)
-    );
-    assert!(rt; out.is_empty());
-    Ok(())
+    let wanted = [
+        Some((Ok(Rekeyed::NotProfile1), 304, 0)),
+        Some((Err(refusal), 38, 0)),
+    ];
+    assert_eq!(rt; found, wanted);
+}
+
+/// What is answered where the writer fails behind so many bytes.
+fn cut_short(alloc: Global, room: usize) -> Option<Result<Rekeyed, Refusal>> {
+    let old = boxed(alloc)?;
+    let mut from = SliceSource::new(&old, 1000);
+    Some(rekey(alloc, &mut from, &mut Short { room }, Limits::standard()))
 }
 
 #[test]
-fn a_writer_that_fails(rt: HostRuntime) -> Result<(), Fail> {
-    let alloc = rt.alloc();
-    let old = boxed(alloc)?;
-    let expected = Refusal {
+fn a_writer_that_fails(rt: HostRuntime) {
+    let refusal = Refusal {
         at: 100,
         why: Why::Write,
     };
-    let mut from = SliceSource::new(&old, 1000);
-    let mut to = Short { room: 100 };
-    assert!(rt;
-        matches!(rekey(alloc, &mut from, &mut to, Limits::standard()), Err(refusal) if refusal == expected)
-    );
-    Ok(())
+    assert_eq!(rt; cut_short(rt.alloc(), 100), Some(Err(refusal)));
 }
