@@ -11,9 +11,10 @@ use self::table::ROWS;
 use oas_file::{accept_file, read_layout};
 use oas_layout::{Layout, Limits, Profile};
 use oas_num::{INPUT_MAX, Refusal, SliceSource};
-use std::alloc::{AllocError, Global};
-use std::process::Abort;
-use std::test::Fail;
+use std::alloc::Global;
+
+/// A refusal, as the number of its reason and its place; `None` where nothing is refused.
+type Told = Option<(u8, u64)>;
 
 /// A file that calls its cells and its text by numbers that are named behind them, with the table-offsets in END.
 const COMPACT: &str =
@@ -39,28 +40,32 @@ fn meaning_of<'a>(piece: &'a str) -> (&'a str, usize) {
     }
 }
 
-/// Appends so many copies of the bytes.
-fn add_times(bytes: &mut Vec<u8>, one: &[u8], times: usize) -> Result<(), AllocError> {
+/// Appends so many copies of the bytes that are given in hex.
+fn append_times(alloc: Global, bytes: &mut Vec<u8>, text: &str, times: usize) -> Option<()> {
+    let one = hex::decode(alloc, text).ok()?;
     for _ in 0..times {
-        bytes.extend_from_slice(one)?;
+        bytes.extend_from_slice(one.as_slice()).ok()?;
     }
-    Ok(())
+    Some(())
 }
 
-/// The bytes of a file that is given in pieces.
-fn bytes_of(alloc: Global, pieces: &str) -> Result<Vec<u8>, Fail> {
+/// Appends the bytes of a piece.
+fn append(alloc: Global, bytes: &mut Vec<u8>, piece: &str) -> Option<()> {
+    if piece == "TAIL" {
+        append_times(alloc, bytes, "02FC01", 1)?;
+        return append_times(alloc, bytes, "00", 253);
+    }
+    let (text, times) = meaning_of(piece);
+    append_times(alloc, bytes, text, times)
+}
+
+/// The bytes of a file that is given in pieces; `None` where a piece is none, or memory is refused.
+fn bytes_of(alloc: Global, pieces: &str) -> Option<Vec<u8>> {
     let mut bytes = Vec::new(alloc);
     for piece in pieces.split_whitespace() {
-        if piece == "TAIL" {
-            add_times(&mut bytes, &[0x02, 0xFC, 0x01], 1)?;
-            add_times(&mut bytes, &[0], 253)?;
-        } else {
-            let (text, times) = meaning_of(piece);
-            let one = hex::decode(alloc, text)?;
-            add_times(&mut bytes, one.as_slice(), times)?;
-        }
+        append(alloc, &mut bytes, piece)?;
     }
-    Ok(bytes)
+    Some(bytes)
 }
 
 /// Reads a file.
@@ -71,79 +76,86 @@ fn read(alloc: Global, file: &[u8], limits: Limits) -> Result<Layout, Refusal>
     read_layout(alloc, &mut source, limits, Profile::One)
 }
 
-/// What comes of a file: NUMBER@OFFSET of the refusal, or `ok`.
-fn answer(alloc: Global, outcome: Result<Layout, Refusal>) -> Result<String, Fail> {
-    match outcome {
-        Ok(_) => Ok(String::from_str(alloc, "ok")?),
-        Err(Refusal { at, why }) => {
-            let number = why.number();
-            Ok(format!(in alloc; "{number}@{at}")?)
-        }
-    }
+fn told(refusal: Option<Refusal>) -> Told {
+    let refusal = refusal?;
+    Some((refusal.why.number(), refusal.at))
 }
 
-/// What comes of a file of which nothing is kept.
-fn accepted(alloc: Global, file: &[u8], limits: Limits) -> Result<String, Fail> {
+/// What comes of a file that is read, and of the same file of which nothing is kept.
+fn answers(alloc: Global, file: &[u8], limits: Limits) -> [Told; 2] {
+    let read = read(alloc, file, limits).err();
     let mut source = SliceSource::new(file, INPUT_MAX);
-    match accept_file(alloc, &mut source, limits) {
-        Ok(()) => Ok(String::from_str(alloc, "ok")?),
-        Err(Refusal { at, why }) => {
-            let number = why.number();
-            Ok(format!(in alloc; "{number}@{at}")?)
-        }
-    }
+    let accepted = accept_file(alloc, &mut source, limits).err();
+    [told(read), told(accepted)]
 }
 
-/// Whether two files have the same layout.
-fn is_same(alloc: Global, file: &[u8], other: &[u8]) -> Result<bool, Fail> {
+/// Whether two files have the same layout; `None` where one of them is refused.
+fn is_same(alloc: Global, file: &[u8], other: &[u8]) -> Option<bool> {
     let Ok(layout) = read(alloc, file, Limits::standard()) else {
-        return Err(Fail::from("the file is refused"));
+        return None;
     };
     let Ok(other) = read(alloc, other, Limits::standard()) else {
-        return Err(Fail::from("the other file is refused"));
+        return None;
     };
-    Ok(layout.same(&other))
+    Some(layout.same(&other))
 }
 
-/// Asserts what one row says.
-fn expect_row(rt: &impl Abort, alloc: Global, row: &str) -> Result<(), Fail> {
-    let (name, rest) = row.split_once(" | ").ok_or("a row has a file")?;
-    let (file, wanted) = rest.split_once(" | ").ok_or("a row has an answer")?;
-    let file = bytes_of(alloc, file)?;
+/// What comes of a file, and whether it has the layout of the other, where there is an other.
+type Answer = ([Told; 2], Option<bool>);
+
+/// The file of a row, and what comes of it; `None` of a heading.
+fn parts(row: &str) -> Option<(&str, &str)> {
+    let (_, rest) = row.split_once(" | ")?;
+    rest.split_once(" | ")
+}
+
+/// A refusal that is given as NUMBER@OFFSET.
+fn refusal_of(wanted: &str) -> Told {
+    let (number, at) = wanted.split_once('@')?;
+    Some((number.parse().ok()?, at.parse().ok()?))
+}
+
+/// What a row says.
+fn wanted(row: &str) -> Option<Answer> {
+    let (_, wanted) = parts(row)?;
+    Some(match refusal_of(wanted) {
+        None => ([None; 2], Some(!wanted.starts_with("unlike "))),
+        refusal => ([refusal; 2], None),
+    })
+}
+
+/// Whether a file has the layout of the file that a row names; `None` where one is refused, or the row names none.
+fn is_as_named(alloc: Global, file: &[u8], wanted: &str) -> Option<bool> {
     if wanted.contains('@') {
-        let found = answer(alloc, read(alloc, file.as_slice(), Limits::standard()))?;
-        assert_eq!(rt; found.as_str(), wanted, "at {name}");
-        let found = accepted(alloc, file.as_slice(), Limits::standard())?;
-        assert_eq!(rt; found.as_str(), wanted, "accepting {name}");
-        return Ok(());
+        return None;
     }
-    let found = accepted(alloc, file.as_slice(), Limits::standard())?;
-    assert_eq!(rt; found.as_str(), "ok", "accepting {name}");
-    let (same, other) = match wanted.strip_prefix("unlike ") {
-        Some(other) => (false, other),
-        None => (true, wanted),
-    };
-    let other = bytes_of(alloc, other)?;
-    let found = is_same(alloc, file.as_slice(), other.as_slice())?;
-    assert_eq!(rt; found, same, "at {name}");
-    Ok(())
+    let other = bytes_of(alloc, wanted.strip_prefix("unlike ").unwrap_or(wanted))?;
+    is_same(alloc, file, other.as_slice())
+}
+
+/// What comes of the file of a row.
+fn found(alloc: Global, row: &str) -> Option<Answer> {
+    let (file, wanted) = parts(row)?;
+    let file = bytes_of(alloc, file)?;
+    let answers = answers(alloc, file.as_slice(), Limits::standard());
+    Some((answers, is_as_named(alloc, file.as_slice(), wanted)))
 }
 
 #[test]
-fn each_row(rt: HostRuntime) -> Result<(), Fail> {
+fn each_row(rt: HostRuntime) {
     let mut count = 0u64;
     for row in ROWS.lines() {
-        if !row.starts_with('#') {
-            expect_row(&rt, rt.alloc(), row)?;
+        let wanted = wanted(row);
+        assert_eq!(rt; found(rt.alloc(), row), wanted, "{row}");
+        if wanted.is_some() {
             count = count.saturating_add(1);
         }
     }
     assert_eq!(rt; count, 68);
-    Ok(())
 }
 
 /// Where the record begins that stands at an offset of the compact file.
-fn record_at(offset: usize) -> usize {
+fn record_at(offset: usize) -> u64 {
     match offset {
         0..=12 => 0,
         13..=21 => 13,
@@ -161,47 +173,48 @@ fn record_at(offset: usize) -> usize {
     }
 }
 
-#[test]
-fn each_prefix(rt: HostRuntime) -> Result<(), Fail> {
-    let alloc = rt.alloc();
+/// How long the compact file is, and what comes of so many of its bytes.
+fn of_prefix(alloc: Global, len: usize) -> Option<(usize, [Told; 2])> {
     let file = bytes_of(alloc, COMPACT)?;
-    assert_eq!(rt; file.len(), 324);
-    for len in 0..324usize {
-        let (front, _) = file.as_slice().split_at(len);
-        let at = record_at(len);
-        let wanted = format!(in alloc; "2@{at}")?;
-        let found = answer(alloc, read(alloc, front, Limits::standard()))?;
-        assert_eq!(rt; found.as_str(), wanted.as_str());
-        let found = accepted(alloc, front, Limits::standard())?;
-        assert_eq!(rt; found.as_str(), wanted.as_str());
-    }
-    Ok(())
-}
-
-/// Asserts what comes of a file under these limits.
-fn expect_within(
-    rt: &impl Abort,
-    alloc: Global,
-    limits: Option<Limits>,
-    file: &str,
-    wanted: &str,
-) -> Result<(), Fail> {
-    let limits = limits.ok_or("these are limits")?;
-    let file = bytes_of(alloc, file)?;
-    let found = answer(alloc, read(alloc, file.as_slice(), limits))?;
-    assert_eq!(rt; found.as_str(), wanted);
-    let found = accepted(alloc, file.as_slice(), limits)?;
-    assert_eq!(rt; found.as_str(), wanted);
-    Ok(())
+    let front = file.as_slice().get(..len)?;
+    Some((file.len(), answers(alloc, front, Limits::standard())))
 }
 
 #[test]
-fn limits(rt: HostRuntime) -> Result<(), Fail> {
-    let alloc = rt.alloc();
-    let four = "HEAD CELL RECT RECT RECT RECT TAIL";
-    expect_within(&rt, alloc, Limits::new(3, 100, 6720), four, "24@61")?;
-    expect_within(&rt, alloc, Limits::new(100, 6, 1000), four, "ok")?;
-    expect_within(&rt, alloc, Limits::new(100, 5, 1000), four, "25@61")?;
-    let by_number = "HEAD 0D00 RECT RECT RECT RECT 030141 TAIL";
-    expect_within(&rt, alloc, Limits::new(100, 5, 1000), by_number, "25@71")
+fn each_prefix(rt: HostRuntime) {
+    for len in 0..324usize {
+        let cut_off = Some((2, record_at(len)));
+        assert_eq!(rt;
+            of_prefix(rt.alloc(), len),
+            Some((324, [cut_off; 2])),
+            "{len}"
+        );
+    }
+}
+
+const FOUR: &str = "HEAD CELL RECT RECT RECT RECT TAIL";
+
+const FOUR_BY_NUMBER: &str = "HEAD 0D00 RECT RECT RECT RECT 030141 TAIL";
+
+/// What comes of a file under these limits.
+fn within(alloc: Global, limits: Option<Limits>, file: &str) -> Option<[Told; 2]> {
+    let file = bytes_of(alloc, file)?;
+    Some(answers(alloc, file.as_slice(), limits?))
+}
+
+#[test]
+fn limits(rt: HostRuntime) {
+    let found = [
+        within(rt.alloc(), Limits::new(3, 100, 6720), FOUR),
+        within(rt.alloc(), Limits::new(100, 6, 1000), FOUR),
+        within(rt.alloc(), Limits::new(100, 5, 1000), FOUR),
+        within(rt.alloc(), Limits::new(100, 5, 1000), FOUR_BY_NUMBER),
+    ];
+    let wanted = [
+        Some([Some((24, 61)); 2]),
+        Some([None; 2]),
+        Some([Some((25, 61)); 2]),
+        Some([Some((25, 71)); 2]),
+    ];
+    assert_eq!(rt; found, wanted);
 }

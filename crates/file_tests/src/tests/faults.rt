@@ -1,14 +1,12 @@
 //! Readers that cut or fail, and limits of a source.
 
-use super::{COMPACT, answer, bytes_of, record_at};
+use super::{COMPACT, Told, bytes_of, record_at, told};
 use oas_file::read_layout;
 use oas_layout::{Limits, Profile};
 use oas_num::{INPUT_MAX, ReaderSource, SliceSource};
 use std::alloc::Global;
 use std::io;
 use std::io::{ErrorKind, Read};
-use std::process::Abort;
-use std::test::Fail;
 
 /// Gives its bytes, at most `most` a call, and then fails, or ends.
 #[derive(Drop)]
@@ -31,55 +29,54 @@ impl Read for Reader<'_> {
     }
 }
 
-/// Asserts what comes of what a reader gives.
-fn expect(rt: &impl Abort, alloc: Global, reader: Reader<'_>, wanted: &str) -> Result<(), Fail> {
-    let mut source = ReaderSource::new(alloc, reader, INPUT_MAX)?;
+/// What comes of what a reader gives.
+fn read(alloc: Global, reader: Reader<'_>) -> Option<Told> {
+    let mut source = ReaderSource::new(alloc, reader, INPUT_MAX).ok()?;
     let outcome = read_layout(alloc, &mut source, Limits::standard(), Profile::One);
-    let found = answer(alloc, outcome)?;
-    assert_eq!(rt; found.as_str(), wanted);
-    Ok(())
+    Some(told(outcome.err()))
 }
 
-#[test]
-fn readers(rt: HostRuntime) -> Result<(), Fail> {
-    let alloc = rt.alloc();
+/// What comes of so many bytes of the compact file from such a reader.
+fn read_front(alloc: Global, len: usize, most: usize, fails: bool) -> Option<Told> {
     let file = bytes_of(alloc, COMPACT)?;
-    let all = file.as_slice();
-    for most in [1usize, 2, 3, 7, 324] {
-        let reader = Reader {
-            rest: all,
-            most,
-            fails: false,
-        };
-        expect(&rt, alloc, reader, "ok")?;
-    }
-    for len in [0usize, 12, 13, 21, 22, 40, 67, 68, 323, 324] {
-        let (front, _) = all.split_at(len.min(all.len()));
-        let reader = Reader {
-            rest: front,
-            most: 7,
-            fails: true,
-        };
-        let at = record_at(len);
-        let wanted = format!(in alloc; "32@{at}")?;
-        expect(&rt, alloc, reader, wanted.as_str())?;
-    }
-    Ok(())
+    let rest = file.as_slice().get(..len)?;
+    read(alloc, Reader { rest, most, fails })
 }
 
 #[test]
-fn limits_of_the_source(rt: HostRuntime) -> Result<(), Fail> {
-    let alloc = rt.alloc();
-    let mut file = bytes_of(alloc, COMPACT)?;
-    file.push(0)?;
-    for limit in [0usize, 12, 13, 22, 40, 68, 323, 324, 325] {
-        let mut source = SliceSource::new(file.as_slice(), limit as u64);
-        let outcome = read_layout(alloc, &mut source, Limits::standard(), Profile::One);
-        let number = if limit == 325 { 30 } else { 31u8 };
-        let at = record_at(limit);
-        let wanted = format!(in alloc; "{number}@{at}")?;
-        let found = answer(alloc, outcome)?;
-        assert_eq!(rt; found.as_str(), wanted.as_str());
+fn readers_that_give_few(rt: HostRuntime) {
+    for most in [1usize, 2, 3, 7, 324] {
+        let found = read_front(rt.alloc(), 324, most, false);
+        assert_eq!(rt; found, Some(None), "{most} a call");
     }
-    Ok(())
+}
+
+#[test]
+fn readers_that_fail(rt: HostRuntime) {
+    for len in [0usize, 12, 13, 21, 22, 40, 67, 68, 323, 324] {
+        let found = read_front(rt.alloc(), len, 7, true);
+        assert_eq!(rt; found, Some(Some((32, record_at(len)))), "behind {len}");
+    }
+}
+
+/// What comes of the compact file and a byte more, of which so many may be read.
+fn read_limited(alloc: Global, limit: u64) -> Option<Told> {
+    let mut file = bytes_of(alloc, COMPACT)?;
+    file.push(0).ok()?;
+    let mut source = SliceSource::new(file.as_slice(), limit);
+    let outcome = read_layout(alloc, &mut source, Limits::standard(), Profile::One);
+    Some(told(outcome.err()))
+}
+
+#[test]
+fn limits_of_the_source(rt: HostRuntime) {
+    for limit in [0usize, 12, 13, 22, 40, 68, 323, 324, 325] {
+        let number = if limit == 325 { 30 } else { 31u8 };
+        let wanted = Some((number, record_at(limit)));
+        assert_eq!(rt;
+            read_limited(rt.alloc(), limit as u64),
+            Some(wanted),
+            "{limit}"
+        );
+    }
 }

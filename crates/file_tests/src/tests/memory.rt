@@ -6,86 +6,85 @@
 use super::{COMPACT, bytes_of, read};
 use oas_file::accept_file;
 use oas_layout::Limits;
-use oas_num::{INPUT_MAX, SliceSource, Why};
+use oas_num::{INPUT_MAX, Refusal, SliceSource, Why};
 use scarce_memory::Hoard;
 use std::alloc::Global;
-use std::process::Abort;
-use std::test::Fail;
 
-/// Reads until there is a layout, and gives back a piece of memory after each refusal. The places that were refused.
-fn insist(
-    rt: &impl Abort,
-    alloc: Global,
-    file: &[u8],
-    hoard: &mut Hoard,
-    refused: &mut Vec<u64>,
-) -> bool {
+/// What is done with a file.
+#[derive(Clone, Copy)]
+enum Call {
+    Read,
+    Accept,
+}
+
+/// Makes the call once, and answers whether its result is the right one.
+fn is_right(alloc: Global, file: &[u8], call: Call) -> Result<bool, Refusal> {
+    match call {
+        Call::Read => {
+            let layout = read(alloc, file, Limits::standard())?;
+            Ok(layout.cells() == 2 && layout.count() == 7)
+        }
+        Call::Accept => {
+            accept_file(
+                alloc,
+                &mut SliceSource::new(file, INPUT_MAX),
+                Limits::standard(),
+            )?;
+            Ok(true)
+        }
+    }
+}
+
+/// Makes the call until it is done, and gives back a piece of memory after each refusal. Whether its result is right then,
+/// and whether memory was the only reason of the refusals; and whether there was one at 24, at 36, at 46 and at 68.
+fn insist(alloc: Global, file: &[u8], call: Call, hoard: &mut Hoard) -> ([bool; 2], [bool; 4]) {
+    let mut is_memory = true;
+    let mut were = [false; 4];
     for _ in 0..4000u32 {
-        match read(alloc, file, Limits::standard()) {
-            Ok(layout) => {
-                assert!(rt; layout.cells() == 2 && layout.count() == 7);
-                return true;
-            }
+        match is_right(alloc, file, call) {
+            Ok(is_right) => return ([is_right, is_memory], were),
             Err(refusal) => {
-                assert!(rt; refusal.why == Why::Memory && refusal.why.number() == 34);
-                let _ = refused.push(refusal.at);
+                is_memory &= refusal.why == Why::Memory && refusal.why.number() == 34;
+                were = with_place(were, refusal.at);
             }
         }
         hoard.give_back();
     }
-    false
+    ([false, is_memory], were)
+}
+
+/// These with a refusal at this place more.
+fn with_place(were: [bool; 4], at: u64) -> [bool; 4] {
+    let [at_24, at_36, at_46, at_68] = were;
+    [
+        at_24 || at == 24,
+        at_36 || at == 36,
+        at_46 || at == 46,
+        at_68 || at == 68,
+    ]
+}
+
+/// The same of the compact file with all memory taken. Where the heap can't be filled nothing is refused anywhere.
+fn insist_without_memory(alloc: Global, call: Call) -> Option<([bool; 2], [bool; 4])> {
+    let file = bytes_of(alloc, COMPACT)?;
+    let mut hoard = Hoard::new(alloc).ok()?;
+    let is_full = hoard.is_full();
+    let (ended, were) = insist(alloc, file.as_slice(), call, &mut hoard);
+    Some((ended, if is_full { were } else { [true; 4] }))
 }
 
 #[test]
-fn without_memory(rt: HostRuntime) -> Result<(), Fail> {
-    let alloc = rt.alloc();
-    let file = bytes_of(alloc, COMPACT)?;
-    let mut refused = Vec::with_capacity(alloc, 4000)?;
-    let mut hoard = Hoard::new(alloc)?;
-    let is_full = hoard.is_full();
-    let done = insist(&rt, alloc, file.as_slice(), &mut hoard, &mut refused);
-    drop(hoard);
-    assert!(rt; done, "a layout is never read");
-    for at in [24, 68] {
-        assert!(rt; !is_full || refused.contains(&at), "never refused at {at}");
-    }
-    Ok(())
-}
-
-/// Accepts until the file is accepted, and gives back a piece of memory after each refusal. The places that were refused.
-fn insist_on_accepting(
-    rt: &impl Abort,
-    alloc: Global,
-    file: &[u8],
-    hoard: &mut Hoard,
-    refused: &mut Vec<u64>,
-) -> bool {
-    for _ in 0..4000u32 {
-        let mut source = SliceSource::new(file, INPUT_MAX);
-        match accept_file(alloc, &mut source, Limits::standard()) {
-            Ok(()) => return true,
-            Err(refusal) => {
-                assert!(rt; refusal.why == Why::Memory && refusal.why.number() == 34);
-                let _ = refused.push(refusal.at);
-            }
-        }
-        hoard.give_back();
-    }
-    false
+fn without_memory(rt: HostRuntime) {
+    let found = insist_without_memory(rt.alloc(), Call::Read);
+    let (ended, were) = found.unwrap_or(([false; 2], [false; 4]));
+    let [at_24, _, _, at_68] = were;
+    assert_eq!(rt; (ended, [at_24, at_68]), ([true; 2], [true; 2]));
 }
 
 #[test]
-fn accepting_without_memory(rt: HostRuntime) -> Result<(), Fail> {
-    let alloc = rt.alloc();
-    let file = bytes_of(alloc, COMPACT)?;
-    let mut refused = Vec::with_capacity(alloc, 4000)?;
-    let mut hoard = Hoard::new(alloc)?;
-    let is_full = hoard.is_full();
-    let done = insist_on_accepting(&rt, alloc, file.as_slice(), &mut hoard, &mut refused);
-    drop(hoard);
-    assert!(rt; done, "the file is never accepted");
-    for at in [36, 46, 68] {
-        assert!(rt; !is_full || refused.contains(&at), "never refused at {at}");
-    }
-    Ok(())
+fn accepting_without_memory(rt: HostRuntime) {
+    let found = insist_without_memory(rt.alloc(), Call::Accept);
+    let (ended, were) = found.unwrap_or(([false; 2], [false; 4]));
+    let [_, at_36, at_46, at_68] = were;
+    assert_eq!(rt; (ended, [at_36, at_46, at_68]), ([true; 2], [true; 3]));
 }
