@@ -3,10 +3,10 @@
 use super::bytes_of;
 use oas_judge::is_canonical;
 use oas_layout::{Limits, Profile};
-use oas_num::{INPUT_MAX, ReaderSource, Source, Why};
+use oas_num::{INPUT_MAX, ReaderSource, Refusal, Source, Why};
+use std::alloc::Global;
 use std::io;
 use std::io::{ErrorKind, Read};
-use std::test::Fail;
 
 /// Gives its bytes, at most `most` a call, and then fails, or ends.
 #[derive(Drop)]
@@ -29,30 +29,44 @@ impl Read for Reader<'_> {
     }
 }
 
+/// A canonical file, and how many bytes it has.
+const FILE: &str = "HEAD CELL RECT RECT 0E0142 BOX TAIL";
+
+const LENGTH: usize = 326;
+
+/// What is answered of what a reader gives, and how many bytes were read.
+fn judged(alloc: Global, reader: Reader<'_>) -> Option<(Result<bool, Why>, u64)> {
+    let mut source = ReaderSource::new(alloc, reader, INPUT_MAX).ok()?;
+    match is_canonical(alloc, &mut source, Limits::standard(), Profile::One) {
+        Ok(yes) => Some((Ok(yes), source.at())),
+        Err(Refusal { why, .. }) => Some((Err(why), source.at())),
+    }
+}
+
+/// The same of so many bytes of the file from such a reader.
+fn front_judged(
+    alloc: Global,
+    len: usize,
+    most: usize,
+    fails: bool,
+) -> Option<(Result<bool, Why>, u64)> {
+    let file = bytes_of(alloc, FILE)?;
+    let rest = file.as_slice().get(..len)?;
+    judged(alloc, Reader { rest, most, fails })
+}
+
 #[test]
-fn readers(rt: HostRuntime) -> Result<(), Fail> {
-    let alloc = rt.alloc();
-    let file = bytes_of(alloc, "HEAD CELL RECT RECT 0E0142 BOX TAIL")?;
+fn readers_that_give_few(rt: HostRuntime) {
     for most in [1usize, 3, 400] {
-        let reader = Reader {
-            rest: &file,
-            most,
-            fails: false,
-        };
-        let mut source = ReaderSource::new(alloc, reader, INPUT_MAX)?;
-        let judged = is_canonical(alloc, &mut source, Limits::standard(), Profile::One);
-        assert!(rt; matches!(judged, Ok(true)));
+        let found = front_judged(rt.alloc(), LENGTH, most, false);
+        assert_eq!(rt; found, Some((Ok(true), LENGTH as u64)), "{most} a call");
     }
-    for len in 0..file.len() {
-        let reader = Reader {
-            rest: &file[..len],
-            most: 7,
-            fails: true,
-        };
-        let mut source = ReaderSource::new(alloc, reader, INPUT_MAX)?;
-        let judged = is_canonical(alloc, &mut source, Limits::standard(), Profile::One);
-        assert!(rt; matches!(judged, Err(refusal) if refusal.why == Why::Read));
-        assert_eq!(rt; source.at(), len as u64);
+}
+
+#[test]
+fn readers_that_fail(rt: HostRuntime) {
+    for len in 0..LENGTH {
+        let found = front_judged(rt.alloc(), len, 7, true);
+        assert_eq!(rt; found, Some((Err(Why::Read), len as u64)));
     }
-    Ok(())
 }
