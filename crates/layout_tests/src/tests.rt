@@ -6,30 +6,25 @@ mod limits;
 mod memory;
 mod order;
 mod plain;
+mod seals;
+mod want;
 
 use oas_layout::{Draft, Element, Elements, Layout, Limits, Profile, Turns};
 use oas_num::{Fraction, Label, Name, SliceSource, Spelled, Why};
 use oas_ring::{Point, Points};
 use std::alloc::{AllocError, Global};
-use std::process::Abort;
-use std::str::SplitWhitespace;
-use std::test::Fail;
 
 /// The words of a line, read as numbers; a missing or a wrong one is 0.
-#[derive(Drop)]
+#[derive(Clone, Copy)]
 struct Words<'a> {
-    rest: SplitWhitespace<'a>,
+    rest: &'a str,
 }
 
 impl<'a> Words<'a> {
-    fn of(line: &'a str) -> Words<'a> {
-        Words {
-            rest: line.split_whitespace(),
-        }
-    }
-
     fn text(&mut self) -> &'a str {
-        self.rest.next().unwrap_or("")
+        let (word, rest) = self.rest.split_once(" ").unwrap_or((self.rest, ""));
+        self.rest = rest;
+        word
     }
 
     fn unsigned(&mut self) -> u64 {
@@ -41,25 +36,26 @@ impl<'a> Words<'a> {
     }
 }
 
-/// The bytes of a string of fewer than 128, its length before them.
-fn spelled(alloc: Global, text: &str) -> Result<Vec<u8>, AllocError> {
-    let mut bytes = Vec::new(alloc);
-    bytes.push(text.len().min(127) as u8)?;
-    bytes.extend_from_slice(text.as_bytes())?;
-    Ok(bytes)
+/// The bytes of a string of at most seven, its length before them.
+fn spelled(text: &str) -> [u8; 8] {
+    let bytes = text.as_bytes();
+    let mut spelled = [0; 8];
+    spelled[0] = bytes.len().min(127) as u8;
+    for i in 0..bytes.len().min(7) {
+        spelled[i + 1] = bytes[i];
+    }
+    spelled
 }
 
-fn name(alloc: Global, text: &str) -> Result<Name, Fail> {
-    let bytes = spelled(alloc, text)?;
-    Ok(Name::read(alloc, &mut SliceSource::new(&bytes, 1000))?)
+fn name(alloc: Global, text: &str) -> Result<Name, Why> {
+    Name::read(alloc, &mut SliceSource::new(&spelled(text), 1000))
 }
 
-fn label(alloc: Global, text: &str) -> Result<Label, Fail> {
-    let bytes = spelled(alloc, text)?;
-    Ok(Label::read(alloc, &mut SliceSource::new(&bytes, 1000))?)
+fn label(alloc: Global, text: &str) -> Result<Label, Why> {
+    Label::read(alloc, &mut SliceSource::new(&spelled(text), 1000))
 }
 
-fn placement(alloc: Global, words: &mut Words<'_>) -> Result<Element, Fail> {
+fn placement(alloc: Global, words: &mut Words<'_>) -> Result<Element, Why> {
     let cell = name(alloc, words.text())?;
     let x = words.signed();
     let y = words.signed();
@@ -79,7 +75,7 @@ fn placement(alloc: Global, words: &mut Words<'_>) -> Result<Element, Fail> {
 }
 
 /// A text's string stands last.
-fn text(alloc: Global, words: &mut Words<'_>) -> Result<Element, Fail> {
+fn text(alloc: Global, words: &mut Words<'_>) -> Result<Element, Why> {
     let textlayer = words.unsigned();
     let texttype = words.unsigned();
     let x = words.signed();
@@ -122,25 +118,25 @@ fn point(word: &str) -> Point {
     }
 }
 
-fn points(alloc: Global, words: &mut Words<'_>) -> Result<Points, AllocError> {
+fn points(alloc: Global, words: &str) -> Result<Points, Why> {
     let mut list = Vec::new(alloc);
-    for word in &mut words.rest {
+    for word in words.split_whitespace() {
         list.push(point(word))?;
     }
     Ok(Points::new(list))
 }
 
-fn polygon(alloc: Global, words: &mut Words<'_>) -> Result<Element, AllocError> {
+fn polygon(alloc: Global, words: &mut Words<'_>) -> Result<Element, Why> {
     let layer = words.unsigned();
     let datatype = words.unsigned();
     Ok(Element::Polygon {
         layer,
         datatype,
-        points: points(alloc, words)?,
+        points: points(alloc, words.rest)?,
     })
 }
 
-fn path(alloc: Global, words: &mut Words<'_>) -> Result<Element, AllocError> {
+fn path(alloc: Global, words: &mut Words<'_>) -> Result<Element, Why> {
     let layer = words.unsigned();
     let datatype = words.unsigned();
     let half_width = words.unsigned();
@@ -152,59 +148,71 @@ fn path(alloc: Global, words: &mut Words<'_>) -> Result<Element, AllocError> {
         half_width,
         start,
         end,
-        points: points(alloc, words)?,
+        points: points(alloc, words.rest)?,
     })
 }
 
+/// The parts of a row, which `|` keeps apart; those that it lacks are empty.
+fn parts(row: &str) -> [&str; 4] {
+    let (first, rest) = row.split_once("|").unwrap_or((row, ""));
+    let (second, rest) = rest.split_once("|").unwrap_or((rest, ""));
+    let (third, fourth) = rest.split_once("|").unwrap_or((rest, ""));
+    [first, second, third, fourth]
+}
+
 /// The element of a line of a listing.
-fn element(alloc: Global, line: &str) -> Result<Element, Fail> {
-    let mut words = Words::of(line);
+fn element(alloc: Global, line: &str) -> Result<Element, Why> {
+    let mut words = Words { rest: line };
     match words.text() {
         "placement" => placement(alloc, &mut words),
         "text" => text(alloc, &mut words),
         "rectangle" => Ok(rectangle(&mut words)),
-        "polygon" => Ok(polygon(alloc, &mut words)?),
-        "path" => Ok(path(alloc, &mut words)?),
+        "polygon" => polygon(alloc, &mut words),
+        "path" => path(alloc, &mut words),
         _ => Ok(circle(&mut words)),
     }
 }
 
-/// The parts of a row, which `|` keeps apart.
-fn halves(row: &str) -> (&str, &str) {
-    row.split_once("|").unwrap_or((row, ""))
-}
-
-/// A draft of this unit and no cells.
-fn draft_of(
-    alloc: Global,
-    num: u64,
-    den: u64,
-    limits: Limits,
-    profile: Profile,
-) -> Result<Draft, Fail> {
-    let unit = Fraction::reduced(num, den).ok_or("no unit")?;
-    Ok(Draft::new(alloc, unit, limits, profile)?)
+/// Adds a cell of this name.
+fn add_cell(draft: &mut Draft, alloc: Global, text: &str) -> Result<usize, Why> {
+    match draft.add_cell(name(alloc, text)?) {
+        Ok(cell) => Ok(cell),
+        Err((why, _back)) => Err(why),
+    }
 }
 
 /// Adds cells of these names.
-fn add_named(draft: &mut Draft, alloc: Global, all: &mut SplitWhitespace<'_>) -> Result<(), Fail> {
-    for text in all {
-        draft.add_cell(name(alloc, text)?)?;
+fn add_cells(draft: &mut Draft, alloc: Global, names: &str) -> Result<(), Why> {
+    for text in names.split_whitespace() {
+        add_cell(draft, alloc, text)?;
     }
     Ok(())
 }
 
-/// A draft of unit 1000/1 with one cell, A.
-fn draft_of_a(alloc: Global, limits: Limits, profile: Profile) -> Result<Draft, Fail> {
-    let mut draft = draft_of(alloc, 1000, 1, limits, profile)?;
-    add_named(&mut draft, alloc, &mut "A".split_whitespace())?;
-    Ok(draft)
+/// These limits, which there are.
+fn limits_of(elements: u64, weight: u64, input: u64) -> Result<Limits, Why> {
+    Limits::new(elements, weight, input).ok_or(Why::TooHeavy)
 }
 
-/// A count and an element.
-fn counted(alloc: Global, line: &str) -> Result<(u64, Element), Fail> {
-    let (count, rest) = line.trim_start().split_once(" ").unwrap_or(("", ""));
-    Ok((count.parse().unwrap_or(0), element(alloc, rest)?))
+/// A draft of this unit and of no cells.
+fn draft_of(
+    alloc: Global,
+    (num, den): (u64, u64),
+    limits: Limits,
+    profile: Profile,
+) -> Result<Draft, Why> {
+    let unit = Fraction::reduced(num, den).ok_or(Why::Unit)?;
+    match Draft::new(alloc, unit, limits, profile) {
+        Ok(draft) => Ok(draft),
+        Err(AllocError) => Err(Why::Memory),
+    }
+}
+
+/// A draft of unit 1000/1 with one cell, A.
+fn draft_of_a(alloc: Global, limits: Limits, profile: Profile) -> Result<Draft, Why> {
+    let mut draft = draft_of(alloc, (1000, 1), limits, profile)?;
+    add_cell(&mut draft, alloc, "A")?;
+    Ok(draft)
 }
 
 /// Adds the element so many times, if there is such a cell, or hands it back.
@@ -221,78 +229,71 @@ fn put_many(
     }
 }
 
+/// How many of an element a line gives, and the line of the element.
+fn counted(line: &str) -> (u64, &str) {
+    let (count, rest) = line.trim_start().split_once(" ").unwrap_or(("", ""));
+    (count.parse().unwrap_or(0), rest)
+}
+
 /// Adds the element of a line to a cell, as often as the line says.
-fn put(draft: &mut Draft, alloc: Global, cell: usize, line: &str) -> Result<(), Fail> {
-    let (times, element) = counted(alloc, line)?;
-    Ok(put_many(draft, cell, element, times)?)
+fn put(draft: &mut Draft, alloc: Global, cell: usize, line: &str) -> Result<(), Why> {
+    let (times, line) = counted(line);
+    match put_many(draft, cell, element(alloc, line)?, times) {
+        Ok(()) => Ok(()),
+        Err((why, _back)) => Err(why),
+    }
 }
 
 /// Adds the elements of the lines, which `;` keeps apart, the last line's first.
-fn put_all(draft: &mut Draft, alloc: Global, cell: usize, lines: &str) -> Result<(), Fail> {
+fn put_all(draft: &mut Draft, alloc: Global, cell: usize, lines: &str) -> Result<(), Why> {
     for line in lines.rsplit(";") {
         put(draft, alloc, cell, line)?;
     }
     Ok(())
 }
 
-/// The layout of one cell, A, with the elements of the lines.
-fn layout_of_a(alloc: Global, profile: Profile, lines: &str) -> Result<Layout, Fail> {
-    let mut draft = draft_of_a(alloc, Limits::standard(), profile)?;
-    put_all(&mut draft, alloc, 0, lines)?;
-    Ok(draft.seal()?)
+/// The layout of the draft.
+fn sealed(draft: Draft) -> Result<Layout, Why> {
+    match draft.seal() {
+        Ok(layout) => Ok(layout),
+        Err(AllocError) => Err(Why::Memory),
+    }
 }
 
-/// Whether the next pair is so many of that element.
-fn is_pair(pair: Option<(&Element, u64)>, times: u64, wanted: &Element) -> bool {
+/// The layout of one cell, A, with the elements of the lines.
+fn layout_of_a(alloc: Global, profile: Profile, lines: &str) -> Result<Layout, Why> {
+    let mut draft = draft_of_a(alloc, Limits::standard(), profile)?;
+    put_all(&mut draft, alloc, 0, lines)?;
+    sealed(draft)
+}
+
+/// Whether it is the element of the line.
+fn is_element(alloc: Global, held: &Element, line: &str) -> bool {
+    match element(alloc, line) {
+        Ok(wanted) => *held == wanted,
+        Err(_) => false,
+    }
+}
+
+/// Whether the next pair is that of the line.
+fn gives(alloc: Global, pair: Option<(&Element, u64)>, line: &str) -> bool {
+    let (times, line) = counted(line);
     match pair {
-        Some((held, count)) => count == times && *held == *wanted,
+        Some((held, count)) => count == times && is_element(alloc, held, line),
         None => false,
     }
 }
 
-/// The next pair is that of the line.
-fn gives(
-    rt: &impl Abort,
-    alloc: Global,
-    pair: Option<(&Element, u64)>,
-    line: &str,
-) -> Result<(), Fail> {
-    let (times, wanted) = counted(alloc, line)?;
-    check(rt, is_pair(pair, times, &wanted), line);
-    Ok(())
-}
-
-/// The next pairs are those of the lines, which `;` keeps apart.
-fn give_all(
-    rt: &impl Abort,
-    alloc: Global,
-    pairs: &mut Elements<'_>,
-    lines: &str,
-) -> Result<(), Fail> {
+/// Whether the next pairs are those of the lines, and there are no more.
+fn give_all(alloc: Global, pairs: &mut Elements<'_>, lines: &str) -> bool {
+    let mut all = true;
     for line in lines.split(";") {
-        gives(rt, alloc, pairs.next(), line)?;
+        all &= gives(alloc, pairs.next(), line);
     }
-    Ok(())
+    all && pairs.next().is_none()
 }
 
-/// The cell has exactly the pairs of the lines, which `;` keeps apart, in their order.
-fn holds(
-    rt: &impl Abort,
-    alloc: Global,
-    layout: &Layout,
-    cell: usize,
-    lines: &str,
-) -> Result<(), Fail> {
-    if cell >= layout.cells() {
-        return Err(Fail::new("no such cell"));
-    }
-    let mut pairs = layout.elements(cell);
-    give_all(rt, alloc, &mut pairs, lines)?;
-    check(rt, pairs.next().is_none(), lines);
-    Ok(())
-}
-
-/// What is to hold at a row of a table.
-fn check(rt: &impl Abort, holds: bool, row: &str) {
-    assert!(rt; holds, "at {row}");
+/// Whether the cell has exactly the pairs of the lines, which `;` keeps apart, in their order.
+fn holds(alloc: Global, layout: &Layout, cell: usize, lines: &str) -> bool {
+    cell < layout.cells() && give_all(alloc, &mut layout.elements(cell), lines)
 }

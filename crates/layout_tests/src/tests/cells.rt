@@ -1,12 +1,14 @@
 //! The cells of drafts and layouts.
 
 use super::drafts::same;
-use super::{Words, add_named, check, draft_of, draft_of_a, halves, holds, name, put_all};
+use super::{
+    Words, add_cell, add_cells, draft_of, draft_of_a, holds, limits_of, name, parts, put_all,
+    sealed,
+};
 use oas_layout::{Draft, Layout, Limits, Profile};
 use oas_num::{Name, Why};
 use std::alloc::Global;
 use std::process::Abort;
-use std::test::Fail;
 
 /// Cells in order of definition, each a name and lines of elements; and as they are given.
 const CELLS: &str =
@@ -22,57 +24,6 @@ B|2 circle 1 0 5 0 0
 TOP|1 placement A 0 0 0 0;1 placement A 0 50 0 0;1 placement A 50 0 0 0;1 placement A 50 50 0 0;1 text 3 0 0 0 Hi
 a|1 circle 1 0 5 0 0";
 
-/// Adds the cell of a row with its elements.
-fn add_row(draft: &mut Draft, alloc: Global, row: &str) -> Result<(), Fail> {
-    let (text, lines) = halves(row);
-    let cell = draft.add_cell(name(alloc, text)?)?;
-    put_all(draft, alloc, cell, lines)
-}
-
-/// Whether there is such a cell, of this name.
-fn is_named(layout: &Layout, cell: usize, text: &str) -> bool {
-    cell < layout.cells() && layout.cell_name(cell).as_bytes() == text.as_bytes()
-}
-
-/// The cell is that of the row.
-fn is_row(
-    rt: &impl Abort,
-    alloc: Global,
-    layout: &Layout,
-    cell: usize,
-    row: &str,
-) -> Result<(), Fail> {
-    let (text, lines) = halves(row);
-    check(rt, is_named(layout, cell, text), text);
-    holds(rt, alloc, layout, cell, lines)
-}
-
-/// Adds the cells of the rows.
-fn add_rows(draft: &mut Draft, alloc: Global, rows: &str) -> Result<(), Fail> {
-    for row in rows.lines() {
-        add_row(draft, alloc, row)?;
-    }
-    Ok(())
-}
-
-/// The layout of the rows, which define cells in their order.
-fn layout_of_rows(alloc: Global, profile: Profile, rows: &str) -> Result<Layout, Fail> {
-    let mut draft = draft_of(alloc, 2000, 2, Limits::standard(), profile)?;
-    add_rows(&mut draft, alloc, rows)?;
-    Ok(draft.seal()?)
-}
-
-/// The layout's cells are those of the rows.
-fn has_rows(rt: &impl Abort, alloc: Global, layout: &Layout, rows: &str) -> Result<(), Fail> {
-    let mut cell = 0usize;
-    for row in rows.lines() {
-        is_row(rt, alloc, layout, cell, row)?;
-        cell = cell.saturating_add(1);
-    }
-    assert!(rt; layout.cells() == cell);
-    Ok(())
-}
-
 /// Seven elements, which are added in reverse order.
 const SEVEN: &str =
     "TOP|1 placement A 0 0 0 0;1 placement A 0 50 0 0;1 placement A 50 0 0 0;1 placement A 50 50 0 0;1 text 3 0 0 0 Hi
@@ -81,34 +32,70 @@ A|1 rectangle 1 0 10 10 0 0;1 rectangle 1 0 10 10 20 0";
 const ASCENDING_SEVEN: &str = "A|1 rectangle 1 0 10 10 0 0;1 rectangle 1 0 10 10 20 0
 TOP|1 placement A 0 0 0 0;1 placement A 0 50 0 0;1 placement A 50 0 0 0;1 placement A 50 50 0 0;1 text 3 0 0 0 Hi";
 
-/// Whether the layout has this profile, so many elements and this weight.
-fn is_of(layout: &Layout, profile: Profile, count: u64, weight: u64) -> bool {
-    layout.profile() == profile
-        && layout.unit().num() == 1000
-        && layout.count() == count
-        && layout.weight() == weight
+/// Adds the cells with their elements.
+fn put_cells(draft: &mut Draft, alloc: Global, cells: &str) -> Result<(), Why> {
+    for row in cells.lines() {
+        let [text, lines, _, _] = parts(row);
+        let cell = add_cell(draft, alloc, text)?;
+        put_all(draft, alloc, cell, lines)?;
+    }
+    Ok(())
 }
 
-/// The layout of a table has so many elements and this weight, and the cells of the other.
-fn is_sealed(
-    rt: &impl Abort,
+/// The layout of the cells, which are defined in their order.
+fn layout_of(alloc: Global, profile: Profile, cells: &str) -> Result<Layout, Why> {
+    let mut draft = draft_of(alloc, (2000, 2), Limits::standard(), profile)?;
+    put_cells(&mut draft, alloc, cells)?;
+    sealed(draft)
+}
+
+/// Whether there is such a cell, of the name of the row and with exactly its pairs.
+fn is_cell(alloc: Global, layout: &Layout, cell: usize, row: &str) -> bool {
+    let [text, lines, _, _] = parts(row);
+    cell < layout.cells()
+        && layout.cell_name(cell).as_bytes() == text.as_bytes()
+        && holds(alloc, layout, cell, lines)
+}
+
+/// How many of these cells the layout has, each at its place.
+fn cells_as(alloc: Global, layout: &Layout, cells: &str) -> usize {
+    let mut cell = 0usize;
+    let mut same = 0usize;
+    for row in cells.lines() {
+        same = same.saturating_add(usize::from(is_cell(alloc, layout, cell, row)));
+        cell = cell.saturating_add(1);
+    }
+    same
+}
+
+/// Of the layout of the first cells, how many cells it has, how many of the second ones, its profile, the number of its unit,
+/// and how many elements it has and their weight.
+fn seen(
     alloc: Global,
     profile: Profile,
-    (given, ascending): (&str, &str),
-    (count, weight): (u64, u64),
-) -> Result<(), Fail> {
-    let layout = layout_of_rows(alloc, profile, given)?;
-    assert!(rt; is_of(&layout, profile, count, weight));
-    has_rows(rt, alloc, &layout, ascending)
+    given: &str,
+    ascending: &str,
+) -> Result<([usize; 2], Profile, [u64; 3]), Why> {
+    let layout = layout_of(alloc, profile, given)?;
+    let cells = [layout.cells(), cells_as(alloc, &layout, ascending)];
+    let numbers = [layout.unit().num(), layout.count(), layout.weight()];
+    Ok((cells, layout.profile(), numbers))
 }
 
 #[test]
-fn cells_and_elements_in_their_order(rt: HostRuntime) -> Result<(), Fail> {
+fn cells_and_elements_in_their_order(rt: HostRuntime) {
     for profile in [Profile::One, Profile::Two] {
-        is_sealed(&rt, rt.alloc(), profile, (CELLS, ASCENDING_CELLS), (13, 32))?;
-        is_sealed(&rt, rt.alloc(), profile, (SEVEN, ASCENDING_SEVEN), (7, 19))?;
+        assert_eq!(rt;
+            [
+                seen(rt.alloc(), profile, CELLS, ASCENDING_CELLS),
+                seen(rt.alloc(), profile, SEVEN, ASCENDING_SEVEN),
+            ],
+            [
+                Ok(([5, 5], profile, [1000, 13, 32])),
+                Ok(([2, 2], profile, [1000, 7, 19]))
+            ]
+        );
     }
-    Ok(())
 }
 
 /// The parts of a unit and the names of empty cells, of two layouts; whether they are the same.
@@ -117,43 +104,41 @@ const EMPTY: &str = "1000 1 A B|2000 2 B A|yes
 1000 1 A B|1000 1 A C|no
 1000 1 A B|1000 1 A|no";
 
-fn empty_cells(alloc: Global, line: &str) -> Result<Layout, Fail> {
-    let mut words = Words::of(line);
-    let num = words.unsigned();
-    let den = words.unsigned();
-    let mut draft = draft_of(alloc, num, den, Limits::standard(), Profile::One)?;
-    add_named(&mut draft, alloc, &mut words.rest)?;
-    Ok(draft.seal()?)
+fn empty_cells(alloc: Global, line: &str) -> Result<Layout, Why> {
+    let mut words = Words { rest: line };
+    let unit = (words.unsigned(), words.unsigned());
+    let mut draft = draft_of(alloc, unit, Limits::standard(), Profile::One)?;
+    add_cells(&mut draft, alloc, words.rest)?;
+    sealed(draft)
 }
 
-/// Whether the two are the same.
-fn are_same(alloc: Global, first: &str, second: &str) -> Result<bool, Fail> {
+/// Whether the two of a row are the same.
+fn are_same(alloc: Global, row: &str) -> Result<bool, Why> {
+    let [first, second, _, _] = parts(row);
     let a = empty_cells(alloc, first)?;
     let b = empty_cells(alloc, second)?;
     Ok(same(&a, &b))
 }
 
-fn empty_row(rt: &impl Abort, alloc: Global, row: &str) -> Result<(), Fail> {
-    let (first, rest) = halves(row);
-    let (second, answer) = halves(rest);
-    let are_same = are_same(alloc, first, second)?;
-    check(rt, are_same == (answer == "yes"), row);
-    Ok(())
-}
-
 #[test]
-fn units_and_cells_tell_layouts_apart(rt: HostRuntime) -> Result<(), Fail> {
+fn units_and_cells_tell_layouts_apart(rt: HostRuntime) {
     for row in EMPTY.lines() {
-        empty_row(&rt, rt.alloc(), row)?;
+        let wanted = row.ends_with("|yes");
+        assert_eq!(rt; are_same(rt.alloc(), row), Ok(wanted), "at {row}");
     }
-    Ok(())
 }
 
-/// Whether the cell is not added for this reason, and its name is handed back.
-fn is_handed_back(answer: &Result<usize, (Why, Name)>, wanted: Why, text: &str) -> bool {
-    match answer {
-        Ok(_) => false,
-        Err((why, back)) => *why == wanted && back.as_bytes() == text.as_bytes(),
+/// Why the draft hands back a cell of this name, if it does.
+fn refusal(draft: &mut Draft, name: Name, text: &str) -> Option<Why> {
+    match draft.add_cell(name) {
+        Ok(_) => None,
+        Err((why, back)) => {
+            if back.as_bytes() == text.as_bytes() {
+                Some(why)
+            } else {
+                None
+            }
+        }
     }
 }
 
@@ -166,35 +151,20 @@ fn is_of_a(layout: &Layout) -> bool {
         && layout.elements(0).next().is_none()
 }
 
-/// The draft of the cell A that has no room for another.
-fn full_draft(alloc: Global) -> Result<Draft, Fail> {
-    let limits = Limits::new(1, 2, 448).ok_or("these are limits")?;
-    draft_of_a(alloc, limits, Profile::Two)
-}
-
-/// Whether the draft refuses a cell of this name for this reason, and hands the name back.
-fn hands_back(alloc: Global, draft: &mut Draft, text: &str, wanted: Why) -> Result<bool, Fail> {
-    let answer = draft.add_cell(name(alloc, text)?);
-    Ok(is_handed_back(&answer, wanted, text))
-}
-
-/// Whether the layout of the draft is that of the cell A, which is empty.
-fn is_still_of_a(draft: Draft) -> Result<bool, Fail> {
-    let layout = draft.seal()?;
-    Ok(is_of_a(&layout))
-}
-
-/// The draft of the cell A refuses a cell of this name for this reason, and hands the name back.
-fn refuses_cell(rt: &impl Abort, alloc: Global, text: &str, wanted: Why) -> Result<(), Fail> {
-    let mut draft = full_draft(alloc)?;
-    let is_refused = hands_back(alloc, &mut draft, text, wanted)?;
-    check(rt, is_refused, text);
-    check(rt, is_still_of_a(draft)?, text);
-    Ok(())
+/// Why a draft of the cell A that has no room for another hands back a cell of this name, if it does, and whether its layout
+/// is then that of the cell A.
+fn refused(alloc: Global, text: &str) -> Result<(Option<Why>, bool), Why> {
+    let limits = limits_of(1, 2, 448)?;
+    let name = name(alloc, text)?;
+    let mut draft = draft_of_a(alloc, limits, Profile::Two)?;
+    let why = refusal(&mut draft, name, text);
+    let layout = sealed(draft)?;
+    Ok((why, is_of_a(&layout)))
 }
 
 #[test]
-fn cells_that_are_refused(rt: HostRuntime) -> Result<(), Fail> {
-    refuses_cell(&rt, rt.alloc(), "A", Why::DuplicateCell)?;
-    refuses_cell(&rt, rt.alloc(), "B", Why::TooHeavy)
+fn cells_that_are_refused(rt: HostRuntime) {
+    for (text, why) in [("A", Why::DuplicateCell), ("B", Why::TooHeavy)] {
+        assert_eq!(rt; refused(rt.alloc(), text), Ok((Some(why), true)));
+    }
 }

@@ -1,11 +1,11 @@
 //! The forms in which elements are kept, and layouts that are the same or not.
 
-use super::{check, draft_of_a, halves, holds, is_pair, layout_of_a};
+use super::{draft_of_a, holds, layout_of_a, parts, sealed};
 use oas_layout::{Draft, Element, Layout, Limits, Profile};
+use oas_num::Why;
 use oas_ring::{Point, Points};
-use std::alloc::{AllocError, Global};
+use std::alloc::Global;
 use std::process::Abort;
-use std::test::Fail;
 
 /// A profile, the elements that are added, the pairs that are held, and the weight. A polygon is held in its least
 /// reading, and under profile two as its rectangle: not with crossing sides, a side of length 0, or a point twice.
@@ -32,26 +32,22 @@ fn profile(word: &str) -> Profile {
     }
 }
 
-fn is_kept(rt: &impl Abort, alloc: Global, row: &str) -> Result<(), Fail> {
-    let (under, rest) = halves(row);
-    let (given, rest) = halves(rest);
-    let (held, weight) = halves(rest);
-    let layout = layout_of_a(alloc, profile(under), given)?;
-    check(rt, weighs(&layout, profile(under), weight), row);
-    holds(rt, alloc, &layout, 0, held)
-}
-
-/// Whether the layout is of this profile and weight.
-fn weighs(layout: &Layout, profile: Profile, weight: &str) -> bool {
-    layout.profile() == profile && layout.weight() == weight.parse().unwrap_or(0)
+/// Whether the layout of the row's elements has its profile, its pairs and its weight.
+fn are_kept(alloc: Global, row: &str) -> Result<[bool; 3], Why> {
+    let [under, lines, pairs, weight] = parts(row);
+    let layout = layout_of_a(alloc, profile(under), lines)?;
+    Ok([
+        layout.profile() == profile(under),
+        holds(alloc, &layout, 0, pairs),
+        layout.weight() == weight.parse().unwrap_or(0),
+    ])
 }
 
 #[test]
-fn elements_in_their_kept_forms(rt: HostRuntime) -> Result<(), Fail> {
+fn elements_in_their_kept_forms(rt: HostRuntime) {
     for row in KEPT.lines() {
-        is_kept(&rt, rt.alloc(), row)?;
+        assert_eq!(rt; are_kept(rt.alloc(), row), Ok([true; 3]), "at {row}");
     }
-    Ok(())
 }
 
 /// The elements of one layout and of another, and the profiles under which they are the same.
@@ -68,49 +64,33 @@ pub(super) fn same(a: &Layout, b: &Layout) -> bool {
     a.profile() == b.profile() && a.same(b)
 }
 
-/// Whether they are the same or not, either way round, and each is the same as itself.
-fn answer_alike(a: &Layout, b: &Layout, wanted: bool) -> bool {
-    same(a, b) == wanted && same(b, a) == wanted && same(a, a) && same(b, b)
-}
-
-/// Whether these profiles are both, or this one.
-fn is_among(under: Profile, profiles: &str) -> bool {
-    profiles == "both" || (profiles == "two" && under == Profile::Two)
-}
-
-/// Whether the layouts of these lines answer so.
-fn are_alike(
-    alloc: Global,
-    under: Profile,
-    first: &str,
-    second: &str,
-    wanted: bool,
-) -> Result<bool, Fail> {
-    let a = layout_of_a(alloc, under, first)?;
-    let b = layout_of_a(alloc, under, second)?;
-    Ok(answer_alike(&a, &b, wanted))
-}
-
-fn is_same(rt: &impl Abort, alloc: Global, row: &str, under: Profile) -> Result<(), Fail> {
-    let (first, rest) = halves(row);
-    let (second, profiles) = halves(rest);
-    let is_so = are_alike(alloc, under, first, second, is_among(under, profiles))?;
-    check(rt, is_so, row);
-    Ok(())
+/// Whether the two layouts of a row are the same, either way round, and each is the same as itself.
+fn sameness(alloc: Global, profile: Profile, row: &str) -> Result<[bool; 4], Why> {
+    let [first, second, _, _] = parts(row);
+    let a = layout_of_a(alloc, profile, first)?;
+    let b = layout_of_a(alloc, profile, second)?;
+    Ok([same(&a, &b), same(&b, &a), same(&a, &a), same(&b, &b)])
 }
 
 #[test]
-fn layouts_that_are_the_same_or_not(rt: HostRuntime) -> Result<(), Fail> {
+fn layouts_that_are_the_same_or_not(rt: HostRuntime) {
     for row in SAME.lines() {
-        is_same(&rt, rt.alloc(), row, Profile::One)?;
-        is_same(&rt, rt.alloc(), row, Profile::Two)?;
+        let both = row.ends_with("|both");
+        let two = both || row.ends_with("|two");
+        assert_eq!(rt;
+            [
+                sameness(rt.alloc(), Profile::One, row),
+                sameness(rt.alloc(), Profile::Two, row),
+            ],
+            [Ok([both, both, true, true]), Ok([two, two, true, true])],
+            "at {row}"
+        );
     }
-    Ok(())
 }
 
 /// A ring of 65536 points, of which the last is the least, from one of them on.
-fn long_ring(alloc: Global, from: u32, step: u32) -> Result<Element, AllocError> {
-    let mut list = Vec::with_capacity(alloc, 65536)?;
+fn long_ring(alloc: Global, from: u32, step: u32) -> Result<Element, Why> {
+    let mut list = Vec::new(alloc);
     let mut place = from;
     for _ in 0..65536u32 {
         let x = 65536 - i64::from(place % 65536);
@@ -125,36 +105,43 @@ fn long_ring(alloc: Global, from: u32, step: u32) -> Result<Element, AllocError>
     })
 }
 
-fn add_ring(draft: &mut Draft, alloc: Global, from: u32, step: u32) -> Result<(), Fail> {
-    let ring = long_ring(alloc, from, step)?;
-    if draft.cells() > 0 {
-        draft.add(0, ring)?;
+/// Adds it to the first cell, and answers whether that is done.
+fn add(draft: &mut Draft, element: Element) -> bool {
+    draft.cells() > 0 && draft.add(0, element).is_ok()
+}
+
+/// Whether the ring is added in three readings.
+fn add_rings(draft: &mut Draft, alloc: Global) -> Result<bool, Why> {
+    let mut all = true;
+    for (from, step) in [(5, 1), (40000, u32::MAX), (65535, u32::MAX)] {
+        all &= add(draft, long_ring(alloc, from, step)?);
     }
-    Ok(())
+    Ok(all)
 }
 
-fn add_rings(draft: &mut Draft, alloc: Global) -> Result<(), Fail> {
-    add_ring(draft, alloc, 5, 1)?;
-    add_ring(draft, alloc, 40000, u32::MAX)?;
-    add_ring(draft, alloc, 65535, u32::MAX)
+/// Whether the pair is three of that element.
+fn is_three(pair: Option<(&Element, u64)>, wanted: &Element) -> bool {
+    match pair {
+        Some((held, count)) => count == 3 && *held == *wanted,
+        None => false,
+    }
 }
 
-fn three_rings(alloc: Global) -> Result<Layout, Fail> {
+/// Whether the cell to which they are added has this ring three times.
+fn has_three(alloc: Global, ring: &Element) -> Result<bool, Why> {
     let mut draft = draft_of_a(alloc, Limits::standard(), Profile::Two)?;
-    add_rings(&mut draft, alloc)?;
-    Ok(draft.seal()?)
+    let all = add_rings(&mut draft, alloc)?;
+    let layout = sealed(draft)?;
+    Ok(all && layout.cells() > 0 && is_three(layout.elements(0).next(), ring))
 }
 
-/// Whether the first cell has the ring three times.
-fn has_three(layout: &Layout, ring: &Element) -> bool {
-    layout.cells() > 0 && is_pair(layout.elements(0).next(), 3, ring)
+/// The least point has x = 1, and its neighbours x = 2 and x = 65536.
+fn has_long_ring(alloc: Global) -> Result<bool, Why> {
+    let wanted = long_ring(alloc, 65535, u32::MAX)?;
+    has_three(alloc, &wanted)
 }
 
 #[test]
-fn a_long_ring_in_three_readings(rt: HostRuntime) -> Result<(), Fail> {
-    // the least point has x = 1, and its neighbours x = 2 and x = 65536
-    let wanted = long_ring(rt.alloc(), 65535, u32::MAX)?;
-    let layout = three_rings(rt.alloc())?;
-    assert!(rt; has_three(&layout, &wanted));
-    Ok(())
+fn a_long_ring_in_three_readings(rt: HostRuntime) {
+    assert_eq!(rt; has_long_ring(rt.alloc()), Ok(true));
 }

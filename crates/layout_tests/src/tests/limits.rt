@@ -1,65 +1,59 @@
 //! Limits at and past the bounds of all limits, and drafts at theirs.
 
-use super::{Words, check, draft_of_a, element, halves, layout_of_a, put, put_many};
+use super::{Words, draft_of_a, element, layout_of_a, limits_of, parts, put, put_many, sealed};
 use oas_layout::{Draft, Element, Limits, Profile};
+use oas_num::Why;
 use std::alloc::Global;
 use std::process::Abort;
-use std::test::Fail;
 
 #[test]
 fn limits_that_there_are_not(rt: HostRuntime) {
-    assert!(rt; Limits::new(67108865, 3, 512).is_none());
-    assert!(rt; Limits::new(1, 1073741825, 274877906944).is_none());
-    assert!(rt; Limits::new(1, 3, 511).is_none());
-    assert!(rt; Limits::new(1, 3, 274877906945).is_none());
-}
-
-fn are(rt: &impl Abort, limits: Limits, elements: u64, weight: u64, input: u64) {
-    assert!(rt;
-        limits.elements() == elements && limits.weight() == weight && limits.input() == input
-    );
-    assert!(rt; Limits::new(elements, weight, input) == Some(limits));
-}
-
-#[test]
-fn limits_that_there_are(rt: HostRuntime) -> Result<(), Fail> {
-    are(&rt, Limits::new(1, 3, 512).ok_or("just enough")?, 1, 3, 512);
-    are(&rt, Limits::standard(), 16777216, 268435456, 68719476736);
-    are(&rt, Limits::large(), 67108864, 1073741824, 274877906944);
-    Ok(())
-}
-
-/// Whether the draft hands so many of the element back for the reason of this number.
-fn hands_back(
-    draft: &mut Draft,
-    given: Element,
-    times: u64,
-    number: u8,
-    element: &Element,
-) -> bool {
-    match put_many(draft, 0, given, times) {
-        Ok(()) => false,
-        Err((why, back)) => why.number() == number && back == *element,
+    for (elements, weight, input) in [
+        (67108865, 3, 512),
+        (1, 1073741825, 274877906944),
+        (1, 3, 511),
+        (1, 3, 274877906945),
+    ] {
+        assert_eq!(rt; Limits::new(elements, weight, input), None);
     }
 }
 
-/// The draft refuses so many of the element of the line for this reason, and hands it back.
-fn refuses(
-    rt: &impl Abort,
-    alloc: Global,
-    draft: &mut Draft,
-    line: &str,
-    times: u64,
-    wanted: u8,
-) -> Result<(), Fail> {
+/// How many elements, which weight and how many bytes they allow.
+fn bounds(limits: Option<Limits>) -> Option<[u64; 3]> {
+    let limits = limits?;
+    Some([limits.elements(), limits.weight(), limits.input()])
+}
+
+#[test]
+fn limits_that_there_are(rt: HostRuntime) {
+    for (limits, elements, weight, input) in [
+        (Limits::new(1, 3, 512), 1, 3, 512),
+        (Some(Limits::standard()), 16777216, 268435456, 68719476736),
+        (Some(Limits::large()), 67108864, 1073741824, 274877906944),
+    ] {
+        assert_eq!(rt;
+            (limits, bounds(limits)),
+            (
+                Limits::new(elements, weight, input),
+                Some([elements, weight, input])
+            )
+        );
+    }
+}
+
+/// The number of the reason for which the draft hands so many of the element back; 0 where it doesn't.
+fn number(draft: &mut Draft, given: Element, times: u64, wanted: &Element) -> u8 {
+    match put_many(draft, 0, given, times) {
+        Ok(()) => 0,
+        Err((why, back)) => { if back == *wanted { why.number() } else { 0 } }
+    }
+}
+
+/// The same of the element of the line.
+fn refusal(draft: &mut Draft, alloc: Global, times: u64, line: &str) -> Result<u8, Why> {
     let given = element(alloc, line)?;
-    let wanted_back = element(alloc, line)?;
-    check(
-        rt,
-        hands_back(draft, given, times, wanted, &wanted_back),
-        line,
-    );
-    Ok(())
+    let wanted = element(alloc, line)?;
+    Ok(number(draft, given, times, &wanted))
 }
 
 /// Limits of elements and weight, so many of an element, and the number of the reason: 16 before 24, 24 before 25, 25
@@ -84,44 +78,31 @@ const REFUSED: &str = "16777216 268435456 1 16|polygon 1 0 0,0 1,1
 9 99 1 23|path 1 0 0 -1152921504606846977 0 0,0
 9 99 1 23|polygon 1 0 0,0 1,1 0,1152921504606846977";
 
-fn is_refused(rt: &impl Abort, alloc: Global, row: &str) -> Result<(), Fail> {
-    let (numbers, line) = halves(row);
-    let mut numbers = Words::of(numbers);
-    let limits = limits_of(&mut numbers)?;
+/// The number of the reason for which a draft within the limits of a row hands so many of its element back, and how many
+/// elements its layout then has and their weight; and the number of the row.
+fn refused(alloc: Global, row: &str) -> Result<([u64; 3], u64), Why> {
+    let [numbers, line, _, _] = parts(row);
+    let mut numbers = Words { rest: numbers };
+    let limits = limits_of(numbers.unsigned(), numbers.unsigned(), 1 << 38)?;
     let times = numbers.unsigned();
-    let wanted = numbers.unsigned().min(255) as u8;
-    stays_empty(rt, alloc, limits, line, times, wanted)
-}
-
-/// The limits of a row.
-fn limits_of(numbers: &mut Words<'_>) -> Result<Limits, Fail> {
-    let elements = numbers.unsigned();
-    let weight = numbers.unsigned();
-    Ok(Limits::new(elements, weight, 1 << 38).ok_or("these are limits")?)
-}
-
-/// A draft within these limits refuses so many of the element of the line, and has none of them then.
-fn stays_empty(
-    rt: &impl Abort,
-    alloc: Global,
-    limits: Limits,
-    line: &str,
-    times: u64,
-    wanted: u8,
-) -> Result<(), Fail> {
     let mut draft = draft_of_a(alloc, limits, Profile::Two)?;
-    refuses(rt, alloc, &mut draft, line, times, wanted)?;
-    let layout = draft.seal()?;
-    check(rt, layout.count() == 0 && layout.weight() == 2, line);
-    Ok(())
+    let number = refusal(&mut draft, alloc, times, line)?;
+    let layout = sealed(draft)?;
+    let found = [u64::from(number), layout.count(), layout.weight()];
+    Ok((found, numbers.unsigned()))
+}
+
+/// Whether the row's element is handed back for the row's reason, and the layout stays empty.
+fn is_refused(alloc: Global, row: &str) -> Result<bool, Why> {
+    let (found, wanted) = refused(alloc, row)?;
+    Ok(found == [wanted, 0, 2])
 }
 
 #[test]
-fn reasons_in_their_order(rt: HostRuntime) -> Result<(), Fail> {
+fn reasons_in_their_order(rt: HostRuntime) {
     for row in REFUSED.lines() {
-        is_refused(&rt, rt.alloc(), row)?;
+        assert_eq!(rt; is_refused(rt.alloc(), row), Ok(true), "at {row}");
     }
-    Ok(())
 }
 
 const AT_THE_EDGE: &str =
@@ -133,34 +114,41 @@ const AT_THE_EDGE: &str =
 1 path 1 0 1152921504606846976 -1152921504606846976 1152921504606846976 0,1152921504606846976;
 1 polygon 1 0 0,0 0,1152921504606846976 -1152921504606846976,0";
 
-#[test]
-fn elements_at_the_edge_of_the_grid(rt: HostRuntime) -> Result<(), Fail> {
-    let layout = layout_of_a(rt.alloc(), Profile::One, AT_THE_EDGE)?;
-    assert!(rt; layout.count() == 7);
-    Ok(())
+/// How many elements the layout of the lines has.
+fn count(alloc: Global, lines: &str) -> Result<u64, Why> {
+    let layout = layout_of_a(alloc, Profile::One, lines)?;
+    Ok(layout.count())
 }
 
-/// A circle behind the elements of a line is refused for this reason.
-fn leaves_no_room(
-    rt: &impl Abort,
+#[test]
+fn elements_at_the_edge_of_the_grid(rt: HostRuntime) {
+    assert_eq!(rt; count(rt.alloc(), AT_THE_EDGE), Ok(7));
+}
+
+/// The number of the reason for which a circle is handed back behind the elements of a line.
+fn behind(
     alloc: Global,
-    limits: Limits,
+    limits: Result<Limits, Why>,
     profile: Profile,
     line: &str,
-    wanted: u8,
-) -> Result<(), Fail> {
-    let mut draft = draft_of_a(alloc, limits, profile)?;
+) -> Result<u8, Why> {
+    let mut draft = draft_of_a(alloc, limits?, profile)?;
     put(&mut draft, alloc, 0, line)?;
-    refuses(rt, alloc, &mut draft, "circle 1 0 5 0 0", 1, wanted)
+    refusal(&mut draft, alloc, 1, "circle 1 0 5 0 0")
 }
 
 /// A polygon that is kept as its rectangle leaves no more room than the polygon does.
 #[test]
-fn drafts_that_are_full(rt: HostRuntime) -> Result<(), Fail> {
-    let light = Limits::new(9, 7, 768).ok_or("these are limits")?;
-    let line = "1 polygon 1 0 0,0 10,0 10,20 0,20";
-    leaves_no_room(&rt, rt.alloc(), light, Profile::One, line, 25)?;
-    leaves_no_room(&rt, rt.alloc(), light, Profile::Two, line, 25)?;
-    let line = "16777216 rectangle 1 0 10 20 0 0";
-    leaves_no_room(&rt, rt.alloc(), Limits::standard(), Profile::One, line, 24)
+fn drafts_that_are_full(rt: HostRuntime) {
+    let (alloc, light, standard) = (rt.alloc(), limits_of(9, 7, 768), Ok(Limits::standard()));
+    let polygon = "1 polygon 1 0 0,0 10,0 10,20 0,20";
+    let rectangles = "16777216 rectangle 1 0 10 20 0 0";
+    assert_eq!(rt;
+        [
+            behind(alloc, light, Profile::One, polygon),
+            behind(alloc, light, Profile::Two, polygon),
+            behind(alloc, standard, Profile::One, rectangles),
+        ],
+        [Ok(25), Ok(25), Ok(24)]
+    );
 }

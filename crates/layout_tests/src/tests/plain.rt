@@ -1,14 +1,13 @@
 //! Cells that a draft takes as a whole.
 
-use super::{draft_of_a, holds, name, put_all};
-use oas_layout::{Draft, Element, Layout, Limits, PlainElements, Profile};
+use super::{draft_of_a, holds, limits_of, name, put_all, sealed};
+use oas_layout::{Draft, Element, Limits, PlainElements, Profile};
 use oas_num::Why;
 use std::alloc::Global;
 use std::process::Abort;
-use std::test::Fail;
 
 /// Three rectangles.
-fn three(alloc: Global) -> Result<PlainElements, Fail> {
+fn three(alloc: Global) -> Result<PlainElements, Why> {
     let mut elements = PlainElements::new(alloc);
     let rectangle = Element::Rectangle {
         layer: 1,
@@ -18,74 +17,58 @@ fn three(alloc: Global) -> Result<PlainElements, Fail> {
         x: 0,
         y: 0,
     };
-    match elements.add(rectangle, 3) {
-        Ok(()) => Ok(elements),
-        Err(_) => Err(Fail::new("no memory")),
+    if elements.add(rectangle, 3).is_err() {
+        return Err(Why::Memory);
     }
+    Ok(elements)
 }
 
-/// The draft answers so to three rectangles in a cell B.
-fn adds(
-    rt: &impl Abort,
-    alloc: Global,
-    draft: &mut Draft,
-    wanted: Result<usize, Why>,
-) -> Result<(), Fail> {
-    let answer = draft.add_plain(name(alloc, "B")?, three(alloc)?);
-    assert!(rt; answer == wanted);
-    Ok(())
+/// What the draft answers to three rectangles in a cell B.
+fn add_three(draft: &mut Draft, alloc: Global) -> Result<usize, Why> {
+    let name = name(alloc, "B")?;
+    draft.add_plain(name, three(alloc)?)
 }
 
-/// Adds B once as a whole, and then elements to it.
-fn add_whole(rt: &impl Abort, alloc: Global, draft: &mut Draft) -> Result<(), Fail> {
-    adds(rt, alloc, draft, Ok(1))?;
-    adds(rt, alloc, draft, Err(Why::DuplicateCell))?;
-    put_all(
-        draft,
-        alloc,
-        1,
-        "2 circle 1 0 5 0 0;1 rectangle 1 0 10 20 0 0",
-    )
-}
+/// The pairs of B, which is added as a whole, and then given two circles and a rectangle more.
+const WHOLE: &str = "4 rectangle 1 0 10 20 0 0;2 circle 1 0 5 0 0";
 
-/// The layout of A and of that B.
-fn layout_with_whole(rt: &impl Abort, alloc: Global) -> Result<Layout, Fail> {
+/// What a draft of A answers to B, and to B again; then, with more elements in B, how many cells and elements its layout
+/// has and their weight, and whether the pairs of B are those.
+fn whole(alloc: Global) -> Result<([Result<usize, Why>; 2], (usize, u64, u64), bool), Why> {
     let mut draft = draft_of_a(alloc, Limits::standard(), Profile::Two)?;
-    add_whole(rt, alloc, &mut draft)?;
-    Ok(draft.seal()?)
+    let answers = [add_three(&mut draft, alloc), add_three(&mut draft, alloc)];
+    let more = "2 circle 1 0 5 0 0;1 rectangle 1 0 10 20 0 0";
+    put_all(&mut draft, alloc, 1, more)?;
+    let layout = sealed(draft)?;
+    let counts = (layout.cells(), layout.count(), layout.weight());
+    Ok((answers, counts, holds(alloc, &layout, 1, WHOLE)))
 }
 
 #[test]
-fn cells_taken_as_a_whole(rt: HostRuntime) -> Result<(), Fail> {
-    let alloc = rt.alloc();
-    let layout = layout_with_whole(&rt, alloc)?;
-    assert!(rt; layout.cells() == 2 && layout.count() == 6 && layout.weight() == 10);
-    holds(
-        &rt,
-        alloc,
-        &layout,
-        1,
-        "4 rectangle 1 0 10 20 0 0;2 circle 1 0 5 0 0",
-    )
+fn cells_taken_as_a_whole(rt: HostRuntime) {
+    let answers = [Ok(1), Err(Why::DuplicateCell)];
+    assert_eq!(rt; whole(rt.alloc()), Ok((answers, (2, 6, 10), true)));
 }
 
 /// What a draft of one cell, A, within these limits, answers to three rectangles in another.
-fn answers(
-    rt: &impl Abort,
-    alloc: Global,
-    elements: u64,
-    weight: u64,
-    wanted: Result<usize, Why>,
-) -> Result<(), Fail> {
-    let limits = Limits::new(elements, weight, 768).ok_or("these are limits")?;
+fn answer(alloc: Global, elements: u64, weight: u64) -> Result<usize, Why> {
+    let limits = limits_of(elements, weight, 768)?;
     let mut draft = draft_of_a(alloc, limits, Profile::One)?;
-    adds(rt, alloc, &mut draft, wanted)
+    add_three(&mut draft, alloc)
 }
 
 #[test]
-fn cells_at_the_limits(rt: HostRuntime) -> Result<(), Fail> {
-    answers(&rt, rt.alloc(), 3, 7, Ok(1))?;
-    answers(&rt, rt.alloc(), 2, 7, Err(Why::TooManyElements))?;
-    answers(&rt, rt.alloc(), 3, 6, Err(Why::TooHeavy))?;
-    answers(&rt, rt.alloc(), 2, 6, Err(Why::TooManyElements))
+fn cells_at_the_limits(rt: HostRuntime) {
+    for (elements, weight, wanted) in [
+        (3, 7, Ok(1)),
+        (2, 7, Err(Why::TooManyElements)),
+        (3, 6, Err(Why::TooHeavy)),
+        (2, 6, Err(Why::TooManyElements)),
+    ] {
+        assert_eq!(rt;
+            answer(rt.alloc(), elements, weight),
+            wanted,
+            "at {elements}, {weight}"
+        );
+    }
 }
