@@ -2,7 +2,8 @@ mod lists;
 mod memory;
 mod repetitions;
 
-use std::alloc::{AllocError, Global};
+use oas_num::Why;
+use std::alloc::Global;
 
 /// The parts of a row, which `|` keeps apart; those that it lacks are empty.
 fn row_parts(row: &str) -> [&str; 4] {
@@ -13,7 +14,7 @@ fn row_parts(row: &str) -> [&str; 4] {
 }
 
 /// The bytes of these numbers.
-fn bytes_of(alloc: Global, numbers: &str) -> Result<Vec<u8>, AllocError> {
+fn bytes_of(alloc: Global, numbers: &str) -> Result<Vec<u8>, Why> {
     let mut bytes = Vec::new(alloc);
     for word in numbers.split_whitespace() {
         bytes.push(word.parse().unwrap_or(0))?;

@@ -1,10 +1,9 @@
 use super::{bytes_of, point, row_parts};
-use oas_num::SliceSource;
+use oas_num::{SliceSource, Why};
 use oas_ring::Point;
 use oas_shape::{ListUse, PointList};
 use std::alloc::{AllocError, Global};
 use std::process::Abort;
-use std::test::Fail;
 
 fn use_of(word: &str) -> ListUse {
     if word == "path" {
@@ -17,40 +16,47 @@ fn use_of(word: &str) -> ListUse {
 /// Whether these are the points of the words.
 fn are(points: &[Point], wanted: &str) -> bool {
     let mut words = wanted.split_whitespace();
+    let mut all = true;
     for held in points {
-        let (x, y) = point(words.next().unwrap_or(""));
-        if held.x != x || held.y != y {
-            return false;
-        }
+        all &= (held.x, held.y) == point(words.next().unwrap_or(""));
     }
-    words.next().is_none()
+    all && words.next().is_none()
 }
 
 fn small(word: &str) -> i8 {
     word.parse().unwrap_or(0)
 }
 
-/// Whether the list's vertices from a place of two small numbers on are these.
-fn gives(alloc: Global, list: &PointList, place: &str, wanted: &str) -> Result<bool, Fail> {
-    let (x, y) = place.split_once(" ").unwrap_or(("", ""));
-    let at = Point {
-        x: i64::from(small(x)),
-        y: i64::from(small(y)),
-    };
-    let points = list.vertices(alloc, at)?;
-    Ok(points.len() == list.len() && are(&points, wanted))
+/// A place of two small numbers.
+fn place(text: &str) -> (i8, i8) {
+    let (x, y) = text.split_once(" ").unwrap_or(("", ""));
+    (small(x), small(y))
 }
 
-/// Whether the vertices of the list and those of a copy, from that place on, are these.
-fn both_give(alloc: Global, list: &PointList, place: &str, wanted: &str) -> Result<bool, Fail> {
-    let copy = list.try_clone(alloc)?;
-    Ok(gives(alloc, list, place, wanted)? && gives(alloc, &copy, place, wanted)?)
+/// Whether the list's vertices from a place on are these.
+fn gives(alloc: Global, list: &PointList, (x, y): (i8, i8), wanted: &str) -> bool {
+    let at = Point {
+        x: i64::from(x),
+        y: i64::from(y),
+    };
+    match list.vertices(alloc, at) {
+        Ok(points) => points.len() == list.len() && are(&points, wanted),
+        Err(_) => false,
+    }
+}
+
+/// Whether those of a copy are.
+fn copy_gives(alloc: Global, list: &PointList, at: (i8, i8), wanted: &str) -> bool {
+    match list.try_clone(alloc) {
+        Ok(copy) => gives(alloc, &copy, at, wanted),
+        Err(AllocError) => false,
+    }
 }
 
 /// Reads a list.
-fn read(alloc: Global, list_use: ListUse, bytes: &str) -> Result<PointList, Fail> {
+fn read(alloc: Global, list_use: ListUse, bytes: &str) -> Result<PointList, Why> {
     let bytes = bytes_of(alloc, bytes)?;
-    Ok(PointList::read(alloc, &mut SliceSource::new(&bytes, 1000), list_use)?)
+    PointList::read(alloc, &mut SliceSource::new(&bytes, 1000), list_use)
 }
 
 /// What a list is of, its bytes, where it begins, and its vertices. Of a polygon of type 0 or 1 the last vertex follows from
@@ -71,22 +77,29 @@ path|1 2 40 20|0 0|0,0 0,20 10,20
 path|3 8 8 9 10 11 12 13 14 15|0 0|0,0 1,0 1,1 0,1 0,0 1,1 0,2 -1,1 0,0
 path|4 8 16 18 20 22 24 26 28 30|0 0|0,0 1,0 1,1 0,1 0,0 1,1 0,2 -1,1 0,0";
 
+/// Whether the list of a row gives its vertices, and whether a copy does.
+fn both_give(alloc: Global, row: &str) -> Result<[bool; 2], Why> {
+    let [list_use, bytes, at, wanted] = row_parts(row);
+    let list = read(alloc, use_of(list_use), bytes)?;
+    let at = place(at);
+    Ok([
+        gives(alloc, &list, at, wanted),
+        copy_gives(alloc, &list, at, wanted),
+    ])
+}
+
 #[test]
-fn vertices(rt: HostRuntime) -> Result<(), Fail> {
+fn vertices(rt: HostRuntime) {
     for row in LISTS.lines() {
-        let [list_use, bytes, place, wanted] = row_parts(row);
-        let list = read(rt.alloc(), use_of(list_use), bytes)?;
-        assert!(rt; both_give(rt.alloc(), &list, place, wanted)?, "at {row}");
+        assert_eq!(rt; both_give(rt.alloc(), row), Ok([true; 2]), "at {row}");
     }
-    Ok(())
 }
 
 /// The number of the reason for which a list is refused; 0 where it isn't.
-fn refusal(alloc: Global, list_use: ListUse, bytes: &str) -> Result<u8, AllocError> {
-    let bytes = bytes_of(alloc, bytes)?;
-    match PointList::read(alloc, &mut SliceSource::new(&bytes, 1000), list_use) {
-        Ok(_list) => Ok(0),
-        Err(why) => Ok(why.number()),
+fn refusal(alloc: Global, list_use: ListUse, bytes: &str) -> u8 {
+    match read(alloc, list_use, bytes) {
+        Ok(_list) => 0,
+        Err(why) => why.number(),
     }
 }
 
@@ -101,17 +114,16 @@ path|4 255 255 255 255 255 255 255 255 255 1|2
 path|4 255 255 255 255 255 255 255 255 255 1 0 2 4|2";
 
 #[test]
-fn lists_refused(rt: HostRuntime) -> Result<(), Fail> {
+fn lists_refused(rt: HostRuntime) {
     for row in REFUSED.lines() {
         let [list_use, bytes, wanted, _] = row_parts(row);
-        let found = refusal(rt.alloc(), use_of(list_use), bytes)?;
-        assert!(rt; found == wanted.parse().unwrap_or(255), "at {row}");
+        let found = refusal(rt.alloc(), use_of(list_use), bytes);
+        assert!(rt; found == wanted.parse().unwrap_or(255), "at {row}: {found}");
     }
-    Ok(())
 }
 
 /// The number of the reason for which vertices from the origin on are refused; 0 where they aren't.
-fn walk_refusal(alloc: Global, bytes: &str) -> Result<u8, Fail> {
+fn walk_refusal(alloc: Global, bytes: &str) -> Result<u8, Why> {
     let list = read(alloc, ListUse::Path, bytes)?;
     match list.vertices(alloc, Point { x: 0, y: 0 }) {
         Ok(_points) => Ok(0),
@@ -125,11 +137,10 @@ const WALKS: &str = "4 2 129 128 128 128 128 128 128 128 64 0 5 0|23
 5 2 129 128 128 128 128 128 128 128 64 0 1 0|23";
 
 #[test]
-fn vertices_refused(rt: HostRuntime) -> Result<(), Fail> {
+fn vertices_refused(rt: HostRuntime) {
     for row in WALKS.lines() {
         let [bytes, wanted, _, _] = row_parts(row);
-        let found = walk_refusal(rt.alloc(), bytes)?;
-        assert!(rt; found == wanted.parse().unwrap_or(255), "at {row}");
+        let wanted = wanted.parse().unwrap_or(255);
+        assert_eq!(rt; walk_refusal(rt.alloc(), bytes), Ok(wanted), "at {row}");
     }
-    Ok(())
 }

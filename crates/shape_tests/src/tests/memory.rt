@@ -5,11 +5,10 @@
 
 use oas_num::{SliceSource, Why};
 use oas_ring::Point;
-use oas_shape::{ListUse, PointList, RepField};
+use oas_shape::{ListUse, PointList, RepField, Repetition};
 use scarce_memory::Hoard;
-use std::alloc::Global;
+use std::alloc::{AllocError, Global};
 use std::process::Abort;
-use std::test::Fail;
 
 /// Reads a polygon of type 0 with 16 deltas.
 fn read_list(alloc: Global) -> Result<PointList, Why> {
@@ -18,101 +17,119 @@ fn read_list(alloc: Global) -> Result<PointList, Why> {
 }
 
 /// Reads a repetition of type 10 with 16 displacements.
-fn read_repetition(alloc: Global) -> Result<RepField, Why> {
+fn read_repetition(alloc: Global) -> Result<Repetition, Why> {
     let bytes = [
         10, 15, 16, 16, 16, 16, 16, 16, 16, 16, 16, 16, 16, 16, 16, 16, 16, 16,
     ];
-    RepField::read(alloc, &mut SliceSource::new(&bytes, 100))
-}
-
-/// Whether the list isn't read, for want of memory.
-fn is_list_refused(rt: &impl Abort, alloc: Global) -> bool {
-    match read_list(alloc) {
-        Ok(list) => {
-            assert_eq!(rt; list.len(), 18);
-            false
-        }
-        Err(why) => {
-            assert_eq!(rt; why, Why::Memory);
-            true
-        }
+    match RepField::read(alloc, &mut SliceSource::new(&bytes, 100))? {
+        RepField::New(repetition) => Ok(repetition),
+        RepField::Again => Err(Why::ModalUndefined),
     }
 }
 
-/// Whether the list's vertices aren't given, for want of memory.
-fn are_vertices_refused(rt: &impl Abort, alloc: Global, list: &PointList) -> bool {
-    match list.vertices(alloc, Point { x: 1, y: 2 }) {
-        Ok(points) => {
-            assert!(rt; points.len() == 18 && points[17] == (Point { x: 1, y: 18 }));
-            false
-        }
-        Err(why) => {
-            assert_eq!(rt; why, Why::Memory);
-            true
-        }
+/// Whether the list that is read has its vertices.
+fn reads_list(alloc: Global) -> Result<bool, Why> {
+    Ok(read_list(alloc)?.len() == 18)
+}
+
+/// Whether a copy of the list has them.
+fn copies_list(alloc: Global, list: &PointList) -> Result<bool, Why> {
+    match list.try_clone(alloc) {
+        Ok(copy) => Ok(copy.len() == 18),
+        Err(AllocError) => Err(Why::Memory),
     }
 }
 
-/// Whether the repetition isn't read, for want of memory.
-fn is_repetition_refused(rt: &impl Abort, alloc: Global) -> bool {
-    match read_repetition(alloc) {
-        Ok(RepField::New(repetition)) => {
-            assert_eq!(rt; repetition.count(), Some(17));
-            false
-        }
-        Ok(RepField::Again) => {
-            assert!(rt; false, "another repetition");
-            false
-        }
-        Err(why) => {
-            assert_eq!(rt; why, Why::Memory);
-            true
-        }
+/// Whether the list gives them, the last where it should stand.
+fn walks_list(alloc: Global, list: &PointList) -> Result<bool, Why> {
+    let points = list.vertices(alloc, Point { x: 1, y: 2 })?;
+    Ok(points.len() == 18 && points[17] == (Point { x: 1, y: 18 }))
+}
+
+/// Whether the repetition that is read has its copies.
+fn reads_repetition(alloc: Global) -> Result<bool, Why> {
+    Ok(read_repetition(alloc)?.count() == Some(17))
+}
+
+/// Whether a copy of the repetition has them.
+fn copies_repetition(alloc: Global, repetition: &Repetition) -> Result<bool, Why> {
+    match repetition.try_clone(alloc) {
+        Ok(copy) => Ok(copy.count() == Some(17)),
+        Err(AllocError) => Err(Why::Memory),
     }
 }
 
-#[test]
-fn lists_without_memory(rt: HostRuntime) -> Result<(), Fail> {
-    let alloc = rt.alloc();
+/// What each of the five calls answers.
+fn answers(alloc: Global, list: &PointList, repetition: &Repetition) -> [Result<bool, Why>; 5] {
+    [
+        reads_list(alloc),
+        copies_list(alloc, list),
+        walks_list(alloc, list),
+        reads_repetition(alloc),
+        copies_repetition(alloc, repetition),
+    ]
+}
+
+/// Counts the refused calls, each at its place. Whether all are refused for want of memory, or answer as they should.
+fn count(refused: &mut [u32; 5], answers: [Result<bool, Why>; 5]) -> bool {
+    let mut all = true;
+    for i in 0..5 {
+        all &= match answers[i] {
+            Ok(is_right) => is_right,
+            Err(why) => {
+                refused[i] = refused[i].saturating_add(1);
+                why == Why::Memory
+            }
+        };
+    }
+    all
+}
+
+/// How often each call is refused while memory comes back, and whether all answer as they should.
+fn insist(
+    alloc: Global,
+    list: &PointList,
+    repetition: &Repetition,
+    hoard: &mut Hoard,
+) -> ([u32; 5], bool) {
+    let mut refused = [0; 5];
+    let mut all = true;
+    for _ in 0..hoard.pieces() {
+        all &= count(&mut refused, answers(alloc, list, repetition));
+        hoard.give_back();
+    }
+    (refused, all)
+}
+
+/// Whether each call was refused, if the heap could be filled.
+fn are_met(refused: [u32; 5], is_full: bool) -> [bool; 5] {
+    let mut met = [!is_full; 5];
+    for i in 0..5 {
+        met[i] |= refused[i] > 0;
+    }
+    met
+}
+
+/// Whether, where the heap can be filled, each call is refused, and whether all answer as they should.
+fn in_want(alloc: Global, list: &PointList, repetition: &Repetition) -> ([bool; 5], bool) {
+    match Hoard::new(alloc) {
+        Ok(mut hoard) => {
+            let (refused, all) = insist(alloc, list, repetition, &mut hoard);
+            (are_met(refused, hoard.is_full()), all)
+        }
+        Err(AllocError) => ([false; 5], false),
+    }
+}
+
+/// The same, and what they answer where there is memory again.
+fn seen(alloc: Global) -> Result<(([bool; 5], bool), [Result<bool, Why>; 5]), Why> {
     let list = read_list(alloc)?;
-    let mut hoard = Hoard::new(alloc)?;
-    let mut reads = 0u32;
-    let mut copies = 0u32;
-    let mut walks = 0u32;
-    for _ in 0..hoard.pieces() {
-        reads = reads.saturating_add(u32::from(is_list_refused(&rt, alloc)));
-        copies = copies.saturating_add(u32::from(list.try_clone(alloc).is_err()));
-        walks = walks.saturating_add(u32::from(are_vertices_refused(&rt, alloc, &list)));
-        hoard.give_back();
-    }
-    assert!(rt; !hoard.is_full() || reads > 0, "no list was refused");
-    assert!(rt; !hoard.is_full() || copies > 0, "no copy was refused");
-    assert!(rt; !hoard.is_full() || walks > 0, "no vertices were refused");
-    drop(hoard);
-    assert!(rt; !is_list_refused(&rt, alloc));
-    assert!(rt; list.try_clone(alloc).is_ok());
-    assert!(rt; !are_vertices_refused(&rt, alloc, &list));
-    Ok(())
+    let repetition = read_repetition(alloc)?;
+    let in_want = in_want(alloc, &list, &repetition);
+    Ok((in_want, answers(alloc, &list, &repetition)))
 }
 
 #[test]
-fn repetitions_without_memory(rt: HostRuntime) -> Result<(), Fail> {
-    let alloc = rt.alloc();
-    let RepField::New(repetition) = read_repetition(alloc)? else {
-        return Err(Fail::new("another repetition"));
-    };
-    let mut hoard = Hoard::new(alloc)?;
-    let mut reads = 0u32;
-    let mut copies = 0u32;
-    for _ in 0..hoard.pieces() {
-        reads = reads.saturating_add(u32::from(is_repetition_refused(&rt, alloc)));
-        copies = copies.saturating_add(u32::from(repetition.try_clone(alloc).is_err()));
-        hoard.give_back();
-    }
-    assert!(rt; !hoard.is_full() || reads > 0, "no repetition was refused");
-    assert!(rt; !hoard.is_full() || copies > 0, "no copy was refused");
-    drop(hoard);
-    assert!(rt; !is_repetition_refused(&rt, alloc));
-    assert!(rt; repetition.try_clone(alloc).is_ok());
-    Ok(())
+fn lists_and_repetitions_without_memory(rt: HostRuntime) {
+    assert_eq!(rt; seen(rt.alloc()), Ok((([true; 5], true), [Ok(true); 5])));
 }

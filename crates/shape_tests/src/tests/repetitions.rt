@@ -1,16 +1,17 @@
 use super::{bytes_of, point, row_parts};
-use oas_num::{GDelta, SliceSource};
+use oas_num::{GDelta, SliceSource, Why};
 use oas_shape::{Places, RepField, Repetition};
 use std::alloc::{AllocError, Global};
 use std::process::Abort;
-use std::test::Fail;
 
-/// Reads a repetition that is new.
-fn read(alloc: Global, bytes: &str) -> Result<Repetition, Fail> {
-    let bytes = bytes_of(alloc, bytes)?;
-    match RepField::read(alloc, &mut SliceSource::new(&bytes, 1000))? {
-        RepField::New(repetition) => Ok(repetition),
-        RepField::Again => Err(Fail::new("it isn't new")),
+/// Reads a repetition, if it is new.
+fn read(alloc: Global, bytes: &str) -> Option<Repetition> {
+    let Ok(bytes) = bytes_of(alloc, bytes) else {
+        return None;
+    };
+    match RepField::read(alloc, &mut SliceSource::new(&bytes, 1000)) {
+        Ok(RepField::New(repetition)) => Some(repetition),
+        _ => None,
     }
 }
 
@@ -22,19 +23,24 @@ fn is_at(offset: (i128, i128), word: &str) -> bool {
 
 /// Whether the repetition has as many copies as there are words, at these offsets.
 fn has(repetition: &Repetition, wanted: &str) -> bool {
+    let count = repetition.count().unwrap_or(0);
+    if count == 0 || count >= 100 {
+        return false;
+    }
     let mut words = wanted.split_whitespace();
-    let Some(count) = repetition.count() else {
-        return false;
-    };
-    if count >= 100 {
-        return false;
-    }
+    let mut all = true;
     for i in 0..count {
-        if !is_at(repetition.offset(i), words.next().unwrap_or("")) {
-            return false;
-        }
+        all &= is_at(repetition.offset(i), words.next().unwrap_or(""));
     }
-    words.next().is_none()
+    all && words.next().is_none()
+}
+
+/// Whether a copy has.
+fn copy_has(alloc: Global, repetition: &Repetition, wanted: &str) -> bool {
+    match repetition.try_clone(alloc) {
+        Ok(copy) => has(&copy, wanted),
+        Err(AllocError) => false,
+    }
 }
 
 /// The bytes of a repetition, and its offsets: three columns or rows, by each type that has them; displacements that come
@@ -53,44 +59,64 @@ const OFFSETS: &str = "2 1 10|0,0 10,0 20,0
 8 1 0 41 0 1 20|0,0 10,0 20,0 0,10 10,10 20,10
 8 0 1 9 3 11 4|0,0 2,-1 -2,2 0,1 -4,4 -2,3";
 
-#[test]
-fn offsets(rt: HostRuntime) -> Result<(), Fail> {
-    for row in OFFSETS.lines() {
-        let [bytes, wanted, _, _] = row_parts(row);
-        let repetition = read(rt.alloc(), bytes)?;
-        let copy = repetition.try_clone(rt.alloc())?;
-        assert!(rt; has(&repetition, wanted) && has(&copy, wanted), "at {row}");
-    }
-    Ok(())
+/// Whether the repetition of a row has its offsets, and whether a copy has.
+fn both_have(alloc: Global, row: &str) -> Option<[bool; 2]> {
+    let [bytes, wanted, _, _] = row_parts(row);
+    let repetition = read(alloc, bytes)?;
+    Some([
+        has(&repetition, wanted),
+        copy_has(alloc, &repetition, wanted),
+    ])
 }
 
 #[test]
-fn counts_of_many(rt: HostRuntime) -> Result<(), Fail> {
-    let alloc = rt.alloc();
-    let mut source = SliceSource::new(&[1, 0xFE, 0x1F, 0xFE, 0x1F, 0, 0], 100);
-    let RepField::New(many) = RepField::read(alloc, &mut source)? else {
-        assert!(rt; false);
-        return Ok(());
-    };
-    assert_eq!(rt; many.count(), Some(16777216));
-    assert_eq!(rt; many.offset(16777215), (0, 0));
-    let most = [
-        1, 255, 255, 255, 255, 255, 255, 255, 255, 255, 1, 255, 255, 255, 255, 255, 255, 255, 255,
-        255, 1, 0, 0,
-    ];
-    let mut source = SliceSource::new(&most, 100);
-    let RepField::New(past) = RepField::read(alloc, &mut source)? else {
-        assert!(rt; false);
-        return Ok(());
-    };
-    assert_eq!(rt; past.count(), None);
-    assert!(rt;
-        matches!(
-            RepField::read(alloc, &mut SliceSource::new(&[0], 1)),
-            Ok(RepField::Again)
-        )
+fn offsets(rt: HostRuntime) {
+    for row in OFFSETS.lines() {
+        assert_eq!(rt; both_have(rt.alloc(), row), Some([true; 2]), "at {row}");
+    }
+}
+
+/// The offset of the last copy, where there are at most 2^32.
+fn last(repetition: &Repetition) -> Option<(i128, i128)> {
+    let count = repetition.count()?;
+    if count > 0 && count <= 1 << 32 {
+        Some(repetition.offset(count - 1))
+    } else {
+        None
+    }
+}
+
+/// The count of the copies of a repetition, and the offset of the last one.
+fn counted(alloc: Global, bytes: &str) -> Option<(Option<u64>, Option<(i128, i128)>)> {
+    let repetition = read(alloc, bytes)?;
+    Some((repetition.count(), last(&repetition)))
+}
+
+/// A great number of columns and rows, and the greatest of all.
+const MANY: &str = "1 254 31 254 31 0 0";
+
+const MOST: &str =
+    "1 255 255 255 255 255 255 255 255 255 1 255 255 255 255 255 255 255 255 255 1 0 0";
+
+#[test]
+fn counts_of_many(rt: HostRuntime) {
+    assert_eq!(rt;
+        [counted(rt.alloc(), MANY), counted(rt.alloc(), MOST)],
+        [Some((Some(16777216), Some((0, 0)))), Some((None, None))]
     );
-    Ok(())
+}
+
+/// Whether the bytes stand for the repetition that was used last.
+fn is_again(alloc: Global, bytes: &[u8]) -> bool {
+    matches!(
+        RepField::read(alloc, &mut SliceSource::new(bytes, 1)),
+        Ok(RepField::Again)
+    )
+}
+
+#[test]
+fn last_repetition_again(rt: HostRuntime) {
+    assert!(rt; is_again(rt.alloc(), &[0]));
 }
 
 /// So many places, with so many copies on each.
@@ -102,39 +128,47 @@ fn places(number: u64, copies: u64, stride: u64) -> Places {
     }
 }
 
-#[test]
-fn places_two_ways(rt: HostRuntime) {
+/// The places of columns that stand together, and of rows that do.
+fn two_ways() -> [Places; 2] {
     let columns_together = Repetition::Matrix {
         x_dim: 1,
         y_dim: 0,
         x_space: 0,
         y_space: 7,
     };
-    assert_eq!(rt; columns_together.places(), places(2, 3, 3));
     let rows_together = Repetition::Lattice {
         n_dim: 1,
         m_dim: 0,
         n: GDelta { dx: 0, dy: -1 },
         m: GDelta { dx: 0, dy: 0 },
     };
-    assert_eq!(rt; rows_together.places(), places(3, 2, 1));
+    [columns_together.places(), rows_together.places()]
 }
 
-#[test]
-fn places_of_many(rt: HostRuntime) {
+/// The places of very many that all stand together, and of rows none of which do.
+fn of_many() -> [Places; 2] {
     let all_together = Repetition::Matrix {
         x_dim: 4094,
         y_dim: 4094,
         x_space: 0,
         y_space: 0,
     };
-    assert_eq!(rt; all_together.places(), places(1, 16777216, 1));
     let none_together = Repetition::Rows { dim: 5, space: 1 };
-    assert_eq!(rt; none_together.places(), places(7, 1, 1));
+    [all_together.places(), none_together.places()]
+}
+
+#[test]
+fn places_two_ways(rt: HostRuntime) {
+    assert_eq!(rt; two_ways(), [places(2, 3, 3), places(3, 2, 1)]);
+}
+
+#[test]
+fn places_of_many(rt: HostRuntime) {
+    assert_eq!(rt; of_many(), [places(1, 16777216, 1), places(7, 1, 1)]);
 }
 
 /// The number of the reason for which a repetition is refused; 0 where it isn't.
-fn refusal(alloc: Global, bytes: &str) -> Result<u8, AllocError> {
+fn refusal(alloc: Global, bytes: &str) -> Result<u8, Why> {
     let bytes = bytes_of(alloc, bytes)?;
     match RepField::read(alloc, &mut SliceSource::new(&bytes, 1000)) {
         Ok(_field) => Ok(0),
@@ -162,11 +196,10 @@ const REFUSED: &str = "12|17
 4 1 129 128 128 128 128 128 128 128 64 128|23";
 
 #[test]
-fn repetitions_refused(rt: HostRuntime) -> Result<(), Fail> {
+fn repetitions_refused(rt: HostRuntime) {
     for row in REFUSED.lines() {
         let [bytes, wanted, _, _] = row_parts(row);
-        let found = refusal(rt.alloc(), bytes)?;
-        assert!(rt; found == wanted.parse().unwrap_or(255), "at {row}");
+        let wanted = wanted.parse().unwrap_or(255);
+        assert_eq!(rt; refusal(rt.alloc(), bytes), Ok(wanted), "at {row}");
     }
-    Ok(())
 }
