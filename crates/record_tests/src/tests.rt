@@ -74,15 +74,22 @@ fn piece(text: &str) -> (&str, usize) {
     }
 }
 
+/// Adds a text so many times.
+fn push_times(digits: &mut String, hex: &str, times: usize) -> Result<(), AllocError> {
+    for _ in 0..times {
+        digits.push_str(hex)?;
+    }
+    Ok(())
+}
+
 /// The bytes of a file that is given in pieces.
 fn bytes_of(alloc: Global, pieces: &str) -> Result<Vec<u8>, Fail> {
-    let mut bytes = Vec::new(alloc);
+    let mut digits = String::new(alloc);
     for text in pieces.split_whitespace() {
         let (hex, times) = piece(text);
-        let digits = hex.repeat(alloc, times)?;
-        bytes.extend_from_slice(hex::decode(alloc, &digits)?.as_slice())?;
+        push_times(&mut digits, hex, times)?;
     }
-    Ok(bytes)
+    Ok(hex::decode(alloc, &digits)?)
 }
 
 /// What the read of a record comes to.
@@ -160,14 +167,25 @@ fn ends_at(alloc: Global, source: &mut SliceSource<'_>, at: u64) -> bool {
     read.number == 0 && read.at == at
 }
 
+/// How many records stand there, each up to its place.
+fn records_at(alloc: Global, source: &mut SliceSource<'_>) -> usize {
+    let mut count = 0usize;
+    for at in AT {
+        count = count.saturating_add(usize::from(ends_at(alloc, source, at)));
+    }
+    count
+}
+
+/// Whether the front of that file stands in it, and how many of its records.
+fn seen(alloc: Global) -> Result<(bool, usize), Fail> {
+    let bytes = bytes_of(alloc, COMPACT)?;
+    let mut source = SliceSource::new(&bytes, INPUT_MAX);
+    Ok((has_head(alloc, &mut source), records_at(alloc, &mut source)))
+}
+
 #[test]
 fn compact(rt: HostRuntime) -> Result<(), Fail> {
-    let bytes = bytes_of(rt.alloc(), COMPACT)?;
-    let mut source = SliceSource::new(&bytes, INPUT_MAX);
-    assert!(rt; has_head(rt.alloc(), &mut source));
-    for at in AT {
-        assert!(rt; ends_at(rt.alloc(), &mut source, at), "{at}");
-    }
+    assert_eq!(rt; seen(rt.alloc())?, (true, AT.len()));
     Ok(())
 }
 
@@ -207,15 +225,18 @@ const TAKEN: &str = "\
 4 1340012000\n\
 2 13200700";
 
+/// How many bytes a record takes of a file that is given in pieces.
+fn taken_of(alloc: Global, pieces: &str) -> Result<u64, Fail> {
+    let bytes = bytes_of(alloc, pieces)?;
+    Ok(taken(alloc, &bytes))
+}
+
 #[test]
 fn bytes_taken(rt: HostRuntime) -> Result<(), Fail> {
     for row in TAKEN.lines() {
         let (number, pieces) = row.split_once(' ').unwrap_or(("", ""));
-        let bytes = bytes_of(rt.alloc(), pieces)?;
-        assert!(rt;
-            taken(rt.alloc(), &bytes) == number.parse().unwrap_or(9999),
-            "{row}"
-        );
+        let found = taken_of(rt.alloc(), pieces)?;
+        assert!(rt; found == number.parse().unwrap_or(9999), "{row}: {found}");
     }
     Ok(())
 }
