@@ -3,6 +3,12 @@
 #![tactic(auto)]
 
 #[cfg(test)]
+mod known;
+#[cfg(test)]
+mod many;
+#[cfg(test)]
 mod plain;
 #[cfg(test)]
-mod tests;
+mod points;
+#[cfg(test)]
+mod reading;
