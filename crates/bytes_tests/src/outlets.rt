@@ -5,7 +5,6 @@ ghost use Rattle.oas_bytes.specs.Outlets.{TakesFront};
 use oas_bytes::{Outlet, Sink, SinkFault};
 use std::io;
 use std::io::Write;
-use std::test::Fail;
 
 /// A writer that takes at most `most` bytes a call and `room` in all. Then it answers an error, or that it took none.
 /// `waiting` is how many bytes it took since it was flushed.
@@ -82,43 +81,74 @@ fn are_first(bytes: &[u8]) -> bool {
     true
 }
 
+/// What comes of 20000 bytes that are put, where the outlet is closed after them: how many were put, how many the outlet
+/// says were taken, how many the writer took, how many of those it did not flush and how often it was called; whether the
+/// outlet closed, and whether the bytes came in order.
+fn ends_of(rt: &HostRuntime, most: usize) -> ([u64; 5], [bool; 2]) {
+    let mut writer = Narrow::new(rt, most, usize::MAX);
+    let mut outlet = Outlet::new(&mut writer);
+    let put = put_bytes(&mut outlet, 20000) as u64;
+    let closes = outlet.close().is_ok();
+    let taken = outlet.taken();
+    let took = writer.took.len() as u64;
+    let in_order = are_first(writer.took.as_slice());
+    let waiting = writer.waiting as u64;
+    (
+        [put, taken, took, waiting, writer.calls],
+        [closes, in_order],
+    )
+}
+
+/// Bytes are gathered: a writer that takes all that it is given is called for three writes and a flush.
 #[test]
 fn a_writer_gets_all_in_order_however_it_takes_it(rt: HostRuntime) {
-    for most in [1, 2, 3, 7, 8191, 8192, usize::MAX] {
-        let mut writer = Narrow::new(&rt, most, usize::MAX);
-        let mut outlet = Outlet::new(&mut writer);
-        assert_eq!(rt; put_bytes(&mut outlet, 20000), 20000);
-        assert_eq!(rt; outlet.close(), Ok(()));
-        assert_eq!(rt; outlet.taken(), 20000);
-        assert_eq!(rt; writer.took.len(), 20000);
-        assert_eq!(rt; writer.waiting, 0, "flushed after the last byte");
-        assert!(rt; are_first(writer.took.as_slice()));
+    for (most, calls) in [
+        (1, 20001),
+        (2, 10001),
+        (3, 6669),
+        (7, 2860),
+        (8191, 6),
+        (8192, 4),
+        (usize::MAX, 4),
+    ] {
+        let ends = ([20000, 20000, 20000, 0, calls], [true, true]);
+        let found = ends_of(&rt, most);
+        assert!(rt; found == ends, "by {most}");
     }
 }
 
-#[test]
-fn bytes_are_gathered(rt: HostRuntime) {
-    let mut writer = Narrow::new(&rt, usize::MAX, usize::MAX);
-    let mut outlet = Outlet::new(&mut writer);
-    assert_eq!(rt; put_bytes(&mut outlet, 20000), 20000);
-    assert_eq!(rt; outlet.close(), Ok(()));
-    assert_eq!(rt; writer.calls, 4, "three writes and a flush");
+/// Whether a byte, a piece and the end are each refused.
+fn refuses_each<W: Write>(outlet: &mut Outlet<W>, byte: u8) -> bool {
+    let puts = outlet.put(byte).is_ok();
+    let puts_all = outlet.put_all(&[byte]).is_ok();
+    let closes = outlet.close().is_ok();
+    [puts, puts_all, closes] == [false; 3]
 }
 
-/// Whether an outlet over a writer with too little room gives it that much, and then answers only faults and writes
-/// nothing more.
-fn stops_at_its_room(writer: &mut Narrow) -> bool {
-    let room = writer.room;
-    let mut outlet = Outlet::new(writer);
-    if put_bytes(&mut outlet, 20000) == 20000 && outlet.close().is_ok() {
-        return false;
-    }
+/// How many of nine bytes are refused, and so is a piece after each, and the end.
+fn refusals_of<W: Write>(outlet: &mut Outlet<W>) -> u64 {
+    let mut refusals = 0u64;
     for byte in 0..9u8 {
-        if outlet.put(byte).is_ok() || outlet.put_all(&[byte]).is_ok() || outlet.close().is_ok() {
-            return false;
+        if refuses_each(outlet, byte) {
+            refusals = refusals.saturating_add(1);
         }
     }
-    outlet.taken() == room as u64
+    refusals
+}
+
+/// What an outlet over a writer with too little room comes to: how many bytes it says were taken, how many the writer took,
+/// and how many of nine later bytes are refused; whether all was put and the outlet closed, and whether the bytes came in
+/// order.
+fn ends_within(rt: &HostRuntime, room: usize, most: usize, refuses: bool) -> ([u64; 3], [bool; 2]) {
+    let mut writer = Narrow::new(rt, most, room);
+    writer.refuses = refuses;
+    let mut outlet = Outlet::new(&mut writer);
+    let puts_all = put_bytes(&mut outlet, 20000) == 20000 && outlet.close().is_ok();
+    let refusals = refusals_of(&mut outlet);
+    let taken = outlet.taken();
+    let took = writer.took.len() as u64;
+    let in_order = are_first(writer.took.as_slice());
+    ([taken, took, refusals], [puts_all, in_order])
 }
 
 #[test]
@@ -126,37 +156,47 @@ fn a_fault_ends_the_writing(rt: HostRuntime) {
     for room in [0, 1, 8191, 8192, 8193, 16383, 16384, 16385, 19999] {
         for most in [1, 7, 5000, usize::MAX] {
             for refuses in [true, false] {
-                let mut writer = Narrow::new(&rt, most, room);
-                writer.refuses = refuses;
-                assert!(rt; stops_at_its_room(&mut writer), "{room} bytes, by {most}");
-                assert_eq!(rt; writer.took.len(), room);
-                assert!(rt; are_first(writer.took.as_slice()));
+                let ends = ([room as u64, room as u64, 9], [false, true]);
+                let found = ends_within(&rt, room, most, refuses);
+                assert!(rt; found == ends, "{room} bytes, by {most}");
             }
         }
     }
 }
 
-#[test]
-fn a_failed_flush_is_a_fault(rt: HostRuntime) {
-    let mut writer = Narrow::new(&rt, usize::MAX, usize::MAX);
+/// What an outlet over a writer that cannot flush comes to: how many bytes are put, how many it says were taken before and
+/// after it is closed, and how often the writer is called; what it answers to an end, a byte and an end.
+fn ends_unflushed(rt: &HostRuntime) -> ([u64; 4], [Result<(), SinkFault>; 3]) {
+    let mut writer = Narrow::new(rt, usize::MAX, usize::MAX);
     writer.flushes = false;
     let mut outlet = Outlet::new(&mut writer);
-    assert_eq!(rt; put_bytes(&mut outlet, 100), 100);
-    assert_eq!(rt; outlet.taken(), 0);
-    assert_eq!(rt; outlet.close(), Err(SinkFault::Device));
-    assert_eq!(rt; outlet.taken(), 100);
-    assert_eq!(rt; outlet.put(1), Err(SinkFault::Device));
-    assert_eq!(rt; outlet.close(), Err(SinkFault::Device));
-    assert_eq!(rt; writer.calls, 2, "one write and one flush");
+    let put = put_bytes(&mut outlet, 100) as u64;
+    let before = outlet.taken();
+    let first = outlet.close();
+    let after = outlet.taken();
+    let answers = [first, outlet.put(1), outlet.close()];
+    ([put, before, after, writer.calls], answers)
+}
+
+#[test]
+fn a_failed_flush_is_a_fault(rt: HostRuntime) {
+    let ends = ([100, 0, 100, 2], [Err(SinkFault::Device); 3]);
+    let found = ends_unflushed(&rt);
+    assert!(rt; found == ends, "one write and one flush");
+}
+
+/// What an outlet to which nothing is put answers to two ends, and how often its writer is called.
+fn ends_empty(rt: &HostRuntime) -> ([Result<(), SinkFault>; 2], u64) {
+    let mut writer = Narrow::new(rt, 1, 0);
+    let mut outlet = Outlet::new(&mut writer);
+    let answers = [outlet.close(), outlet.close()];
+    (answers, writer.calls)
 }
 
 #[test]
 fn an_empty_outlet_flushes(rt: HostRuntime) {
-    let mut writer = Narrow::new(&rt, 1, 0);
-    let mut outlet = Outlet::new(&mut writer);
-    assert_eq!(rt; outlet.close(), Ok(()));
-    assert_eq!(rt; outlet.close(), Ok(()));
-    assert_eq!(rt; writer.calls, 2, "two flushes");
+    let found = ends_empty(&rt);
+    assert!(rt; found == ([Ok(()); 2], 2), "two flushes");
 }
 
 /// The form of a writer over an outlet: what the caller's own writer took, whether it succeeds or fails.
@@ -174,14 +214,25 @@ fn write_bytes<W: Write>(writer: &mut W, bytes: &[u8]) -> Result<u64, u64>
     Ok(outlet.taken())
 }
 
-#[test]
-fn bytes_are_appended(rt: HostRuntime) -> Result<(), Fail> {
+/// What a list that grows answers to two pieces, and whether it holds both.
+fn appended(rt: &HostRuntime) -> ([Result<u64, u64>; 2], bool) {
     let mut bytes = Vec::new(rt.alloc());
-    assert_eq!(rt; write_bytes(&mut bytes, &[7, 8]), Ok(2));
-    assert_eq!(rt; write_bytes(&mut bytes, &[9]), Ok(1));
-    assert_eq!(rt; bytes.as_slice(), [7, 8, 9].as_slice());
-    let mut writer = Narrow::new(&rt, 1, 1);
-    assert_eq!(rt; write_bytes(&mut writer, &[7, 8]), Err(1));
-    assert_eq!(rt; writer.took.as_slice(), [7].as_slice());
-    Ok(())
+    let answers = [
+        write_bytes(&mut bytes, &[7, 8]),
+        write_bytes(&mut bytes, &[9]),
+    ];
+    (answers, bytes.as_slice() == [7, 8, 9].as_slice())
+}
+
+/// What a writer with room for one byte answers to two, and whether it took the first alone.
+fn appended_within(rt: &HostRuntime) -> (Result<u64, u64>, bool) {
+    let mut writer = Narrow::new(rt, 1, 1);
+    let answer = write_bytes(&mut writer, &[7, 8]);
+    (answer, writer.took.as_slice() == [7].as_slice())
+}
+
+#[test]
+fn bytes_are_appended(rt: HostRuntime) {
+    let answers = (appended(&rt), appended_within(&rt));
+    assert!(rt; answers == (([Ok(2), Ok(1)], true), (Err(1), true)));
 }

@@ -38,8 +38,11 @@ impl<'a> Read for Cut<'a> {
     }
 }
 
+/// The answer of a source after its bytes.
+type End = Result<Option<u8>, SourceFault>;
+
 /// Whether a source gives these bytes, and then this answer at each call.
-fn gives<S: Source>(source: &mut S, bytes: &[u8], last: Result<Option<u8>, SourceFault>) -> bool {
+fn gives<S: Source>(source: &mut S, bytes: &[u8], last: End) -> bool {
     for byte in bytes {
         if source.next() != Ok(Some(*byte)) {
             return false;
@@ -69,46 +72,104 @@ fn gives_at_once<S: Source>(source: &mut S, bytes: &[u8]) -> bool {
     left.is_empty() && source.ahead().is_empty() && source.at() == bytes.len() as u64
 }
 
+/// What the readers and slices have.
+const BYTES: [u8; 11] = [3, 72, 105, 33, 3, 200, 1, 0, 9, 130, 4];
+
+/// What a source may give of them, how many those are, and what comes after them.
+const LIMITS: [(u64, usize, End); 3] = [
+    (100, 11, Ok(None)),
+    (11, 11, Ok(None)),
+    (10, 10, Err(SourceFault::TooLong)),
+];
+
+/// Whether a source of a slice gives these bytes, and then this answer, one by one and at once.
+fn slice_gives(limit: u64, given: &[u8], last: End) -> bool {
+    let by_one = gives(&mut SliceSource::new(&BYTES, limit), given, last);
+    let at_once = gives_at_once(&mut SliceSource::new(&BYTES, limit), given);
+    [by_one, at_once] == [true; 2]
+}
+
+/// Whether a source of a reader gives these bytes, and then this answer.
+fn reader_gives(
+    rt: &HostRuntime,
+    reader: Cut,
+    limit: u64,
+    given: &[u8],
+    last: End,
+) -> Result<bool, AllocError> {
+    let mut source = ReaderSource::new(rt.alloc(), reader, limit)?;
+    Ok(gives(&mut source, given, last))
+}
+
+/// Whether a source of a reader gives these bytes, where those at hand are taken at once.
+fn reader_gives_at_once(
+    rt: &HostRuntime,
+    reader: Cut,
+    limit: u64,
+    given: &[u8],
+) -> Result<bool, AllocError> {
+    let mut source = ReaderSource::new(rt.alloc(), reader, limit)?;
+    Ok(gives_at_once(&mut source, given))
+}
+
+/// Whether a source of a reader that gives at most so many bytes a call gives these bytes, and then this answer, one by one
+/// and at once.
+fn cut_gives(rt: &HostRuntime, most: usize, limit: u64, given: &[u8], last: End) -> bool {
+    let bytes = &BYTES;
+    let then = Then::Ends;
+    let by_one = reader_gives(rt, Cut { bytes, most, then }, limit, given, last);
+    let at_once = reader_gives_at_once(rt, Cut { bytes, most, then }, limit, given);
+    [by_one, at_once] == [Ok(true); 2]
+}
+
 #[test]
-fn a_reader_gives_what_a_slice_gives_however_it_is_cut(rt: HostRuntime) -> Result<(), AllocError> {
-    let bytes: &[u8] = &[3, 72, 105, 33, 3, 200, 1, 0, 9, 130, 4];
-    for (limit, end) in [
-        (100, Ok(None)),
-        (11, Ok(None)),
-        (10, Err(SourceFault::TooLong)),
-    ] {
-        let given = &bytes[..bytes.len().min(limit as usize)];
-        assert!(rt; gives(&mut SliceSource::new(bytes, limit), given, end));
-        assert!(rt; gives_at_once(&mut SliceSource::new(bytes, limit), given));
+fn a_slice_gives_its_bytes_up_to_the_limit(rt: HostRuntime) {
+    for (limit, count, end) in LIMITS {
+        assert!(rt; slice_gives(limit, &BYTES[..count], end), "{limit}");
+    }
+}
+
+#[test]
+fn a_reader_gives_what_a_slice_gives_however_it_is_cut(rt: HostRuntime) {
+    for (limit, count, end) in LIMITS {
         for most in [1, 2, 3, 7, 11] {
-            let then = Then::Ends;
-            let mut source = ReaderSource::new(rt.alloc(), Cut { bytes, most, then }, limit)?;
-            assert!(rt; gives(&mut source, given, end));
-            let mut source = ReaderSource::new(rt.alloc(), Cut { bytes, most, then }, limit)?;
-            assert!(rt; gives_at_once(&mut source, given));
+            let given = &BYTES[..count];
+            assert!(rt;
+                cut_gives(&rt, most, limit, given, end),
+                "{limit} by {most}"
+            );
         }
     }
-    Ok(())
 }
 
 #[test]
-fn a_fault_comes_after_the_bytes_and_stays(rt: HostRuntime) -> Result<(), AllocError> {
-    let bytes: &[u8] = &[3, 72, 105, 33, 3, 200, 1, 0, 9, 130, 4];
+fn a_fault_comes_after_the_bytes_and_stays(rt: HostRuntime) {
     for most in [1, 2, 3, 7, 11] {
-        let then = Then::Fails;
-        let mut source = ReaderSource::new(rt.alloc(), Cut { bytes, most, then }, 100)?;
-        assert!(rt; gives(&mut source, bytes, Err(SourceFault::Device)));
+        let reader = Cut {
+            bytes: &BYTES,
+            most,
+            then: Then::Fails,
+        };
+        let gives = reader_gives(&rt, reader, 100, &BYTES, Err(SourceFault::Device));
+        assert!(rt; gives == Ok(true), "by {most}");
     }
-    Ok(())
 }
 
 #[test]
-fn a_reader_without_end_is_too_long(rt: HostRuntime) -> Result<(), AllocError> {
-    let bytes: &[u8] = &[3, 72, 105];
+fn a_reader_without_end_is_too_long(rt: HostRuntime) {
     for most in [1, 2, 3] {
-        let then = Then::GivesSevens;
-        let mut source = ReaderSource::new(rt.alloc(), Cut { bytes, most, then }, 5)?;
-        assert!(rt; gives(&mut source, &[3, 72, 105, 7, 7], Err(SourceFault::TooLong)));
+        let reader = Cut {
+            bytes: &[3, 72, 105],
+            most,
+            then: Then::GivesSevens,
+        };
+        let gives = reader_gives(
+            &rt,
+            reader,
+            5,
+            &[3, 72, 105, 7, 7],
+            Err(SourceFault::TooLong),
+        );
+        assert!(rt; gives == Ok(true), "by {most}");
     }
-    Ok(())
 }
