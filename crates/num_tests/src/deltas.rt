@@ -1,62 +1,64 @@
 use oas_num::{Delta1, Delta2, Delta3, GDelta, SliceSource, Spelled, Why};
+use std::alloc::Global;
 
-/// Five in each direction, in the order of their numbers.
-const FIVE: [(i64, i64); 8] = [
-    (5, 0),
-    (0, 5),
-    (-5, 0),
-    (0, -5),
-    (5, 5),
-    (-5, 5),
-    (-5, -5),
-    (5, -5),
+/// The bytes of a 3-delta and of a g-delta in each of the eight directions, and the step of five that they stand for.
+const FIVE: [(u8, u8, i64, i64); 8] = [
+    (40, 80, 5, 0),
+    (41, 82, 0, 5),
+    (42, 84, -5, 0),
+    (43, 86, 0, -5),
+    (44, 88, 5, 5),
+    (45, 90, -5, 5),
+    (46, 92, -5, -5),
+    (47, 94, 5, -5),
 ];
+
+/// The byte of a 2-delta in each direction along an axis, and the step of five that it stands for.
+const FIVE_ALONG_AN_AXIS: [(u8, i64, i64); 4] = [(20, 5, 0), (21, 0, 5), (22, -5, 0), (23, 0, -5)];
+
+/// What a byte is read as.
+fn read_byte<T: Spelled>(alloc: Global, byte: u8) -> Result<T, Why> {
+    T::read(alloc, &mut SliceSource::new(&[byte], 1))
+}
 
 #[test]
 fn directions(rt: HostRuntime) {
-    for i in 0..8usize {
-        let (dx, dy) = FIVE[i];
-        let code = i as u8;
-        let bytes = [40 + code];
-        let mut source = SliceSource::new(&bytes, 1);
-        assert_eq!(rt;
-            Delta3::read(rt.alloc(), &mut source),
-            Ok(Delta3 { dx, dy })
-        );
-        let bytes = [80 + 2 * code];
-        let mut source = SliceSource::new(&bytes, 1);
-        assert_eq!(rt;
-            GDelta::read(rt.alloc(), &mut source),
-            Ok(GDelta { dx, dy })
-        );
-        if code < 4 {
-            let bytes = [20 + code];
-            let mut source = SliceSource::new(&bytes, 1);
-            assert_eq!(rt;
-                Delta2::read(rt.alloc(), &mut source),
-                Ok(Delta2 { dx, dy })
-            );
-        }
+    for (delta, general, dx, dy) in FIVE {
+        let step = read_byte(rt.alloc(), delta);
+        assert!(rt; step == Ok(Delta3 { dx, dy }), "{delta}");
+        let step = read_byte(rt.alloc(), general);
+        assert!(rt; step == Ok(GDelta { dx, dy }), "{general}");
+    }
+}
+
+#[test]
+fn directions_along_an_axis(rt: HostRuntime) {
+    for (delta, dx, dy) in FIVE_ALONG_AN_AXIS {
+        let step = read_byte(rt.alloc(), delta);
+        assert!(rt; step == Ok(Delta2 { dx, dy }), "{delta}");
     }
 }
 
 #[test]
 fn two_numbers(rt: HostRuntime) {
     let mut source = SliceSource::new(&[9, 2, 11, 3, 3, 1], 6);
-    assert_eq!(rt;
+    let steps = [
         GDelta::read(rt.alloc(), &mut source),
-        Ok(GDelta { dx: 2, dy: 1 })
-    );
-    assert_eq!(rt;
         GDelta::read(rt.alloc(), &mut source),
-        Ok(GDelta { dx: -2, dy: -1 })
-    );
-    assert_eq!(rt;
         GDelta::read(rt.alloc(), &mut source),
-        Ok(GDelta { dx: 0, dy: 0 })
-    );
-    assert_eq!(rt; GDelta::read(rt.alloc(), &mut source), Err(Why::Truncated));
-    let mut source = SliceSource::new(&[7, 6], 2);
-    assert_eq!(rt; Delta1::read(rt.alloc(), &mut source), Ok(Delta1(-3)));
-    assert_eq!(rt; Delta1::read(rt.alloc(), &mut source), Ok(Delta1(3)));
+        GDelta::read(rt.alloc(), &mut source),
+    ];
+    let expected = [
+        Ok(GDelta { dx: 2, dy: 1 }),
+        Ok(GDelta { dx: -2, dy: -1 }),
+        Ok(GDelta { dx: 0, dy: 0 }),
+        Err(Why::Truncated),
+    ];
+    assert!(rt; steps == expected);
+}
+
+#[test]
+fn one_number(rt: HostRuntime) {
+    let steps = [read_byte(rt.alloc(), 7), read_byte(rt.alloc(), 6)];
+    assert!(rt; steps == [Ok(Delta1(-3)), Ok(Delta1(3))]);
 }

@@ -8,22 +8,37 @@ fn lowest(num: u64, den: u64) -> (u64, u64) {
     }
 }
 
+/// Fractions, and what each is in lowest terms.
+const LOWEST: [((u64, u64), (u64, u64)); 10] = [
+    ((1000, 1), (1000, 1)),
+    ((2000, 2), (1000, 1)),
+    ((6, 4), (3, 2)),
+    ((1, u64::MAX), (1, u64::MAX)),
+    ((u64::MAX, u64::MAX), (1, 1)),
+    ((1 << 63, 1 << 32), (1 << 31, 1)),
+    ((0, 5), (0, 0)),
+    ((5, 0), (0, 0)),
+    ((0, 0), (0, 0)),
+    // Two Fibonacci numbers, by which Euclid's algorithm takes longest.
+    (
+        (12200160415121876738, 7540113804746346429),
+        (12200160415121876738, 7540113804746346429),
+    ),
+];
+
 #[test]
 fn fractions(rt: HostRuntime) {
-    assert_eq!(rt; lowest(1000, 1), (1000, 1));
-    assert_eq!(rt; lowest(2000, 2), (1000, 1));
-    assert_eq!(rt; lowest(6, 4), (3, 2));
-    assert_eq!(rt; lowest(1, u64::MAX), (1, u64::MAX));
-    assert_eq!(rt; lowest(u64::MAX, u64::MAX), (1, 1));
-    assert_eq!(rt; lowest(1 << 63, 1 << 32), (1 << 31, 1));
-    assert_eq!(rt; lowest(0, 5), (0, 0));
-    assert_eq!(rt; lowest(5, 0), (0, 0));
-    assert_eq!(rt; lowest(0, 0), (0, 0));
-    // Two Fibonacci numbers, by which Euclid's algorithm takes longest.
-    assert_eq!(rt;
-        lowest(12200160415121876738, 7540113804746346429),
-        (12200160415121876738, 7540113804746346429)
-    );
-    assert_eq!(rt; Fraction::reduced(9, 6), Fraction::reduced(3, 2));
-    assert_ne!(rt; Fraction::reduced(9, 6), Fraction::reduced(2, 3));
+    for ((num, den), parts) in LOWEST {
+        let found = lowest(num, den);
+        assert!(rt; found == parts, "{num}/{den}");
+    }
+}
+
+#[test]
+fn equal_fractions(rt: HostRuntime) {
+    let fraction = Fraction::reduced(9, 6);
+    let equal = fraction == Fraction::reduced(3, 2);
+    let inverse = fraction == Fraction::reduced(2, 3);
+    let found = [equal, inverse];
+    assert!(rt; found == [true, false]);
 }
