@@ -5,7 +5,6 @@ use std::alloc::Alloc;
 use std::fs;
 use std::fs::Files;
 use std::io::{Read, Write};
-use std::process::Abort;
 use std::test::Fail;
 
 /// What is done to an output, whether it succeeds, and the text that then stands under a name.
@@ -19,8 +18,18 @@ struct Step {
 /// What is done to an output.
 #[derive(Clone, Copy)]
 enum Action {
+    Nothing,
     Write(&'static str),
     Flush,
+}
+
+/// A write of no bytes.
+fn nothing(left: &'static str) -> Step {
+    Step {
+        action: Action::Nothing,
+        succeeds: true,
+        left,
+    }
 }
 
 /// A text that is written.
@@ -57,45 +66,60 @@ fn stands(rt: &(impl Files + Alloc), path: &str, text: &str) -> bool {
     }
 }
 
-/// Does all the steps to an output, and asserts of each what it does.
-fn expect_steps(
-    rt: &(impl Abort + Files + Alloc),
-    out: &mut impl Write,
-    path: &str,
-    steps: &[Step],
-) {
-    for step in steps {
-        let done = match step.action {
-            Action::Write(text) => out.write_all(text.as_bytes()).is_ok(),
-            Action::Flush => out.flush().is_ok(),
-        };
-        let left = step.left;
-        assert_eq!(rt; done, step.succeeds, "before {left}");
-        assert!(rt; stands(rt, path, left), "no {left} in {path}");
+/// Whether the action succeeds.
+fn is_done(out: &mut impl Write, action: Action) -> bool {
+    match action {
+        Action::Nothing => out.write(&[]).is_ok_and(|count| count == 0),
+        Action::Write(text) => out.write_all(text.as_bytes()).is_ok(),
+        Action::Flush => out.flush().is_ok(),
     }
 }
 
+/// Does the steps to an output, and answers the place of the first that doesn't do what it says, with whether it succeeded.
+fn first_wrong(
+    rt: &(impl Files + Alloc),
+    out: &mut impl Write,
+    path: &str,
+    steps: &[Step],
+) -> Option<(usize, bool)> {
+    for (place, step) in steps.iter().enumerate() {
+        let done = is_done(out, step.action);
+        if done != step.succeeds || !stands(rt, path, step.left) {
+            return Some((place, done));
+        }
+    }
+    None
+}
+
+/// As `first_wrong`, of the steps to a new file.
+fn first_wrong_of_new(rt: &HostRuntime, steps: &[Step]) -> Option<(usize, bool)> {
+    let mut file = NewFile::new(rt, "new");
+    first_wrong(rt, &mut file, "new", steps)
+}
+
 #[test]
-fn file_that_is_created_at_its_first_byte(rt: HostRuntime) -> Result<(), Fail> {
-    let mut file = NewFile::new(&rt, "new");
-    assert!(rt; file.write(&[]).is_ok_and(|count| count == 0));
-    let steps = [
+fn file_that_is_created_at_its_first_byte(rt: HostRuntime) {
+    let created = [
+        nothing(""),
         flush(""),
         write("abc", "abc"),
         write("de", "abcde"),
         flush("abcde"),
     ];
-    expect_steps(&rt, &mut file, "new", &steps);
-    let mut again = NewFile::new(&rt, "new");
-    let steps = [
+    let replaced = [
         flush("abcde"),
         write("f", "abcde"),
         flush("f"),
         write("g", "fg"),
         flush("fg"),
     ];
-    expect_steps(&rt, &mut again, "new", &steps);
-    Ok(fs::remove_file(&rt, "new")?)
+    let wrong = [
+        first_wrong_of_new(&rt, &created),
+        first_wrong_of_new(&rt, &replaced),
+    ];
+    let removed = fs::remove_file(&rt, "new").is_ok();
+    let found = (wrong, removed);
+    assert!(rt; found == ([None; 2], true));
 }
 
 /// A replacement of the file `old`.
@@ -104,61 +128,85 @@ fn replacement<'a>(rt: &'a HostRuntime) -> Result<Replacement<'a>, Fail> {
     Ok(Replacement::new(rt, "old", permissions)?)
 }
 
+/// As `first_wrong`, of the steps to a replacement that is flushed.
+fn first_wrong_of_flushed(rt: &HostRuntime) -> Result<Option<(usize, bool)>, Fail> {
+    let mut new = replacement(rt)?;
+    let steps = [write("e", "abc"), flush("e")];
+    Ok(first_wrong(rt, &mut new, "old", &steps))
+}
+
+/// What comes of a replacement that is written, one that is flushed meanwhile, and the first one afterwards, whose own file is
+/// no more: as `first_wrong` of each, and whether the first one's file stands and is removed.
+fn overtaken(rt: &HostRuntime) -> Result<([Option<(usize, bool)>; 3], [bool; 2]), Fail> {
+    let mut new = replacement(rt)?;
+    let begun = first_wrong(rt, &mut new, "old", &[write("d", "abc")]);
+    let stands = stands(rt, ".old.oascanon-0", "d");
+    // Where a run left its file, the next name is taken.
+    let flushed = first_wrong_of_flushed(rt)?;
+    let removed = fs::remove_file(rt, ".old.oascanon-0").is_ok();
+    let steps = [fails(flush("e")), fails(write("f", "e")), fails(flush("e"))];
+    let later = first_wrong(rt, &mut new, "old", &steps);
+    Ok(([begun, flushed, later], [stands, removed]))
+}
+
 #[test]
 fn replacement_that_is_never_flushed(rt: HostRuntime) -> Result<(), Fail> {
     fs::write(&rt, "old", "abc".as_bytes())?;
-    let mut new = replacement(&rt)?;
-    expect_steps(&rt, &mut new, "old", &[write("d", "abc")]);
-    assert!(rt; stands(&rt, ".old.oascanon-0", "d"));
-    // Where a run left its file, the next name is taken.
-    let mut other = replacement(&rt)?;
-    expect_steps(&rt, &mut other, "old", &[write("e", "abc"), flush("e")]);
-    let removed = fs::remove_file(&rt, ".old.oascanon-0");
-    let steps = [fails(flush("e")), fails(write("f", "e")), fails(flush("e"))];
-    expect_steps(&rt, &mut new, "old", &steps);
-    removed?;
-    Ok(fs::remove_file(&rt, "old")?)
+    let (wrong, stands) = overtaken(&rt)?;
+    fs::remove_file(&rt, "old")?;
+    let found = (wrong, stands);
+    assert!(rt; found == ([None; 3], [true; 2]));
+    Ok(())
+}
+
+/// Whether a replacement of a file that isn't there is refused.
+fn is_refused(rt: &HostRuntime) -> Result<bool, Fail> {
+    let permissions = fs::metadata(rt, "there")?.permissions();
+    Ok(Replacement::new(rt, "none", permissions).is_err())
 }
 
 #[test]
 fn replacement_of_no_file(rt: HostRuntime) -> Result<(), Fail> {
     fs::write(&rt, "there", "abc".as_bytes())?;
-    let permissions = fs::metadata(&rt, "there")?.permissions();
-    assert!(rt; Replacement::new(&rt, "none", permissions).is_err());
+    assert!(rt; is_refused(&rt)?);
     Ok(fs::remove_file(&rt, "there")?)
+}
+
+/// Whether nothing is written, a text is refused, and a flush succeeds, where the file cannot be created.
+fn uncreated(rt: &HostRuntime) -> [bool; 3] {
+    let mut file = NewFile::new(rt, "nowhere/new");
+    let nothing = file.write(&[]).is_ok_and(|count| count == 0);
+    let refused = file.write("abc".as_bytes()).is_err();
+    [nothing, refused, file.flush().is_ok()]
 }
 
 #[test]
 fn file_that_cannot_be_created(rt: HostRuntime) {
-    let mut file = NewFile::new(&rt, "nowhere/new");
-    assert!(rt; file.write(&[]).is_ok_and(|count| count == 0));
-    assert!(rt; file.write("abc".as_bytes()).is_err());
-    assert!(rt; file.flush().is_ok());
+    let found = uncreated(&rt);
+    assert!(rt; found == [true; 3]);
 }
 
-/// Whether there is an input of this name.
-fn is_input(rt: &HostRuntime, path: &str) -> bool {
-    Input::open(rt, Some(path)).is_ok()
-}
-
-/// Whether the input of this name reads as this text.
-fn reads_as(rt: &HostRuntime, path: &str, text: &str) -> bool {
+/// Whether an input can be read, and is this text.
+fn is_text(rt: &HostRuntime, input: &mut Input, text: &str) -> bool {
     let mut found = Vec::new(rt.alloc());
-    match Input::open(rt, Some(path)) {
-        Ok(mut input) => {
-            input.read_to_end(&mut found).is_ok() && found.as_slice() == text.as_bytes()
-        }
-        Err(_) => false,
-    }
+    let read = input.read_to_end(&mut found).is_ok();
+    read && found.as_slice() == text.as_bytes()
+}
+
+/// Whether the input of this name can be read, and is this text; nothing where it can't be opened.
+fn reads_as(rt: &HostRuntime, path: &str, text: &str) -> Option<bool> {
+    let mut input = Input::open(rt, Some(path)).ok()?;
+    Some(is_text(rt, &mut input, text))
 }
 
 #[test]
 fn inputs(rt: HostRuntime) -> Result<(), Fail> {
-    assert!(rt; !is_input(&rt, "missing"));
-    assert!(rt; !is_input(&rt, "-"));
-    assert!(rt; is_input(&rt, "/"));
-    assert!(rt; !reads_as(&rt, "/", ""));
     fs::write(&rt, "in", "abc".as_bytes())?;
-    assert!(rt; reads_as(&rt, "in", "abc"));
-    Ok(fs::remove_file(&rt, "in")?)
+    let missing = [reads_as(&rt, "missing", ""), reads_as(&rt, "-", "")];
+    let directory = reads_as(&rt, "/", "");
+    let file = reads_as(&rt, "in", "abc");
+    fs::remove_file(&rt, "in")?;
+    let found = (missing, directory, file);
+    assert!(rt; found == ([None; 2], Some(false), Some(true)));
+    Ok(())
 }
