@@ -4,7 +4,7 @@ use std::io;
 use std::io::{ErrorKind, Read, Write};
 
 /// What a reader does after its bytes.
-#[derive(Clone, Copy, Debug, PartialEq, Eq)]
+#[derive(Clone, Copy)]
 pub enum After {
     /// It ends.
     End,
@@ -56,7 +56,7 @@ impl Read for Reader<'_> {
 }
 
 /// What a writer does once it has no room.
-#[derive(Clone, Copy, Debug, PartialEq, Eq)]
+#[derive(Clone, Copy)]
 pub enum Full {
     /// Each further write fails.
     Fault,

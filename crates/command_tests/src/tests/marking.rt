@@ -8,11 +8,13 @@ use oas_command::run_marking;
 use oas_difference::{Detail, Options};
 use oas_num::{INPUT_MAX, SliceSource};
 use std::alloc::Global;
-use std::process::Abort;
 use std::test::Fail;
 
 /// What `diff` finds of a cell with a rectangle and one without.
 const LINES: &str = "@ cell A\n- 1 rectangle 1 0 10 20 0 0\n";
+
+/// Room for all.
+const ALL: usize = usize::MAX;
 
 /// A writer that takes so many bytes.
 fn taker(alloc: Global, room: usize) -> Writer {
@@ -52,46 +54,46 @@ fn run(
 }
 
 /// The markers, where they are taken whole.
-fn whole(rt: &impl Abort, alloc: Global) -> Result<Vec<u8>, Fail> {
-    let (mut out, mut markers) = (taker(alloc, usize::MAX), taker(alloc, usize::MAX));
+fn whole(alloc: Global) -> Result<Vec<u8>, Fail> {
+    let (mut out, mut markers) = (taker(alloc, ALL), taker(alloc, ALL));
     let mut said: Vec<u8> = Vec::new(alloc);
-    let status = run(alloc, &mut out, &mut markers, &mut said)?;
-    assert_eq!(rt; status, 3);
-    assert!(rt; said.is_empty());
-    assert_eq!(rt; out.taken.as_slice(), LINES.as_bytes());
+    let _ = run(alloc, &mut out, &mut markers, &mut said)?;
     Ok(markers.taken)
 }
 
-/// Asserts that a run whose markers are taken up to `room` bytes refuses there, with the lines and that front of the markers.
-fn expect_cut(rt: &impl Abort, alloc: Global, markers: &[u8], room: usize) -> Result<(), Fail> {
-    let (mut out, mut cut) = (taker(alloc, usize::MAX), taker(alloc, room));
-    let mut said: Vec<u8> = Vec::new(alloc);
-    let status = run(alloc, &mut out, &mut cut, &mut said)?;
-    assert_eq!(rt; status, 1, "at {room}");
-    assert_eq!(rt; out.taken.as_slice(), LINES.as_bytes(), "at {room}");
-    assert!(rt; markers.starts_with(&cut.taken), "at {room}");
-    assert!(rt; refusal_of(&said, "marks") == Some((33, room)), "at {room}");
-    Ok(())
-}
-
-#[test]
-fn markers_to_writers_that_fail(rt: HostRuntime) -> Result<(), Fail> {
-    let alloc = rt.alloc();
-    let markers = whole(&rt, alloc)?;
-    for room in [0usize, 1, 700, markers.len().saturating_sub(1)] {
-        expect_cut(&rt, alloc, &markers, room)?;
-    }
-    Ok(())
-}
-
-#[test]
-fn lines_to_a_writer_that_fails(rt: HostRuntime) -> Result<(), Fail> {
-    let alloc = rt.alloc();
-    let (mut out, mut markers) = (taker(alloc, 5), taker(alloc, usize::MAX));
+/// Runs `diff` to writers that take so many bytes of its lines and of its markers. Answers the status, how many bytes of each
+/// were taken, whether they are the front of the lines and of the markers, and what was refused of the output of this name.
+fn cut(
+    alloc: Global,
+    rooms: [usize; 2],
+    name: &str,
+) -> Result<(u8, [usize; 2], [bool; 2], Option<(u8, usize)>), Fail> {
+    let all = whole(alloc)?;
+    let (mut out, mut markers) = (taker(alloc, rooms[0]), taker(alloc, rooms[1]));
     let mut said: Vec<u8> = Vec::new(alloc);
     let status = run(alloc, &mut out, &mut markers, &mut said)?;
-    assert_eq!(rt; status, 1);
-    assert!(rt; markers.taken.is_empty());
-    assert!(rt; refusal_of(&said, "first") == Some((33, 5)));
+    let taken = [out.taken.len(), markers.taken.len()];
+    let are_front = [
+        LINES.as_bytes().starts_with(&out.taken),
+        all.starts_with(&markers.taken),
+    ];
+    Ok((status, taken, are_front, refusal_of(&said, name)))
+}
+
+#[test]
+fn writers_that_fail(rt: HostRuntime) -> Result<(), Fail> {
+    let (lines, markers) = (LINES.len(), whole(rt.alloc())?.len());
+    let last = markers.saturating_sub(1);
+    for (rooms, name, status, taken, refusal) in [
+        ([ALL, ALL], "first", 3u8, [lines, markers], None),
+        ([ALL, 0], "marks", 1, [lines, 0], Some((33u8, 0usize))),
+        ([ALL, 1], "marks", 1, [lines, 1], Some((33, 1))),
+        ([ALL, 700], "marks", 1, [lines, 700], Some((33, 700))),
+        ([ALL, last], "marks", 1, [lines, last], Some((33, last))),
+        ([5, ALL], "first", 1, [5, 0], Some((33, 5))),
+    ] {
+        let wanted = (status, taken, [true; 2], refusal);
+        assert_eq!(rt; cut(rt.alloc(), rooms, name)?, wanted, "within {rooms:?}");
+    }
     Ok(())
 }

@@ -22,62 +22,67 @@ fn writer(alloc: Global) -> Result<Writer, AllocError> {
     Ok(Writer::new(Vec::with_capacity(alloc, 1024)?))
 }
 
-/// Runs a command once, and asserts that it answers as it is to, or says that memory was refused and writes nothing. Answers
-/// whether it was.
-fn is_refused(
-    rt: &impl Abort,
-    alloc: Global,
-    run: &Run<'_>,
-    out: &mut Writer,
-    err: &mut Writer,
-) -> bool {
+/// Runs a command once. Answers whether it said that memory was refused and put nothing, or answered as it is to: `None` where
+/// it did neither.
+fn is_refused(alloc: Global, run: &Run<'_>, out: &mut Writer, err: &mut Writer) -> Option<bool> {
     out.taken.clear();
     err.taken.clear();
     let status = run.run(alloc, out, err);
     if err.taken.is_empty() {
-        assert_eq!(rt; status, run.status);
-        assert_eq!(rt; out.taken.as_slice(), run.answer.as_slice());
-        return false;
+        let is_met = status == run.status && out.taken.as_slice() == run.answer.as_slice();
+        return is_met.then_some(false);
     }
     let line = str::from_utf8(&err.taken).unwrap_or("");
-    assert_eq!(rt; status, 1);
-    assert!(rt; out.taken.is_empty());
-    assert!(rt; line.contains(": refused 34 at "), "it said {line}");
-    true
+    let is_met = status == 1 && out.taken.is_empty() && line.contains(": refused 34 at ");
+    is_met.then_some(true)
 }
 
-/// Runs a command with a little more memory each time. Answers how often it was refused, or `None` where not all memory can be
-/// taken.
-fn refusals(rt: &impl Abort, alloc: Global, run: &Run<'_>) -> Result<Option<u64>, AllocError> {
-    let mut out = writer(alloc)?;
-    let mut err = writer(alloc)?;
-    let mut hoard = Hoard::new(alloc)?;
-    let is_full = hoard.is_full();
-    let pieces = hoard.pieces();
-    let mut refused = 0usize;
-    for _ in 0..pieces {
-        let is_one = is_refused(rt, alloc, run, &mut out, &mut err);
-        refused = refused.saturating_add(usize::from(is_one));
+/// Runs a command with a little more memory each time. Answers how often it answered, was refused memory, and did neither.
+fn growths(
+    alloc: Global,
+    run: &Run<'_>,
+    hoard: &mut Hoard,
+    out: &mut Writer,
+    err: &mut Writer,
+) -> [usize; 3] {
+    let [mut answered, mut refused, mut others] = [0usize; 3];
+    for _ in 0..hoard.pieces() {
+        match is_refused(alloc, run, out, err) {
+            Some(false) => answered = answered.saturating_add(1),
+            Some(true) => refused = refused.saturating_add(1),
+            None => others = others.saturating_add(1),
+        }
         hoard.give_back();
     }
-    drop(hoard);
-    assert!(rt; !is_full || refused < pieces, "all was refused");
-    Ok(is_full.then_some(refused as u64))
+    [answered, refused, others]
+}
+
+/// The same of the command of a row, and whether all memory could be taken before.
+fn growths_of_row(alloc: Global, row: &str) -> Result<(bool, [usize; 3]), Fail> {
+    let run = Run::of_row(alloc, row)?;
+    let (mut out, mut err) = (writer(alloc)?, writer(alloc)?);
+    let mut hoard = Hoard::new(alloc)?;
+    let is_full = hoard.is_full();
+    let counts = growths(alloc, &run, &mut hoard, &mut out, &mut err);
+    Ok((is_full, counts))
 }
 
 /// Refuses each growth of the command of each of these rows. One that takes little may be refused none: what earlier runs gave
 /// back serves it.
 pub fn expect_growths(rt: &impl Abort, alloc: Global, rows: &str) -> Result<(), Fail> {
-    let mut refused = 0u64;
-    let mut is_full = true;
+    let mut all_refused = 0usize;
+    let mut is_each_full = true;
     for row in rows.lines() {
-        let run = Run::of_row(alloc, row)?;
-        match refusals(rt, alloc, &run)? {
-            Some(more) => refused = refused.saturating_add(more),
-            None => is_full = false,
-        }
+        let (is_full, [answered, refused, others]) = growths_of_row(alloc, row)?;
+        let is_met = others == 0 && (!is_full || answered > 0);
+        assert!(rt;
+            is_met,
+            "{answered} answered, {refused} refused, {others} neither at {row}"
+        );
+        all_refused = all_refused.saturating_add(refused);
+        is_each_full = is_each_full && is_full;
     }
-    assert!(rt; !is_full || refused > 0, "nothing was refused");
+    assert!(rt; !is_each_full || all_refused > 0, "nothing was refused");
     Ok(())
 }
 

@@ -1,16 +1,9 @@
 //! `rekey`: its answers, to memory and to writers that fail, and limits that a box is asked of.
 
 use super::memory::expect_growths;
-use super::rows::{RECTANGLE, bytes_of, expect};
+use super::rows::{WHOLE_FILE, expect_rows};
 use super::runs::{expect_faults, expect_runs};
-use oas_canon::Limits;
-use oas_num::{INPUT_MAX, SliceSource};
-use std::alloc::Global;
-use std::process::Abort;
 use std::test::Fail;
-
-/// A file that is canonical by profile one, and whose canonical file by profile two is the rectangle.
-const BOX: &str = "HEAD CELL 153B010004030128290001290000 TAIL";
 
 /// The rows, as in `runs`.
 const REKEYED: &str = "\
@@ -46,25 +39,13 @@ fn each_growth(rt: HostRuntime) -> Result<(), Fail> {
     expect_growths(&rt, rt.alloc(), first_row())
 }
 
-/// Runs `canon` on a box within these limits, and asserts what comes of it.
-fn expect_within(
-    rt: &impl Abort,
-    alloc: Global,
-    limits: Option<Limits>,
-    wanted: Result<&[u8], (u8, usize)>,
-) -> Result<(), Fail> {
-    let file = bytes_of(alloc, BOX)?;
-    let mut from = SliceSource::new(file.as_slice(), INPUT_MAX);
-    let limits = limits.ok_or("these are limits")?;
-    expect(rt, alloc, "box", limits, &mut from, wanted);
-    Ok(())
-}
+/// Rows of `canon` on a box, as in `rows`. A cell `A` weighs 2, and a box 5 until it is held.
+const WEIGHED: &str = "\
+box-of-the-largest-weight | 1 7 768 | HEAD CELL 153B010004030128290001290000 TAIL | HEAD CELL RECT TAIL
+box-past-the-largest-weight | 1 6 704 | HEAD CELL 153B010004030128290001290000 TAIL | 25@37
+";
 
-/// A cell `A` weighs 2, and a box 5 until it is held.
 #[test]
 fn box_under_limits(rt: HostRuntime) -> Result<(), Fail> {
-    let alloc = rt.alloc();
-    let rectangle = bytes_of(alloc, RECTANGLE)?;
-    expect_within(&rt, alloc, Limits::new(1, 7, 768), Ok(rectangle.as_slice()))?;
-    expect_within(&rt, alloc, Limits::new(1, 6, 704), Err((25, 37)))
+    expect_rows(&rt, rt.alloc(), WHOLE_FILE, WEIGHED, 2)
 }

@@ -1,6 +1,6 @@
 //! The worked rows through `run_canon`, over a slice.
 
-use super::runs::refusal_of;
+use super::runs::{Outcome, refusal_of};
 use super::table::ROWS;
 use oas_canon::Limits;
 use oas_command::run_canon;
@@ -11,6 +11,9 @@ use std::test::Fail;
 
 /// A file of one cell with one rectangle, of 301 bytes, which is canonical as it stands.
 pub const RECTANGLE: &str = "HEAD CELL RECT TAIL";
+
+/// The same, and a byte behind it.
+const LONGER: &str = "HEAD CELL RECT TAIL 00";
 
 /// The name of each input.
 pub const INPUT: &str = "standard input";
@@ -57,30 +60,21 @@ fn add_pieces(alloc: Global, bytes: &mut Vec<u8>, pieces: &str) -> Result<(), Fa
 }
 
 /// The pieces before and behind those of a row.
-#[derive(Clone, Copy)]
-pub struct Frame {
-    before: &'static str,
-    behind: &'static str,
-}
+pub type Frame = [&'static str; 2];
 
 /// The frame of a row of whole files.
-pub const WHOLE_FILE: Frame = Frame {
-    before: "",
-    behind: "",
-};
+pub const WHOLE_FILE: Frame = ["", ""];
 
 /// The frame of a row of what stands between the beginning of a file and its END.
-pub const BODY: Frame = Frame {
-    before: "HEAD",
-    behind: "TAIL",
-};
+pub const BODY: Frame = ["HEAD", "TAIL"];
 
 /// The bytes of a file that is given in pieces, within a frame.
 fn bytes_within(alloc: Global, frame: Frame, pieces: &str) -> Result<Vec<u8>, Fail> {
+    let [before, behind] = frame;
     let mut bytes = Vec::new(alloc);
-    add_pieces(alloc, &mut bytes, frame.before)?;
+    add_pieces(alloc, &mut bytes, before)?;
     add_pieces(alloc, &mut bytes, pieces)?;
-    add_pieces(alloc, &mut bytes, frame.behind)?;
+    add_pieces(alloc, &mut bytes, behind)?;
     Ok(bytes)
 }
 
@@ -89,29 +83,37 @@ pub fn bytes_of(alloc: Global, pieces: &str) -> Result<Vec<u8>, Fail> {
     bytes_within(alloc, WHOLE_FILE, pieces)
 }
 
-/// Runs `canon` on a source, under limits, and asserts what comes of it: the output, or a refusal by its number and offset,
-/// with no output.
-pub fn expect(
-    rt: &impl Abort,
-    alloc: Global,
-    name: &str,
-    limits: Limits,
-    from: &mut impl Source,
-    wanted: Result<&[u8], (u8, usize)>,
-) {
+/// What a run puts that ends with this status: all of these bytes, or nothing.
+fn put_by<'a>(status: u8, bytes: &'a [u8]) -> &'a [u8] {
+    if status == 0 { bytes } else { b"" }
+}
+
+/// Runs `canon` on a source, under limits. Answers what comes of it, where this is the canonical file of what is accepted.
+pub fn outcome(alloc: Global, limits: Limits, from: &mut impl Source, canonical: &[u8]) -> Outcome {
     let (mut out, mut err): (Vec<u8>, Vec<u8>) = (Vec::new(alloc), Vec::new(alloc));
     let status = run_canon(alloc, INPUT, from, &mut out, &mut err, limits);
-    match wanted {
-        Ok(bytes) => {
-            assert_eq!(rt; status, 0, "at {name}");
-            assert_eq!(rt; out.as_slice(), bytes, "at {name}");
-            assert!(rt; err.is_empty(), "at {name}");
-        }
-        Err(refusal) => {
-            assert_eq!(rt; status, 1, "at {name}");
-            assert!(rt; out.is_empty(), "at {name}");
-            assert!(rt; refusal_of(&err, INPUT) == Some(refusal), "at {name}");
-        }
+    let is_put = out.as_slice() == put_by(status, canonical);
+    (status, is_put, refusal_of(&err, INPUT))
+}
+
+/// The limits of three numbers.
+fn limits_of(numbers: &str) -> Option<Limits> {
+    let (elements, rest) = numbers.split_once(' ')?;
+    let (weight, input) = rest.split_once(' ')?;
+    Limits::new(
+        elements.parse().ok()?,
+        weight.parse().ok()?,
+        input.parse().ok()?,
+    )
+}
+
+/// The limits of a row, which are the standard ones where it has none, its file, and what comes of it.
+fn parts_of(row: &str) -> Option<(Limits, &str, &str)> {
+    let (_, rest) = row.split_once(" | ")?;
+    let (first, rest) = rest.split_once(" | ")?;
+    match rest.split_once(" | ") {
+        Some((file, answer)) => Some((limits_of(first)?, file, answer)),
+        None => Some((Limits::standard(), first, rest)),
     }
 }
 
@@ -121,57 +123,65 @@ fn refused(answer: &str) -> Option<(u8, usize)> {
     Some((number.parse().ok()?, at.parse().ok()?))
 }
 
+/// What is to come of a file of which a row says this, and its canonical file, which is itself where the row has no other.
+fn wanted<'a>(file: &'a str, answer: &'a str) -> (Outcome, &'a str) {
+    match (refused(answer), answer) {
+        (Some(refusal), _) => ((1, true, Some(refusal)), file),
+        (None, "same") => ((0, true, None), file),
+        (None, _) => ((0, true, None), answer),
+    }
+}
+
+/// What comes of a file, and of its canonical file, which stays as it is.
+fn outcomes(
+    alloc: Global,
+    frame: Frame,
+    limits: Limits,
+    file: &str,
+    canonical: &str,
+) -> Result<[Outcome; 2], Fail> {
+    let file = bytes_within(alloc, frame, file)?;
+    let canonical = bytes_within(alloc, frame, canonical)?;
+    let (mut first, mut then) = (whole(&file), whole(&canonical));
+    Ok([
+        outcome(alloc, limits, &mut first, &canonical),
+        outcome(alloc, limits, &mut then, &canonical),
+    ])
+}
+
 /// A source that is read to its end.
 fn whole<'a>(input: &'a [u8]) -> SliceSource<'a> {
     SliceSource::new(input, INPUT_MAX)
 }
 
-/// Asserts what comes of the file of a row of this name, under limits, and then of what it is to be.
-pub fn expect_row(
-    rt: &impl Abort,
+/// The same of the file of a row, and what is to come of each.
+fn outcomes_of_row(
     alloc: Global,
-    limits: Limits,
     frame: Frame,
-    name: &str,
     row: &str,
-) -> Result<(), Fail> {
-    let (pieces, answer) = row.split_once(" | ").ok_or("a row has an answer")?;
-    let file = bytes_within(alloc, frame, pieces)?;
-    if let Some(refusal) = refused(answer) {
-        expect(rt, alloc, name, limits, &mut whole(&file), Err(refusal));
-        return Ok(());
-    }
-    let answer = if answer == "same" { pieces } else { answer };
-    let canonical = bytes_within(alloc, frame, answer)?;
-    expect(rt, alloc, name, limits, &mut whole(&file), Ok(&canonical));
-    expect(
-        rt,
-        alloc,
-        name,
-        limits,
-        &mut whole(&canonical),
-        Ok(&canonical),
-    );
-    Ok(())
+) -> Result<([Outcome; 2], Outcome), Fail> {
+    let (limits, file, answer) = parts_of(row).ok_or("a row has a file and an answer")?;
+    let (wanted, canonical) = wanted(file, answer);
+    Ok((outcomes(alloc, frame, limits, file, canonical)?, wanted))
 }
 
-/// Asserts what each row of a table says, under the standard limits, and how many there are.
+/// Asserts what each row of a table says, and how many there are.
 pub fn expect_rows(
     rt: &impl Abort,
     alloc: Global,
     frame: Frame,
     table: &str,
-    wanted: u64,
+    count: usize,
 ) -> Result<(), Fail> {
-    let mut count = 0u64;
+    let mut met = 0usize;
     for row in table.lines() {
         if !row.starts_with('#') {
-            let (name, row) = row.split_once(" | ").ok_or("a row has a file")?;
-            expect_row(rt, alloc, Limits::standard(), frame, name, row)?;
-            count = count.saturating_add(1);
+            let (found, wanted) = outcomes_of_row(alloc, frame, row)?;
+            assert_eq!(rt; found, [wanted; 2], "at {row}");
+            met = met.saturating_add(1);
         }
     }
-    assert_eq!(rt; count, wanted);
+    assert_eq!(rt; met, count);
     Ok(())
 }
 
@@ -193,49 +203,54 @@ pub fn record_at(offset: usize) -> usize {
     }
 }
 
+/// The first bytes of a file that is given in pieces.
+pub fn front_of(alloc: Global, pieces: &str, len: usize) -> Result<Vec<u8>, Fail> {
+    let mut bytes = bytes_of(alloc, pieces)?;
+    bytes.truncate(len);
+    Ok(bytes)
+}
+
+/// What comes of the first bytes of a file whose source gives no more than a limit, and how many there are. The canonical
+/// file is the rectangle's.
+fn within(alloc: Global, pieces: &str, len: usize, limit: u64) -> Result<(usize, Outcome), Fail> {
+    let front = front_of(alloc, pieces, len)?;
+    let canonical = bytes_of(alloc, RECTANGLE)?;
+    let mut from = SliceSource::new(&front, limit);
+    let found = outcome(alloc, Limits::standard(), &mut from, &canonical);
+    Ok((front.len(), found))
+}
+
 #[test]
 fn each_prefix(rt: HostRuntime) -> Result<(), Fail> {
-    let alloc = rt.alloc();
-    let file = bytes_of(alloc, RECTANGLE)?;
-    assert_eq!(rt; file.len(), 301);
     for len in 0..301usize {
-        let front = file.as_slice().split_at(len).0;
-        let wanted = Err((2, record_at(len)));
-        expect(
-            &rt,
-            alloc,
-            "a prefix",
-            Limits::standard(),
-            &mut whole(front),
-            wanted,
+        let wanted = (1, true, Some((2, record_at(len))));
+        assert_eq!(rt;
+            within(rt.alloc(), RECTANGLE, len, INPUT_MAX)?,
+            (len, wanted)
         );
     }
     Ok(())
 }
 
-/// Asserts what comes of bytes whose source gives no more than a limit.
-fn expect_limit(
-    rt: &impl Abort,
-    alloc: Global,
-    input: &[u8],
-    limit: usize,
-    wanted: Result<&[u8], (u8, usize)>,
-) {
-    let mut from = SliceSource::new(input, limit as u64);
-    expect(rt, alloc, "a limit", Limits::standard(), &mut from, wanted);
+#[test]
+fn each_limit(rt: HostRuntime) -> Result<(), Fail> {
+    for limit in 0..301usize {
+        let wanted = (1, true, Some((31, record_at(limit))));
+        let found = within(rt.alloc(), RECTANGLE, 301, limit as u64)?;
+        assert_eq!(rt; found, (301, wanted), "at {limit}");
+    }
+    Ok(())
 }
 
 #[test]
-fn each_limit(rt: HostRuntime) -> Result<(), Fail> {
-    let alloc = rt.alloc();
-    let longer = bytes_of(alloc, "HEAD CELL RECT TAIL 00")?;
-    assert_eq!(rt; longer.len(), 302);
-    let file = longer.as_slice().split_at(301).0;
-    for limit in 0..301usize {
-        expect_limit(&rt, alloc, file, limit, Err((31, record_at(limit))));
+fn limits_at_the_end(rt: HostRuntime) -> Result<(), Fail> {
+    for (pieces, len, limit, wanted) in [
+        (RECTANGLE, 301usize, 301u64, (0u8, true, None)),
+        (LONGER, 302, 301, (1, true, Some((31u8, 301usize)))),
+        (LONGER, 302, 302, (1, true, Some((30, 301)))),
+    ] {
+        let found = within(rt.alloc(), pieces, usize::MAX, limit)?;
+        assert_eq!(rt; found, (len, wanted), "at {limit} of {pieces}");
     }
-    expect_limit(&rt, alloc, file, 301, Ok(file));
-    expect_limit(&rt, alloc, &longer, 301, Err((31, 301)));
-    expect_limit(&rt, alloc, &longer, 302, Err((30, 301)));
     Ok(())
 }

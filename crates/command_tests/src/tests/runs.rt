@@ -4,7 +4,7 @@
 //! for the end of a line; of `canon` and `rekey` it is a file in pieces (see `rows`). Behind `! ` stands what is said of
 //! the file instead, and nothing is answered.
 
-use super::devices::Writer;
+use super::devices::{Full, Writer};
 use super::rows::bytes_of;
 use oas_canon::Limits;
 use oas_command::{
@@ -12,15 +12,17 @@ use oas_command::{
     run_show,
 };
 use oas_num::{INPUT_MAX, SliceSource};
-use std::alloc::{AllocError, Global};
+use std::alloc::Global;
 use std::process::Abort;
 use std::test::Fail;
+
+/// What came of a run: its status, whether its output took what it is to, and the refusal that was said, as `refusal_of` gives it.
+pub type Outcome = (u8, bool, Option<(u8, usize)>);
 
 /// A command, and the files that it is run on, of which all but `same` read the first alone. Its answer is put, or `is_said` on
 /// the error output, and the other output takes nothing.
 #[derive(Drop)]
 pub struct Run<'a> {
-    name: &'a str,
     command: &'a str,
     first: Vec<u8>,
     second: Vec<u8>,
@@ -30,7 +32,7 @@ pub struct Run<'a> {
 }
 
 /// The bytes of a text, with `;` for the end of a line.
-fn lines_of(alloc: Global, text: &str) -> Result<Vec<u8>, AllocError> {
+fn lines_of(alloc: Global, text: &str) -> Result<Vec<u8>, Fail> {
     let mut lines = Vec::new(alloc);
     for byte in text.as_bytes() {
         lines.push(if *byte == b';' { b'\n' } else { *byte })?;
@@ -38,32 +40,37 @@ fn lines_of(alloc: Global, text: &str) -> Result<Vec<u8>, AllocError> {
     Ok(lines)
 }
 
-/// The bytes that a row's last part stands for, and whether they are said of its file.
-fn answer_of(alloc: Global, command: &str, text: &str) -> Result<(Vec<u8>, bool), Fail> {
+/// The bytes that a row's last part stands for.
+fn answer_of(alloc: Global, command: &str, text: &str) -> Result<Vec<u8>, Fail> {
     match (text.strip_prefix("! "), command) {
-        (Some(said), _) => Ok((lines_of(alloc, said)?, true)),
-        (None, "canon" | "rekey") => Ok((bytes_of(alloc, text)?, false)),
-        (None, _) => Ok((lines_of(alloc, text)?, false)),
+        (Some(said), _) => lines_of(alloc, said),
+        (None, "canon" | "rekey") => bytes_of(alloc, text),
+        (None, _) => lines_of(alloc, text),
     }
+}
+
+/// The command of a row, its two files, its status, and its answer.
+fn parts_of(row: &str) -> Option<(&str, &str, &str, &str, &str)> {
+    let (_, rest) = row.split_once(" | ")?;
+    let (command, rest) = rest.split_once(" | ")?;
+    let (files, rest) = rest.split_once(" | ")?;
+    let (status, answer) = rest.split_once(" | ")?;
+    let (first, second) = files.split_once('&').unwrap_or((files, ""));
+    Some((command, first, second, status, answer))
 }
 
 impl<'a> Run<'a> {
     /// The run of a row.
     pub fn of_row(alloc: Global, row: &'a str) -> Result<Run<'a>, Fail> {
-        let (name, rest) = row.split_once(" | ").ok_or("a row has a command")?;
-        let (command, rest) = rest.split_once(" | ").ok_or("a row has a file")?;
-        let (files, rest) = rest.split_once(" | ").ok_or("a row has a status")?;
-        let (status, answer) = rest.split_once(" | ").ok_or("a row has an answer")?;
-        let (first, second) = files.split_once('&').unwrap_or((files, ""));
-        let (answer, is_said) = answer_of(alloc, command, answer)?;
+        let parts = parts_of(row).ok_or("a row has a command, files, a status and an answer")?;
+        let (command, first, second, status, answer) = parts;
         Ok(Run {
-            name,
             command,
             first: bytes_of(alloc, first)?,
             second: bytes_of(alloc, second)?,
             status: status.parse::<u8>().unwrap_or(9),
-            answer,
-            is_said,
+            answer: answer_of(alloc, command, answer)?,
+            is_said: answer.starts_with("! "),
         })
     }
 
@@ -88,69 +95,95 @@ impl<'a> Run<'a> {
         }
     }
 
-    /// Asserts that a run had this status and that its outputs took these bytes, as it is to.
-    fn expect(&self, rt: &impl Abort, status: u8, out: &[u8], err: &[u8]) {
-        let name = self.name;
+    /// Whether an output and an error output that took these bytes took what they are to.
+    fn took(&self, out: &[u8], err: &[u8]) -> [bool; 2] {
         let (took, nothing) = if self.is_said { (err, out) } else { (out, err) };
-        assert_eq!(rt; status, self.status, "at {name}");
-        assert_eq!(rt; took, self.answer.as_slice(), "at {name}");
-        assert!(rt; nothing.is_empty(), "at {name}");
+        [took == self.answer.as_slice(), nothing.is_empty()]
     }
 
-    /// Asserts that a run, to an output that fails after `room` bytes, answered this status, and that the outputs took these:
-    /// it refuses at the place that was reached.
-    fn expect_fault(&self, rt: &impl Abort, room: usize, status: u8, out: &[u8], err: &[u8]) {
-        let name = self.name;
-        let at = room.min(self.answer.len());
-        assert_eq!(rt; status, 1, "at {name}, {room}");
-        assert_eq!(rt; out, self.answer.split_at(at).0, "at {name}, {room}");
-        assert!(rt;
-            refusal_of(err, "first") == Some((33, at)),
-            "at {name}, {room}"
-        );
+    /// What comes of the run to an output that fails after `room` bytes, where it is to take the answer up to there.
+    fn fault(&self, alloc: Global, room: usize, most: usize, full: Full) -> Outcome {
+        let mut out = Writer::new(Vec::new(alloc));
+        out.most = most;
+        out.room = room;
+        out.full = full;
+        out.flush_fails = room == self.answer.len();
+        let mut err = Writer::new(Vec::new(alloc));
+        let status = self.run(alloc, &mut out, &mut err);
+        let is_front = self.answer.starts_with(&out.taken) && out.taken.len() == room;
+        (status, is_front, refusal_of(&err.taken, "first"))
     }
 }
 
 /// The number and the place of a refusal, where this is the line of one of a file of this name.
-pub fn refusal_of(line: &[u8], name: &str) -> Option<(u8, usize)> {
+fn refusal_in(line: &[u8], name: &str) -> Option<(u8, usize)> {
     let line = str::from_utf8(line).ok()?;
     let refused = line.strip_prefix(name)?.strip_prefix(": refused ")?;
     let (number, at) = refused.strip_suffix('\n')?.split_once(" at ")?;
     Some((number.parse().ok()?, at.parse().ok()?))
 }
 
+/// The same, and of any other line 0 at 0: there is none only where nothing was said.
+pub fn refusal_of(said: &[u8], name: &str) -> Option<(u8, usize)> {
+    if said.is_empty() {
+        return None;
+    }
+    Some(refusal_in(said, name).unwrap_or((0, 0)))
+}
+
+/// Runs the command of a row. Answers its status, with that which is wanted, and whether the two outputs took what they are to.
+fn outcome(alloc: Global, row: &str) -> Result<([u8; 2], [bool; 2]), Fail> {
+    let run = Run::of_row(alloc, row)?;
+    let (mut out, mut err) = (Writer::new(Vec::new(alloc)), Writer::new(Vec::new(alloc)));
+    let status = run.run(alloc, &mut out, &mut err);
+    Ok(([status, run.status], run.took(&out.taken, &err.taken)))
+}
+
 /// Asserts what the run of each of these rows does.
 pub fn expect_runs(rt: &impl Abort, alloc: Global, rows: &str) -> Result<(), Fail> {
     for row in rows.lines() {
-        let run = Run::of_row(alloc, row)?;
-        let (mut out, mut err) = (Writer::new(Vec::new(alloc)), Writer::new(Vec::new(alloc)));
-        let status = run.run(alloc, &mut out, &mut err);
-        run.expect(rt, status, &out.taken, &err.taken);
+        let ([status, wanted], took) = outcome(alloc, row)?;
+        assert_eq!(rt; (status, took), (wanted, [true; 2]), "at {row}");
     }
     Ok(())
 }
 
-/// Runs a command to a writer that fails, and asserts that it refuses at the place that was reached.
-pub fn expect_fault(rt: &impl Abort, alloc: Global, run: &Run<'_>, out: Writer) {
-    let mut out = out;
-    let room = out.room;
-    let mut err = Writer::new(Vec::new(alloc));
-    let status = run.run(alloc, &mut out, &mut err);
-    run.expect_fault(rt, room, status, &out.taken, &err.taken);
+/// Runs a command to outputs that take `most` bytes a call and fail after each number of bytes, the last of them at the flush.
+/// Answers after which it first did otherwise than to refuse at the place that was reached, and what it did.
+fn first_unrefused(
+    run: &Run<'_>,
+    alloc: Global,
+    most: usize,
+    full: Full,
+) -> Option<(usize, Outcome)> {
+    for room in 0..=run.answer.len() {
+        let found = run.fault(alloc, room, most, full);
+        if found != (1, true, Some((33, room))) {
+            return Some((room, found));
+        }
+    }
+    None
 }
 
-/// Runs the command of each of these rows to writers that fail after each number of bytes, and at the flush.
+/// The same of the command of a row.
+pub fn unrefused(
+    alloc: Global,
+    row: &str,
+    most: usize,
+    full: Full,
+) -> Result<Option<(usize, Outcome)>, Fail> {
+    let run = Run::of_row(alloc, row)?;
+    Ok(first_unrefused(&run, alloc, most, full))
+}
+
+/// Asserts that the command of each of these rows refuses where its output fails.
 pub fn expect_faults(rt: &impl Abort, alloc: Global, rows: &str) -> Result<(), Fail> {
     for row in rows.lines() {
-        let run = Run::of_row(alloc, row)?;
-        for room in 0..run.answer.len() {
-            let mut out = Writer::new(Vec::new(alloc));
-            out.room = room;
-            expect_fault(rt, alloc, &run, out);
-        }
-        let mut unflushed = Writer::new(Vec::new(alloc));
-        unflushed.flush_fails = true;
-        expect_fault(rt, alloc, &run, unflushed);
+        assert_eq!(rt;
+            unrefused(alloc, row, usize::MAX, Full::Fault)?,
+            None,
+            "at {row}"
+        );
     }
     Ok(())
 }

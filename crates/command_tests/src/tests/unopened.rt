@@ -1,17 +1,25 @@
 //! Inputs that can't be opened.
 
 use oas_command::{name_of, run_unopened};
+use std::alloc::Global;
 
 #[test]
 fn names_of_inputs(rt: HostRuntime) {
-    assert_eq!(rt; name_of(Some("in")), "in");
-    assert_eq!(rt; name_of(None), "standard input");
+    let names = [name_of(Some("in")), name_of(None)];
+    assert_eq!(rt; names, ["in", "standard input"]);
+}
+
+/// The status of an input that can't be opened, and whether a line says so.
+fn unopened(alloc: Global) -> (u8, bool) {
+    let mut err: Vec<u8> = Vec::new(alloc);
+    let status = run_unopened("missing", &mut err);
+    (
+        status,
+        err.as_slice() == "missing: cannot be opened\n".as_bytes(),
+    )
 }
 
 #[test]
 fn line_of_one_that_cannot_be_opened(rt: HostRuntime) {
-    let mut err: Vec<u8> = Vec::new(rt.alloc());
-    assert_eq!(rt; run_unopened("missing", &mut err), 1);
-    let line = "missing: cannot be opened\n";
-    assert_eq!(rt; err.as_slice(), line.as_bytes());
+    assert_eq!(rt; unopened(rt.alloc()), (1, true));
 }
