@@ -1,3 +1,4 @@
 //! What no clause says: what command lines ask for.
 
+mod options;
 mod words;
