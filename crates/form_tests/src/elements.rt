@@ -1,6 +1,6 @@
 //! Elements by plain values, as the rows of tests give them.
 
-use oas_layout::{Element, Turns};
+use oas_layout::{Draft, Element, Turns};
 use oas_num::{Label, Name, SliceSource, Spelled};
 use oas_ring::{Point, Points};
 use std::alloc::Global;
@@ -82,4 +82,23 @@ impl Plain {
             Plain::Circle => Some(Element::circle(1, 0, 5, 0, 0)),
         }
     }
+}
+
+/// Adds the cell `A` with these elements, each so many times.
+pub(crate) fn add_cell(alloc: Global, draft: &mut Draft, elements: &[(Plain, u64)]) -> Option<()> {
+    let name = name(alloc, b"\x01A")?;
+    draft.add_cell(name).ok()?;
+    for (element, times) in elements {
+        add(alloc, draft, *element, *times)?;
+    }
+    Some(())
+}
+
+/// Adds an element so many times to the only cell.
+fn add(alloc: Global, draft: &mut Draft, element: Plain, times: u64) -> Option<()> {
+    let element = element.element(alloc)?;
+    if times == 0 || draft.cells() != 1 {
+        return None;
+    }
+    draft.add_many(0, element, times).ok()
 }

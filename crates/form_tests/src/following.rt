@@ -198,11 +198,23 @@ fn steps_right(alloc: Global, steps: &[(Step, bool, bool)]) -> usize {
     right
 }
 
+/// The first row of which not all steps are answered as they are given, and how many are.
+fn wrong_row<'a>(
+    alloc: Global,
+    rows: &[(&'a str, &[(Step, bool, bool)])],
+) -> Option<(&'a str, usize)> {
+    for (name, steps) in rows {
+        let right = steps_right(alloc, *steps);
+        if right != steps.len() {
+            return Some((*name, right));
+        }
+    }
+    None
+}
+
 #[test]
 fn each_row(rt: HostRuntime) {
-    for (name, steps) in ROWS {
-        assert_eq!(rt; steps_right(rt.alloc(), steps), steps.len(), "{name}");
-    }
+    assert_eq!(rt; wrong_row(rt.alloc(), &ROWS), None);
 }
 
 /// How many of two elements are judged as they are given, the second by its fields, and the second as an element.
@@ -214,18 +226,30 @@ fn pair_right(alloc: Global, first: Plain, second: Plain, holds: bool) -> [usize
     ]
 }
 
+/// The place of the first of these that isn't judged as it is given after the other element, and how many of the two are.
+fn wrong_second(
+    alloc: Global,
+    first: Plain,
+    seconds: &[(Plain, bool)],
+) -> Option<(usize, [usize; 2])> {
+    for (place, (second, holds)) in seconds.iter().enumerate() {
+        let right = pair_right(alloc, first, *second, *holds);
+        if right != [2, 2] {
+            return Some((place, right));
+        }
+    }
+    None
+}
+
 #[test]
 fn placements_next_are_judged_as_drawn(rt: HostRuntime) {
-    for (row, (second, holds)) in SECOND_PLACEMENTS.iter().enumerate() {
-        let right = pair_right(rt.alloc(), PLACEMENT, *second, *holds);
-        assert_eq!(rt; right, [2, 2], "row {row}");
-    }
+    assert_eq!(rt;
+        wrong_second(rt.alloc(), PLACEMENT, &SECOND_PLACEMENTS),
+        None
+    );
 }
 
 #[test]
 fn texts_next_are_judged_as_drawn(rt: HostRuntime) {
-    for (row, (second, holds)) in SECOND_TEXTS.iter().enumerate() {
-        let right = pair_right(rt.alloc(), TEXT, *second, *holds);
-        assert_eq!(rt; right, [2, 2], "row {row}");
-    }
+    assert_eq!(rt; wrong_second(rt.alloc(), TEXT, &SECOND_TEXTS), None);
 }

@@ -121,11 +121,20 @@ fn holds(alloc: Global, records: &str, other: &[u8]) -> Option<bool> {
     are_judged.then_some(judge.holds())
 }
 
+/// The first row that isn't answered as it is given, and what is answered.
+fn wrong_row<'a>(alloc: Global, rows: &[(&'a str, bool)]) -> Option<(&'a str, Option<bool>)> {
+    for (records, wanted) in rows {
+        let found = holds(alloc, *records, b"");
+        if found != Some(*wanted) {
+            return Some((*records, found));
+        }
+    }
+    None
+}
+
 #[test]
 fn each_row(rt: HostRuntime) {
-    for (records, wanted) in ROWS {
-        assert_eq!(rt; holds(rt.alloc(), records, b""), Some(wanted), "{records}");
-    }
+    assert_eq!(rt; wrong_row(rt.alloc(), &ROWS), None);
 }
 
 #[test]
