@@ -5,6 +5,7 @@ mod held;
 mod memory;
 mod named;
 mod named_table;
+mod names;
 mod rectangles;
 mod table;
 
@@ -19,15 +20,22 @@ use std::alloc::Global;
 use std::process::Abort;
 use std::test::Fail;
 
-/// What comes of four equal rectangles.
-const LISTED_FOUR: &str = "unit 1000/1;cell A;4 rectangle 1 0 10 20 0 0;";
-
-/// What comes of a ring round a rectangle, where the profile makes it one.
-const LISTED_BOX: &str = "unit 1000/1;cell A;1 rectangle 1 0 10 20 0 0;";
-
 /// The unit of all tests.
-fn unit() -> Result<Fraction, Fail> {
-    Ok(Fraction::reduced(1000, 1).ok_or("no unit")?)
+fn unit() -> Result<Fraction, Why> {
+    Fraction::reduced(1000, 1).ok_or(Why::Unit)
+}
+
+/// These limits, which there are.
+fn limits_of(elements: u64, weight: u64, input: u64) -> Result<Limits, Why> {
+    Limits::new(elements, weight, input).ok_or(Why::TooHeavy)
+}
+
+/// Whether a call was refused before it succeeded, if the heap could be filled.
+fn is_met(is_full: bool, refused: Option<u32>) -> bool {
+    match refused {
+        Some(times) => times > 0 || !is_full,
+        None => false,
+    }
 }
 
 /// Has the reader take the records of these bytes.
@@ -46,10 +54,10 @@ fn take_all(alloc: Global, bytes: &[u8], reader: &mut Reader) -> Result<(), Refu
 
 /// Has the reader take the records of these bytes, and finish where they end.
 fn read(alloc: Global, bytes: &[u8], mut reader: Reader) -> Result<Layout, Refusal> {
-    match take_all(alloc, bytes, &mut reader) {
-        Ok(()) => reader.finish(bytes.len() as u64),
-        Err(refusal) => Err(refusal),
-    }
+    let taken = take_all(alloc, bytes, &mut reader);
+    let layout = reader.finish(bytes.len() as u64);
+    taken?;
+    layout
 }
 
 /// Puts the lines of elements, each behind its count.
@@ -72,12 +80,18 @@ fn put_layout<K: Sink>(sink: &mut K, layout: &Layout) -> Result<(), SinkFault> {
     Ok(())
 }
 
+/// Writes it behind the bytes that are there.
+fn write_layout(bytes: &mut Vec<u8>, layout: &Layout) -> Result<(), SinkFault> {
+    let mut out = Outlet::new(bytes);
+    let put = put_layout(&mut out, layout);
+    out.close()?;
+    put
+}
+
 /// The listing of a layout, but each distinct element once, behind its count, and with `;` at the end of each line.
 fn lines_of(alloc: Global, layout: &Layout) -> Result<String, Fail> {
     let mut bytes: Vec<u8> = Vec::new(alloc);
-    let mut out = Outlet::new(&mut bytes);
-    put_layout(&mut out, layout)?;
-    out.close()?;
+    write_layout(&mut bytes, layout)?;
     Ok(str::from_utf8(&bytes)?.replace(alloc, "\n", ";")?)
 }
 
@@ -94,11 +108,8 @@ fn listed(alloc: Global, answer: Result<Layout, Refusal>) -> Result<String, Fail
 
 /// The bytes of a text in hex.
 fn bytes_of(alloc: Global, text: &str) -> Result<Vec<u8>, Fail> {
-    let mut bytes = Vec::new(alloc);
-    for piece in text.split_whitespace() {
-        bytes.extend_from_slice(hex::decode(alloc, piece)?.as_slice())?;
-    }
-    Ok(bytes)
+    let digits = text.replace(alloc, " ", "")?;
+    Ok(hex::decode(alloc, &digits)?)
 }
 
 /// What comes of records in hex by a reader of these limits and this profile.
@@ -109,12 +120,17 @@ fn answer(alloc: Global, text: &str, limits: Limits, profile: Profile) -> Result
     listed(alloc, read(alloc, &bytes, reader))
 }
 
+/// Asserts that this is found.
+fn expect(rt: &impl Abort, at: &str, found: &str, wanted: &str) {
+    assert!(rt; found == wanted, "at {at}: {found}");
+}
+
 /// Asserts what one row says.
 fn expect_row(rt: &impl Abort, alloc: Global, row: &str) -> Result<(), Fail> {
     let (name, rest) = row.split_once(" | ").ok_or("a row has bytes")?;
     let (bytes, wanted) = rest.split_once(" | ").ok_or("a row has an answer")?;
     let found = answer(alloc, bytes, Limits::standard(), Profile::One)?;
-    assert!(rt; found.as_str() == wanted, "at {name}: {found}");
+    expect(rt, name, found.as_str(), wanted);
     Ok(())
 }
 
@@ -123,57 +139,84 @@ fn refuses_on(reader: &mut Reader, at: u64, refusal: Refusal) -> bool {
     reader.take(at, Record::Pad) == Err(refusal)
 }
 
-/// The reader refuses both records and its end with what it refused before.
-fn refuses_for_good(rt: &impl Abort, mut reader: Reader, refusal: Refusal) {
-    let is_kept = refuses_on(&mut reader, 11, refusal);
-    assert!(rt; is_kept && reader.take(12, Record::XyRelative) == Err(refusal));
-    assert!(rt; reader.finish(13).err() == Some(refusal));
+/// What the reader answers to a cell, to END in it, and to two records more.
+fn take_behind_end(reader: &mut Reader) -> [Result<(), Refusal>; 4] {
+    [
+        reader.take(3, Record::Cell(CellRef::Number(7))),
+        reader.take(5, Record::End),
+        reader.take(11, Record::Pad),
+        reader.take(12, Record::XyRelative),
+    ]
+}
+
+/// The same of a new reader, and what it refuses at its end.
+fn answers_behind_end(alloc: Global) -> Result<([Result<(), Refusal>; 4], Option<Refusal>), Why> {
+    let mut reader: Reader = Reader::new(alloc, unit()?, Limits::standard(), Profile::One);
+    let taken = take_behind_end(&mut reader);
+    Ok((taken, reader.finish(13).err()))
 }
 
 #[test]
-fn refused_again(rt: HostRuntime) -> Result<(), Fail> {
-    let mut reader = Reader::new(rt.alloc(), unit()?, Limits::standard(), Profile::One);
-    assert!(rt; reader.take(3, Record::Cell(CellRef::Number(7))).is_ok());
-    let refusal = Refusal {
-        at: 5,
-        why: Why::OutOfPlace(2),
-    };
-    assert!(rt; refusal.why.number() == 13);
-    assert!(rt; reader.take(5, Record::End) == Err(refusal));
-    refuses_for_good(&rt, reader, refusal);
-    Ok(())
+fn refused_again(rt: HostRuntime) {
+    let why = Why::OutOfPlace(2);
+    let refusal = Refusal { at: 5, why };
+    let refused = Err(refusal);
+    assert_eq!(rt;
+        (why.number(), answers_behind_end(rt.alloc())),
+        (13, Ok(([Ok(()), refused, refused, refused], Some(refusal))))
+    );
 }
 
 /// Asserts what a reader of these limits and this profile makes of the records.
-fn expect(
+fn expect_within(
     rt: &impl Abort,
     alloc: Global,
-    limits: Option<Limits>,
+    limits: Limits,
     profile: Profile,
     bytes: &str,
     wanted: &str,
 ) -> Result<(), Fail> {
-    let limits = limits.ok_or("these are limits")?;
     let found = answer(alloc, bytes, limits, profile)?;
-    assert!(rt; found.as_str() == wanted, "at {bytes}: {found}");
+    expect(rt, bytes, found.as_str(), wanted);
     Ok(())
+}
+
+/// Limits and a profile, records in hex, and what comes of them: a cell with four equal rectangles, one whose number is named
+/// behind it, and a ring round a rectangle.
+const WITHIN: &str = "\
+3 100 6720 one | 0E0141 147F01000A1400000100000000 | 24@3
+100 6 1000 one | 0E0141 147F01000A1400000100000000 | unit 1000/1;cell A;4 rectangle 1 0 10 20 0 0;
+100 5 1000 one | 0E0141 147F01000A1400000100000000 | 25@3
+100 5 1000 one | 0D00 147F01000A1400000100000000 030141 | 25@18
+16777216 268435456 68719476736 two | 0E0141 153B0100000214280000 | unit 1000/1;cell A;1 rectangle 1 0 10 20 0 0;";
+
+/// The limits and the profile of a row.
+fn under(text: &str) -> Result<(Limits, Profile), Why> {
+    let mut words = text.split_whitespace();
+    let elements = words.next().unwrap_or("").parse().unwrap_or(0);
+    let weight = words.next().unwrap_or("").parse().unwrap_or(0);
+    let input = words.next().unwrap_or("").parse().unwrap_or(0);
+    let limits = limits_of(elements, weight, input)?;
+    if text.ends_with("two") {
+        Ok((limits, Profile::Two))
+    } else {
+        Ok((limits, Profile::One))
+    }
+}
+
+fn expect_row_within(rt: &impl Abort, alloc: Global, row: &str) -> Result<(), Fail> {
+    let (numbers, rest) = row.split_once(" | ").ok_or("a row has bytes")?;
+    let (bytes, wanted) = rest.split_once(" | ").ok_or("a row has an answer")?;
+    let (limits, profile) = under(numbers)?;
+    expect_within(rt, alloc, limits, profile, bytes, wanted)
 }
 
 #[test]
 fn limits_and_profiles(rt: HostRuntime) -> Result<(), Fail> {
-    let alloc = rt.alloc();
-    let few = Limits::new(3, 100, 6720);
-    let four = "0E0141 147F01000A1400000100000000";
-    expect(&rt, alloc, few, Profile::One, four, "24@3")?;
-    let light = Limits::new(100, 6, 1000);
-    expect(&rt, alloc, light, Profile::One, four, LISTED_FOUR)?;
-    let lighter = Limits::new(100, 5, 1000);
-    expect(&rt, alloc, lighter, Profile::One, four, "25@3")?;
-    let by_number = "0D00 147F01000A1400000100000000 030141";
-    expect(&rt, alloc, lighter, Profile::One, by_number, "25@18")?;
-    let ring = "0E0141 153B0100000214280000";
-    let standard = Some(Limits::standard());
-    expect(&rt, alloc, standard, Profile::Two, ring, LISTED_BOX)
+    for row in WITHIN.lines() {
+        expect_row_within(&rt, rt.alloc(), row)?;
+    }
+    Ok(())
 }
 
 #[test]

@@ -1,7 +1,7 @@
 //! Cells by name and by number, and what END refuses. The answers are those of the plain program in tests/reference.
 
-use super::expect;
-use oas_layout::{Limits, Profile};
+use super::{expect_within, limits_of};
+use oas_layout::Profile;
 use std::alloc::Global;
 use std::process::Abort;
 use std::test::Fail;
@@ -24,9 +24,9 @@ const ROWS: &str = "\
 fn expect_row(rt: &impl Abort, alloc: Global, row: &str) -> Result<(), Fail> {
     let (cells, rest) = row.split_once(" | ").ok_or("a row has cells")?;
     let (weight, wanted) = rest.split_once(" | ").ok_or("a row has an answer")?;
-    let limits = Limits::new(0, weight.parse().unwrap_or(0), 1000);
+    let limits = limits_of(0, weight.parse().unwrap_or(0), 1000)?;
     let records = format!(in alloc; "030141 03024242 {cells}")?;
-    expect(rt, alloc, limits, Profile::One, records.as_str(), wanted)
+    expect_within(rt, alloc, limits, Profile::One, records.as_str(), wanted)
 }
 
 #[test]

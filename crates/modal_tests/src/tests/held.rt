@@ -5,14 +5,14 @@
 
 ghost use Rattle.oas_modal.specs.Finish.{IsFit};
 
+use super::is_met;
 use oas_drawing::Drawn;
 use oas_layout::Element;
 use oas_modal::HeldCell;
 use oas_record::CellRef;
 use scarce_memory::Hoard;
-use std::alloc::Global;
+use std::alloc::{AllocError, Global};
 use std::process::Abort;
-use std::test::Fail;
 
 /// A text whose string has this number, or, where that is odd, a rectangle of that layer.
 fn drawing(number: u64) -> Drawn
@@ -38,34 +38,43 @@ fn drawing(number: u64) -> Drawn
     }
 }
 
-/// Draws it in a new cell, and gives back a piece of memory after each refusal. How many there were.
-fn insist_on_drawing(rt: &impl Abort, alloc: Global, number: u64, hoard: &mut Hoard) -> u32 {
-    for refused in 0..4000u32 {
-        let mut cell = HeldCell::new(alloc, CellRef::Number(number));
-        match cell.add(drawing(number), 5) {
-            Ok(()) => return refused,
-            Err(back) => {
-                assert!(rt; back == drawing(number));
-            }
-        }
-        hoard.give_back();
+/// Whether it is handed back as it was, if a new cell does not draw it.
+fn refused(alloc: Global, number: u64) -> Option<bool> {
+    let mut cell = HeldCell::new(alloc, CellRef::Number(number));
+    match cell.add(drawing(number), 5) {
+        Ok(()) => None,
+        Err(back) => Some(back == drawing(number)),
     }
-    assert!(rt; false, "it is never drawn");
-    0
 }
 
-/// Draws it where there is no memory at first.
-fn draw_without_memory(rt: &impl Abort, alloc: Global, number: u64) -> Result<(), Fail> {
-    let mut hoard = Hoard::new(alloc)?;
-    let is_full = hoard.is_full();
-    let refused = insist_on_drawing(rt, alloc, number, &mut hoard);
-    drop(hoard);
-    assert!(rt; !is_full || refused > 0);
-    Ok(())
+/// Draws it, and gives back a piece of memory after each refusal. How many there were; none where it is never drawn, or isn't
+/// handed back.
+fn insist_on_drawing(alloc: Global, number: u64, hoard: &mut Hoard) -> Option<u32> {
+    for times in 0..4000u32 {
+        match refused(alloc, number) {
+            None => return Some(times),
+            Some(true) => hoard.give_back(),
+            Some(false) => return None,
+        }
+    }
+    None
+}
+
+/// Whether the heap can be filled, and how often the drawing is then refused.
+fn refusals(alloc: Global, number: u64) -> (bool, Option<u32>) {
+    match Hoard::new(alloc) {
+        Ok(mut hoard) => (
+            hoard.is_full(),
+            insist_on_drawing(alloc, number, &mut hoard),
+        ),
+        Err(AllocError) => (false, None),
+    }
 }
 
 #[test]
-fn drawn_without_memory(rt: HostRuntime) -> Result<(), Fail> {
-    draw_without_memory(&rt, rt.alloc(), 7)?;
-    draw_without_memory(&rt, rt.alloc(), 8)
+fn drawn_without_memory(rt: HostRuntime) {
+    for number in [7, 8] {
+        let (is_full, refused) = refusals(rt.alloc(), number);
+        assert!(rt; is_met(is_full, refused), "{number}: {refused:?}");
+    }
 }

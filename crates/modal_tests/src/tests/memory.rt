@@ -1,24 +1,24 @@
 //! Growths refused: a refused call answers want of memory, at the place that it was given.
 //!
 //! The heap is filled up, and given back a small piece after each run, so that the name and the first rectangle are each refused
-//! before they succeed, and so are the finish, by a reader that has taken its records before, and the first of 13 names. Where
-//! the heap cannot be filled, as under a checker of addresses, no call is refused, and the answers are the same.
+//! before they succeed, and so is the finish, by a reader that has taken its records before. Where the heap cannot be filled, as
+//! under a checker of addresses, no call is refused, and the answers are the same.
 
-use super::{refuses_on, unit};
+use super::{is_met, refuses_on, unit};
 use oas_layout::{Layout, Limits, Profile};
 use oas_modal::Reader;
 use oas_num::{Fraction, Name, Refusal, SliceSource, Spelled, Why};
 use oas_record::{CellRef, Record, Rectangle, Spot};
 use scarce_memory::Hoard;
-use std::alloc::Global;
+use std::alloc::{AllocError, Global};
 use std::process::Abort;
 use std::test::Fail;
 
 /// Where END starts.
 const END: u64 = 24;
 
-fn name(alloc: Global, spelled: &[u8]) -> Result<Name, Fail> {
-    Ok(Name::read(alloc, &mut SliceSource::new(spelled, 100))?)
+pub(super) fn name(alloc: Global, spelled: &[u8]) -> Result<Name, Why> {
+    Name::read(alloc, &mut SliceSource::new(spelled, 100))
 }
 
 /// A rectangle with all its fields.
@@ -55,98 +55,132 @@ fn take_all(reader: &mut Reader, first: Name, second: Name) -> Result<(), Refusa
     take_cells(reader, second)
 }
 
-/// Has the reader take them, and finish; if it was refused, it refuses a record more.
-fn run(rt: &impl Abort, mut reader: Reader, first: Name, second: Name) -> Result<Layout, Refusal> {
-    if let Err(refusal) = take_all(&mut reader, first, second) {
-        assert!(rt; refuses_on(&mut reader, END, refusal));
-        return Err(refusal);
+/// Has the reader take them. Whether, if it was refused, it refuses a record more.
+fn is_kept(reader: &mut Reader, first: Name, second: Name) -> bool {
+    match take_all(reader, first, second) {
+        Ok(()) => true,
+        Err(refusal) => refuses_on(reader, END, refusal),
     }
-    reader.finish(END)
 }
 
-/// Runs until the layout is made, and gives back a piece of memory after each refusal. The places that were refused.
+/// Whether the layout is of two cells with a rectangle each.
+fn is_right(layout: &Layout) -> bool {
+    layout.cells() == 2 && layout.count() == 2
+}
+
+/// Has a new reader take them, and finish. Where it is refused, or else whether all is right.
+fn run(alloc: Global, unit: Fraction, first: Name, second: Name) -> Result<bool, Refusal> {
+    let mut reader = Reader::new(alloc, unit, Limits::standard(), Profile::One);
+    let is_kept = is_kept(&mut reader, first, second);
+    match reader.finish(END) {
+        Ok(layout) => Ok(is_kept && is_right(&layout)),
+        Err(refusal) if is_kept => Err(refusal),
+        Err(_) => Ok(false),
+    }
+}
+
+/// Runs until the layout is made, and gives back a piece of memory after each refusal. Whether all is right then, and
+/// whether the name and the first rectangle were each refused.
 fn insist(
-    rt: &impl Abort,
     alloc: Global,
     unit: Fraction,
-    names: Vec<(Name, Name)>,
+    names: &mut Vec<(Name, Name)>,
     hoard: &mut Hoard,
-    refused: &mut Vec<u64>,
-) -> bool {
-    for (first, second) in names {
-        let reader = Reader::new(alloc, unit, Limits::standard(), Profile::One);
-        match run(rt, reader, first, second) {
-            Ok(layout) => {
-                assert!(rt; layout.cells() == 2 && layout.count() == 2);
-                return true;
-            }
-            Err(refusal) => {
-                assert!(rt; refusal.why.number() == 34);
-                let _ = refused.push(refusal.at);
+) -> (bool, [bool; 2]) {
+    let mut refused = [false; 2];
+    let mut all = true;
+    for _ in 0..names.len() {
+        if let Some((first, second)) = names.pop() {
+            match run(alloc, unit, first, second) {
+                Ok(is_right) => return (is_right && all, refused),
+                Err(Refusal { at, why }) => {
+                    all &= why == Why::Memory;
+                    refused = [refused[0] || at == 0, refused[1] || at == 5];
+                }
             }
         }
         hoard.give_back();
     }
-    false
+    (false, refused)
 }
 
-/// So many pairs of names.
-fn pairs(alloc: Global, count: u32) -> Result<Vec<(Name, Name)>, Fail> {
+/// 2000 pairs of names.
+fn pairs(alloc: Global) -> Result<Vec<(Name, Name)>, Why> {
     let mut names = Vec::new(alloc);
-    for _ in 0..count {
+    for _ in 0..2000u32 {
         names.push((name(alloc, b"\x01A")?, name(alloc, b"\x01B")?))?;
     }
     Ok(names)
 }
 
-/// Whether the name and the first rectangle were each refused.
-fn has_all(refused: &[u64]) -> bool {
-    refused.contains(&0) && refused.contains(&5)
+/// Whether all is right where there is no memory at first, and whether, where the heap can be filled, the name and the first
+/// rectangle are each refused.
+fn in_want(alloc: Global, unit: Fraction, names: &mut Vec<(Name, Name)>) -> (bool, [bool; 2]) {
+    match Hoard::new(alloc) {
+        Ok(mut hoard) => {
+            let is_full = hoard.is_full();
+            let (is_right, refused) = insist(alloc, unit, names, &mut hoard);
+            (is_right, [refused[0] || !is_full, refused[1] || !is_full])
+        }
+        Err(AllocError) => (false, [false; 2]),
+    }
+}
+
+/// The same with those names.
+fn reader_in_want(alloc: Global) -> Result<(bool, [bool; 2]), Why> {
+    let unit = unit()?;
+    let mut names = pairs(alloc)?;
+    Ok(in_want(alloc, unit, &mut names))
 }
 
 #[test]
-fn reader_without_memory(rt: HostRuntime) -> Result<(), Fail> {
-    let alloc = rt.alloc();
-    let unit = unit()?;
-    let names = pairs(alloc, 2000)?;
-    let mut refused = Vec::with_capacity(alloc, 2000)?;
-    let mut hoard = Hoard::new(alloc)?;
-    let is_full = hoard.is_full();
-    let done = insist(&rt, alloc, unit, names, &mut hoard, &mut refused);
-    drop(hoard);
-    assert!(rt; done, "a layout is never made");
-    assert!(rt; !is_full || has_all(refused.as_slice()), "never refused");
-    Ok(())
+fn reader_without_memory(rt: HostRuntime) {
+    assert_eq!(rt; reader_in_want(rt.alloc()), Ok((true, [true; 2])));
 }
 
 /// A reader that has taken a name of a cell, and two cells.
-fn ready(alloc: Global, unit: Fraction) -> Result<Reader, Fail> {
+fn ready(alloc: Global, unit: Fraction) -> Result<Reader, Why> {
     let first = name(alloc, b"\x01A")?;
     let second = name(alloc, b"\x01B")?;
     let mut reader = Reader::new(alloc, unit, Limits::standard(), Profile::One);
-    take_all(&mut reader, first, second)?;
-    Ok(reader)
+    match take_all(&mut reader, first, second) {
+        Ok(()) => Ok(reader),
+        Err(refusal) => Err(refusal.why),
+    }
 }
 
-/// So many of them.
-fn all_ready(alloc: Global, unit: Fraction, count: u32) -> Result<Vec<Reader>, Fail> {
+/// 200 of them.
+fn all_ready(alloc: Global, unit: Fraction) -> Result<Vec<Reader>, Why> {
     let mut readers = Vec::new(alloc);
-    for _ in 0..count {
+    for _ in 0..200u32 {
         readers.push(ready(alloc, unit)?)?;
     }
     Ok(readers)
 }
 
-/// Finishes one after another until a layout is made, and gives back a piece of memory after each refusal. How many were refused.
-fn insist_on_finish(rt: &impl Abort, readers: Vec<Reader>, hoard: &mut Hoard) -> Option<u32> {
+/// Finishes the reader. Where it is refused, or else whether the layout is right.
+fn finished(reader: Reader) -> Result<bool, Refusal> {
+    match reader.finish(END) {
+        Ok(layout) => Ok(is_right(&layout)),
+        Err(refusal) => Err(refusal),
+    }
+}
+
+/// Finishes one after another until a layout is made, and gives back a piece of memory after each refusal. How many were refused;
+/// none where no layout is made, or one is wrong, or anything but want of memory is answered.
+fn insist_on_finish(readers: &mut Vec<Reader>, hoard: &mut Hoard) -> Option<u32> {
+    let refusal = Refusal {
+        at: END,
+        why: Why::Memory,
+    };
     let mut refused = 0u32;
-    for reader in readers {
-        match reader.finish(END) {
-            Ok(layout) => {
-                assert!(rt; layout.cells() == 2 && layout.count() == 2);
-                return Some(refused);
-            }
-            Err(Refusal { at, why }) => assert!(rt; at == END && why.number() == 34),
+    for _ in 0..readers.len() {
+        let answer = finished(readers.pop()?);
+        if answer == Ok(true) {
+            return Some(refused);
+        }
+        if answer != Err(refusal) {
+            return None;
         }
         refused = refused.saturating_add(1);
         hoard.give_back();
@@ -154,100 +188,23 @@ fn insist_on_finish(rt: &impl Abort, readers: Vec<Reader>, hoard: &mut Hoard) ->
     None
 }
 
-#[test]
-fn finish_without_memory(rt: HostRuntime) -> Result<(), Fail> {
-    let alloc = rt.alloc();
-    let readers = all_ready(alloc, unit()?, 200)?;
-    let mut hoard = Hoard::new(alloc)?;
-    let is_full = hoard.is_full();
-    let refused = insist_on_finish(&rt, readers, &mut hoard);
-    drop(hoard);
-    assert!(rt; refused.is_some(), "a layout is never made");
-    assert!(rt; !is_full || refused != Some(0), "never refused");
-    Ok(())
-}
-
-/// Has the reader take the names one after another, each at its number. How many it takes; if it was refused, it refuses a
-/// record more.
-fn taken(rt: &impl Abort, reader: &mut Reader, names: Vec<Name>) -> u64 {
-    let mut at = 0u64;
-    for name in names {
-        if let Err(refusal) = reader.take(at, Record::CellName { name, number: None }) {
-            let is_kept = refuses_on(reader, END, refusal);
-            let why = Why::Memory;
-            assert!(rt; is_kept && refusal == Refusal { at, why });
-            return at;
-        }
-        at = at.saturating_add(1);
-    }
-    at
-}
-
-/// Gives back so many pieces, and nothing else that was freed.
-fn give_back(hoard: &mut Hoard, pieces: u32) {
-    hoard.fill_again();
-    for _ in 0..pieces {
-        hoard.give_back();
+/// Whether the heap can be filled, and how many readers are then refused.
+fn finish_in_want(alloc: Global, readers: &mut Vec<Reader>) -> (bool, Option<u32>) {
+    match Hoard::new(alloc) {
+        Ok(mut hoard) => (hoard.is_full(), insist_on_finish(readers, &mut hoard)),
+        Err(AllocError) => (false, None),
     }
 }
 
-/// Runs until all names are taken, each time with a piece of memory more. How many were taken by each run before that.
-fn insist_on_names(
-    rt: &impl Abort,
-    alloc: Global,
-    unit: Fraction,
-    runs: Vec<Vec<Name>>,
-    hoard: &mut Hoard,
-    refused: &mut Vec<u64>,
-) -> bool {
-    let mut pieces = 0u32;
-    for names in runs {
-        let all = names.len() as u64;
-        let mut reader = Reader::new(alloc, unit, Limits::standard(), Profile::One);
-        let count = taken(rt, &mut reader, names);
-        drop(reader);
-        if count == all {
-            return true;
-        }
-        let _ = refused.push(count);
-        pieces = pieces.saturating_add(1);
-        give_back(hoard, pieces);
-    }
-    false
-}
-
-/// More names than a node of the table holds.
-fn many_names(alloc: Global) -> Result<Vec<Name>, Fail> {
-    let mut names = Vec::new(alloc);
-    for _ in 0..13u32 {
-        names.push(name(alloc, b"\x01A")?)?;
-    }
-    Ok(names)
-}
-
-/// So many runs of them.
-fn many_runs(alloc: Global, count: u32) -> Result<Vec<Vec<Name>>, Fail> {
-    let mut runs = Vec::new(alloc);
-    for _ in 0..count {
-        runs.push(many_names(alloc)?)?;
-    }
-    Ok(runs)
+/// The same of those readers.
+fn finish_refused(alloc: Global) -> Result<(bool, Option<u32>), Why> {
+    let mut readers = all_ready(alloc, unit()?)?;
+    Ok(finish_in_want(alloc, &mut readers))
 }
 
 #[test]
-fn names_without_memory(rt: HostRuntime) -> Result<(), Fail> {
-    let alloc = rt.alloc();
-    let unit = unit()?;
-    let runs = many_runs(alloc, 200)?;
-    let mut refused = Vec::with_capacity(alloc, 200)?;
-    let mut hoard = Hoard::new(alloc)?;
-    let is_full = hoard.is_full();
-    let done = insist_on_names(&rt, alloc, unit, runs, &mut hoard, &mut refused);
-    drop(hoard);
-    assert!(rt; done, "the names are never taken");
-    assert!(rt;
-        !is_full || refused.contains(&0),
-        "the first name was never refused"
-    );
+fn finish_without_memory(rt: HostRuntime) -> Result<(), Fail> {
+    let (is_full, refused) = finish_refused(rt.alloc())?;
+    assert!(rt; is_met(is_full, refused), "{refused:?}");
     Ok(())
 }

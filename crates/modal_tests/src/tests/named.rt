@@ -1,7 +1,7 @@
 //! A placement or a text that stands once, taken at hand and as a record: what comes of both is the same.
 
 use super::named_table::{LISTED, RECORDS, RENAMED, RENAMED_LISTED};
-use super::{listed, refuses_on, unit};
+use super::{expect, is_met, limits_of, listed, unit};
 use oas_ahead::named_ahead;
 use oas_layout::{Limits, Profile};
 use oas_modal::{CellStore, CountedCell, HeldCell, Reader};
@@ -45,6 +45,21 @@ fn take_one<S: CellStore>(
     reader.take(at, record)
 }
 
+/// Has the reader take these records, up to the first that it refuses.
+fn take_records<S: CellStore>(
+    alloc: Global,
+    reader: &mut Reader<S>,
+    records: &[&[u8]; 14],
+    by_hand: bool,
+) {
+    for number in 0..records.len() {
+        let taken = take_one(alloc, reader, number as u64, records[number], by_hand);
+        if taken.is_err() {
+            return;
+        }
+    }
+}
+
 /// A reader that took all of these records within these limits, or refused one.
 fn taken<S: CellStore>(
     alloc: Global,
@@ -54,39 +69,35 @@ fn taken<S: CellStore>(
     by_hand: bool,
 ) -> Reader<S> {
     let mut reader = Reader::new(alloc, unit, limits, Profile::One);
-    for number in 0..records.len() {
-        let took = take_one(alloc, &mut reader, number as u64, records[number], by_hand);
-        if took.is_err() {
-            break;
-        }
-    }
+    take_records(alloc, &mut reader, records, by_hand);
     reader
 }
 
-/// Asserts that this comes of the records, at hand and by records.
+/// Asserts that this comes of the records, at hand or by records.
 fn expect_listed(
     rt: &impl Abort,
     alloc: Global,
     records: &[&[u8]; 14],
+    by_hand: bool,
     wanted: &str,
 ) -> Result<(), Fail> {
     let unit = unit()?;
-    for by_hand in [true, false] {
-        let reader: Reader<HeldCell> = taken(alloc, unit, Limits::standard(), records, by_hand);
-        let found = listed(alloc, reader.finish(14))?;
-        assert!(rt; found.as_str() == wanted, "{found}");
-    }
+    let reader: Reader<HeldCell> = taken(alloc, unit, Limits::standard(), records, by_hand);
+    let found = listed(alloc, reader.finish(14))?;
+    expect(rt, wanted, found.as_str(), wanted);
     Ok(())
 }
 
 #[test]
 fn named_alike(rt: HostRuntime) -> Result<(), Fail> {
-    expect_listed(&rt, rt.alloc(), &RECORDS, LISTED)
+    expect_listed(&rt, rt.alloc(), &RECORDS, true, LISTED)?;
+    expect_listed(&rt, rt.alloc(), &RECORDS, false, LISTED)
 }
 
 #[test]
 fn renamed_alike(rt: HostRuntime) -> Result<(), Fail> {
-    expect_listed(&rt, rt.alloc(), &RENAMED, RENAMED_LISTED)
+    expect_listed(&rt, rt.alloc(), &RENAMED, true, RENAMED_LISTED)?;
+    expect_listed(&rt, rt.alloc(), &RENAMED, false, RENAMED_LISTED)
 }
 
 /// What refuses the records within these limits, if anything does, by held cells.
@@ -106,58 +117,62 @@ fn refused_counted(
     reader.finish_counting(14).err()
 }
 
-/// Asserts that within these limits this is refused, or nothing is, by held and by counted cells, at hand and by records.
-fn expect(
-    rt: &impl Abort,
-    alloc: Global,
-    limits: Option<Limits>,
-    wanted: Option<Refusal>,
-) -> Result<(), Fail> {
+/// What is refused within these limits, by held and by counted cells, at hand and by records.
+fn refusals(alloc: Global, elements: u64, weight: u64) -> Result<[Option<Refusal>; 4], Why> {
     let unit = unit()?;
-    let limits = limits.ok_or("these are limits")?;
-    for by_hand in [true, false] {
-        assert!(rt; refused_held(alloc, unit, limits, by_hand) == wanted);
-        assert!(rt; refused_counted(alloc, unit, limits, by_hand) == wanted);
-    }
-    Ok(())
+    let limits = limits_of(elements, weight, 2000)?;
+    Ok([
+        refused_held(alloc, unit, limits, true),
+        refused_held(alloc, unit, limits, false),
+        refused_counted(alloc, unit, limits, true),
+        refused_counted(alloc, unit, limits, false),
+    ])
+}
+
+/// A refusal there, for this reason.
+fn refused(at: u64, why: Why) -> Option<Refusal> {
+    Some(Refusal { at, why })
 }
 
 /// The ten elements weigh 22 with the name of the cell: one each, and one for each byte of a name. Three of their names and one
 /// of their strings are known at the end alone; all others weigh 18.
 #[test]
-fn named_within_limits(rt: HostRuntime) -> Result<(), Fail> {
-    let alloc = rt.alloc();
-    expect(&rt, alloc, Limits::new(10, 22, 2000), None)?;
-    let many = Some(Refusal {
-        at: 11,
-        why: Why::TooManyElements,
-    });
-    expect(&rt, alloc, Limits::new(9, 22, 2000), many)?;
-    let heavy = Some(Refusal {
-        at: 14,
-        why: Why::TooHeavy,
-    });
-    expect(&rt, alloc, Limits::new(10, 21, 2000), heavy)?;
-    let heavy = Some(Refusal {
-        at: 11,
-        why: Why::TooHeavy,
-    });
-    expect(&rt, alloc, Limits::new(10, 17, 2000), heavy)
+fn named_within_limits(rt: HostRuntime) {
+    for (elements, weight, wanted) in [
+        (10, 22, None),
+        (9, 22, refused(11, Why::TooManyElements)),
+        (10, 21, refused(14, Why::TooHeavy)),
+        (10, 17, refused(11, Why::TooHeavy)),
+    ] {
+        assert_eq!(rt;
+            refusals(rt.alloc(), elements, weight),
+            Ok([wanted; 4]),
+            "{elements} {weight}"
+        );
+    }
 }
 
-/// Whether a fresh reader refuses a placement or a text at hand for this, outside a cell or in one, and all that follows.
-fn refuses(alloc: Global, unit: Fraction, inside: bool, bytes: &[u8], refusal: Refusal) -> bool {
-    let mut reader: Reader = Reader::new(alloc, unit, Limits::standard(), Profile::One);
+/// What the reader answers to a placement or a text at hand, in a cell if it's inside, and to a record behind it.
+fn take_behind(reader: &mut Reader, inside: bool, bytes: &[u8]) -> [Result<(), Refusal>; 2] {
     if inside && reader.take(3, Record::Cell(CellRef::Number(7))).is_err() {
-        return false;
+        return [Ok(()); 2];
     }
-    take_at_hand(&mut reader, 5, bytes) == Err(refusal) && refuses_on(&mut reader, 9, refusal)
+    [take_at_hand(reader, 5, bytes), reader.take(9, Record::Pad)]
+}
+
+/// The same of a new reader.
+fn answers_behind(
+    alloc: Global,
+    inside: bool,
+    bytes: &[u8],
+) -> Result<[Result<(), Refusal>; 2], Why> {
+    let mut reader: Reader = Reader::new(alloc, unit()?, Limits::standard(), Profile::One);
+    Ok(take_behind(&mut reader, inside, bytes))
 }
 
 /// Each is refused outside a cell, and where no record gave what it leaves out.
 #[test]
-fn named_refused_again(rt: HostRuntime) -> Result<(), Fail> {
-    let unit = unit()?;
+fn named_refused_again(rt: HostRuntime) {
     let (place, text): (&[u8], &[u8]) = (b"\x11\x00", b"\x13\x62\x01\x02");
     for (inside, bytes, why) in [
         (false, place, Why::OutOfPlace(17)),
@@ -165,59 +180,72 @@ fn named_refused_again(rt: HostRuntime) -> Result<(), Fail> {
         (true, place, Why::ModalUndefined),
         (true, text, Why::ModalUndefined),
     ] {
-        assert!(rt; refuses(rt.alloc(), unit, inside, bytes, Refusal { at: 5, why }));
+        let refused = Err(Refusal { at: 5, why });
+        assert_eq!(rt; answers_behind(rt.alloc(), inside, bytes), Ok([refused; 2]));
     }
-    Ok(())
 }
 
 /// A placement of a cell by its name.
 const PLACED: &[u8] = b"\x11\xB0\x03BCD\x00\x00";
 
-/// Why a reader refuses within these limits a placement at hand, in a cell, if it does.
-fn placed_within(alloc: Global, unit: Fraction, limits: Limits) -> Option<Refusal> {
-    let mut reader: Reader = Reader::new(alloc, unit, limits, Profile::One);
+/// Why the reader refuses a placement at hand, in a cell, if it does.
+fn place(reader: &mut Reader) -> Option<Refusal> {
     match reader.take(3, Record::Cell(CellRef::Number(7))) {
-        Ok(()) => take_at_hand(&mut reader, 5, PLACED).err(),
+        Ok(()) => take_at_hand(reader, 5, PLACED).err(),
         Err(refusal) => Some(refusal),
     }
 }
 
-/// Has readers take a placement until one does so, and gives back a piece of memory after each that doesn't. How many didn't.
-/// Want of memory is all that they refuse it for, and it is never what those do that refuse it for its weight.
+/// Why a new reader refuses it within these limits.
+fn placed_within(alloc: Global, unit: Fraction, limits: Limits) -> Option<Refusal> {
+    let mut reader: Reader = Reader::new(alloc, unit, limits, Profile::One);
+    place(&mut reader)
+}
+
+/// Has readers take a placement until one does so, and gives back a piece of memory after each that doesn't. How many didn't;
+/// none where no reader does, or where one refuses it for another reason than want of memory. Those that refuse it for its
+/// weight do so for that alone.
 fn insist_on_placing(
-    rt: &impl Abort,
     alloc: Global,
     unit: Fraction,
     light: Limits,
     hoard: &mut Hoard,
 ) -> Option<u32> {
-    let at = 5;
     for without in 0..2000u32 {
-        let why = Why::TooHeavy;
-        assert!(rt; placed_within(alloc, unit, light) == Some(Refusal { at, why }));
-        let Some(refusal) = placed_within(alloc, unit, Limits::standard()) else {
+        if placed_within(alloc, unit, light) != refused(5, Why::TooHeavy) {
+            return None;
+        }
+        let found = placed_within(alloc, unit, Limits::standard());
+        if found.is_none() {
             return Some(without);
-        };
-        let why = Why::Memory;
-        assert!(rt; refusal == Refusal { at, why });
+        }
+        if found != refused(5, Why::Memory) {
+            return None;
+        }
         hoard.give_back();
     }
     None
+}
+
+/// Whether the heap can be filled, and how often the placement is then refused.
+fn placing_refused(alloc: Global) -> Result<(bool, Option<u32>), Why> {
+    let unit = unit()?;
+    let light = limits_of(10, 3, 2000)?;
+    match Hoard::new(alloc) {
+        Ok(mut hoard) => {
+            let refused = insist_on_placing(alloc, unit, light, &mut hoard);
+            Ok((hoard.is_full(), refused))
+        }
+        Err(AllocError) => Err(Why::Memory),
+    }
 }
 
 /// A placement weighs one, and one for each byte of its name. The heap is filled up, and given back a small piece after each run.
 /// Where it cannot be filled, as under a checker of addresses, no call wants memory.
 #[test]
 fn named_without_memory(rt: HostRuntime) -> Result<(), Fail> {
-    let alloc = rt.alloc();
-    let unit = unit()?;
-    let light = Limits::new(10, 3, 2000).ok_or("these are limits")?;
-    let mut hoard = Hoard::new(alloc)?;
-    let is_full = hoard.is_full();
-    let without = insist_on_placing(&rt, alloc, unit, light, &mut hoard);
-    drop(hoard);
-    assert!(rt; without.is_some(), "it is never placed");
-    assert!(rt; !is_full || without != Some(0), "never refused");
+    let (is_full, refused) = placing_refused(rt.alloc())?;
+    assert!(rt; is_met(is_full, refused), "{refused:?}");
     Ok(())
 }
 
@@ -228,30 +256,35 @@ fn take_shorter(reader: &mut Reader<CountedCell>) -> Result<(), Refusal> {
     take_at_hand(reader, 27, b"\x11\x30\x04\x00")
 }
 
-/// Whether a reader takes them where there is no memory.
-fn takes_shorter_in_want(alloc: Global, reader: &mut Reader<CountedCell>) -> bool {
+/// Has a reader take them where there is no memory.
+fn take_shorter_in_want(alloc: Global, reader: &mut Reader<CountedCell>) -> Result<(), Refusal> {
     match Hoard::new(alloc) {
         Ok(hoard) => {
-            let shorter = take_shorter(reader);
+            let taken = take_shorter(reader);
             drop(hoard);
-            shorter.is_ok()
+            taken
         }
-        Err(AllocError) => false,
+        Err(AllocError) => Err(NOT_AT_HAND),
     }
+}
+
+/// What a reader answers to a cell, to a placement in it, and to those of shorter names where there is no memory.
+fn answers_in_want(alloc: Global) -> Result<[Result<(), Refusal>; 3], Why> {
+    let mut reader: Reader<CountedCell> = Reader::new(
+        alloc,
+        unit()?,
+        Limits::standard(),
+        Profile::One,
+    );
+    Ok([
+        reader.take(3, Record::Cell(CellRef::Number(7))),
+        take_at_hand(&mut reader, 5, PLACED),
+        take_shorter_in_want(alloc, &mut reader),
+    ])
 }
 
 /// Such a name goes into the memory of the modal one: a cell that is counted wants none for it.
 #[test]
-fn shorter_without_memory(rt: HostRuntime) -> Result<(), Fail> {
-    let unit = unit()?;
-    let mut reader: Reader<CountedCell> = Reader::new(
-        rt.alloc(),
-        unit,
-        Limits::standard(),
-        Profile::One,
-    );
-    assert!(rt; reader.take(3, Record::Cell(CellRef::Number(7))).is_ok());
-    assert!(rt; take_at_hand(&mut reader, 5, PLACED).is_ok());
-    assert!(rt; takes_shorter_in_want(rt.alloc(), &mut reader));
-    Ok(())
+fn shorter_without_memory(rt: HostRuntime) {
+    assert_eq!(rt; answers_in_want(rt.alloc()), Ok([Ok(()); 3]));
 }

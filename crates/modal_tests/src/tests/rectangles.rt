@@ -2,7 +2,7 @@
 
 ghost use Rattle.std.specs.Prelude.{◌≡◌, None};
 
-use super::{listed, refuses_on, unit};
+use super::{expect, limits_of, listed, unit};
 use oas_layout::{Layout, Limits, Profile};
 use oas_modal::Reader;
 use oas_num::{Name, Refusal, SliceSource, Spelled, Why};
@@ -55,10 +55,10 @@ fn take_three(reader: &mut Reader, alone: bool, cell: Name) -> Result<(), Refusa
 
 /// The layout of a cell and three rectangles.
 fn layout_of_three(mut reader: Reader, alone: bool, cell: Name) -> Result<Layout, Refusal> {
-    match take_three(&mut reader, alone, cell) {
-        Ok(()) => reader.finish(23),
-        Err(refusal) => Err(refusal),
-    }
+    let taken = take_three(&mut reader, alone, cell);
+    let layout = reader.finish(23);
+    taken?;
+    layout
 }
 
 /// What comes of three rectangles, within these limits: the lines of the layout, or NUMBER@OFFSET.
@@ -69,47 +69,69 @@ fn three(alloc: Global, alone: bool, limits: Limits) -> Result<String, Fail> {
     listed(alloc, layout_of_three(reader, alone, cell))
 }
 
-/// Asserts that this comes of three rectangles, taken by themselves and as records.
+/// Asserts that this comes of three rectangles, taken by themselves or as records.
 fn expect_three(
     rt: &impl Abort,
     alloc: Global,
-    limits: Option<Limits>,
+    alone: bool,
+    limits: Limits,
     wanted: &str,
 ) -> Result<(), Fail> {
-    let limits = limits.ok_or("these are limits")?;
-    for alone in [true, false] {
-        let found = three(alloc, alone, limits)?;
-        assert!(rt; found.as_str() == wanted, "{found}");
-    }
+    let found = three(alloc, alone, limits)?;
+    expect(rt, wanted, found.as_str(), wanted);
     Ok(())
 }
 
 /// Two elements may stand there, and then a third may not; or all may weigh 4 with a name that weighs 2.
 #[test]
 fn taken_or_refused_alike(rt: HostRuntime) -> Result<(), Fail> {
-    let alloc = rt.alloc();
-    expect_three(&rt, alloc, Limits::new(3, 100, 6720), LISTED_THREE)?;
-    expect_three(&rt, alloc, Limits::new(2, 100, 6720), "24@17")?;
-    expect_three(&rt, alloc, Limits::new(3, 4, 1000), "25@17")
+    for (elements, weight, input, wanted) in [
+        (3, 100, 6720, LISTED_THREE),
+        (2, 100, 6720, "24@17"),
+        (3, 4, 1000, "25@17"),
+    ] {
+        let limits = limits_of(elements, weight, input)?;
+        expect_three(&rt, rt.alloc(), true, limits, wanted)?;
+        expect_three(&rt, rt.alloc(), false, limits, wanted)?;
+    }
+    Ok(())
 }
 
-/// The reader refuses a rectangle of the modal layer, one of a layer, and a record, all for what it refused first.
-fn refuses_all(rt: &impl Abort, mut reader: Reader, refusal: Refusal) {
-    let first = reader.take_rectangle(refusal.at, rectangle(None, 0, 0));
-    let second = reader.take_rectangle(9, rectangle(Some(1), 0, 0));
-    let is_kept = refuses_on(&mut reader, 11, refusal);
-    assert!(rt; first == Err(refusal) && second == Err(refusal) && is_kept);
+/// What the reader answers to a rectangle of the modal layer, to one of a layer, and to a record.
+fn take_on(reader: &mut Reader, at: u64) -> [Result<(), Refusal>; 3] {
+    [
+        reader.take_rectangle(at, rectangle(None, 0, 0)),
+        reader.take_rectangle(9, rectangle(Some(1), 0, 0)),
+        reader.take(11, Record::Pad),
+    ]
+}
+
+/// What a new reader answers to them outside a cell.
+fn answers_outside(alloc: Global) -> Result<[Result<(), Refusal>; 3], Why> {
+    let mut reader = Reader::new(alloc, unit()?, Limits::standard(), Profile::One);
+    Ok(take_on(&mut reader, 7))
+}
+
+/// What it answers to a cell, and to them in it.
+fn answers_inside(alloc: Global) -> Result<(Result<(), Refusal>, [Result<(), Refusal>; 3]), Why> {
+    let mut reader = Reader::new(alloc, unit()?, Limits::standard(), Profile::One);
+    let taken = reader.take(3, Record::Cell(CellRef::Number(7)));
+    Ok((taken, take_on(&mut reader, 5)))
 }
 
 /// A rectangle outside a cell is refused, and one after a variable that no record gave; and then all that follows.
 #[test]
-fn rectangle_refused_again(rt: HostRuntime) -> Result<(), Fail> {
-    let outside = Reader::new(rt.alloc(), unit()?, Limits::standard(), Profile::One);
-    let why = Why::OutOfPlace(20);
-    refuses_all(&rt, outside, Refusal { at: 7, why });
-    let mut inside = Reader::new(rt.alloc(), unit()?, Limits::standard(), Profile::One);
-    assert!(rt; inside.take(3, Record::Cell(CellRef::Number(7))).is_ok());
-    let why = Why::ModalUndefined;
-    refuses_all(&rt, inside, Refusal { at: 5, why });
-    Ok(())
+fn rectangle_refused_again(rt: HostRuntime) {
+    let outside = Err(Refusal {
+        at: 7,
+        why: Why::OutOfPlace(20),
+    });
+    let inside = Err(Refusal {
+        at: 5,
+        why: Why::ModalUndefined,
+    });
+    assert_eq!(rt;
+        (answers_outside(rt.alloc()), answers_inside(rt.alloc())),
+        (Ok([outside; 3]), Ok((Ok(()), [inside; 3])))
+    );
 }
