@@ -1,8 +1,9 @@
 //! What no clause says: the names and numbers of all reasons, and the lines as they are printed.
 
 use oas_command::{run_refused, run_unopened};
-use oas_explain::{REASONS, Recorded, Voice, run_explain, tell, tell_explained};
+use oas_explain::{REASONS, Reason, Recorded, Voice, run_explain, tell, tell_explained};
 use oas_num::{Refusal, Why};
+use std::alloc::Global;
 use std::io;
 use std::io::{ErrorKind, Write};
 use std::test::Fail;
@@ -66,117 +67,188 @@ impl Write for Room {
     }
 }
 
+/// The number of a reason, and whether its name is that of the variant of this refusal.
+fn name_of(alloc: Global, reason: &Reason<'_>, why: Why) -> Result<(u8, bool), Fail> {
+    let variant = format!(in alloc; "{why:?}")?;
+    let name = variant.as_str().split('(').next().unwrap_or("");
+    Ok((reason.number, reason.name == name))
+}
+
 #[test]
 fn names_are_those_of_the_reasons(rt: HostRuntime) -> Result<(), Fail> {
     assert_eq!(rt; REASONS.len(), ALL.len());
     for (reason, why) in REASONS.iter().zip(&ALL) {
-        assert_eq!(rt; reason.number, why.number());
-        let variant = format!(in rt.alloc(); "{why:?}")?;
-        let name = variant.as_str().split('(').next().unwrap_or("");
-        assert_eq!(rt; reason.name, name);
+        let found = name_of(rt.alloc(), reason, *why)?;
+        assert_eq!(rt; found, (why.number(), true), "of {}", reason.name);
     }
     Ok(())
+}
+
+/// Whether the line of a refusal stands before its explanation, whether there is one, and whether a voice that explains says
+/// the same.
+fn explained(alloc: Global, why: Why) -> [bool; 3] {
+    let refusal = Refusal { at: 450, why };
+    let (mut said, mut err): (Vec<u8>, Vec<u8>) = (Vec::new(alloc), Vec::new(alloc));
+    let mut whole: Vec<u8> = Vec::new(alloc);
+    let _ = run_refused("a: refused 9 at 1", refusal, &mut said);
+    tell_explained(&REASONS, "", &said, &mut err);
+    Voice::new(&mut whole, true, false).refused("a: refused 9 at 1", refusal);
+    [
+        err.starts_with(&said),
+        err.len().saturating_sub(said.len()) > 10,
+        err == whole,
+    ]
 }
 
 #[test]
 fn each_refusal_is_explained(rt: HostRuntime) {
     for why in ALL {
-        let mut said: Vec<u8> = Vec::new(rt.alloc());
-        let _ = run_refused("a: refused 9 at 1", Refusal { at: 450, why }, &mut said);
-        let mut err: Vec<u8> = Vec::new(rt.alloc());
-        tell_explained(&REASONS, "", &said, &mut err);
-        assert!(rt; err.starts_with(&said));
-        let mut whole: Vec<u8> = Vec::new(rt.alloc());
-        Voice::new(&mut whole, true, false).refused("a: refused 9 at 1", Refusal { at: 450, why });
-        assert!(rt; err.len() > said.len() + 10);
-        assert_eq!(rt; err.as_slice(), whole.as_slice());
+        assert_eq!(rt;
+            explained(rt.alloc(), why),
+            [true; 3],
+            "of {}",
+            why.number()
+        );
     }
+}
+
+/// Whether what was said is explained by this, with words of the system.
+fn is_explained_by(alloc: Global, said: &[u8], words: &str, wanted: &[u8]) -> bool {
+    let mut err: Vec<u8> = Vec::new(alloc);
+    tell_explained(&REASONS, words, said, &mut err);
+    err.as_slice() == wanted
 }
 
 #[test]
 fn line_of_an_explanation(rt: HostRuntime) {
-    let mut err: Vec<u8> = Vec::new(rt.alloc());
     let said = "in: refused 33 at 7\n";
-    tell_explained(&REASONS, " (out: full)", said.as_bytes(), &mut err);
     let line =
         "in: refused 33 at 7\n  = Write: the output failed, can't be created, or took none of the bytes that it was offered (out: full)\n";
-    assert_eq!(rt; err.as_slice(), line.as_bytes());
+    assert!(rt; is_explained_by(rt.alloc(), said.as_bytes(), " (out: full)", line.as_bytes()));
+}
+
+/// Whether what was said is told as it is where explanations are asked for, and where they aren't.
+fn told(alloc: Global, said: &[u8]) -> [bool; 2] {
+    let mut plain: Vec<u8> = Vec::new(alloc);
+    tell(said, &mut plain);
+    [
+        is_explained_by(alloc, said, "", said),
+        plain.as_slice() == said,
+    ]
+}
+
+/// The same of the line of an input that can't be opened.
+fn told_of_unopened(alloc: Global) -> [bool; 2] {
+    let mut unopened: Vec<u8> = Vec::new(alloc);
+    let _ = run_unopened("in", &mut unopened);
+    told(alloc, &unopened)
 }
 
 #[test]
 fn other_lines_are_told_as_they_are(rt: HostRuntime) {
-    let mut unopened: Vec<u8> = Vec::new(rt.alloc());
-    let _ = run_unopened("in", &mut unopened);
-    for said in [unopened.as_slice(), b"in: not profile 1 canonical\n", b""] {
-        let mut err: Vec<u8> = Vec::new(rt.alloc());
-        tell_explained(&REASONS, "", said, &mut err);
-        assert_eq!(rt; err.as_slice(), said);
-        let mut plain: Vec<u8> = Vec::new(rt.alloc());
-        tell(said, &mut plain);
-        assert_eq!(rt; plain.as_slice(), said);
-    }
+    let alloc = rt.alloc();
+    let others = [
+        told_of_unopened(alloc),
+        told(alloc, "in: not profile 1 canonical\n".as_bytes()),
+        told(alloc, b""),
+    ];
+    assert_eq!(rt; others, [[true; 2]; 3]);
+}
+
+/// Runs `explain` on a word. Answers its status, and whether it put this text and said this line.
+fn explain(alloc: Global, word: &str, text: &str, line: &str) -> (u8, [bool; 2]) {
+    let (mut out, mut err): (Vec<u8>, Vec<u8>) = (Vec::new(alloc), Vec::new(alloc));
+    let status = run_explain(&REASONS, Some(word), &mut out, &mut err);
+    let is_put = out.as_slice() == text.as_bytes();
+    (status, [is_put, err.as_slice() == line.as_bytes()])
 }
 
 #[test]
 fn one_reason(rt: HostRuntime) {
-    let mut out: Vec<u8> = Vec::new(rt.alloc());
-    let mut err: Vec<u8> = Vec::new(rt.alloc());
-    assert_eq!(rt; run_explain(&REASONS, Some("5"), &mut out, &mut err), 0);
     let text = "5 EmptyName\n  a cell name has length 0\n  Name the cell.\n";
-    assert_eq!(rt; out.as_slice(), text.as_bytes());
-    assert!(rt; err.is_empty());
-}
-
-#[test]
-fn all_reasons(rt: HostRuntime) {
-    let mut out: Vec<u8> = Vec::new(rt.alloc());
-    let mut err: Vec<u8> = Vec::new(rt.alloc());
-    assert_eq!(rt; run_explain(&REASONS, None, &mut out, &mut err), 0);
-    assert_eq!(rt; out.iter().filter(|byte| **byte == b'\n').count(), 3 * 34);
-    assert!(rt; err.is_empty());
+    assert_eq!(rt; explain(rt.alloc(), "5", text, ""), (0, [true; 2]));
 }
 
 #[test]
 fn numbers_that_are_none(rt: HostRuntime) {
+    let line = "error: no reason has this number; they are 1 to 34\n";
     for word in ["0", "35", "05", "+5", "-1", "", "five", "5 "] {
-        let mut out: Vec<u8> = Vec::new(rt.alloc());
-        let mut err: Vec<u8> = Vec::new(rt.alloc());
-        assert_eq!(rt; run_explain(&REASONS, Some(word), &mut out, &mut err), 2);
-        assert!(rt; out.is_empty());
-        let line = "error: no reason has this number; they are 1 to 34\n";
-        assert_eq!(rt; err.as_slice(), line.as_bytes());
+        assert_eq!(rt;
+            explain(rt.alloc(), word, "", line),
+            (2, [true; 2]),
+            "of {word}"
+        );
     }
+}
+
+/// Runs `explain` on no word. Answers its status, how many lines it put, and whether it said nothing.
+fn explain_all(alloc: Global) -> (u8, usize, bool) {
+    let (mut out, mut err): (Vec<u8>, Vec<u8>) = (Vec::new(alloc), Vec::new(alloc));
+    let status = run_explain(&REASONS, None, &mut out, &mut err);
+    (status, lines_in(out.as_slice()), err.is_empty())
+}
+
+/// How many lines end in these bytes.
+fn lines_in(bytes: &[u8]) -> usize {
+    let mut count: usize = 0;
+    for byte in bytes {
+        if *byte == b'\n' {
+            count = count.saturating_add(1);
+        }
+    }
+    count
+}
+
+#[test]
+fn all_reasons(rt: HostRuntime) {
+    assert_eq!(rt; explain_all(rt.alloc()), (0, 3 * 34, true));
+}
+
+/// Runs `explain` to an output that takes five bytes. Answers its status, and whether it said so and kept the fault.
+fn explain_to_five(alloc: Global) -> (u8, [bool; 2]) {
+    let mut out = Recorded::new(Room { left: 5 });
+    let mut err: Vec<u8> = Vec::new(alloc);
+    let status = run_explain(&REASONS, Some("5"), &mut out, &mut err);
+    let is_said = err.as_slice() == "standard output: refused 33 at 5\n".as_bytes();
+    let is_kept = matches!(out.fault(), Some(error) if error.kind() == ErrorKind::StorageFull);
+    (status, [is_said, is_kept])
 }
 
 #[test]
 fn an_output_that_fails(rt: HostRuntime) {
-    let mut out = Recorded::new(Room { left: 5 });
-    let mut err: Vec<u8> = Vec::new(rt.alloc());
-    assert_eq!(rt; run_explain(&REASONS, Some("5"), &mut out, &mut err), 1);
-    let line = "standard output: refused 33 at 5\n";
-    assert_eq!(rt; err.as_slice(), line.as_bytes());
-    assert!(rt; matches!(out.fault(), Some(error) if error.kind() == ErrorKind::StorageFull));
+    assert_eq!(rt; explain_to_five(rt.alloc()), (1, [true; 2]));
+}
+
+/// The status of a voice's input that can't be opened, and whether it says this.
+fn unopened(alloc: Global, explains: bool, lines: &str) -> (u8, bool) {
+    let error = io::Error::from(ErrorKind::NotFound);
+    let mut err: Vec<u8> = Vec::new(alloc);
+    let status = Voice::new(&mut err, explains, false).unopened("in", &error);
+    (status, err.as_slice() == lines.as_bytes())
 }
 
 #[test]
-fn voices(rt: HostRuntime) {
-    let error = io::Error::from(ErrorKind::NotFound);
-    let mut plain: Vec<u8> = Vec::new(rt.alloc());
-    assert_eq!(rt;
-        Voice::new(&mut plain, false, false).unopened("in", &error),
-        1
-    );
-    let line = "in: cannot be opened\n";
-    assert_eq!(rt; plain.as_slice(), line.as_bytes());
-    let mut explained: Vec<u8> = Vec::new(rt.alloc());
-    assert_eq!(rt;
-        Voice::new(&mut explained, true, false).unopened("in", &error),
-        1
-    );
-    let lines = "in: cannot be opened\n  = entity not found\n";
-    assert_eq!(rt; explained.as_slice(), lines.as_bytes());
-    let mut cleared: Vec<u8> = Vec::new(rt.alloc());
-    Voice::new(&mut cleared, false, true).tell(b"in: line\n", "");
-    assert!(rt; cleared.starts_with(b"\r   "));
-    assert!(rt; cleared.ends_with(b"   \rin: line\n"));
+fn voices_of_unopened_inputs(rt: HostRuntime) {
+    for (explains, lines) in [
+        (false, "in: cannot be opened\n"),
+        (true, "in: cannot be opened\n  = entity not found\n"),
+    ] {
+        assert_eq!(rt;
+            unopened(rt.alloc(), explains, lines),
+            (1, true),
+            "of {lines}"
+        );
+    }
+}
+
+/// Whether a voice that shows progress takes the line of a meter away, and then tells a line.
+fn cleared(alloc: Global) -> [bool; 2] {
+    let mut err: Vec<u8> = Vec::new(alloc);
+    Voice::new(&mut err, false, true).tell(b"in: line\n", "");
+    [err.starts_with(b"\r   "), err.ends_with(b"   \rin: line\n")]
+}
+
+#[test]
+fn voice_that_shows_progress(rt: HostRuntime) {
+    assert_eq!(rt; cleared(rt.alloc()), [true; 2]);
 }
