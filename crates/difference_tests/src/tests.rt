@@ -5,7 +5,7 @@ mod faults;
 mod layouts;
 mod limited;
 
-use layouts::layout;
+use layouts::{Sketch, layout};
 use oas_difference::{Detail, Options, write_difference};
 use oas_layout::Layout;
 use std::test::Fail;
@@ -17,106 +17,102 @@ const ALL: Options = Options {
 };
 
 /// Whether the difference of the layouts is this text, and its length is answered.
-fn differ(rt: &HostRuntime, before: &Layout, after: &Layout, text: &str) -> bool {
-    differ_by(rt, before, after, ALL, text)
-}
-
-/// Whether what is written of the difference is this text.
-fn differ_by(
+fn is_written(
     rt: &HostRuntime,
     before: &Layout,
     after: &Layout,
     options: Options,
     text: &str,
 ) -> bool {
-    let mut written = Vec::new(rt.alloc());
     if before.profile() != after.profile() {
         return false;
     }
-    match write_difference(before, after, options, &mut written) {
-        Ok(count) => count == text.len() as u64 && written.as_slice() == text.as_bytes(),
-        Err(_) => false,
-    }
+    let mut written = Vec::new(rt.alloc());
+    let count = write_difference(before, after, options, &mut written);
+    count == Ok(text.len() as u64) && written.as_slice() == text.as_bytes()
+}
+
+/// Whether what is written of the difference of the sketches' layouts is this text.
+fn differ_by(
+    rt: &HostRuntime,
+    before: Sketch<'_>,
+    after: Sketch<'_>,
+    options: Options,
+    text: &str,
+) -> Result<bool, Fail> {
+    let before = layout(rt.alloc(), before)?;
+    let after = layout(rt.alloc(), after)?;
+    Ok(is_written(rt, &before, &after, options, text))
+}
+
+/// As `differ_by`, of all that differs.
+fn differ(
+    rt: &HostRuntime,
+    before: Sketch<'_>,
+    after: Sketch<'_>,
+    text: &str,
+) -> Result<bool, Fail> {
+    differ_by(rt, before, after, ALL, text)
 }
 
 #[test]
 fn the_same_have_no_line(rt: HostRuntime) -> Result<(), Fail> {
-    let a = layout(rt.alloc(), 1000, &[("B", &[]), ("A", &[(1, 2), (3, 1)])])?;
-    let b = layout(
-        rt.alloc(),
-        1000,
-        &[("A", &[(3, 1), (1, 1), (1, 1)]), ("B", &[])],
-    )?;
-    assert!(rt; differ(&rt, &a, &b, ""));
-    assert!(rt; differ(&rt, &a, &a, ""));
+    let a = (1000, "BA", [(1, 1, 2), (1, 3, 1)].as_slice());
+    let b = (1000, "AB", [(0, 3, 1), (0, 1, 1), (0, 1, 1)].as_slice());
+    assert!(rt; differ(&rt, a, b, "")?);
+    assert!(rt; differ(&rt, a, a, "")?);
     Ok(())
 }
 
 #[test]
 fn other_units_are_two_lines(rt: HostRuntime) -> Result<(), Fail> {
-    let a = layout(rt.alloc(), 1000, &[("A", &[(1, 1)])])?;
-    let b = layout(rt.alloc(), 2000, &[("A", &[(1, 1)])])?;
-    assert!(rt; differ(&rt, &a, &b, "- 1 unit 1000/1\n+ 1 unit 2000/1\n"));
+    let rectangle = [(0, 1, 1)];
+    let text = "- 1 unit 1000/1\n+ 1 unit 2000/1\n";
+    assert!(rt; differ(&rt, (1000, "A", &rectangle), (2000, "A", &rectangle), text)?);
     Ok(())
 }
 
 #[test]
 fn a_cell_of_one_layout_stands_above_its_elements(rt: HostRuntime) -> Result<(), Fail> {
-    let a = layout(rt.alloc(), 1000, &[("A", &[]), ("C", &[(2, 1), (1, 3)])])?;
-    let b = layout(
-        rt.alloc(),
-        1000,
-        &[("A", &[]), ("B", &[]), ("D", &[(7, 1)])],
-    )?;
-    assert!(rt;
-        differ(
-            &rt,
-            &a,
-            &b,
-            "+ 1 cell B
+    let before = [(1, 2, 1), (1, 1, 3)];
+    let after = [(2, 7, 1)];
+    let text = "+ 1 cell B
 - 1 cell C
 - 3 rectangle 1 0 10 20 0 0
 - 1 rectangle 2 0 10 20 0 0
 + 1 cell D
 + 1 rectangle 7 0 10 20 0 0
-"
-        )
-    );
+";
+    assert!(rt; differ(&rt, (1000, "AC", &before), (1000, "ABD", &after), text)?);
     Ok(())
 }
 
 #[test]
 fn only_what_has_changed_in_a_cell_is_listed(rt: HostRuntime) -> Result<(), Fail> {
-    let a = layout(
-        rt.alloc(),
-        1000,
-        &[
-            ("A", &[(1, 2), (3, 1), (5, 5), (6, 1), (8, 1)]),
-            ("B", &[(1, 1)]),
-        ],
-    )?;
-    let b = layout(
-        rt.alloc(),
-        1000,
-        &[
-            ("A", &[(2, 1), (3, 1), (5, 4), (6, 3), (9, 1)]),
-            ("B", &[(1, 1)]),
-        ],
-    )?;
-    assert!(rt;
-        differ(
-            &rt,
-            &a,
-            &b,
-            "@ cell A
+    let before = [
+        (0, 1, 2),
+        (0, 3, 1),
+        (0, 5, 5),
+        (0, 6, 1),
+        (0, 8, 1),
+        (1, 1, 1),
+    ];
+    let after = [
+        (0, 2, 1),
+        (0, 3, 1),
+        (0, 5, 4),
+        (0, 6, 3),
+        (0, 9, 1),
+        (1, 1, 1),
+    ];
+    let text = "@ cell A
 - 2 rectangle 1 0 10 20 0 0
 + 1 rectangle 2 0 10 20 0 0
 - 1 rectangle 5 0 10 20 0 0
 + 2 rectangle 6 0 10 20 0 0
 - 1 rectangle 8 0 10 20 0 0
 + 1 rectangle 9 0 10 20 0 0
-"
-        )
-    );
+";
+    assert!(rt; differ(&rt, (1000, "AB", &before), (1000, "AB", &after), text)?);
     Ok(())
 }

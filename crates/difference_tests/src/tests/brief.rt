@@ -1,7 +1,6 @@
 //! Differences in brief.
 
 use super::differ_by;
-use super::layouts::layout;
 use oas_difference::{Detail, Options};
 use std::test::Fail;
 
@@ -12,44 +11,29 @@ const BRIEF: Options = Options {
 
 #[test]
 fn a_cell_that_differs_has_its_counts(rt: HostRuntime) -> Result<(), Fail> {
-    let a = layout(
-        rt.alloc(),
-        1000,
-        &[
-            ("A", &[(1, 2), (3, 1), (5, 5)]),
-            ("B", &[(1, 1)]),
-            ("C", &[(1, 4)]),
-        ],
-    )?;
-    let b = layout(
-        rt.alloc(),
-        2000,
-        &[
-            ("A", &[(2, 1), (3, 1), (5, 4), (6, 3)]),
-            ("B", &[(1, 1)]),
-            ("D", &[]),
-        ],
-    )?;
-    assert!(rt;
-        differ_by(
-            &rt,
-            &a,
-            &b,
-            BRIEF,
-            "- 1 unit 1000/1
+    let before = [(0, 1, 2), (0, 3, 1), (0, 5, 5), (1, 1, 1), (2, 1, 4)];
+    let after = [(0, 2, 1), (0, 3, 1), (0, 5, 4), (0, 6, 3), (1, 1, 1)];
+    let text = "- 1 unit 1000/1
 + 1 unit 2000/1
 @ cell A - 3 + 4
 - cell C - 4 + 0
 + cell D - 0 + 0
-"
-        )
+";
+    assert!(rt;
+        differ_by(
+            &rt,
+            (1000, "ABC", &before),
+            (2000, "ABD", &after),
+            BRIEF,
+            text
+        )?
     );
     Ok(())
 }
 
 #[test]
 fn the_same_have_no_line(rt: HostRuntime) -> Result<(), Fail> {
-    let a = layout(rt.alloc(), 1000, &[("A", &[(1, 2)]), ("B", &[])])?;
-    assert!(rt; differ_by(&rt, &a, &a, BRIEF, ""));
+    let same = (1000, "AB", [(0, 1, 2)].as_slice());
+    assert!(rt; differ_by(&rt, same, same, BRIEF, "")?);
     Ok(())
 }

@@ -1,10 +1,10 @@
 //! Writers that fail.
 
 use super::ALL;
-use super::layouts::layout;
+use super::layouts::{Sketch, layout};
 use oas_difference::write_difference;
 use oas_layout::Layout;
-use oas_num::Why;
+use oas_num::{Refusal, Why};
 use std::alloc::Global;
 use std::io::{self, Write};
 use std::test::Fail;
@@ -47,61 +47,67 @@ const CHANGED: &str = "- 1 unit 1000/1
 + 1 rectangle 1 0 10 20 0 0
 ";
 
-fn before(alloc: Global) -> Result<Layout, Fail> {
-    layout(alloc, 1000, &[("A", &[(1, 2)])])
-}
+/// The layouts of that difference.
+const BEFORE: Sketch<'static> = (1000, "A", &[(0, 1, 2)]);
 
-fn after(alloc: Global) -> Result<Layout, Fail> {
-    layout(alloc, 500, &[("A", &[]), ("B", &[(1, 1)])])
-}
+const AFTER: Sketch<'static> = (500, "AB", &[(1, 1, 1)]);
 
 /// Whether the difference is refused at that place, with what stands before it written.
 fn is_cut_off(before: &Layout, after: &Layout, writer: &mut Narrow, place: usize) -> bool {
     if before.profile() != after.profile() {
         return false;
     }
-    match write_difference(before, after, ALL, writer) {
-        Err(refusal) => {
-            refusal.at == place as u64
-                && refusal.why == Why::Write
-                && writer.took.len() == place
-                && CHANGED.as_bytes().starts_with(writer.took.as_slice())
+    let refusal = Refusal {
+        at: place as u64,
+        why: Why::Write,
+    };
+    write_difference(before, after, ALL, writer) == Err(refusal)
+        && writer.took.len() == place
+        && CHANGED.as_bytes().starts_with(writer.took.as_slice())
+}
+
+/// The first room, if any, in which a writer of so many bytes a call isn't refused as it should be.
+fn first_wrong(alloc: Global, most: usize) -> Result<Option<usize>, Fail> {
+    let before = layout(alloc, BEFORE)?;
+    let after = layout(alloc, AFTER)?;
+    for room in 0..CHANGED.len() {
+        let mut writer = Narrow {
+            took: Vec::new(alloc),
+            most,
+            room,
+            flushes: true,
+        };
+        if !is_cut_off(&before, &after, &mut writer, room) {
+            return Ok(Some(room));
         }
-        Ok(_) => false,
     }
+    Ok(None)
 }
 
 #[test]
 fn a_fault_comes_with_what_was_taken(rt: HostRuntime) -> Result<(), Fail> {
-    let (a, b) = (before(rt.alloc())?, after(rt.alloc())?);
-    for room in 0..CHANGED.len() {
-        for most in [1, 7, usize::MAX] {
-            let took = Vec::new(rt.alloc());
-            let mut writer = Narrow {
-                took,
-                most,
-                room,
-                flushes: true,
-            };
-            assert!(rt;
-                is_cut_off(&a, &b, &mut writer, room),
-                "{room} bytes, by {most}"
-            );
-        }
+    for most in [1, 7, usize::MAX] {
+        let wrong = first_wrong(rt.alloc(), most)?;
+        assert_eq!(rt; wrong, None, "by {most}");
     }
     Ok(())
 }
 
-#[test]
-fn a_failed_flush_is_a_fault_at_the_end(rt: HostRuntime) -> Result<(), Fail> {
-    let (a, b) = (before(rt.alloc())?, after(rt.alloc())?);
-    let took = Vec::new(rt.alloc());
+/// Whether a writer that takes all, and whose flush fails, is refused at the end.
+fn is_refused_at_the_end(alloc: Global) -> Result<bool, Fail> {
+    let before = layout(alloc, BEFORE)?;
+    let after = layout(alloc, AFTER)?;
     let mut writer = Narrow {
-        took,
+        took: Vec::new(alloc),
         most: 100,
         room: usize::MAX,
         flushes: false,
     };
-    assert!(rt; is_cut_off(&a, &b, &mut writer, CHANGED.len()));
+    Ok(is_cut_off(&before, &after, &mut writer, CHANGED.len()))
+}
+
+#[test]
+fn a_failed_flush_is_a_fault_at_the_end(rt: HostRuntime) -> Result<(), Fail> {
+    assert!(rt; is_refused_at_the_end(rt.alloc())?);
     Ok(())
 }

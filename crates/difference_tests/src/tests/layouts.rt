@@ -1,32 +1,41 @@
 //! Layouts that differ.
 
 use oas_layout::{Draft, Element, Layout, Limits, Profile};
-use oas_num::{Fraction, Name, SliceSource, Spelled};
-use std::alloc::{AllocError, Global};
+use oas_num::{Fraction, Name};
+use std::alloc::Global;
 use std::test::Fail;
 
-/// A name of fewer than 128 bytes.
-fn name(alloc: Global, text: &str) -> Result<Name, Fail> {
-    let mut bytes = Vec::new(alloc);
-    bytes.push(text.len().min(127) as u8)?;
-    bytes.extend_from_slice(text.as_bytes())?;
-    Ok(Name::read(alloc, &mut SliceSource::new(&bytes, 1000))?)
-}
+/// A layout in short: how many grid steps a micron has, the names of the cells, of one letter each, and the rectangles: for
+/// each the place of its cell, a layer, and how often it is there.
+pub type Sketch<'a> = (u64, &'a str, &'a [(usize, u64, u64)]);
 
-/// A cell's name, and its rectangles: for each a layer, and how often it is there.
-pub type Rectangles<'a> = (&'a str, &'a [(u64, u64)]);
-
-/// A layout with so many grid steps in a micron and these cells, by profile two.
-pub fn layout(alloc: Global, steps: u64, cells: &[Rectangles<'_>]) -> Result<Layout, Fail> {
-    let unit = Fraction::reduced(steps, 1).ok_or("no unit")?;
-    let mut draft = Draft::new(alloc, unit, Limits::large(), Profile::Two)?;
-    for (cell, rectangles) in cells {
-        let place = draft.add_cell(name(alloc, cell)?)?;
-        for (layer, times) in *rectangles {
-            if place < draft.cells() && *times > 0 {
-                draft.add_many(place, Element::rectangle(*layer, 0, 10, 20, 0, 0), *times)?;
-            }
+/// Adds a cell of each name.
+fn add_cells(draft: &mut Draft, alloc: Global, names: &str) -> Result<(), Fail> {
+    for letter in names.as_bytes() {
+        let name = [*letter];
+        if Name::is_name(&name) {
+            draft.add_cell(Name::of(alloc, &name)?)?;
         }
     }
+    Ok(())
+}
+
+/// Adds the rectangles to the cells at their places.
+fn add_rectangles(draft: &mut Draft, rectangles: &[(usize, u64, u64)]) -> Result<(), Fail> {
+    for (cell, layer, times) in rectangles {
+        if *cell < draft.cells() && *times > 0 {
+            draft.add_many(*cell, Element::rectangle(*layer, 0, 10, 20, 0, 0), *times)?;
+        }
+    }
+    Ok(())
+}
+
+/// The layout of a sketch, by profile two.
+pub fn layout(alloc: Global, sketch: Sketch<'_>) -> Result<Layout, Fail> {
+    let (steps, names, rectangles) = sketch;
+    let unit = Fraction::reduced(steps, 1).ok_or("no unit")?;
+    let mut draft = Draft::new(alloc, unit, Limits::large(), Profile::Two)?;
+    add_cells(&mut draft, alloc, names)?;
+    add_rectangles(&mut draft, rectangles)?;
     Ok(draft.seal()?)
 }
