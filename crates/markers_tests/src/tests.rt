@@ -2,51 +2,70 @@
 
 mod layouts;
 
-use layouts::{kinds, rectangles};
+use layouts::{Sketch, kinds, rectangles};
 use oas_layout::Layout;
 use oas_markers::write_markers;
 use std::test::Fail;
 
-/// Whether the items of the layouts' markers are these lines.
-fn mark(rt: &HostRuntime, before: &Layout, after: &Layout, items: &str) -> Result<bool, Fail> {
+/// The end of a report without items.
+const NONE: &str = " <items>
+ </items>
+</report-database>
+";
+
+/// The end of a report of two rectangles that are only in the first layout.
+const REMOVED: &str = " <items>
+  <item><category>removed.rectangle</category><cell>A</cell><multiplicity>2</multiplicity><values><value>box: (-0.001,-1;0.009,-0.975)</value><value>text: 'layer 1/0'</value></values></item>
+ </items>
+</report-database>
+";
+
+/// The end of a report of two rectangles that are only in the second layout.
+const ADDED: &str = " <items>
+  <item><category>added.rectangle</category><cell>A</cell><multiplicity>2</multiplicity><values><value>box: (-0.001,-1;0.009,-0.975)</value><value>text: 'layer 1/0'</value></values></item>
+ </items>
+</report-database>
+";
+
+/// Whether the layouts' markers end so, and their length is answered.
+fn mark(rt: &HostRuntime, before: &Layout, after: &Layout, end: &str) -> bool {
     if before.profile() != after.profile() {
-        return Ok(false);
+        return false;
     }
     let mut written = Vec::new(rt.alloc());
-    let count = write_markers(before, after, &mut written).map_err(|_| "refused")?;
-    let mut end = Vec::from_slice(rt.alloc(), b" <items>\n")?;
-    end.extend_from_slice(items.as_bytes())?;
-    end.extend_from_slice(b" </items>\n</report-database>\n")?;
-    Ok(count == written.len() as u64 && written.as_slice().ends_with(end.as_slice()))
+    let count = write_markers(before, after, &mut written);
+    count == Ok(written.len() as u64) && written.as_slice().ends_with(end.as_bytes())
+}
+
+/// As `mark`, of two layouts of an element of each kind.
+fn mark_the_same(rt: &HostRuntime) -> Result<bool, Fail> {
+    let before = kinds(rt.alloc())?;
+    let after = kinds(rt.alloc())?;
+    Ok(mark(rt, &before, &after, NONE))
 }
 
 #[test]
 fn the_same_have_no_item(rt: HostRuntime) -> Result<(), Fail> {
-    let a = kinds(rt.alloc())?;
-    let b = kinds(rt.alloc())?;
-    assert!(rt; mark(&rt, &a, &b, "")?);
+    assert!(rt; mark_the_same(&rt)?);
     Ok(())
+}
+
+/// As `mark`, of the sketches' layouts.
+fn mark_rectangles(
+    rt: &HostRuntime,
+    before: Sketch,
+    after: Sketch,
+    end: &str,
+) -> Result<bool, Fail> {
+    let before = rectangles(rt.alloc(), before)?;
+    let after = rectangles(rt.alloc(), after)?;
+    Ok(mark(rt, &before, &after, end))
 }
 
 #[test]
 fn each_is_in_microns_of_its_own_unit(rt: HostRuntime) -> Result<(), Fail> {
-    let a = rectangles(rt.alloc(), 1000, 1, 3)?;
-    let b = rectangles(rt.alloc(), 3, 2, 1)?;
-    assert!(rt;
-        mark(
-            &rt,
-            &a,
-            &b,
-            "  <item><category>removed.rectangle</category><cell>A</cell><multiplicity>2</multiplicity><values><value>box: (-0.001,-1;0.009,-0.975)</value><value>text: 'layer 1/0'</value></values></item>\n"
-        )?
-    );
-    assert!(rt;
-        mark(
-            &rt,
-            &b,
-            &a,
-            "  <item><category>added.rectangle</category><cell>A</cell><multiplicity>2</multiplicity><values><value>box: (-0.001,-1;0.009,-0.975)</value><value>text: 'layer 1/0'</value></values></item>\n"
-        )?
-    );
+    let (many, one) = ((1000, 1, 3), (3, 2, 1));
+    assert!(rt; mark_rectangles(&rt, many, one, REMOVED)?);
+    assert!(rt; mark_rectangles(&rt, one, many, ADDED)?);
     Ok(())
 }
