@@ -15,7 +15,7 @@ mod session;
 mod words;
 
 use many::ask;
-use oas_command::{Form, limits_of};
+use oas_command::{Form, Options, limits_of};
 use oas_explain::{REASONS, run_explain};
 use oas_request::{Request, Task, parse};
 use runs::{OfOne, OfTwo, ended, mark};
@@ -24,13 +24,18 @@ use std::process::ExitCode;
 
 fn main(rt: HostRuntime) -> ExitCode {
     let status = match words::words_of(&rt) {
-        Ok(words) => match parse(rt.alloc(), words.as_slice()) {
-            Ok(request) => answer(&rt, request),
-            Err(error) => words::end(&rt, &error),
-        },
+        Ok(words) => understood(&rt, words.as_slice()),
         Err(status) => status,
     };
     ExitCode::from(status)
+}
+
+/// Does what the words ask for, and answers the status.
+fn understood(rt: &HostRuntime, words: &[String]) -> u8 {
+    match parse(rt.alloc(), words) {
+        Ok(request) => answer(rt, request),
+        Err(error) => words::end(rt, &error),
+    }
 }
 
 /// Does what is asked for, and answers the status.
@@ -41,37 +46,48 @@ fn answer(rt: &HostRuntime, request: Request<'_>) -> u8 {
         explains: request.explains,
         shows_progress: request.shows_progress,
     };
-    ended(run(&session, request.task))
+    ended(run(&session, &request.task))
 }
 
 /// Runs a task, and answers the status; or that of a run that could not begin.
-fn run<'a>(session: &Session<'a>, task: Task<'a>) -> Result<u8, u8> {
+fn run<'a>(session: &Session<'a>, task: &Task<'a>) -> Result<u8, u8> {
     match task {
-        Task::Canon { input, output } => OfOne::Canon.run(session, input, output),
-        Task::Ask { question, inputs } => Ok(ask(session, question, inputs)),
-        Task::Same { first, second } => OfTwo::Same.run(session, first, second),
+        Task::Canon { input, output } => OfOne::Canon.run(session, *input, *output),
+        Task::Ask { question, inputs } => Ok(ask(session, *question, inputs)),
+        Task::Same { first, second } => OfTwo::Same.run(session, *first, *second),
         Task::Diff {
             first,
             second,
             options,
-            markers: None,
-        } => OfTwo::Diff(options).run(session, first, second),
-        Task::Diff {
-            first,
-            second,
-            options,
-            markers: Some(markers),
-        } => mark(session, first, second, options, markers),
-        Task::Show { input } => OfOne::Show.run(session, input, None),
-        Task::Keys { input } => OfOne::Keys.run(session, input, None),
+            markers,
+        } => diff(session, *first, *second, *options, *markers),
+        Task::Show { input } => OfOne::Show.run(session, *input, None),
+        Task::Keys { input } => OfOne::Keys.run(session, *input, None),
         Task::Info { input, is_json } => {
-            let form = if is_json { Form::Json } else { Form::Text };
-            OfOne::Info(form).run(session, input, None)
+            let form = if *is_json { Form::Json } else { Form::Text };
+            OfOne::Info(form).run(session, *input, None)
         }
-        Task::Rekey { old, new } => OfOne::Rekey.run(session, old, new),
-        Task::Explain { number } => {
-            let (mut out, mut err) = (session.rt.stdout(), session.rt.stderr());
-            Ok(run_explain(&REASONS, number, &mut out, &mut err))
-        }
+        Task::Rekey { old, new } => OfOne::Rekey.run(session, *old, *new),
+        Task::Explain { number } => Ok(explain(session, *number)),
     }
+}
+
+/// Runs `diff`, with its markers to a file where one is named.
+fn diff<'a>(
+    session: &Session<'a>,
+    first: Option<&str>,
+    second: Option<&str>,
+    options: Options,
+    markers: Option<&'a str>,
+) -> Result<u8, u8> {
+    match markers {
+        Some(markers) => mark(session, first, second, options, markers),
+        None => OfTwo::Diff(options).run(session, first, second),
+    }
+}
+
+/// Says what a reason means, and answers the status.
+fn explain(session: &Session<'_>, number: Option<&str>) -> u8 {
+    let (mut out, mut err) = (session.rt.stdout(), session.rt.stderr());
+    run_explain(&REASONS, number, &mut out, &mut err)
 }

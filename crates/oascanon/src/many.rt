@@ -14,18 +14,21 @@ const DONE: u8 = 0;
 
 /// Asks each input, in order, and answers the status of all. One that is refused has its line on standard error, and the
 /// others go on.
-pub fn ask(session: &Session<'_>, question: Question, inputs: Inputs<'_>) -> u8 {
+pub fn ask(session: &Session<'_>, question: Question, inputs: &Inputs<'_>) -> u8 {
     match inputs {
-        Inputs::One(path) => ended(OfOne::Ask(question).run(session, path, None)),
-        Inputs::Named(paths) => {
-            let mut status = DONE;
-            for path in &paths {
-                status = worse(status, ask_named(session, question, *path));
-            }
-            status
-        }
-        Inputs::Listed(list) => ended(ask_listed(session, question, list)),
+        Inputs::One(path) => ended(OfOne::Ask(question).run(session, *path, None)),
+        Inputs::Named(paths) => ask_all(session, question, paths.as_slice()),
+        Inputs::Listed(list) => ended(ask_listed(session, question, *list)),
     }
+}
+
+/// Asks each of many inputs, and answers the status of all.
+fn ask_all(session: &Session<'_>, question: Question, paths: &[Option<&str>]) -> u8 {
+    let mut status = DONE;
+    for path in paths {
+        status = worse(status, ask_named(session, question, *path));
+    }
+    status
 }
 
 /// Asks one of many inputs, whose answer has its name.
@@ -35,11 +38,22 @@ fn ask_named(session: &Session<'_>, question: Question, path: Option<&str>) -> u
 
 /// Asks each file that a list names.
 fn ask_listed(session: &Session<'_>, question: Question, list: Option<&str>) -> Result<u8, u8> {
-    let (rt, shown) = (session.rt, session.printed(name_of(list))?);
-    let mut names = match Input::open(rt, list).and_then(|opened| Names::new(rt.alloc(), opened)) {
-        Ok(names) => names,
-        Err(error) => return Err(session.voice().unopened(shown.as_str(), &error)),
-    };
+    let shown = session.printed(name_of(list))?;
+    let mut names = names_in(session, list, shown.as_str())?;
+    Ok(ask_each(session, question, &mut names, shown.as_str()))
+}
+
+/// The names in a list, or the status where they can't be had, after its line on standard error.
+fn names_in(session: &Session<'_>, list: Option<&str>, shown: &str) -> Result<Names, u8> {
+    let rt = session.rt;
+    match Input::open(rt, list).and_then(|opened| Names::new(rt.alloc(), opened)) {
+        Ok(names) => Ok(names),
+        Err(error) => Err(session.voice().unopened(shown, &error)),
+    }
+}
+
+/// Asks the files of all names, and answers the status of all. Where the list can't be read on, that is said under its name.
+fn ask_each(session: &Session<'_>, question: Question, names: &mut Names, shown: &str) -> u8 {
     let mut status = DONE;
     for _ in 0..u64::MAX {
         let at = names.taken();
@@ -48,13 +62,13 @@ fn ask_listed(session: &Session<'_>, question: Question, list: Option<&str>) -> 
             Ok(None) => break,
             Err(_) => {
                 let why = Why::Read;
-                let refused = session.voice().refused(shown.as_str(), Refusal { at, why });
+                let refused = session.voice().refused(shown, Refusal { at, why });
                 status = worse(status, refused);
                 break;
             }
         }
     }
-    Ok(status)
+    status
 }
 
 /// Asks the file of a name in a list. One that is no text can't be opened.
@@ -64,10 +78,15 @@ fn ask_text(session: &Session<'_>, question: Question, name: &[u8]) -> u8 {
     }
     let error = io::Error::from(ErrorKind::InvalidFilename);
     match String::from_utf8_lossy(session.rt.alloc(), name) {
-        Ok(text) => match session.printed(text.as_str()) {
-            Ok(name) => session.voice().unopened(name.as_str(), &error),
-            Err(status) => status,
-        },
+        Ok(text) => unopened(session, text.as_str(), &error),
         Err(_) => session.voice().unopened("?", &error),
+    }
+}
+
+/// Says that the file of this name can't be opened, and answers the status.
+fn unopened(session: &Session<'_>, name: &str, error: &io::Error) -> u8 {
+    match session.printed(name) {
+        Ok(shown) => session.voice().unopened(shown.as_str(), error),
+        Err(status) => status,
     }
 }

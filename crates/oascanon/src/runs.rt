@@ -38,11 +38,33 @@ impl OfOne {
         output: Option<&'a str>,
     ) -> Result<u8, u8> {
         let printed = session.printed(name_of(input))?;
+        self.open(session, input, &printed, output)
+    }
+
+    /// Opens the file of this name, and runs on it.
+    fn open<'a>(
+        self,
+        session: &Session<'a>,
+        input: Option<&str>,
+        printed: &Printed<'_>,
+        output: Option<&'a str>,
+    ) -> Result<u8, u8> {
+        let mut from = session.source(input, printed.as_str())?;
+        self.heard(session, printed, &mut from, output)
+    }
+
+    /// Runs on what was opened, and tells what was said.
+    fn heard<'a>(
+        self,
+        session: &Session<'a>,
+        printed: &Printed<'_>,
+        from: &mut Incoming,
+        output: Option<&'a str>,
+    ) -> Result<u8, u8> {
         let name = printed.as_str();
-        let mut from = session.source(input, name)?;
         let mut said = session.room(name, name.len())?;
         let mut out = session.output(output);
-        let status = self.over(session, &printed, &mut from, &mut out, &mut said);
+        let status = self.over(session, printed, from, &mut out, &mut said);
         session.tell(&said, output, out.fault());
         Ok(status)
     }
@@ -76,6 +98,13 @@ impl OfOne {
     }
 }
 
+/// A file of a command line, and its name as it is printed.
+#[derive(Clone, Copy)]
+struct Named<'a> {
+    path: Option<&'a str>,
+    name: &'a str,
+}
+
 impl OfTwo {
     /// Opens both files before one is read, runs, and answers the status; or that of a run that could not begin.
     pub fn run(
@@ -84,25 +113,64 @@ impl OfTwo {
         first: Option<&str>,
         second: Option<&str>,
     ) -> Result<u8, u8> {
-        let (limits, alloc) = (session.limits, session.rt.alloc());
         let name_a = session.printed(name_of(first))?;
         let name_b = session.printed(name_of(second))?;
         let (name_a, name_b) = (name_a.as_str(), name_b.as_str());
-        let mut a = session.source(first, name_a)?;
-        let mut b = session.source(second, name_b)?;
+        let a = Named {
+            path: first,
+            name: name_a,
+        };
+        self.open(
+            session,
+            a,
+            Named {
+                path: second,
+                name: name_b,
+            },
+        )
+    }
+
+    /// Opens both files, and runs on them.
+    fn open(self, session: &Session<'_>, a: Named<'_>, b: Named<'_>) -> Result<u8, u8> {
+        let mut from_a = session.source(a.path, a.name)?;
+        let mut from_b = session.source(b.path, b.name)?;
+        self.heard(session, a.name, &mut from_a, b.name, &mut from_b)
+    }
+
+    /// Runs on what was opened, and tells what was said.
+    fn heard(
+        self,
+        session: &Session<'_>,
+        name_a: &str,
+        from_a: &mut Incoming,
+        name_b: &str,
+        from_b: &mut Incoming,
+    ) -> Result<u8, u8> {
         let mut said = session.room(name_a, name_a.len().max(name_b.len()))?;
         let mut out = session.output(None);
-        let (from_a, from_b) = (&mut a, &mut b);
-        let status = match self {
-            OfTwo::Same => run_same(
-                alloc, name_a, from_a, name_b, from_b, &mut out, &mut said, limits,
-            ),
-            OfTwo::Diff(options) => run_diff(
-                alloc, name_a, from_a, name_b, from_b, options, &mut out, &mut said, limits,
-            ),
-        };
+        let status = self.over(session, name_a, from_a, name_b, from_b, &mut out, &mut said);
         session.tell(&said, None, out.fault());
         Ok(status)
+    }
+
+    /// Runs on what was opened, and answers the status.
+    fn over(
+        self,
+        session: &Session<'_>,
+        name_a: &str,
+        from_a: &mut Incoming,
+        name_b: &str,
+        from_b: &mut Incoming,
+        out: &mut Outgoing<'_>,
+        said: &mut Vec<u8>,
+    ) -> u8 {
+        let (alloc, limits) = (session.rt.alloc(), session.limits);
+        match self {
+            OfTwo::Same => run_same(alloc, name_a, from_a, name_b, from_b, out, said, limits),
+            OfTwo::Diff(options) => run_diff(
+                alloc, name_a, from_a, name_b, from_b, options, out, said, limits,
+            ),
+        }
     }
 }
 
@@ -118,8 +186,51 @@ pub fn mark<'a>(
     let name_b = session.printed(name_of(second))?;
     let own = session.printed(markers)?;
     let (name_a, name_b, own) = (name_a.as_str(), name_b.as_str(), own.as_str());
-    let mut a = session.source(first, name_a)?;
-    let mut b = session.source(second, name_b)?;
+    let a = Named {
+        path: first,
+        name: name_a,
+    };
+    let b = Named {
+        path: second,
+        name: name_b,
+    };
+    open_to_mark(session, a, b, options, markers, own)
+}
+
+/// Opens both files, and runs `diff` on them.
+fn open_to_mark<'a>(
+    session: &Session<'a>,
+    a: Named<'_>,
+    b: Named<'_>,
+    options: Options,
+    markers: &'a str,
+    own: &str,
+) -> Result<u8, u8> {
+    let mut from_a = session.source(a.path, a.name)?;
+    let mut from_b = session.source(b.path, b.name)?;
+    mark_heard(
+        session,
+        a.name,
+        &mut from_a,
+        b.name,
+        &mut from_b,
+        options,
+        markers,
+        own,
+    )
+}
+
+/// Runs `diff` on what was opened, and tells what was said.
+fn mark_heard<'a>(
+    session: &Session<'a>,
+    name_a: &str,
+    from_a: &mut Incoming,
+    name_b: &str,
+    from_b: &mut Incoming,
+    options: Options,
+    markers: &'a str,
+    own: &str,
+) -> Result<u8, u8> {
     let bytes = name_a.len().max(name_b.len()).max(own.len());
     let mut said = session.room(name_a, bytes)?;
     let mut out = session.output(None);
@@ -127,9 +238,9 @@ pub fn mark<'a>(
     let status = run_marking(
         session.rt.alloc(),
         name_a,
-        &mut a,
+        from_a,
         name_b,
-        &mut b,
+        from_b,
         options,
         &mut out,
         own,

@@ -49,28 +49,42 @@ impl<'a> Session<'a> {
 
     /// The source of an input, or the status where there is none, after its line on standard error under this name.
     pub fn source(&self, input: Option<&str>, name: &str) -> Result<Incoming, u8> {
-        let opened = match Input::open(self.rt, input) {
-            Ok(opened) => opened,
-            Err(error) => return Err(self.voice().unopened(name, &error)),
-        };
-        let meter = if self.shows_progress {
-            Some(Meter::of_read(self.rt.stderr(), opened.size()))
-        } else {
-            None
-        };
+        match Input::open(self.rt, input) {
+            Ok(opened) => self.source_of(opened, name),
+            Err(error) => Err(self.voice().unopened(name, &error)),
+        }
+    }
+
+    /// The source of what was opened, or the status where there is no memory for it.
+    fn source_of(&self, opened: Input, name: &str) -> Result<Incoming, u8> {
+        let meter = self.meter_of_read(opened.size());
         let reader = Reading::new(opened, meter);
         ReaderSource::new(self.rt.alloc(), reader, self.limits.input()).map_err(|_| self.unbegun(
             name,
         ))
     }
 
-    /// The output of this name, or standard output.
-    pub fn output(&self, path: Option<&'a str>) -> Outgoing<'a> {
-        let meter = if self.shows_progress {
+    /// The meter of an input of this size, where long work shows how far it is.
+    fn meter_of_read(&self, size: Option<u64>) -> Option<Meter<Stderr>> {
+        if self.shows_progress {
+            Some(Meter::of_read(self.rt.stderr(), size))
+        } else {
+            None
+        }
+    }
+
+    /// The meter of an output, where long work shows how far it is.
+    fn meter_of_written(&self) -> Option<Meter<Stderr>> {
+        if self.shows_progress {
             Some(Meter::of_written(self.rt.stderr()))
         } else {
             None
-        };
+        }
+    }
+
+    /// The output of this name, or standard output.
+    pub fn output(&self, path: Option<&'a str>) -> Outgoing<'a> {
+        let meter = self.meter_of_written();
         Recorded::new(Writing::new(Output::new(self.rt, path), meter))
     }
 
