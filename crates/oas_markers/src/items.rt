@@ -1,13 +1,15 @@
 //! Categories and items.
 
-ghost use Rattle.std.specs.Prelude.{◌≡◌};
+ghost use Rattle.std.specs.Prelude.{◌≡◌, ◌++◌, ◌∷◌, [], codes};
 ghost use Rattle.oas_num.specs.Writing.{Writes};
 ghost use Rattle.oas_difference.specs.Difference.{same_ratio};
+ghost use Rattle.oas_markers.specs.Shapes.{shape, layer_of, layer_value};
+ghost use Rattle.oas_markers.specs.declared.items.Way.TheVariants.{Removed, Added};
 ghost use Rattle.oas_markers.specs.Markers.{way_name, way_file, category, about, head, cell_entry, item, change_item, cell_item};
 
+use crate::numbers::put_number;
 use crate::shapes::{kind_name, put_layer, put_shape};
 use crate::texts::put_escaped;
-use itoa::Buffer;
 use oas_difference::Change;
 use oas_layout::Element;
 use oas_num::{Fraction, Name, Sink, SinkFault};
@@ -21,23 +23,23 @@ pub(crate) enum Way {
     Added,
 }
 
-/// The category.
-fn way_name(way: Way) -> &'static [u8]
-    ensures { result.now ≡ way_name way }
+/// The category's name and what it is about, up to the unit of the layout that has more.
+fn category_front(way: Way) -> &'static [u8]
+    ensures { result.now ≡ codes "  <category><name>" ++ (way_name way ++ (codes "</name><description>more often in " ++ (way_file way ++ codes ", by "))) }
 {
     match way {
-        Way::Removed => b"removed",
-        Way::Added => b"added",
+        Way::Removed => b"  <category><name>removed</name><description>more often in A, by ",
+        Way::Added => b"  <category><name>added</name><description>more often in B, by ",
     }
 }
 
-/// The file that the category speaks of.
-fn way_file(way: Way) -> &'static [u8]
-    ensures { result.now ≡ way_file way }
+/// The start of an item, up to the kind in its category.
+fn item_front(way: Way) -> &'static [u8]
+    ensures { result.now ≡ codes "  <item><category>" ++ (way_name way ++ (46 ∷ [])) }
 {
     match way {
-        Way::Removed => b"A",
-        Way::Added => b"B",
+        Way::Removed => b"  <item><category>removed.",
+        Way::Added => b"  <item><category>added.",
     }
 }
 
@@ -49,14 +51,10 @@ const KINDS: &[u8] =
 fn put_category<K: Sink>(sink: &mut K, unit: Fraction, way: Way) -> Result<(), SinkFault>
     ensures { Writes K.given K.failures sink.old (category unit way) result sink.new }
 {
-    sink.put_all(b"  <category><name>")?;
-    sink.put_all(way_name(way))?;
-    sink.put_all(b"</name><description>more often in ")?;
-    sink.put_all(way_file(way))?;
-    sink.put_all(b", by ")?;
-    sink.put_all(Buffer::new().format(unit.num()).as_bytes())?;
+    sink.put_all(category_front(way))?;
+    put_number(sink, unit.num())?;
     sink.put(b'/')?;
-    sink.put_all(Buffer::new().format(unit.den()).as_bytes())?;
+    put_number(sink, unit.den())?;
     sink.put_all(KINDS)
 }
 
@@ -73,6 +71,15 @@ fn put_about<K: Sink>(sink: &mut K, same: bool) -> Result<(), SinkFault>
     }
 }
 
+/// Puts the categories of both layouts, and what stands between them and the cells.
+fn put_categories<K: Sink>(sink: &mut K, before: Fraction, after: Fraction) -> Result<(), SinkFault>
+    ensures { Writes K.given K.failures sink.old (category before Removed ++ (category after Added ++ codes " </categories>\n <cells>\n")) result sink.new }
+{
+    put_category(sink, before, Way::Removed)?;
+    put_category(sink, after, Way::Added)?;
+    sink.put_all(b" </categories>\n <cells>\n")
+}
+
 /// Puts what stands above the cells.
 pub(crate) fn put_head<K: Sink>(
     sink: &mut K,
@@ -84,9 +91,7 @@ pub(crate) fn put_head<K: Sink>(
     sink.put_all(b"<?xml version=\"1.0\" encoding=\"utf-8\"?>\n<report-database>\n <description>")?;
     put_about(sink, before == after)?;
     sink.put_all(b"</description>\n <categories>\n")?;
-    put_category(sink, before, Way::Removed)?;
-    put_category(sink, after, Way::Added)?;
-    sink.put_all(b" </categories>\n <cells>\n")
+    put_categories(sink, before, after)
 }
 
 /// Puts the entry of a cell.
@@ -96,6 +101,16 @@ pub(crate) fn put_cell_entry<K: Sink>(sink: &mut K, name: &Name) -> Result<(), S
     sink.put_all(b"  <cell><name>")?;
     put_escaped(sink, name.as_bytes())?;
     sink.put_all(b"</name></cell>\n")
+}
+
+/// Puts the values of an element, and the end of its item.
+fn put_values<K: Sink>(sink: &mut K, unit: Fraction, element: &Element) -> Result<(), SinkFault>
+    ensures { Writes K.given K.failures sink.old (shape unit element.now ++ (codes "</value>" ++ (layer_value (layer_of element.now) ++ codes "</values></item>\n"))) result sink.new }
+{
+    put_shape(sink, unit, element)?;
+    sink.put_all(b"</value>")?;
+    put_layer(sink, element)?;
+    sink.put_all(b"</values></item>\n")
 }
 
 /// Puts the item of an element that is there so many times more.
@@ -109,19 +124,14 @@ fn put_item<K: Sink>(
 ) -> Result<(), SinkFault>
     ensures { Writes K.given K.failures sink.old (item unit way name.now count element.now) result sink.new }
 {
-    sink.put_all(b"  <item><category>")?;
-    sink.put_all(way_name(way))?;
-    sink.put(b'.')?;
+    sink.put_all(item_front(way))?;
     sink.put_all(kind_name(element))?;
     sink.put_all(b"</category><cell>")?;
     put_escaped(sink, name.as_bytes())?;
     sink.put_all(b"</cell><multiplicity>")?;
-    sink.put_all(Buffer::new().format(count).as_bytes())?;
+    put_number(sink, count)?;
     sink.put_all(b"</multiplicity><values><value>")?;
-    put_shape(sink, unit, element)?;
-    sink.put_all(b"</value>")?;
-    put_layer(sink, element)?;
-    sink.put_all(b"</values></item>\n")
+    put_values(sink, unit, element)
 }
 
 /// Puts the item of a change.
@@ -159,9 +169,8 @@ pub(crate) fn put_change<K: Sink>(
 pub(crate) fn put_cell_item<K: Sink>(sink: &mut K, way: Way, name: &Name) -> Result<(), SinkFault>
     ensures { Writes K.given K.failures sink.old (cell_item way name.now) result sink.new }
 {
-    sink.put_all(b"  <item><category>")?;
-    sink.put_all(way_name(way))?;
-    sink.put_all(b".cell</category><cell>")?;
+    sink.put_all(item_front(way))?;
+    sink.put_all(b"cell</category><cell>")?;
     put_escaped(sink, name.as_bytes())?;
     sink.put_all(
         b"</cell><multiplicity>1</multiplicity><values><value>text: 'cell'</value></values></item>\n",

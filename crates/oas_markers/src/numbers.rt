@@ -1,12 +1,19 @@
 //! Numbers of microns.
 
-ghost use Rattle.std.specs.Prelude.{◌≡◌, ◌<◌, ◌+ℤ◌, ◌*◌, pos, flat_map, ◌∷◌};
+ghost use Rattle.std.specs.Prelude.{◌≡◌, ◌<◌, ◌+ℤ◌, ◌*◌, pos, decimal, flat_map, ◌∷◌};
 ghost use Rattle.oas_num.specs.Writing.{Writes};
 ghost use Rattle.oas_markers.specs.Numbers.{quotient, pointed, decimals, length_in, microns, place, places};
 
 use itoa::Buffer;
 use oas_num::{Fraction, Sink, SinkFault};
 use oas_ring::Point;
+
+/// Puts a number.
+pub(crate) fn put_number<K: Sink>(sink: &mut K, number: u64) -> Result<(), SinkFault>
+    ensures { Writes K.given K.failures sink.old (decimal number) result sink.new }
+{
+    sink.put_all(Buffer::new().format(number).as_bytes())
+}
 
 /// Puts digits of a remainder that stand behind the point, of a fraction with that denominator: 64 at most.
 fn put_decimals<K: Sink>(sink: &mut K, den: u64, mut rest: u64) -> Result<(), SinkFault>

@@ -4,9 +4,10 @@ ghost use Rattle.std.specs.Prelude.{◌≡◌, Some};
 ghost use Rattle.oas_num.specs.Writing.{Writes};
 ghost use Rattle.oas_markers.specs.Shapes.{label, box, polygon, path, circle, shape, layer_value, layer_of, turn_code, kind_name};
 
-use crate::numbers::{put_coordinate, put_double, put_far, put_place, put_places, put_steps};
+use crate::numbers::{
+    put_coordinate, put_double, put_far, put_number, put_place, put_places, put_steps,
+};
 use crate::texts::put_quoted;
-use itoa::Buffer;
 use oas_layout::{Element, Turns};
 use oas_num::{Fraction, Sink, SinkFault};
 use oas_ring::Point;
@@ -222,9 +223,9 @@ fn put_layer_value<K: Sink>(sink: &mut K, layer: u64, datatype: u64) -> Result<(
     ensures { Writes K.given K.failures sink.old (layer_value (Some (layer, datatype))) result sink.new }
 {
     sink.put_all(b"<value>text: 'layer ")?;
-    sink.put_all(Buffer::new().format(layer).as_bytes())?;
+    put_number(sink, layer)?;
     sink.put(b'/')?;
-    sink.put_all(Buffer::new().format(datatype).as_bytes())?;
+    put_number(sink, datatype)?;
     sink.put_all(b"'</value>")
 }
 

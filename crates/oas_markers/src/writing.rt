@@ -1,18 +1,40 @@
 //! Writing the markers.
 
-ghost use Rattle.std.specs.Prelude.{◌≡◌, IfErr, IfOk, OnOk};
+ghost use Rattle.std.specs.Prelude.{◌≡◌, ◌++◌, codes, IfErr, IfOk, OnOk};
+ghost use Rattle.std.specs.Ordering.{nat_cmp};
+ghost use Rattle.std.specs.Cmp.Lexicographic.{slice_cmp};
+ghost use Rattle.std.specs.List.Sorted.{IsStrictlySortedBy};
+ghost use Rattle.std.specs.Map.{keys_of};
 ghost use Rattle.oas_num.specs.Outlets.{IsGiven, IsSent, failures_of};
 ghost use Rattle.oas_num.specs.Writing.{Writes};
 ghost use Rattle.oas_layout.specs.Contents.{meaning_of};
 ghost use Rattle.oas_markers.specs.Markers.{markers};
+ghost use Rattle.oas_markers.specs.Held.{held_items};
 ghost use Rattle.oas_markers.specs.Written.{IsMarked, IsMarkedUpTo};
 
 use crate::cells::{put_entries, put_items};
 use crate::items::put_head;
 use oas_difference::Cells;
 use oas_layout::Layout;
-use oas_num::{Outlet, Refusal, Sink, SinkFault, Why};
+use oas_num::{Fraction, Outlet, Refusal, Sink, SinkFault, Why};
 use std::io::Write;
+
+/// Puts the items of all cells, and what stands around them.
+fn put_body<'a, K: Sink>(
+    sink: &mut K,
+    gone: Fraction,
+    come: Fraction,
+    before: Cells<'a>,
+    after: Cells<'a>,
+) -> Result<(), SinkFault>
+    requires before { IsStrictlySortedBy (slice_cmp nat_cmp) (keys_of before) }
+    requires after { IsStrictlySortedBy (slice_cmp nat_cmp) (keys_of after) }
+    ensures { Writes K.given K.failures sink.old (codes " </cells>\n <items>\n" ++ (held_items gone come before.entry after.entry ++ codes " </items>\n</report-database>\n")) result sink.new }
+{
+    sink.put_all(b" </cells>\n <items>\n")?;
+    put_items(sink, gone, come, before, after)?;
+    sink.put_all(b" </items>\n</report-database>\n")
+}
 
 /// Puts the markers of two layouts.
 fn put_markers<K: Sink>(sink: &mut K, before: &Layout, after: &Layout) -> Result<(), SinkFault>
@@ -27,9 +49,7 @@ fn put_markers<K: Sink>(sink: &mut K, before: &Layout, after: &Layout) -> Result
     let come = after.unit();
     put_head(sink, gone, come)?;
     put_entries(sink, entries_before, entries_after)?;
-    sink.put_all(b" </cells>\n <items>\n")?;
-    put_items(sink, gone, come, items_before, items_after)?;
-    sink.put_all(b" </items>\n</report-database>\n")
+    put_body(sink, gone, come, items_before, items_after)
 }
 
 /// Puts the markers of two layouts into an outlet, and has its writer take all of them.

@@ -1,4 +1,4 @@
-use Rattle.std.proofs.Common.{◌≡◌, ◌∙◌, ap, decimal}
+use Rattle.std.proofs.Common.{◌≡◌}
 use Rattle.std.proofs.lemmas.Result.{err_from_is_err_and}
 use Rattle.oas_num.proofs.PuttingLemmas.{first, begins, fails_at, ends, ◌▸◌}
 use Rattle.oas_difference.specs.Difference.{same_ratio}
@@ -21,19 +21,7 @@ returns-in_err-put_all-2 g c =
     let same : c.eq.result ≡ same_ratio c.args.before c.args.after = c.eq.ensures in
     rw (p.1, ← same) (fails_at _ (first _ c.in_ok-put_all.ensures ▸ c.in_ok-put_about.ensures) c.in_err-put_all-2.ensures)
 
-pub returns-in_err-put_category : goal.returns-in_err-put_category
-returns-in_err-put_category g c =
-    let p = err_from_is_err_and c.from_residual-in_err-put_category.result c.from_residual-in_err-put_category.ensures.1 in
-    let same : c.eq.result ≡ same_ratio c.args.before c.args.after = c.eq.ensures in
-    rw (p.1, ← same) (fails_at _ (first _ c.in_ok-put_all.ensures ▸ c.in_ok-put_about.ensures ▸ c.in_ok-put_all-2.ensures) c.in_err-put_category.ensures)
-
-pub returns-in_err-put_category-2 : goal.returns-in_err-put_category-2
-returns-in_err-put_category-2 g c =
-    let p = err_from_is_err_and c.from_residual-in_err-put_category-2.result c.from_residual-in_err-put_category-2.ensures.1 in
-    let same : c.eq.result ≡ same_ratio c.args.before c.args.after = c.eq.ensures in
-    rw (p.1, ← same) (fails_at _ (first _ c.in_ok-put_all.ensures ▸ c.in_ok-put_about.ensures ▸ c.in_ok-put_all-2.ensures ▸ c.in_ok-put_category.ensures) c.in_err-put_category-2.ensures)
-
 pub returns : goal.returns
 returns g c =
     let same : c.eq.result ≡ same_ratio c.args.before c.args.after = c.eq.ensures in
-    rw (← same) (ends _ _ (first _ c.in_ok-put_all.ensures ▸ c.in_ok-put_about.ensures ▸ c.in_ok-put_all-2.ensures ▸ c.in_ok-put_category.ensures ▸ c.in_ok-put_category-2.ensures) c.put_all-3.ensures)
+    rw (← same) (ends _ _ (first _ c.in_ok-put_all.ensures ▸ c.in_ok-put_about.ensures ▸ c.in_ok-put_all-2.ensures) c.put_categories.ensures)

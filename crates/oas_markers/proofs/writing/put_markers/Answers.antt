@@ -20,12 +20,12 @@ pub put_entries-requires-clause-after : goal.put_entries-requires-clause-after
 put_entries-requires-clause-after g c =
     subst (λ (cs : List Cell). IsStrictlySortedBy (slice_cmp nat_cmp) (keys_of cs)) (sym c.new-entries_after.ensures.cells) c.new-entries_after.ensures.layout.ascending
 
-pub put_items-requires-clause-before : goal.put_items-requires-clause-before
-put_items-requires-clause-before g c =
+pub put_body-requires-clause-before : goal.put_body-requires-clause-before
+put_body-requires-clause-before g c =
     subst (λ (cs : List Cell). IsStrictlySortedBy (slice_cmp nat_cmp) (keys_of cs)) (sym c.new-items_before.ensures.cells) c.new-items_before.ensures.layout.ascending
 
-pub put_items-requires-clause-after : goal.put_items-requires-clause-after
-put_items-requires-clause-after g c =
+pub put_body-requires-clause-after : goal.put_body-requires-clause-after
+put_body-requires-clause-after g c =
     subst (λ (cs : List Cell). IsStrictlySortedBy (slice_cmp nat_cmp) (keys_of cs)) (sym c.new-items_after.ensures.cells) c.new-items_after.ensures.layout.ascending
 
 pub returns-in_err-put_head : goal.returns-in_err-put_head
@@ -58,36 +58,6 @@ returns-in_err-put_entries g c =
     (sym c.new-items_after.ensures.cells i) ++ foot)))) in
     rw p.1 (fails_at _ (left_is (begins _ _) whole ▸ c.in_ok-put_head.ensures) c.in_err-put_entries.ensures)
 
-pub returns-in_err-put_all : goal.returns-in_err-put_all
-returns-in_err-put_all g c =
-    let p = err_from_is_err_and c.from_residual-in_err-put_all.result c.from_residual-in_err-put_all.ensures.1 in
-    let a = c.args.before.now in
-    let b = c.args.after.now in
-    let whole : markers a.profile (meaning_of a) (meaning_of b) ≡ head c.unit-gone.result c.unit-come.result
-    ++ (held_entries c.new-entries_before.result c.new-entries_after.result
-    ++ (between ++ (held_items c.unit-gone.result c.unit-come.result c.new-items_before.result c.new-items_after.result ++ foot))) =
-    markers_held a b c.new-entries_before.ensures.layout c.new-entries_after.ensures.layout c.requires
-    ∙ (λ i. head (sym c.unit-gone.ensures i) (sym c.unit-come.ensures i)
-    ++ (held_entries (sym c.new-entries_before.ensures.cells i) (sym c.new-entries_after.ensures.cells i)
-    ++ (between ++ (held_items (sym c.unit-gone.ensures i) (sym c.unit-come.ensures i) (sym c.new-items_before.ensures.cells i)
-    (sym c.new-items_after.ensures.cells i) ++ foot)))) in
-    rw p.1 (fails_at _ (left_is (begins _ _) whole ▸ c.in_ok-put_head.ensures ▸ c.in_ok-put_entries.ensures) c.in_err-put_all.ensures)
-
-pub returns-in_err-put_items : goal.returns-in_err-put_items
-returns-in_err-put_items g c =
-    let p = err_from_is_err_and c.from_residual-in_err-put_items.result c.from_residual-in_err-put_items.ensures.1 in
-    let a = c.args.before.now in
-    let b = c.args.after.now in
-    let whole : markers a.profile (meaning_of a) (meaning_of b) ≡ head c.unit-gone.result c.unit-come.result
-    ++ (held_entries c.new-entries_before.result c.new-entries_after.result
-    ++ (between ++ (held_items c.unit-gone.result c.unit-come.result c.new-items_before.result c.new-items_after.result ++ foot))) =
-    markers_held a b c.new-entries_before.ensures.layout c.new-entries_after.ensures.layout c.requires
-    ∙ (λ i. head (sym c.unit-gone.ensures i) (sym c.unit-come.ensures i)
-    ++ (held_entries (sym c.new-entries_before.ensures.cells i) (sym c.new-entries_after.ensures.cells i)
-    ++ (between ++ (held_items (sym c.unit-gone.ensures i) (sym c.unit-come.ensures i) (sym c.new-items_before.ensures.cells i)
-    (sym c.new-items_after.ensures.cells i) ++ foot)))) in
-    rw p.1 (fails_at _ (left_is (begins _ _) whole ▸ c.in_ok-put_head.ensures ▸ c.in_ok-put_entries.ensures ▸ c.in_ok-put_all.ensures) c.in_err-put_items.ensures)
-
 pub returns : goal.returns
 returns g c =
     let a = c.args.before.now in
@@ -100,4 +70,4 @@ returns g c =
     ++ (held_entries (sym c.new-entries_before.ensures.cells i) (sym c.new-entries_after.ensures.cells i)
     ++ (between ++ (held_items (sym c.unit-gone.ensures i) (sym c.unit-come.ensures i) (sym c.new-items_before.ensures.cells i)
     (sym c.new-items_after.ensures.cells i) ++ foot)))) in
-    ends _ _ (left_is (begins _ _) whole ▸ c.in_ok-put_head.ensures ▸ c.in_ok-put_entries.ensures ▸ c.in_ok-put_all.ensures ▸ c.in_ok-put_items.ensures) c.put_all-2.ensures
+    ends _ _ (left_is (begins _ _) whole ▸ c.in_ok-put_head.ensures ▸ c.in_ok-put_entries.ensures) c.put_body.ensures
