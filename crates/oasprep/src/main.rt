@@ -19,17 +19,22 @@ use usage::{Request, parse};
 
 fn main(rt: HostRuntime) -> ExitCode {
     let status = match words::words_of(&rt) {
-        Ok(words) => match parse(rt.alloc(), words.as_slice()) {
-            Ok(request) => answer(&rt, request),
-            Err(error) => words::end(&rt, &error),
-        },
+        Ok(words) => understood(&rt, words.as_slice()),
         Err(status) => status,
     };
     ExitCode::from(status)
 }
 
+/// Does what the words ask for, and answers the status.
+fn understood(rt: &HostRuntime, words: &[String]) -> u8 {
+    match parse(rt.alloc(), words) {
+        Ok(request) => answer(rt, &request),
+        Err(error) => words::end(rt, &error),
+    }
+}
+
 /// Does what is asked for, and answers the status.
-fn answer(rt: &HostRuntime, request: Request<'_>) -> u8 {
+fn answer(rt: &HostRuntime, request: &Request<'_>) -> u8 {
     match prepare(rt, request) {
         Ok(status) => status,
         Err(status) => status,
@@ -37,22 +42,24 @@ fn answer(rt: &HostRuntime, request: Request<'_>) -> u8 {
 }
 
 /// Prepares the input, or answers the status of a run that could not begin.
-fn prepare(rt: &HostRuntime, request: Request<'_>) -> Result<u8, u8> {
-    let (alloc, limits) = (rt.alloc(), limits_of(request.is_large));
-    let mut err = rt.stderr();
-    let printed = match Printed::new(alloc, name_of(request.input)) {
-        Ok(printed) => printed,
-        Err(_) => return Err(unbegun(rt, "?")),
-    };
-    let name = printed.as_str();
+fn prepare(rt: &HostRuntime, request: &Request<'_>) -> Result<u8, u8> {
+    match Printed::new(rt.alloc(), name_of(request.input)) {
+        Ok(printed) => prepare_named(rt, request, printed.as_str()),
+        Err(_) => Err(unbegun(rt, "?")),
+    }
+}
+
+/// Prepares the input of this name.
+fn prepare_named(rt: &HostRuntime, request: &Request<'_>, name: &str) -> Result<u8, u8> {
+    let limits = limits_of(request.is_large);
     let mut from = source(rt, request.input, name, limits)?;
     let mut out = Output::new(rt, request.output);
     Ok(run_prepare(
-        alloc,
+        rt.alloc(),
         name,
         &mut from,
         &mut out,
-        &mut err,
+        &mut rt.stderr(),
         limits,
         request.dropping,
     ))
@@ -65,10 +72,19 @@ fn source(
     name: &str,
     limits: Limits,
 ) -> Result<ReaderSource<Input>, u8> {
-    let opened = match Input::open(rt, input) {
-        Ok(opened) => opened,
-        Err(_) => return Err(run_unopened(name, &mut rt.stderr())),
-    };
+    match Input::open(rt, input) {
+        Ok(opened) => source_of(rt, opened, name, limits),
+        Err(_) => Err(run_unopened(name, &mut rt.stderr())),
+    }
+}
+
+/// The source of what was opened, or the status where there is no memory for it.
+fn source_of(
+    rt: &HostRuntime,
+    opened: Input,
+    name: &str,
+    limits: Limits,
+) -> Result<ReaderSource<Input>, u8> {
     match ReaderSource::new(rt.alloc(), opened, limits.input()) {
         Ok(source) => Ok(source),
         Err(_) => Err(unbegun(rt, name)),
