@@ -88,6 +88,6 @@ fn diff<'a>(
 
 /// Says what a reason means, and answers the status.
 fn explain(session: &Session<'_>, number: Option<&str>) -> u8 {
-    let (mut out, mut err) = (session.rt.stdout(), session.rt.stderr());
-    run_explain(&REASONS, number, &mut out, &mut err)
+    let mut out = session.rt.stdout();
+    run_explain(&REASONS, number, &mut out, &mut session.rt.stderr())
 }
