@@ -15,7 +15,7 @@ use oas_layout::Element;
 use oas_num::{Fraction, Name, Sink, SinkFault};
 
 /// Which of two layouts has something more often.
-#[derive(Clone, Copy, Debug, PartialEq, Eq)]
+#[derive(Clone, Copy)]
 pub(crate) enum Way {
     /// The one before.
     Removed,
