@@ -10,8 +10,7 @@ use oas_num::{SliceSource, Why};
 use oas_record::Record;
 use oas_wide::WideWhy;
 use scarce_memory::Hoard;
-use std::alloc::Global;
-use std::process::Abort;
+use std::alloc::{AllocError, Global};
 use std::test::Fail;
 
 /// A polygon with all its fields, a CTRAPEZOID of kind 22 with all its fields, and a polygon without points.
@@ -19,11 +18,12 @@ const RECORDS: &[u8] = &[
     0x15, 0x3b, 1, 2, 4, 2, 0x40, 0x62, 2, 4, 0x1a, 0xdb, 1, 2, 22, 9, 2, 4, 0x15, 0,
 ];
 
-/// Whether it is one polygon with points.
-fn is_polygon(resolved: &Resolved) -> bool {
-    match resolved {
-        Resolved::One(Record::Polygon(drawn)) => drawn.points.is_some(),
-        _ => false,
+/// Whether it is one polygon with points, or why it is refused.
+fn is_polygon(answer: &Result<Resolved, WideWhy>) -> Result<bool, WideWhy> {
+    match answer {
+        Ok(Resolved::One(Record::Polygon(drawn))) => Ok(drawn.points.is_some()),
+        Ok(_) => Ok(false),
+        Err(why) => Err(*why),
     }
 }
 
@@ -33,8 +33,8 @@ fn resolves_next(
     source: &mut SliceSource<'_>,
     resolver: &mut Resolver,
 ) -> Result<bool, WideWhy> {
-    let resolved = next(alloc, source, resolver)?;
-    Ok(is_polygon(&resolved))
+    let answer = next(alloc, source, resolver);
+    is_polygon(&answer)
 }
 
 /// Resolves the records behind a CELL, and answers whether each is one polygon with points.
@@ -48,28 +48,38 @@ fn resolves_all(alloc: Global) -> Result<bool, WideWhy> {
     Ok(all)
 }
 
-/// Runs until all is resolved, and gives back a piece of memory after each refusal. How often it was refused.
-fn insist(rt: &impl Abort, alloc: Global, hoard: &mut Hoard) -> Option<u32> {
+/// Runs once. Whether all was `resolved`, or memory was `refused`; `wrong` where it was neither.
+fn run(alloc: Global) -> &'static str {
+    match resolves_all(alloc) {
+        Ok(true) => "resolved",
+        Err(WideWhy::Profile(Why::Memory)) => "refused",
+        _ => "wrong",
+    }
+}
+
+/// Runs until it isn't refused, and gives back a piece of memory after each refusal. How the last run ended, and how many were
+/// refused.
+fn insist(alloc: Global, hoard: &mut Hoard) -> (&'static str, u32) {
     for refused in 0..4000u32 {
-        match resolves_all(alloc) {
-            Ok(all) => {
-                assert!(rt; all);
-                return Some(refused);
-            }
-            Err(why) => assert!(rt; why == WideWhy::Profile(Why::Memory)),
+        let end = run(alloc);
+        if end != "refused" {
+            return (end, refused);
         }
         hoard.give_back();
     }
-    None
+    ("refused", 4000)
+}
+
+/// How the last run ended, and whether more than one was refused, where the heap could be filled.
+fn ends(alloc: Global) -> Result<(&'static str, bool), AllocError> {
+    let mut hoard = Hoard::new(alloc)?;
+    let (end, refused) = insist(alloc, &mut hoard);
+    Ok((end, !hoard.is_full() || refused > 1))
 }
 
 #[test]
 fn resolver_without_memory(rt: HostRuntime) -> Result<(), Fail> {
-    let mut hoard = Hoard::new(rt.alloc())?;
-    let is_full = hoard.is_full();
-    let refused = insist(&rt, rt.alloc(), &mut hoard);
-    drop(hoard);
-    assert!(rt; refused.is_some(), "the records are never resolved");
-    assert!(rt; !is_full || refused > Some(1), "hardly refused");
+    let (end, is_refused_enough) = ends(rt.alloc())?;
+    assert!(rt; end == "resolved" && is_refused_enough, "{end}");
     Ok(())
 }
