@@ -3,8 +3,8 @@
 mod faults;
 mod layouts;
 
-use layouts::{kinds, layout_of, ring};
-use oas_layout::{Element, Layout, Profile};
+use layouts::{backwards, empty, kinds, rectangles};
+use oas_layout::{Layout, Profile};
 use oas_listing::write_listing;
 use std::test::Fail;
 
@@ -25,83 +25,51 @@ path 6 7 8 0 0 1,-1 1,-1 -1152921504606846976,1152921504606846976
 circle 5 6 7 -8 9
 ";
 
-/// Whether the listing of the layout is this text, and its length is answered.
-fn lists(rt: &HostRuntime, layout: &Layout, text: &str) -> bool {
+/// Whether the listing of a layout is this text, and its length is answered.
+fn lists(rt: &HostRuntime, layout: Result<Layout, Fail>, text: &str) -> Result<bool, Fail> {
+    let layout = layout?;
     let mut written = Vec::new(rt.alloc());
-    match write_listing(layout, &mut written) {
-        Ok(count) => count == text.len() as u64 && written.as_slice() == text.as_bytes(),
-        Err(_) => false,
-    }
+    let count = write_listing(&layout, &mut written);
+    Ok(count == Ok(text.len() as u64) && written.as_slice() == text.as_bytes())
 }
 
 #[test]
 fn each_kind_has_its_line(rt: HostRuntime) -> Result<(), Fail> {
-    let layout = kinds(rt.alloc())?;
-    assert!(rt; lists(&rt, &layout, KINDS));
+    assert!(rt; lists(&rt, kinds(rt.alloc()), KINDS)?);
     Ok(())
 }
 
 #[test]
 fn a_layout_without_cells_has_its_unit(rt: HostRuntime) -> Result<(), Fail> {
-    let layout = layouts::empty(rt.alloc())?;
-    assert!(rt; lists(&rt, &layout, "unit 1000/1\n"));
+    assert!(rt; lists(&rt, empty(rt.alloc()), "unit 1000/1\n")?);
     Ok(())
 }
 
 #[test]
 fn a_rectangle_in_a_cell(rt: HostRuntime) -> Result<(), Fail> {
-    let element = Element::rectangle(1, 0, 10, 20, 0, 0);
-    let layout = layout_of(rt.alloc(), Profile::One, element, 1)?;
-    assert!(rt;
-        lists(
-            &rt,
-            &layout,
-            "unit 1000/1\ncell A\nrectangle 1 0 10 20 0 0\n"
-        )
-    );
+    let text = "unit 1000/1\ncell A\nrectangle 1 0 10 20 0 0\n";
+    assert!(rt; lists(&rt, rectangles(rt.alloc(), 1), text)?);
     Ok(())
 }
 
 #[test]
 fn equal_elements_are_repeated(rt: HostRuntime) -> Result<(), Fail> {
-    let element = Element::rectangle(1, 0, 10, 20, 0, 0);
-    let layout = layout_of(rt.alloc(), Profile::One, element, 4)?;
-    assert!(rt;
-        lists(
-            &rt,
-            &layout,
-            "unit 1000/1
+    let text = "unit 1000/1
 cell A
 rectangle 1 0 10 20 0 0
 rectangle 1 0 10 20 0 0
 rectangle 1 0 10 20 0 0
 rectangle 1 0 10 20 0 0
-"
-        )
-    );
+";
+    assert!(rt; lists(&rt, rectangles(rt.alloc(), 4), text)?);
     Ok(())
 }
 
 #[test]
 fn a_polygon_is_listed_as_it_is_kept(rt: HostRuntime) -> Result<(), Fail> {
-    let backwards = [(10, 20), (0, 20), (0, 0), (10, 0)];
-    let element = Element::polygon(1, 0, ring(rt.alloc(), &backwards)?);
-    let layout = layout_of(rt.alloc(), Profile::One, element, 1)?;
-    assert!(rt;
-        lists(
-            &rt,
-            &layout,
-            "unit 1000/1\ncell A\npolygon 1 0 0,0 0,20 10,20 10,0\n"
-        )
-    );
-    let element = Element::polygon(1, 0, ring(rt.alloc(), &backwards)?);
-    let layout = layout_of(rt.alloc(), Profile::Two, element, 1)?;
-    assert!(rt;
-        lists(
-            &rt,
-            &layout,
-            "unit 1000/1\ncell A\nrectangle 1 0 10 20 0 0\n"
-        )
-    );
+    let polygon = "unit 1000/1\ncell A\npolygon 1 0 0,0 0,20 10,20 10,0\n";
+    assert!(rt; lists(&rt, backwards(rt.alloc(), Profile::One), polygon)?);
+    let rectangle = "unit 1000/1\ncell A\nrectangle 1 0 10 20 0 0\n";
+    assert!(rt; lists(&rt, backwards(rt.alloc(), Profile::Two), rectangle)?);
     Ok(())
 }

@@ -52,44 +52,53 @@ const BEFORE: Sketch<'static> = (1000, "A", &[(0, 1, 2)]);
 
 const AFTER: Sketch<'static> = (500, "AB", &[(1, 1, 1)]);
 
-/// Whether the difference is refused at that place, with what stands before it written.
-fn is_cut_off(before: &Layout, after: &Layout, writer: &mut Narrow, place: usize) -> bool {
+/// Whether the difference is refused where the writer's room ends, or at its own end, with what stands before that place
+/// written.
+fn is_cut_off(before: &Layout, after: &Layout, mut writer: Narrow) -> bool {
     if before.profile() != after.profile() {
         return false;
     }
+    let place = writer.room.min(CHANGED.len());
     let refusal = Refusal {
         at: place as u64,
         why: Why::Write,
     };
-    write_difference(before, after, ALL, writer) == Err(refusal)
+    write_difference(before, after, ALL, &mut writer) == Err(refusal)
         && writer.took.len() == place
         && CHANGED.as_bytes().starts_with(writer.took.as_slice())
 }
 
 /// The first room, if any, in which a writer of so many bytes a call isn't refused as it should be.
-fn first_wrong(alloc: Global, most: usize) -> Result<Option<usize>, Fail> {
-    let before = layout(alloc, BEFORE)?;
-    let after = layout(alloc, AFTER)?;
+fn first_wrong(alloc: Global, before: &Layout, after: &Layout, most: usize) -> Option<usize> {
     for room in 0..CHANGED.len() {
-        let mut writer = Narrow {
+        let writer = Narrow {
             took: Vec::new(alloc),
             most,
             room,
             flushes: true,
         };
-        if !is_cut_off(&before, &after, &mut writer, room) {
-            return Ok(Some(room));
+        if !is_cut_off(before, after, writer) {
+            return Some(room);
         }
     }
-    Ok(None)
+    None
+}
+
+/// As `first_wrong`, of writers that take one byte a call, seven, and all that they are given.
+fn first_wrongs(alloc: Global) -> Result<[Option<usize>; 3], Fail> {
+    let before = layout(alloc, BEFORE)?;
+    let after = layout(alloc, AFTER)?;
+    Ok([
+        first_wrong(alloc, &before, &after, 1),
+        first_wrong(alloc, &before, &after, 7),
+        first_wrong(alloc, &before, &after, usize::MAX),
+    ])
 }
 
 #[test]
 fn a_fault_comes_with_what_was_taken(rt: HostRuntime) -> Result<(), Fail> {
-    for most in [1, 7, usize::MAX] {
-        let wrong = first_wrong(rt.alloc(), most)?;
-        assert_eq!(rt; wrong, None, "by {most}");
-    }
+    let wrong = first_wrongs(rt.alloc())?;
+    assert_eq!(rt; wrong, [None; 3]);
     Ok(())
 }
 
@@ -97,13 +106,13 @@ fn a_fault_comes_with_what_was_taken(rt: HostRuntime) -> Result<(), Fail> {
 fn is_refused_at_the_end(alloc: Global) -> Result<bool, Fail> {
     let before = layout(alloc, BEFORE)?;
     let after = layout(alloc, AFTER)?;
-    let mut writer = Narrow {
+    let writer = Narrow {
         took: Vec::new(alloc),
         most: 100,
         room: usize::MAX,
         flushes: false,
     };
-    Ok(is_cut_off(&before, &after, &mut writer, CHANGED.len()))
+    Ok(is_cut_off(&before, &after, writer))
 }
 
 #[test]

@@ -9,7 +9,7 @@ use std::test::Fail;
 /// each the place of its cell, a layer, and how often it is there.
 pub type Sketch<'a> = (u64, &'a str, &'a [(usize, u64, u64)]);
 
-/// Adds a cell of each name.
+/// Adds a cell of each letter that can be a name.
 fn add_cells(draft: &mut Draft, alloc: Global, names: &str) -> Result<(), Fail> {
     for letter in names.as_bytes() {
         let name = [*letter];
