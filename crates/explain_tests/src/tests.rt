@@ -1,7 +1,7 @@
 //! What no clause says: the names and numbers of all reasons, and the lines as they are printed.
 
 use oas_command::{run_refused, run_unopened};
-use oas_explain::{REASONS, Reason, Recorded, Voice, run_explain, tell, tell_explained};
+use oas_explain::{Reason, Recorded, Voice, all_reasons, run_explain, tell, tell_explained};
 use oas_num::{Refusal, Why};
 use std::alloc::Global;
 use std::io;
@@ -76,8 +76,8 @@ fn name_of(alloc: Global, reason: &Reason<'_>, why: Why) -> Result<(u8, bool), F
 
 #[test]
 fn names_are_those_of_the_reasons(rt: HostRuntime) -> Result<(), Fail> {
-    assert_eq!(rt; REASONS.len(), ALL.len());
-    for (reason, why) in REASONS.iter().zip(&ALL) {
+    assert_eq!(rt; all_reasons().len(), ALL.len());
+    for (reason, why) in all_reasons().iter().zip(&ALL) {
         let found = name_of(rt.alloc(), reason, *why)?;
         assert_eq!(rt; found, (why.number(), true), "of {}", reason.name);
     }
@@ -91,7 +91,7 @@ fn explained(alloc: Global, why: Why) -> [bool; 3] {
     let (mut said, mut err): (Vec<u8>, Vec<u8>) = (Vec::new(alloc), Vec::new(alloc));
     let mut whole: Vec<u8> = Vec::new(alloc);
     let _ = run_refused("a: refused 9 at 1", refusal, &mut said);
-    tell_explained(&REASONS, "", &said, &mut err);
+    tell_explained(all_reasons(), "", &said, &mut err);
     Voice::new(&mut whole, true, false).refused("a: refused 9 at 1", refusal);
     [
         err.starts_with(&said),
@@ -103,9 +103,8 @@ fn explained(alloc: Global, why: Why) -> [bool; 3] {
 #[test]
 fn each_refusal_is_explained(rt: HostRuntime) {
     for why in ALL {
-        assert_eq!(rt;
-            explained(rt.alloc(), why),
-            [true; 3],
+        assert!(rt;
+            explained(rt.alloc(), why) == [true; 3],
             "of {}",
             why.number()
         );
@@ -115,7 +114,7 @@ fn each_refusal_is_explained(rt: HostRuntime) {
 /// Whether what was said is explained by this, with words of the system.
 fn is_explained_by(alloc: Global, said: &[u8], words: &str, wanted: &[u8]) -> bool {
     let mut err: Vec<u8> = Vec::new(alloc);
-    tell_explained(&REASONS, words, said, &mut err);
+    tell_explained(all_reasons(), words, said, &mut err);
     err.as_slice() == wanted
 }
 
@@ -152,13 +151,13 @@ fn other_lines_are_told_as_they_are(rt: HostRuntime) {
         told(alloc, "in: not profile 1 canonical\n".as_bytes()),
         told(alloc, b""),
     ];
-    assert_eq!(rt; others, [[true; 2]; 3]);
+    assert!(rt; others == [[true; 2]; 3]);
 }
 
 /// Runs `explain` on a word. Answers its status, and whether it put this text and said this line.
 fn explain(alloc: Global, word: &str, text: &str, line: &str) -> (u8, [bool; 2]) {
     let (mut out, mut err): (Vec<u8>, Vec<u8>) = (Vec::new(alloc), Vec::new(alloc));
-    let status = run_explain(&REASONS, Some(word), &mut out, &mut err);
+    let status = run_explain(all_reasons(), Some(word), &mut out, &mut err);
     let is_put = out.as_slice() == text.as_bytes();
     (status, [is_put, err.as_slice() == line.as_bytes()])
 }
@@ -166,16 +165,15 @@ fn explain(alloc: Global, word: &str, text: &str, line: &str) -> (u8, [bool; 2])
 #[test]
 fn one_reason(rt: HostRuntime) {
     let text = "5 EmptyName\n  a cell name has length 0\n  Name the cell.\n";
-    assert_eq!(rt; explain(rt.alloc(), "5", text, ""), (0, [true; 2]));
+    assert!(rt; explain(rt.alloc(), "5", text, "") == (0, [true; 2]));
 }
 
 #[test]
 fn numbers_that_are_none(rt: HostRuntime) {
     let line = "error: no reason has this number; they are 1 to 34\n";
     for word in ["0", "35", "05", "+5", "-1", "", "five", "5 "] {
-        assert_eq!(rt;
-            explain(rt.alloc(), word, "", line),
-            (2, [true; 2]),
+        assert!(rt;
+            explain(rt.alloc(), word, "", line) == (2, [true; 2]),
             "of {word}"
         );
     }
@@ -184,7 +182,7 @@ fn numbers_that_are_none(rt: HostRuntime) {
 /// Runs `explain` on no word. Answers its status, how many lines it put, and whether it said nothing.
 fn explain_all(alloc: Global) -> (u8, usize, bool) {
     let (mut out, mut err): (Vec<u8>, Vec<u8>) = (Vec::new(alloc), Vec::new(alloc));
-    let status = run_explain(&REASONS, None, &mut out, &mut err);
+    let status = run_explain(all_reasons(), None, &mut out, &mut err);
     (status, lines_in(out.as_slice()), err.is_empty())
 }
 
@@ -200,15 +198,15 @@ fn lines_in(bytes: &[u8]) -> usize {
 }
 
 #[test]
-fn all_reasons(rt: HostRuntime) {
-    assert_eq!(rt; explain_all(rt.alloc()), (0, 3 * 34, true));
+fn every_reason(rt: HostRuntime) {
+    assert!(rt; explain_all(rt.alloc()) == (0, 3 * 34, true));
 }
 
 /// Runs `explain` to an output that takes five bytes. Answers its status, and whether it said so and kept the fault.
 fn explain_to_five(alloc: Global) -> (u8, [bool; 2]) {
     let mut out = Recorded::new(Room { left: 5 });
     let mut err: Vec<u8> = Vec::new(alloc);
-    let status = run_explain(&REASONS, Some("5"), &mut out, &mut err);
+    let status = run_explain(all_reasons(), Some("5"), &mut out, &mut err);
     let is_said = err.as_slice() == "standard output: refused 33 at 5\n".as_bytes();
     let is_kept = matches!(out.fault(), Some(error) if error.kind() == ErrorKind::StorageFull);
     (status, [is_said, is_kept])
@@ -216,7 +214,7 @@ fn explain_to_five(alloc: Global) -> (u8, [bool; 2]) {
 
 #[test]
 fn an_output_that_fails(rt: HostRuntime) {
-    assert_eq!(rt; explain_to_five(rt.alloc()), (1, [true; 2]));
+    assert!(rt; explain_to_five(rt.alloc()) == (1, [true; 2]));
 }
 
 /// The status of a voice's input that can't be opened, and whether it says this.
@@ -233,9 +231,8 @@ fn voices_of_unopened_inputs(rt: HostRuntime) {
         (false, "in: cannot be opened\n"),
         (true, "in: cannot be opened\n  = entity not found\n"),
     ] {
-        assert_eq!(rt;
-            unopened(rt.alloc(), explains, lines),
-            (1, true),
+        assert!(rt;
+            unopened(rt.alloc(), explains, lines) == (1, true),
             "of {lines}"
         );
     }
@@ -250,5 +247,5 @@ fn cleared(alloc: Global) -> [bool; 2] {
 
 #[test]
 fn voice_that_shows_progress(rt: HostRuntime) {
-    assert_eq!(rt; cleared(rt.alloc()), [true; 2]);
+    assert!(rt; cleared(rt.alloc()) == [true; 2]);
 }

@@ -2,6 +2,8 @@
 //!
 //! This is the one place where their meanings and remedies stand. docs/REFUSALS.md has them too, and is compared with it.
 
+ghost use Rattle.std.specs.Prelude.{◌≡◌, length};
+
 /// A reason for which a file is refused.
 #[derive(Clone, Copy, Debug, PartialEq, Eq)]
 pub struct Reason<'a> {
@@ -16,7 +18,13 @@ pub struct Reason<'a> {
 }
 
 /// All reasons, by ascending numbers from 1 on.
-pub const REASONS: [Reason<'static>; 34] = [
+pub fn all_reasons() -> &'static [Reason<'static>]
+    ensures { length result.now ≡ 34 }
+{
+    &REASONS
+}
+
+const REASONS: [Reason<'static>; 34] = [
     Reason {
         number: 1,
         name: "Magic",

@@ -6,7 +6,7 @@ ghost use Rattle.oas_command.specs.Lines.{refusal_line};
 ghost use Rattle.oas_command.specs.Unopened.{unopened_line};
 ghost use Rattle.oas_command.specs.Runs.{AppendsFront};
 
-use crate::reasons::REASONS;
+use crate::reasons::all_reasons;
 use crate::telling::{explain_reason, tell, tell_explained};
 use oas_command::{run_refused, run_unopened};
 use oas_num::{Refusal, Why};
@@ -60,7 +60,7 @@ impl<E: Write> Voice<E> {
     {
         self.begin();
         if self.explains {
-            tell_explained(&REASONS, words, said, &mut self.err);
+            tell_explained(all_reasons(), words, said, &mut self.err);
         } else {
             tell(said, &mut self.err);
         }
@@ -75,7 +75,7 @@ impl<E: Write> Voice<E> {
         self.begin();
         let status = run_refused(name, refusal, &mut self.err);
         if self.explains {
-            explain_reason(&REASONS, refusal.why, &mut self.err);
+            explain_reason(all_reasons(), refusal.why, &mut self.err);
         }
         status
     }

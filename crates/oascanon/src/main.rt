@@ -16,7 +16,7 @@ mod words;
 
 use many::ask;
 use oas_command::{Form, Options, limits_of};
-use oas_explain::{REASONS, run_explain};
+use oas_explain::{all_reasons, run_explain};
 use oas_request::{Request, Task, parse};
 use runs::{OfOne, OfTwo, ended, mark};
 use session::Session;
@@ -89,5 +89,5 @@ fn diff<'a>(
 /// Says what a reason means, and answers the status.
 fn explain(session: &Session<'_>, number: Option<&str>) -> u8 {
     let mut out = session.rt.stdout();
-    run_explain(&REASONS, number, &mut out, &mut session.rt.stderr())
+    run_explain(all_reasons(), number, &mut out, &mut session.rt.stderr())
 }
