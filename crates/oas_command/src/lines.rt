@@ -10,7 +10,7 @@ use oas_num::{Outlet, Refusal, Sink, SinkFault, Why};
 use std::io::Write;
 
 /// The pieces of a line, which stand behind one another.
-#[derive(Clone, Copy, Debug, PartialEq, Eq)]
+#[derive(Clone, Copy)]
 pub struct Pieces<'a> {
     pub first: &'a [u8],
     pub second: &'a [u8],

@@ -8,7 +8,7 @@ ghost use Rattle.oas_command.specs.Unopened.{unopened_line};
 ghost use Rattle.oas_explain.specs.Hearing.{anew, hears, heard};
 
 /// A place in a line that may end with ` N at OFFSET`.
-#[derive(Clone, Copy, Debug, PartialEq, Eq)]
+#[derive(Clone, Copy)]
 enum Place {
     Elsewhere,
     /// Behind a blank.

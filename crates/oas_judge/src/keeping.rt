@@ -31,7 +31,7 @@ impl Start for Brand {
 }
 
 /// How the bytes ended.
-#[derive(Clone, Copy, Debug, PartialEq, Eq)]
+#[derive(Clone, Copy)]
 enum Ending {
     /// They have not ended.
     Open,

@@ -11,7 +11,7 @@ pub const STEP: u64 = 64 << 20;
 const CLEAR: &[u8] = b"\r                                                            \r";
 
 /// What is counted.
-#[derive(Clone, Copy, Debug, PartialEq, Eq)]
+#[derive(Clone, Copy)]
 pub enum Counted {
     /// Bytes that were read, of how many where that is known.
     Read { whole: Option<u64> },
