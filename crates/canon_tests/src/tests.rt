@@ -98,7 +98,7 @@ fn keyed(alloc: Global, more: &[u8], limit: u64) -> Option<Result<[u8; 32], Refu
 
 #[test]
 fn a_canonical_file_is_written_as_it_is(rt: HostRuntime) {
-    assert_eq!(rt; written(rt.alloc()), Some((Ok(301), true)));
+    assert!(rt; written(rt.alloc()) == Some((Ok(301), true)));
 }
 
 #[test]
@@ -148,10 +148,7 @@ fn compared(
 fn files_are_the_same_however_they_are_spelled(rt: HostRuntime) {
     let alloc = rt.alloc();
     let found = [compared(alloc, &[], &PAD), compared(alloc, &[], &AGAIN)];
-    assert_eq!(rt;
-        found,
-        [Some((Ok(true), [301, 302])), Some((Ok(false), [301, 309]))]
-    );
+    assert!(rt; found == [Some((Ok(true), [301, 302])), Some((Ok(false), [301, 309]))]);
 }
 
 #[test]

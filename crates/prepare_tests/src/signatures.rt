@@ -81,7 +81,7 @@ fn is_prepared(alloc: Global, scheme: u8, signature: u32) -> Result<(bool, u64),
 fn right_ones(rt: HostRuntime) -> Result<(), Fail> {
     for (scheme, signature) in [(1, CRC), (2, SUM)] {
         let found = is_prepared(rt.alloc(), scheme, signature)?;
-        assert_eq!(rt; found, (true, 301), "{scheme}");
+        assert!(rt; found == (true, 301), "{scheme}");
     }
     Ok(())
 }

@@ -102,9 +102,8 @@ fn at_each_growth(alloc: Global, call: Call) -> Option<[bool; 3]> {
 #[test]
 fn each_growth(rt: HostRuntime) {
     for call in [Call::IsCanonical, Call::Key, Call::SameFiles, Call::Rekey] {
-        assert_eq!(rt;
-            at_each_growth(rt.alloc(), call),
-            Some([true; 3]),
+        assert!(rt;
+            at_each_growth(rt.alloc(), call) == Some([true; 3]),
             "{call:?}"
         );
     }

@@ -53,7 +53,7 @@ fn canon_to(rt: &HostRuntime, pieces: &str, path: &str, line: &str) -> Result<(u
 #[test]
 fn canonical_file_that_cannot_be_created(rt: HostRuntime) -> Result<(), Fail> {
     let ran = canon_to(&rt, RECTANGLE, "nowhere/new", "a: refused 33 at 0\n")?;
-    assert_eq!(rt; ran, (1, true));
+    assert!(rt; ran == (1, true));
     Ok(())
 }
 
@@ -65,10 +65,7 @@ fn canonical_file_that_replaces_another(rt: HostRuntime) -> Result<(), Fail> {
     let ran = canon_to(&rt, RECTANGLE, "replaced", "")?;
     let is_replaced = has(&rt, "replaced", RECTANGLE)?;
     fs::remove_file(&rt, "replaced")?;
-    assert_eq!(rt;
-        (refused, is_left, ran, is_replaced),
-        ((1, true), true, (0, true), true)
-    );
+    assert!(rt; (refused, is_left, ran, is_replaced) == ((1, true), true, (0, true), true));
     Ok(())
 }
 

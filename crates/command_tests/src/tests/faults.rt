@@ -32,7 +32,7 @@ fn cut(alloc: Global, most: usize) -> Result<(u8, [bool; 2]), Fail> {
 #[test]
 fn readers_that_cut(rt: HostRuntime) -> Result<(), Fail> {
     for most in [1usize, 2, 3, 7, 324] {
-        assert_eq!(rt; cut(rt.alloc(), most)?, (0, [true; 2]), "at {most}");
+        assert!(rt; cut(rt.alloc(), most)? == (0, [true; 2]), "at {most}");
     }
     Ok(())
 }
@@ -119,7 +119,7 @@ fn refused_within(alloc: Global, room: usize) -> Result<(u8, bool), Fail> {
 #[test]
 fn error_outputs_that_fail(rt: HostRuntime) -> Result<(), Fail> {
     for room in 0..40usize {
-        assert_eq!(rt; refused_within(rt.alloc(), room)?, (1, true), "at {room}");
+        assert!(rt; refused_within(rt.alloc(), room)? == (1, true), "at {room}");
     }
     Ok(())
 }
@@ -137,5 +137,5 @@ fn unbegun(alloc: Global) -> (u8, bool) {
 
 #[test]
 fn run_that_cannot_begin(rt: HostRuntime) {
-    assert_eq!(rt; unbegun(rt.alloc()), (1, true));
+    assert!(rt; unbegun(rt.alloc()) == (1, true));
 }

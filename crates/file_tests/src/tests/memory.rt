@@ -78,7 +78,7 @@ fn without_memory(rt: HostRuntime) {
     let found = insist_without_memory(rt.alloc(), Call::Read);
     let (ended, were) = found.unwrap_or(([false; 2], [false; 4]));
     let [at_24, _, _, at_68] = were;
-    assert_eq!(rt; (ended, [at_24, at_68]), ([true; 2], [true; 2]));
+    assert!(rt; (ended, [at_24, at_68]) == ([true; 2], [true; 2]));
 }
 
 #[test]
@@ -86,5 +86,5 @@ fn accepting_without_memory(rt: HostRuntime) {
     let found = insist_without_memory(rt.alloc(), Call::Accept);
     let (ended, were) = found.unwrap_or(([false; 2], [false; 4]));
     let [_, at_36, at_46, at_68] = were;
-    assert_eq!(rt; (ended, [at_36, at_46, at_68]), ([true; 2], [true; 3]));
+    assert!(rt; (ended, [at_36, at_46, at_68]) == ([true; 2], [true; 3]));
 }

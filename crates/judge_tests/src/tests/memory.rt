@@ -72,9 +72,6 @@ fn is_judged_at_each_growth(alloc: Global, reads: bool) -> Option<[bool; 3]> {
 #[test]
 fn each_growth(rt: HostRuntime) {
     for reads in [false, true] {
-        assert_eq!(rt;
-            is_judged_at_each_growth(rt.alloc(), reads),
-            Some([true; 3])
-        );
+        assert!(rt; is_judged_at_each_growth(rt.alloc(), reads) == Some([true; 3]));
     }
 }

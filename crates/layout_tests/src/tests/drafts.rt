@@ -46,7 +46,7 @@ fn are_kept(alloc: Global, row: &str) -> Result<[bool; 3], Why> {
 #[test]
 fn elements_in_their_kept_forms(rt: HostRuntime) {
     for row in KEPT.lines() {
-        assert_eq!(rt; are_kept(rt.alloc(), row), Ok([true; 3]), "at {row}");
+        assert!(rt; are_kept(rt.alloc(), row) == Ok([true; 3]), "at {row}");
     }
 }
 
@@ -143,5 +143,5 @@ fn has_long_ring(alloc: Global) -> Result<bool, Why> {
 
 #[test]
 fn a_long_ring_in_three_readings(rt: HostRuntime) {
-    assert_eq!(rt; has_long_ring(rt.alloc()), Ok(true));
+    assert!(rt; has_long_ring(rt.alloc()) == Ok(true));
 }

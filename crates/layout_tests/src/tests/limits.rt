@@ -101,7 +101,7 @@ fn is_refused(alloc: Global, row: &str) -> Result<bool, Why> {
 #[test]
 fn reasons_in_their_order(rt: HostRuntime) {
     for row in REFUSED.lines() {
-        assert_eq!(rt; is_refused(rt.alloc(), row), Ok(true), "at {row}");
+        assert!(rt; is_refused(rt.alloc(), row) == Ok(true), "at {row}");
     }
 }
 

@@ -187,8 +187,5 @@ fn filled_in_want(alloc: Global) -> Result<([bool; 2], (usize, u64), bool), Why>
 
 #[test]
 fn drafts_without_memory(rt: HostRuntime) {
-    assert_eq!(rt;
-        filled_in_want(rt.alloc()),
-        Ok(([true, true], (12, 325), true))
-    );
+    assert!(rt; filled_in_want(rt.alloc()) == Ok(([true, true], (12, 325), true)));
 }

@@ -64,6 +64,9 @@ fn are_ascending(alloc: Global, profile: Profile) -> Result<bool, Why> {
 #[test]
 fn elements_are_given_in_their_order(rt: HostRuntime) {
     for profile in [Profile::One, Profile::Two] {
-        assert_eq!(rt; are_ascending(rt.alloc(), profile), Ok(true), "{profile:?}");
+        assert!(rt;
+            are_ascending(rt.alloc(), profile) == Ok(true),
+            "{profile:?}"
+        );
     }
 }

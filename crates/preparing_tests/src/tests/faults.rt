@@ -56,7 +56,7 @@ fn answer_of_reader(alloc: Global, offset: usize) -> Result<Answer, Fail> {
 fn readers_that_fail(rt: HostRuntime) -> Result<(), Fail> {
     for offset in 0..305usize {
         let found = answer_of_reader(rt.alloc(), offset)?;
-        assert_eq!(rt; found, (1, true, true), "at {offset}");
+        assert!(rt; found == (1, true, true), "at {offset}");
     }
     Ok(())
 }
@@ -101,7 +101,7 @@ fn answer_of_output(alloc: Global, room: usize) -> Result<Answer, Fail> {
 fn writers_that_fail(rt: HostRuntime) -> Result<(), Fail> {
     for room in 0..301usize {
         let found = answer_of_output(rt.alloc(), room)?;
-        assert_eq!(rt; found, (1, true, true), "at {room}");
+        assert!(rt; found == (1, true, true), "at {room}");
     }
     Ok(())
 }
@@ -118,7 +118,7 @@ fn answer_of_error_output(alloc: Global, room: usize) -> Result<Answer, Fail> {
 fn error_outputs_that_fail(rt: HostRuntime) -> Result<(), Fail> {
     for room in 0..36usize {
         let found = answer_of_error_output(rt.alloc(), room)?;
-        assert_eq!(rt; found, (0, true, true), "at {room}");
+        assert!(rt; found == (0, true, true), "at {room}");
     }
     Ok(())
 }

@@ -91,7 +91,7 @@ fn both_give(alloc: Global, row: &str) -> Result<[bool; 2], Why> {
 #[test]
 fn vertices(rt: HostRuntime) {
     for row in LISTS.lines() {
-        assert_eq!(rt; both_give(rt.alloc(), row), Ok([true; 2]), "at {row}");
+        assert!(rt; both_give(rt.alloc(), row) == Ok([true; 2]), "at {row}");
     }
 }
 

@@ -131,5 +131,5 @@ fn seen(alloc: Global) -> Result<(([bool; 5], bool), [Result<bool, Why>; 5]), Wh
 
 #[test]
 fn lists_and_repetitions_without_memory(rt: HostRuntime) {
-    assert_eq!(rt; seen(rt.alloc()), Ok((([true; 5], true), [Ok(true); 5])));
+    assert!(rt; seen(rt.alloc()) == Ok((([true; 5], true), [Ok(true); 5])));
 }

@@ -72,7 +72,7 @@ fn both_have(alloc: Global, row: &str) -> Option<[bool; 2]> {
 #[test]
 fn offsets(rt: HostRuntime) {
     for row in OFFSETS.lines() {
-        assert_eq!(rt; both_have(rt.alloc(), row), Some([true; 2]), "at {row}");
+        assert!(rt; both_have(rt.alloc(), row) == Some([true; 2]), "at {row}");
     }
 }
 
