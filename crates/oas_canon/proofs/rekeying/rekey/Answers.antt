@@ -1,3 +1,4 @@
+use Rattle.std.proofs.Common.{rules}
 use Rattle.std.proofs.lemmas.Result.{err_from_is_err_and}
 use Rattle.oas_canon.specs.declared.rekeying.Rekeyed.{Rekeyed}
 use Rattle.oas_canon.specs.declared.rekeying.Rekeyed.TheVariants.{Done, NotProfile1}
@@ -47,3 +48,6 @@ returns-clause-again g c =
 
 pub returns-clause-exactly : goal.returns-clause-exactly
 returns-clause-exactly g c = exactly_taken (Done c.in_ok-count.count) (taken c.in_ok-layout.ensures.read.read)
+
+pub returns-then-not-own-clause-unwritten : goal.returns-then-not-own-clause-unwritten
+returns-then-not-own-clause-unwritten g c = search rules

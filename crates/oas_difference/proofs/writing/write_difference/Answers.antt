@@ -10,3 +10,6 @@ returns-in-Ok-clause-written g c =
 pub returns-in-Err-clause-refused : goal.returns-in-Err-clause-refused
 returns-in-Err-clause-refused g c =
     cut_off g.W.Write.contents (opens_below c.new-lines.ensures c.new.ensures) c.in-Err.ensures.writes (λ name. search rules) c.taken-in-Err.ensures c.in-Err.ensures.short
+
+pub put_and_close-requires-clause-left : goal.put_and_close-requires-clause-left
+put_and_close-requires-clause-left g c = search rules

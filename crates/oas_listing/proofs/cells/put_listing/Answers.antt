@@ -1,4 +1,4 @@
-use Rattle.std.proofs.Common.{◌≡◌, ◌∙◌, ◌<◌, ◌≤◌, length, Some, slice_get, sym, ap, ℕ, List, arith}
+use Rattle.std.proofs.Common.{◌≡◌, ◌∙◌, ◌<◌, ◌≤◌, length, Some, slice_get, sym, ap, ℕ, List, arith, rules}
 use Rattle.std.proofs.lemmas.Result.{err_from_is_err_and}
 use Rattle.oas_layout.specs.Contents.{names}
 use Rattle.oas_num.proofs.PuttingLemmas.{begins, fails_at}
@@ -41,3 +41,6 @@ returns-in_err-put_cell-clause-short g c = short_enough c.args.layout.now c.cell
 
 pub returns-clause-short : goal.returns-clause-short
 returns-clause-short g c = short_enough c.args.layout.now c.cells-count.ensures.layout
+
+pub loop-i-init : goal.loop-i-init
+loop-i-init g c = search rules

@@ -8,3 +8,6 @@ returns-clause-tells g c =
     let front = closed _ _ _ _ _ _ _ (told g.E.Write.contents _ _ _ _ opens c.refuse-status.ensures.tells) c.close.ensures.writes in
     let name = same_name _ _ _ _ _ opens front in
     appended _ _ _ _ _ _ opens front (search rules)
+
+pub returns-clause-status : goal.returns-clause-status
+returns-clause-status g c = search rules

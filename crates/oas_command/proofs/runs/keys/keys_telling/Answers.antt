@@ -1,4 +1,4 @@
-use Rattle.std.proofs.Common.{Ok}
+use Rattle.std.proofs.Common.{Ok, rules}
 use Rattle.oas_layout.specs.Contents.{Contents, meaning_of}
 use Rattle.oas_canon.specs.CellKeys.{cell_key_lines}
 use Rattle.oas_command.proofs.RunLemmas.{answer_after, done, delivers, tells}
@@ -17,3 +17,6 @@ returns-in-Ok g c =
           c.write_cell_keys-written.new.writer wrote.written wrote.refused,
       tells {T = Contents} c.in-Ok.layout g.K.Sink.given g.K.Sink.failures c.args.name.now c.args.told.now written c.conclude.new.told c.conclude.ensures.ends,
     )
+
+pub returns-in-Err : goal.returns-in-Err
+returns-in-Err g c = search rules

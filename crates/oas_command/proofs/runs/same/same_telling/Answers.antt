@@ -1,4 +1,4 @@
-use Rattle.std.proofs.Common.{Ok}
+use Rattle.std.proofs.Common.{Ok, rules}
 use Rattle.oas_command.specs.Lines.{same_line}
 use Rattle.oas_command.proofs.RunLemmas.{answer_after, judged, delivers, tells}
 use Rattle.oas_command.proofs.runs.same.same_telling.Goals as goal
@@ -15,3 +15,6 @@ returns-in-Ok g c =
       delivers c.in-Ok.same g.W.Write.contents same_line written c.args.out.now c.write_line-written.new.writer (rw c.sameness.ensures at wrote.written) (rw c.sameness.ensures at wrote.refused),
       tells c.in-Ok.same g.K.Sink.given g.K.Sink.failures c.args.name_a.now c.args.told.now written c.conclude.new.told c.conclude.ensures.ends,
     )
+
+pub returns-in-Err-Second-default : goal.returns-in-Err-Second-default
+returns-in-Err-Second-default g c = search rules

@@ -1,0 +1,5 @@
+use Rattle.std.proofs.Common.{rules}
+use Rattle.oas_files.proofs.replacing.ReplacementWrite.flush.Goals as goal
+
+pub returns-else-is_err-clause-gone : goal.returns-else-is_err-clause-gone
+returns-else-is_err-clause-gone c = search rules

@@ -1,0 +1,8 @@
+use Rattle.std.proofs.Common.{rules}
+use Rattle.oas_judge.proofs.candidates.kept_candidate.Goals as goal
+
+pub returns-then-is_drawable : goal.returns-then-is_drawable
+returns-then-is_drawable c = search rules
+
+pub returns : goal.returns
+returns c = search rules
