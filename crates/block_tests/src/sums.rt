@@ -29,10 +29,10 @@ fn both(count: usize) -> (u32, u32) {
 
 #[test]
 fn bytes_are_summed(rt: HostRuntime) -> Result<(), Fail> {
-    assert_eq!(rt; both(7), (0x3524_41C2, 294));
-    assert_eq!(rt; both(5), (0xE8B7_BE43, 97));
+    assert!(rt; both(7) == (0x3524_41C2, 294));
+    assert!(rt; both(5) == (0xE8B7_BE43, 97));
     for few in 0..5 {
-        assert_eq!(rt; both(few), (0, 0));
+        assert!(rt; both(few) == (0, 0));
     }
     Ok(())
 }

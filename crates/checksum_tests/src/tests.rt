@@ -44,8 +44,8 @@ fn bytes(rt: HostRuntime) -> Result<(), Fail> {
     for i in 0..=255u8 {
         all[usize::from(i)] = i;
     }
-    assert_eq!(rt; both(&all, 256), (0x2905_8C73, 32640));
-    assert_eq!(rt; both(&[0; 1000], 500), (0x060B_1780, 0));
-    assert_eq!(rt; both(&[255; 1000], 500), (0xE053_3230, 255_000));
+    assert!(rt; both(&all, 256) == (0x2905_8C73, 32640));
+    assert!(rt; both(&[0; 1000], 500) == (0x060B_1780, 0));
+    assert!(rt; both(&[255; 1000], 500) == (0xE053_3230, 255_000));
     Ok(())
 }

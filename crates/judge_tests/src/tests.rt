@@ -115,12 +115,12 @@ fn each_row(rt: HostRuntime) {
     let mut count = 0u64;
     for row in ROWS.lines() {
         let wanted = wanted(row);
-        assert_eq!(rt; found(rt.alloc(), row), wanted, "{row}");
+        assert!(rt; found(rt.alloc(), row) == wanted, "{row}");
         if wanted.is_some() {
             count = count.saturating_add(1);
         }
     }
-    assert_eq!(rt; count, 49);
+    assert!(rt; count == 49);
 }
 
 /// The layout of a file, kept by profile two, and whether the file is canonical by profile one.
@@ -171,5 +171,5 @@ fn refused_within(alloc: Global, pieces: &str, limit: u64) -> Option<u8> {
 #[test]
 fn a_file_past_the_limit(rt: HostRuntime) {
     let found = refused_within(rt.alloc(), "HEAD CELL BOX TAIL", 100);
-    assert_eq!(rt; found, Some(31));
+    assert!(rt; found == Some(31));
 }

@@ -228,8 +228,8 @@ fn records(rt: HostRuntime) -> Result<(), Fail> {
         let taken = words.next().unwrap_or("").parse::<u64>().unwrap_or(9999);
         let bytes = bytes_of(rt.alloc(), words.next().unwrap_or(""))?;
         let found = outcome(rt.alloc(), kind, &bytes);
-        assert_eq!(rt; found.0, wanted, "{row}");
-        assert_eq!(rt; found.1, taken, "{row}");
+        assert!(rt; found.0 == wanted, "{row}");
+        assert!(rt; found.1 == taken, "{row}");
     }
     Ok(())
 }

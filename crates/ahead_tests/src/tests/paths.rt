@@ -27,7 +27,7 @@ fn read(alloc: Global, bytes: &[u8]) -> Option<(Path, u64)> {
 fn found(rt: &impl Abort, alloc: Global, bytes: &[u8]) -> Result<PathAhead, Fail> {
     let ahead = path_ahead(alloc, bytes).expect(rt, "a path stands there");
     let (wanted, length) = read(alloc, bytes).expect(rt, "a reader answers it");
-    assert_eq!(rt; ahead.length as u64, length);
+    assert!(rt; ahead.length as u64 == length);
     let same = format!(in alloc; "{wanted:?}")?;
     assert_eq!(rt; format!(in alloc; "{:?}", ahead.path)?, same);
     Ok(ahead)
@@ -46,7 +46,7 @@ fn is_none(alloc: Global, bytes: &[u8]) -> bool {
 /// Whether the path that stands there takes all bytes, and in the shortest style.
 fn is_shortest(rt: &impl Abort, alloc: Global, bytes: &[u8]) -> Result<bool, Fail> {
     let ahead = found(rt, alloc, bytes)?;
-    assert_eq!(rt; ahead.length, bytes.len());
+    assert!(rt; ahead.length == bytes.len());
     Ok(ahead.shortest)
 }
 

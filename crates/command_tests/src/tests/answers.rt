@@ -76,6 +76,6 @@ fn writers_that_fail_by_name(rt: HostRuntime) -> Result<(), Fail> {
 #[test]
 fn status_of_two(rt: HostRuntime) {
     for (a, b, both) in [(0u8, 0u8, 0u8), (0, 3, 3), (3, 0, 3), (3, 1, 1), (1, 3, 1)] {
-        assert_eq!(rt; worse(a, b), both);
+        assert!(rt; worse(a, b) == both);
     }
 }

@@ -106,7 +106,7 @@ fn file_that_is_input_and_output(rt: HostRuntime) -> Result<(), Fail> {
         (true, NUMBERED, (3, false), NUMBERED),
         (true, LEFT_OUT, (1, false), LEFT_OUT),
     ] {
-        assert_eq!(rt; in_place(&rt, rekeys, old, new)?, (ran, true), "of {old}");
+        assert!(rt; in_place(&rt, rekeys, old, new)? == (ran, true), "of {old}");
     }
     Ok(())
 }
@@ -126,9 +126,8 @@ fn rekey_to(rt: &HostRuntime, pieces: &str, path: &str) -> Result<(u8, bool), Fa
 #[test]
 fn file_that_is_not_created(rt: HostRuntime) -> Result<(), Fail> {
     for (file, status) in [(NUMBERED, 3u8), (LEFT_OUT, 1)] {
-        assert_eq!(rt;
-            rekey_to(&rt, file, "uncreated")?,
-            (status, false),
+        assert!(rt;
+            rekey_to(&rt, file, "uncreated")? == (status, false),
             "of {file}"
         );
     }

@@ -55,7 +55,10 @@ fn outcome_of(
 fn readers_that_fail(rt: HostRuntime) -> Result<(), Fail> {
     for len in 0..302usize {
         let found = outcome_of(rt.alloc(), RECTANGLE, [len, 7], After::Fault, INPUT_MAX)?;
-        assert_eq!(rt; found, (1, true, Some((32, record_at(len)))), "after {len}");
+        assert!(rt;
+            found == (1, true, Some((32, record_at(len)))),
+            "after {len}"
+        );
     }
     Ok(())
 }
@@ -77,9 +80,8 @@ fn readers_that_fail_or_never_end(rt: HostRuntime) -> Result<(), Fail> {
         (RECTANGLE, [301, 301], After::Zeros, 302, (30, 301)),
     ] {
         let found = outcome_of(rt.alloc(), pieces, counts, after, limit)?;
-        assert_eq!(rt;
-            found,
-            (1, true, Some(refusal)),
+        assert!(rt;
+            found == (1, true, Some(refusal)),
             "of {pieces} up to {limit}"
         );
     }

@@ -93,7 +93,7 @@ fn writers_that_fail(rt: HostRuntime) -> Result<(), Fail> {
         ([5, ALL], "first", 1, [5, 0], Some((33, 5))),
     ] {
         let wanted = (status, taken, [true; 2], refusal);
-        assert_eq!(rt; cut(rt.alloc(), rooms, name)?, wanted, "within {rooms:?}");
+        assert!(rt; cut(rt.alloc(), rooms, name)? == wanted, "within {rooms:?}");
     }
     Ok(())
 }

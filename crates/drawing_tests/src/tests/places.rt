@@ -8,5 +8,5 @@ use std::process::Abort;
 fn places_without_repetition(rt: HostRuntime) {
     let modal = ModalVariables::new();
     let numbers = [modal.places(false).number, modal.places(true).number];
-    assert_eq!(rt; numbers, [1, 0]);
+    assert!(rt; numbers == [1, 0]);
 }

@@ -74,14 +74,14 @@ fn stepped(alloc: Global) -> (Option<Seen>, Result<Option<Turns>, Why>) {
 #[test]
 fn relative_steps(rt: HostRuntime) {
     let wanted = (Some((10, 20, -3, 1)), Ok(Some(Turns::T0)));
-    assert_eq!(rt; stepped(rt.alloc()), wanted);
+    assert!(rt; stepped(rt.alloc()) == wanted);
 }
 
 #[test]
 fn turns_before_a_placement(rt: HostRuntime) {
     let modal = ModalVariables::new();
     let refused = refusal(rt.alloc(), &modal, turned(false, 45, 2), false);
-    assert_eq!(rt; refused, Some(Why::ModalUndefined));
+    assert!(rt; refused == Some(Why::ModalUndefined));
 }
 
 /// Whether an angle is negative, its degrees, a magnification, and whether the placement is repeated; and how it is turned, or
@@ -106,9 +106,8 @@ fn placed(alloc: Global, kind: Kind, repeated: bool) -> Result<Option<Turns>, Wh
 fn turns(rt: HostRuntime) {
     for (negative, degrees, magnification, repeated, wanted) in TURNS {
         let kind = turned(negative, degrees, magnification);
-        assert_eq!(rt;
-            placed(rt.alloc(), kind, repeated),
-            wanted.map(Some),
+        assert!(rt;
+            placed(rt.alloc(), kind, repeated) == wanted.map(Some),
             "{degrees}"
         );
     }

@@ -47,7 +47,7 @@ fn read_front(alloc: Global, len: usize, most: usize, fails: bool) -> Option<Tol
 fn readers_that_give_few(rt: HostRuntime) {
     for most in [1usize, 2, 3, 7, 324] {
         let found = read_front(rt.alloc(), 324, most, false);
-        assert_eq!(rt; found, Some(None), "{most} a call");
+        assert!(rt; found == Some(None), "{most} a call");
     }
 }
 
@@ -55,7 +55,7 @@ fn readers_that_give_few(rt: HostRuntime) {
 fn readers_that_fail(rt: HostRuntime) {
     for len in [0usize, 12, 13, 21, 22, 40, 67, 68, 323, 324] {
         let found = read_front(rt.alloc(), len, 7, true);
-        assert_eq!(rt; found, Some(Some((32, record_at(len)))), "behind {len}");
+        assert!(rt; found == Some(Some((32, record_at(len)))), "behind {len}");
     }
 }
 
@@ -73,9 +73,8 @@ fn limits_of_the_source(rt: HostRuntime) {
     for limit in [0usize, 12, 13, 22, 40, 68, 323, 324, 325] {
         let number = if limit == 325 { 30 } else { 31u8 };
         let wanted = Some((number, record_at(limit)));
-        assert_eq!(rt;
-            read_limited(rt.alloc(), limit as u64),
-            Some(wanted),
+        assert!(rt;
+            read_limited(rt.alloc(), limit as u64) == Some(wanted),
             "{limit}"
         );
     }

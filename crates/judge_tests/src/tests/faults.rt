@@ -59,7 +59,7 @@ fn front_judged(
 fn readers_that_give_few(rt: HostRuntime) {
     for most in [1usize, 3, 400] {
         let found = front_judged(rt.alloc(), LENGTH, most, false);
-        assert_eq!(rt; found, Some((Ok(true), LENGTH as u64)), "{most} a call");
+        assert!(rt; found == Some((Ok(true), LENGTH as u64)), "{most} a call");
     }
 }
 
@@ -67,6 +67,6 @@ fn readers_that_give_few(rt: HostRuntime) {
 fn readers_that_fail(rt: HostRuntime) {
     for len in 0..LENGTH {
         let found = front_judged(rt.alloc(), len, 7, true);
-        assert_eq!(rt; found, Some((Err(Why::Read), len as u64)));
+        assert!(rt; found == Some((Err(Why::Read), len as u64)));
     }
 }

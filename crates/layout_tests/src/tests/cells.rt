@@ -85,12 +85,11 @@ fn seen(
 #[test]
 fn cells_and_elements_in_their_order(rt: HostRuntime) {
     for profile in [Profile::One, Profile::Two] {
-        assert_eq!(rt;
+        assert!(rt;
             [
                 seen(rt.alloc(), profile, CELLS, ASCENDING_CELLS),
                 seen(rt.alloc(), profile, SEVEN, ASCENDING_SEVEN),
-            ],
-            [
+            ] == [
                 Ok(([5, 5], profile, [1000, 13, 32])),
                 Ok(([2, 2], profile, [1000, 7, 19]))
             ]
@@ -124,7 +123,7 @@ fn are_same(alloc: Global, row: &str) -> Result<bool, Why> {
 fn units_and_cells_tell_layouts_apart(rt: HostRuntime) {
     for row in EMPTY.lines() {
         let wanted = row.ends_with("|yes");
-        assert_eq!(rt; are_same(rt.alloc(), row), Ok(wanted), "at {row}");
+        assert!(rt; are_same(rt.alloc(), row) == Ok(wanted), "at {row}");
     }
 }
 
@@ -165,6 +164,6 @@ fn refused(alloc: Global, text: &str) -> Result<(Option<Why>, bool), Why> {
 #[test]
 fn cells_that_are_refused(rt: HostRuntime) {
     for (text, why) in [("A", Why::DuplicateCell), ("B", Why::TooHeavy)] {
-        assert_eq!(rt; refused(rt.alloc(), text), Ok((Some(why), true)));
+        assert!(rt; refused(rt.alloc(), text) == Ok((Some(why), true)));
     }
 }

@@ -14,7 +14,7 @@ fn limits_that_there_are_not(rt: HostRuntime) {
         (1, 3, 511),
         (1, 3, 274877906945),
     ] {
-        assert_eq!(rt; Limits::new(elements, weight, input), None);
+        assert!(rt; Limits::new(elements, weight, input) == None);
     }
 }
 
@@ -31,12 +31,12 @@ fn limits_that_there_are(rt: HostRuntime) {
         (Some(Limits::standard()), 16777216, 268435456, 68719476736),
         (Some(Limits::large()), 67108864, 1073741824, 274877906944),
     ] {
-        assert_eq!(rt;
-            (limits, bounds(limits)),
-            (
-                Limits::new(elements, weight, input),
-                Some([elements, weight, input])
-            )
+        assert!(rt;
+            (limits, bounds(limits))
+                == (
+                    Limits::new(elements, weight, input),
+                    Some([elements, weight, input])
+                )
         );
     }
 }
@@ -122,7 +122,7 @@ fn count(alloc: Global, lines: &str) -> Result<u64, Why> {
 
 #[test]
 fn elements_at_the_edge_of_the_grid(rt: HostRuntime) {
-    assert_eq!(rt; count(rt.alloc(), AT_THE_EDGE), Ok(7));
+    assert!(rt; count(rt.alloc(), AT_THE_EDGE) == Ok(7));
 }
 
 /// The number of the reason for which a circle is handed back behind the elements of a line.
@@ -143,12 +143,11 @@ fn drafts_that_are_full(rt: HostRuntime) {
     let (alloc, light, standard) = (rt.alloc(), limits_of(9, 7, 768), Ok(Limits::standard()));
     let polygon = "1 polygon 1 0 0,0 10,0 10,20 0,20";
     let rectangles = "16777216 rectangle 1 0 10 20 0 0";
-    assert_eq!(rt;
+    assert!(rt;
         [
             behind(alloc, light, Profile::One, polygon),
             behind(alloc, light, Profile::Two, polygon),
             behind(alloc, standard, Profile::One, rectangles),
-        ],
-        [Ok(25), Ok(25), Ok(24)]
+        ] == [Ok(25), Ok(25), Ok(24)]
     );
 }

@@ -144,9 +144,8 @@ fn named_within_limits(rt: HostRuntime) {
         (10, 21, refused(14, Why::TooHeavy)),
         (10, 17, refused(11, Why::TooHeavy)),
     ] {
-        assert_eq!(rt;
-            refusals(rt.alloc(), elements, weight),
-            Ok([wanted; 4]),
+        assert!(rt;
+            refusals(rt.alloc(), elements, weight) == Ok([wanted; 4]),
             "{elements} {weight}"
         );
     }
@@ -181,7 +180,7 @@ fn named_refused_again(rt: HostRuntime) {
         (true, text, Why::ModalUndefined),
     ] {
         let refused = Err(Refusal { at: 5, why });
-        assert_eq!(rt; answers_behind(rt.alloc(), inside, bytes), Ok([refused; 2]));
+        assert!(rt; answers_behind(rt.alloc(), inside, bytes) == Ok([refused; 2]));
     }
 }
 
@@ -286,5 +285,5 @@ fn answers_in_want(alloc: Global) -> Result<[Result<(), Refusal>; 3], Why> {
 /// Such a name goes into the memory of the modal one: a cell that is counted wants none for it.
 #[test]
 fn shorter_without_memory(rt: HostRuntime) {
-    assert_eq!(rt; answers_in_want(rt.alloc()), Ok([Ok(()); 3]));
+    assert!(rt; answers_in_want(rt.alloc()) == Ok([Ok(()); 3]));
 }

@@ -130,8 +130,8 @@ fn rectangle_refused_again(rt: HostRuntime) {
         at: 5,
         why: Why::ModalUndefined,
     });
-    assert_eq!(rt;
-        (answers_outside(rt.alloc()), answers_inside(rt.alloc())),
-        (Ok([outside; 3]), Ok((Ok(()), [inside; 3])))
+    assert!(rt;
+        (answers_outside(rt.alloc()), answers_inside(rt.alloc()))
+            == (Ok([outside; 3]), Ok((Ok(()), [inside; 3])))
     );
 }

@@ -38,7 +38,7 @@ fn lengths(alloc: Global) -> Result<(usize, usize), Fail> {
 
 #[test]
 fn lengths_of_the_files(rt: HostRuntime) -> Result<(), Fail> {
-    assert_eq!(rt; lengths(rt.alloc())?, (304, 301));
+    assert!(rt; lengths(rt.alloc())? == (304, 301));
     Ok(())
 }
 

@@ -164,7 +164,7 @@ fn answer_of_row(alloc: Global, row: &str) -> Result<(u8, Answer), Fail> {
 fn each_row(rt: HostRuntime) -> Result<(), Fail> {
     for row in ROWS.lines() {
         let (status, answer) = answer_of_row(rt.alloc(), row)?;
-        assert_eq!(rt; answer, (status, true, true), "{row}");
+        assert!(rt; answer == (status, true, true), "{row}");
     }
     Ok(())
 }

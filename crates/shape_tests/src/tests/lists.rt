@@ -141,6 +141,6 @@ fn vertices_refused(rt: HostRuntime) {
     for row in WALKS.lines() {
         let [bytes, wanted, _, _] = row_parts(row);
         let wanted = wanted.parse().unwrap_or(255);
-        assert_eq!(rt; walk_refusal(rt.alloc(), bytes), Ok(wanted), "at {row}");
+        assert!(rt; walk_refusal(rt.alloc(), bytes) == Ok(wanted), "at {row}");
     }
 }

@@ -100,9 +100,9 @@ const MOST: &str =
 
 #[test]
 fn counts_of_many(rt: HostRuntime) {
-    assert_eq!(rt;
-        [counted(rt.alloc(), MANY), counted(rt.alloc(), MOST)],
-        [Some((Some(16777216), Some((0, 0)))), Some((None, None))]
+    assert!(rt;
+        [counted(rt.alloc(), MANY), counted(rt.alloc(), MOST)]
+            == [Some((Some(16777216), Some((0, 0)))), Some((None, None))]
     );
 }
 
@@ -159,12 +159,12 @@ fn of_many() -> [Places; 2] {
 
 #[test]
 fn places_two_ways(rt: HostRuntime) {
-    assert_eq!(rt; two_ways(), [places(2, 3, 3), places(3, 2, 1)]);
+    assert!(rt; two_ways() == [places(2, 3, 3), places(3, 2, 1)]);
 }
 
 #[test]
 fn places_of_many(rt: HostRuntime) {
-    assert_eq!(rt; of_many(), [places(1, 16777216, 1), places(7, 1, 1)]);
+    assert!(rt; of_many() == [places(1, 16777216, 1), places(7, 1, 1)]);
 }
 
 /// The number of the reason for which a repetition is refused; 0 where it isn't.
@@ -200,6 +200,6 @@ fn repetitions_refused(rt: HostRuntime) {
     for row in REFUSED.lines() {
         let [bytes, wanted, _, _] = row_parts(row);
         let wanted = wanted.parse().unwrap_or(255);
-        assert_eq!(rt; refusal(rt.alloc(), bytes), Ok(wanted), "at {row}");
+        assert!(rt; refusal(rt.alloc(), bytes) == Ok(wanted), "at {row}");
     }
 }

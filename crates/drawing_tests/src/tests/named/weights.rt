@@ -61,7 +61,7 @@ fn reasons_of_placements(rt: HostRuntime) -> Result<(), Fail> {
         Err(Why::TooHeavy),
         Err(Why::CoordinateRange),
     ];
-    assert_eq!(rt; placements_weighed(rt.alloc())?, wanted);
+    assert!(rt; placements_weighed(rt.alloc())? == wanted);
     Ok(())
 }
 
@@ -89,7 +89,7 @@ fn reasons_of_texts(rt: HostRuntime) -> Result<(), Fail> {
         Err(Why::TooHeavy),
         Err(Why::CoordinateRange),
     ];
-    assert_eq!(rt; texts_weighed(rt.alloc())?, wanted);
+    assert!(rt; texts_weighed(rt.alloc())? == wanted);
     Ok(())
 }
 
@@ -127,6 +127,6 @@ fn names_checked(alloc: Global) -> Result<[Option<Why>; 6], Fail> {
 fn names_weighed_before_they_are_modal(rt: HostRuntime) -> Result<(), Fail> {
     let heavy = Some(Why::TooHeavy);
     let wanted = [None, heavy, None, heavy, None, Some(Why::ModalUndefined)];
-    assert_eq!(rt; names_checked(rt.alloc())?, wanted);
+    assert!(rt; names_checked(rt.alloc())? == wanted);
     Ok(())
 }
