@@ -49,7 +49,7 @@ fn words_of_diff(rt: HostRuntime) -> Result<(), Fail> {
     ] {
         let options = Options { detail, limit };
         let found = asks_diff(rt.alloc(), line, is_large, options, markers)?;
-        assert!(rt; found == Ok(true), "at {line}");
+        assert_eq!(rt; found, Ok(true), "at {line}");
     }
     Ok(())
 }
@@ -76,7 +76,7 @@ fn flags_of_each_command(rt: HostRuntime) -> Result<(), Fail> {
         ("oascanon show --progress --explain a", true, true),
     ] {
         let found = asks_with(rt.alloc(), line, explains, shows_progress)?;
-        assert!(rt; found == Ok(true), "at {line}");
+        assert_eq!(rt; found, Ok(true), "at {line}");
     }
     Ok(())
 }

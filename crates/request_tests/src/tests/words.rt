@@ -141,7 +141,7 @@ fn asks_as_said(alloc: Global, row: &str) -> Result<Result<bool, i32>, Fail> {
 #[test]
 fn words_of_each_command(rt: HostRuntime) -> Result<(), Fail> {
     for row in PLAIN.lines() {
-        assert!(rt; asks_as_said(rt.alloc(), row)? == Ok(true), "at {row}");
+        assert_eq!(rt; asks_as_said(rt.alloc(), row)?, Ok(true), "at {row}");
     }
     Ok(())
 }
@@ -167,10 +167,7 @@ fn words_of_several_files(rt: HostRuntime) -> Result<(), Fail> {
         ("oascanon key --names", &[None]),
     ];
     for (line, files) in rows {
-        assert!(rt;
-            asks_named(rt.alloc(), line, files)? == Ok(true),
-            "at {line}"
-        );
+        assert_eq!(rt; asks_named(rt.alloc(), line, files)?, Ok(true), "at {line}");
     }
     Ok(())
 }
