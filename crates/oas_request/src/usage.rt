@@ -180,9 +180,8 @@ const COMMANDS: [Described<'static>; 10] = [
 
 /// The program's command line.
 pub fn oascanon<'a>(alloc: Global) -> Result<Command<'a>, Error> {
-    let table = &COMMANDS;
-    let mut commands = Vec::with_capacity(alloc, table.len())?;
-    put_commands(&mut commands, alloc, table)?;
+    let mut commands = Vec::with_capacity(alloc, COMMANDS.len())?;
+    put_commands(&mut commands, alloc, &COMMANDS)?;
     let line = Command::new(alloc, "oascanon")
         .about("The canonical form of OASIS mask layouts (SEMI P39)")
         .after_help(EXAMPLES)

@@ -79,49 +79,21 @@ impl OfOne {
         said: &mut Vec<u8>,
     ) -> u8 {
         let (alloc, limits, name) = (session.rt.alloc(), session.limits, printed.as_str());
+        let is_escaped = printed.is_escaped();
         match self {
             OfOne::Canon => run_canon(alloc, name, from, out, said, limits),
-            OfOne::Ask(question) => ask(question, session, name, from, out, said),
-            OfOne::AskNamed(question) => ask_named(question, session, printed, from, out, said),
+            OfOne::Ask(Question::Check) => run_check(alloc, name, from, out, said, limits),
+            OfOne::Ask(Question::Key) => run_key(alloc, name, from, out, said, limits),
+            OfOne::AskNamed(Question::Check) => {
+                run_named_check(alloc, name, from, out, said, limits)
+            }
+            OfOne::AskNamed(Question::Key) => {
+                run_named_key(alloc, name, is_escaped, from, out, said, limits)
+            }
             OfOne::Show => run_show(alloc, name, from, out, said, limits),
             OfOne::Keys => run_keys(alloc, name, from, out, said, limits),
             OfOne::Info(form) => run_info(alloc, name, from, form, out, said, limits),
             OfOne::Rekey => run_rekey(alloc, name, from, out, said, limits),
-        }
-    }
-}
-
-/// Answers a question without the file's name, and the status.
-fn ask(
-    question: Question,
-    session: &Session<'_>,
-    name: &str,
-    from: &mut Incoming,
-    out: &mut Outgoing<'_>,
-    said: &mut Vec<u8>,
-) -> u8 {
-    let (alloc, limits) = (session.rt.alloc(), session.limits);
-    match question {
-        Question::Check => run_check(alloc, name, from, out, said, limits),
-        Question::Key => run_key(alloc, name, from, out, said, limits),
-    }
-}
-
-/// Answers a question with the file's name, and the status.
-fn ask_named(
-    question: Question,
-    session: &Session<'_>,
-    printed: &Printed<'_>,
-    from: &mut Incoming,
-    out: &mut Outgoing<'_>,
-    said: &mut Vec<u8>,
-) -> u8 {
-    let (alloc, limits, name) = (session.rt.alloc(), session.limits, printed.as_str());
-    match question {
-        Question::Check => run_named_check(alloc, name, from, out, said, limits),
-        Question::Key => {
-            let is_escaped = printed.is_escaped();
-            run_named_key(alloc, name, is_escaped, from, out, said, limits)
         }
     }
 }
