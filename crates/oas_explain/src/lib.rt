@@ -2,8 +2,8 @@
 //!
 //! What this crate promises to the program:
 //!
-//! - [`all_reasons`] has each of the 34 reasons once: its number, name, meaning and remedy. That they go by ascending numbers, and
-//!   that the names are those of `oas_num::Why`, is tested.
+//! - [`all_reasons`] has each of the 34 reasons once, by ascending numbers: its number, name, meaning and remedy. That the names
+//!   are those of `oas_num::Why` is tested.
 //! - [`run_explain`] writes the text of the reason whose number a word is, or those of all without one, and answers status 0;
 //!   or 1, where the output failed after a front of it; or 2 where no reason has this number, and then it writes nothing
 //!   (`Explains`, specs/Texts.antt).

@@ -2,7 +2,8 @@
 //!
 //! This is the one place where their meanings and remedies stand. docs/REFUSALS.md has them too, and is compared with it.
 
-ghost use Rattle.std.specs.Prelude.{◌≡◌, length};
+ghost use Rattle.std.specs.Prelude.{◌≡◌, map};
+ghost use Rattle.std.specs.List.{range_with_len};
 
 /// A reason for which a file is refused.
 #[derive(Clone, Copy, Debug, PartialEq, Eq)]
@@ -19,7 +20,7 @@ pub struct Reason<'a> {
 
 /// All reasons, by ascending numbers from 1 on.
 pub fn all_reasons() -> &'static [Reason<'static>]
-    ensures { length result.now ≡ 34 }
+    ensures { map (λ reason. reason.number) result.now ≡ range_with_len 1 34 }
 {
     &REASONS
 }
