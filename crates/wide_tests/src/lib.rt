@@ -1,6 +1,15 @@
-//! What no clause of oas_wide says, by its public calls alone: which reads succeed where memory is there, and the values of reals
-//! that are known from outside. It stands here so that oas_wide is proved without its tests.
+//! What no clause says of the crates that read what is outside the profile, by their public calls alone: that records and blocks
+//! are read where memory is there, which fault is answered of the ways to go wrong, and checksums, corners and reals that are
+//! known from outside. It stands here so that those crates are proved without their tests.
 #![tactic(auto)]
 
 #[cfg(test)]
-mod tests;
+mod blocks;
+#[cfg(test)]
+mod checksums;
+#[cfg(test)]
+mod corners;
+#[cfg(test)]
+mod records;
+#[cfg(test)]
+mod sums;

@@ -1,0 +1,44 @@
+//! Layouts that differ.
+
+use crate::parts::{draft, put};
+use oas_layout::{Draft, Element, Layout, Profile};
+use oas_num::Name;
+use std::alloc::Global;
+use std::test::Fail;
+
+/// A layout in short: how many grid steps a micron has, the names of the cells, of one letter each, and the rectangles: for
+/// each the place of its cell, a layer, and how often it is there.
+pub type Sketch<'a> = (u64, &'a str, &'a [(usize, u64, u64)]);
+
+/// Adds a cell of each letter that can be a name.
+fn add_letters(draft: &mut Draft, alloc: Global, names: &str) -> Result<(), Fail> {
+    for letter in names.as_bytes() {
+        let name = [*letter];
+        if Name::is_name(&name) {
+            draft.add_cell(Name::of(alloc, &name)?)?;
+        }
+    }
+    Ok(())
+}
+
+/// Adds the rectangles to the cells at their places.
+fn add_rectangles(draft: &mut Draft, rectangles: &[(usize, u64, u64)]) -> Result<(), Fail> {
+    for (cell, layer, times) in rectangles {
+        put(
+            draft,
+            *cell,
+            Element::rectangle(*layer, 0, 10, 20, 0, 0),
+            *times,
+        )?;
+    }
+    Ok(())
+}
+
+/// The layout of a sketch, by profile two.
+pub fn layout(alloc: Global, sketch: Sketch<'_>) -> Result<Layout, Fail> {
+    let (steps, names, rectangles) = sketch;
+    let mut draft = draft(alloc, steps, 1, Profile::Two)?;
+    add_letters(&mut draft, alloc, names)?;
+    add_rectangles(&mut draft, rectangles)?;
+    Ok(draft.seal()?)
+}

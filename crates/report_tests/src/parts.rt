@@ -1,0 +1,54 @@
+//! What the layouts of these tests are made of.
+
+use oas_layout::{Draft, Element, Limits, Profile};
+use oas_num::{Fraction, Label, Name};
+use oas_ring::{Point, Points};
+use std::alloc::{AllocError, Global};
+use std::test::Fail;
+
+/// The name of this text.
+pub fn name(alloc: Global, text: &str) -> Result<Name, Fail> {
+    let bytes = text.as_bytes();
+    if !Name::is_name(bytes) {
+        return Err(Fail::from("no name"));
+    }
+    Ok(Name::of(alloc, bytes)?)
+}
+
+/// The label of this text.
+pub fn label(alloc: Global, text: &str) -> Result<Label, Fail> {
+    let bytes = text.as_bytes();
+    if !Label::is_label(bytes) {
+        return Err(Fail::from("no label"));
+    }
+    Ok(Label::of(alloc, bytes)?)
+}
+
+/// The list of these points.
+pub fn ring(alloc: Global, places: &[(i64, i64)]) -> Result<Points, AllocError> {
+    let mut points = Vec::new(alloc);
+    for (x, y) in places {
+        points.push(Point { x: *x, y: *y })?;
+    }
+    Ok(Points::new(points))
+}
+
+/// A draft with so many grid steps in a micron, within the largest limits, and no cell.
+pub fn draft(alloc: Global, num: u64, den: u64, profile: Profile) -> Result<Draft, Fail> {
+    let unit = Fraction::reduced(num, den).ok_or("no unit")?;
+    Ok(Draft::new(alloc, unit, Limits::large(), profile)?)
+}
+
+/// Adds an empty cell of that name.
+pub fn add_cell(draft: &mut Draft, alloc: Global, text: &str) -> Result<(), Fail> {
+    draft.add_cell(name(alloc, text)?)?;
+    Ok(())
+}
+
+/// Adds the element to the cell so many times.
+pub fn put(draft: &mut Draft, cell: usize, element: Element, times: u64) -> Result<(), Fail> {
+    if cell < draft.cells() && times > 0 {
+        draft.add_many(cell, element, times)?;
+    }
+    Ok(())
+}
