@@ -16,7 +16,7 @@ const FURTHEST: i128 = 1 << 60;
 ///
 /// A coordinate past 64 bits stands as the nearest one that isn't. That is off the grid as well, so that whatever stands
 /// there is refused.
-#[derive(Clone, Copy, Debug, PartialEq, Eq)]
+#[derive(Clone, Copy, Debug)]
 pub(crate) struct Place {
     /// Whether coordinates are relative.
     pub(crate) relative: bool,

@@ -4,7 +4,7 @@ ghost use Rattle.std.specs.Prelude.{◌≡◌, ◌+◌, ◌%◌, ◌/◌, ◌*�
 ghost use Rattle.oas_keys.specs.Numbers.{number_in, digits, room, firsts_of, AreClasses};
 
 /// Numbers that stand side by side and take equally many bytes (own rule).
-#[derive(Clone, Copy, Debug)]
+#[derive(Clone, Copy)]
 pub(crate) struct Class {
     /// How many numbers.
     pub(crate) size: u64,
@@ -101,7 +101,7 @@ pub(crate) const SIGNED: [Class; 10] = [
 pub(crate) const START: i64 = (1 << 62) + (7 << 32) + (16 << 24) + (32 << 16) + (40 << 8) + 31;
 
 /// How a number is written: its first byte, how many bytes stand after it, and the number whose lowest digits they are.
-#[derive(Clone, Copy, Debug)]
+#[derive(Clone, Copy)]
 pub(crate) struct Written {
     pub(crate) first: u8,
     pub(crate) more: u64,

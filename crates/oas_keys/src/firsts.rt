@@ -7,7 +7,7 @@ ghost use Rattle.oas_keys.specs.Reading.{least_with, more_with};
 use crate::classes::Class;
 
 /// The least number that begins with a byte, and how many bytes stand after it.
-#[derive(Clone, Copy, Debug)]
+#[derive(Clone, Copy)]
 pub(crate) struct Found {
     pub(crate) least: u64,
     pub(crate) more: u64,

@@ -15,7 +15,7 @@ use oas_layout::Turns;
 use oas_ring::Point;
 
 /// Turns, and the flip before them.
-#[derive(Clone, Copy, Debug)]
+#[derive(Clone, Copy)]
 pub(crate) struct Turned {
     pub(crate) turns: Turns,
     pub(crate) flip: bool,

@@ -19,7 +19,7 @@ const FURTHEST_SUM: i128 = 4611686018427387904;
 const FURTHEST_STEP: i128 = 18446744073709551616;
 
 /// Which way a displacement of a list goes: a space along an axis, or a g-delta any way.
-#[derive(Clone, Copy, Debug, PartialEq, Eq)]
+#[derive(Clone, Copy)]
 pub(crate) enum Along {
     X,
     Y,

@@ -14,7 +14,7 @@ use std::alloc::{AllocError, Global};
 use std::cmp::Ordering;
 
 /// An entry that waits, and as a number the eight bytes of its key behind those with which all keys begin. It tells most apart.
-#[derive(Clone, Copy, Debug)]
+#[derive(Clone, Copy)]
 pub(crate) struct Loose<'a> {
     front: u64,
     pub(crate) key: &'a [u8],
