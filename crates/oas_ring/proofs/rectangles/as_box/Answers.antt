@@ -1,4 +1,4 @@
-use Rattle.std.proofs.Common.{◌≡◌, sym, ◌∙◌, subst, arith}
+use Rattle.std.proofs.Common.{◌≡◌, sym, ◌∙◌, subst, arith, rules}
 use Rattle.std.proofs.lemmas.Bool.{iff_false}
 use Rattle.oas_ring.specs.declared.rectangles.Corners.{Corners}
 use Rattle.oas_ring.specs.Rectangles.{IsBox}
@@ -13,3 +13,6 @@ returns-else-is_box-clause-none c = λ b h.
     let p = c.args.points.now in
     let same : c.corners_between_points-corners.result ≡ b = c.corners_between_points-corners.ensures ∙ corners_of_box p b h in
     iff_false c.is_box.ensures c.if-is_box.false (subst (λ (t : Corners). IsBox p t) (sym same) h)
+
+pub returns-then-is_box-clause-none : goal.returns-then-is_box-clause-none
+returns-then-is_box-clause-none c = search rules

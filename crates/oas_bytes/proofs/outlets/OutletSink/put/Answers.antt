@@ -1,4 +1,4 @@
-use Rattle.std.proofs.Common.{refl, length, ◌≡◌, false}
+use Rattle.std.proofs.Common.{refl, length, ◌≡◌, false, rules}
 use Rattle.oas_bytes.proofs.OutletLemmas.{byte_kept, works_below}
 use Rattle.oas_bytes.proofs.outlets.OutletSink.put.Goals as goal
 
@@ -10,3 +10,9 @@ returns-clause-writes g c =
     let o = c.args.self.now in
     let works : o.failed ≡ false = works_below (length o.window) o.failed o.full (c.is_full.ensures.room c.if-is_full.false) in
     byte_kept g.W.Write.contents o _ refl works c.args.byte refl c.push.ensures refl works
+
+pub returns-then-is_full-clause-writes : goal.returns-then-is_full-clause-writes
+returns-then-is_full-clause-writes g c = search rules
+
+pub returns-then-is_full-clause-settled : goal.returns-then-is_full-clause-settled
+returns-then-is_full-clause-settled g c = search rules

@@ -1,5 +1,6 @@
 use Rattle.std.proofs.Common.{◌≡◌, length, drop, ap, arith}
 use Rattle.std.proofs.lemmas.List.{take_at, get_or_read}
+use Rattle.std.proofs.lemmas.Grind.{common_steps}
 use Rattle.oas_bytes.specs.Readers.{Reading}
 use Rattle.oas_bytes.proofs.ReaderLemmas.{HasNext, still_has, has_filled, gives_next, meets_limit, sound_limit}
 use Rattle.oas_bytes.proofs.readers.ReaderSource.next_window.Goals as goal
@@ -53,3 +54,6 @@ returns g c =
     c.if-self.self-inside.end c.if-self.self-inside.filled c.if-self.self-inside.before c.if-self.self-inside.limit c.if-self.self-inside.ending h
     c.index-byte.result.now c.if-self-2.false (get_or_read c.if-self.self-inside.window.items _ _ (omega (arith, h.ready.some, h.ready.within))
     c.index-byte.ensures 0) (omega arith)
+
+pub returns-in-Ok-eq0 : goal.returns-in-Ok-eq0
+returns-in-Ok-eq0 g c = grind (arith, common_steps)

@@ -28,3 +28,6 @@ pub hold-requires-2-clause-as_spelled : goal.hold-requires-2-clause-as_spelled
 hold-requires-2-clause-as_spelled c =
     kept_as_spelled c.self.inside.profile c.args.self.now.profile c.args.element c.in-Some-kept.kept (ap (λ (v : Contents). v.profile) c.self.view_is)
     (kept_is c) c.weight-2.result c.args.times c.in-Some.spelled c.weight-2.ensures c.in-Some.ensures.1
+
+pub returns-then-not-fits_grid-clause-why : goal.returns-then-not-fits_grid-clause-why
+returns-then-not-fits_grid-clause-why c = search rules

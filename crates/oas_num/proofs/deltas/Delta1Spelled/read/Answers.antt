@@ -1,3 +1,4 @@
+use Rattle.std.proofs.Common.{rules}
 use Rattle.std.proofs.lemmas.Result.{err_from_is_err_and}
 use Rattle.oas_num.specs.Integers.{IsSigned}
 use Rattle.oas_num.proofs.GrammarLemmas.{wrapped_fails}
@@ -9,3 +10,6 @@ returns-in_err-read_signed g c =
     let p = err_from_is_err_and c.from_residual.result c.from_residual.ensures.1 in
     let f = wrapped_fails {A = IsSigned} (λ (d : Delta1). d.0) c.in_err-read_signed.ensures in
     rw (p.1, p.2) f
+
+pub returns : goal.returns
+returns g c = search rules

@@ -1,0 +1,5 @@
+use Rattle.std.proofs.Common.{rules}
+use Rattle.oas_bytes.proofs.readers.ReaderSourceSource.at.Goals as goal
+
+pub returns : goal.returns
+returns g c = search rules

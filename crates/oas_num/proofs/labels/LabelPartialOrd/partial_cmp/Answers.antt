@@ -1,0 +1,5 @@
+use Rattle.std.proofs.Common.{rules}
+use Rattle.oas_num.proofs.labels.LabelPartialOrd.partial_cmp.Goals as goal
+
+pub returns : goal.returns
+returns c = search rules

@@ -1,0 +1,5 @@
+use Rattle.std.proofs.Common.{rules}
+use Rattle.oas_shape.proofs.point_list.PointList.of_steps.Goals as goal
+
+pub returns : goal.returns
+returns c = search rules
