@@ -1,4 +1,4 @@
-use Rattle.std.proofs.Common.{ap, sym, ◌∙◌}
+use Rattle.std.proofs.Common.{ap, sym, ◌∙◌, rules}
 use Rattle.oas_corners.specs.Corners.{straight, plus, minus}
 use Rattle.oas_corners.specs.Named.{named}
 use Rattle.oas_corners.proofs.KindLemmas.{level_same, upright_same, kind_0, kind_1, kind_2, kind_3, kind_4, kind_5, kind_6, kind_7, kind_8, kind_9}
@@ -94,3 +94,6 @@ pub returns-in-25 : goal.returns-in-25
 returns-in-25 c =
     c.level-in-25.ensures ∙ level_same c.args.width c.args.height _ straight _ straight c.straight-in-25.ensures c.straight-in-25-2.ensures
     ∙ kind_25 c.args.width c.args.height ∙ sym (ap (λ k. named k c.args.width c.args.height) c.in-25.is)
+
+pub returns-in-16 : goal.returns-in-16
+returns-in-16 c = search rules

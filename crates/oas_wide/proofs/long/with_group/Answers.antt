@@ -1,4 +1,4 @@
-use Rattle.std.proofs.Common.{arith}
+use Rattle.std.proofs.Common.{arith, rules}
 use Rattle.oas_wide.proofs.LongLemmas.{weight_fits, far, same_part}
 use Rattle.oas_wide.proofs.long.with_group.Goals as goal
 
@@ -13,3 +13,6 @@ returns-in-Some-clause-some c = rw (same_part _ _ c.args.group c.args.place _ c.
 
 pub returns-in-Some-clause-none : goal.returns-in-Some-clause-none
 returns-in-Some-clause-none c = rw (same_part _ _ c.args.group c.args.place _ c.in-Some.ensures.1 c.from.ensures c.pow-weight.ensures) at c.plus.ensures.none
+
+pub returns-then-place-gt9-clause-some : goal.returns-then-place-gt9-clause-some
+returns-then-place-gt9-clause-some c = search rules

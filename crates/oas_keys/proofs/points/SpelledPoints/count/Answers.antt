@@ -1,4 +1,4 @@
-use Rattle.std.proofs.Common.{length, refl, ap, arith}
+use Rattle.std.proofs.Common.{length, refl, ap, arith, rules}
 use Rattle.oas_keys.proofs.points.SpelledPoints.count.Goals as goal
 
 pub pass_point-requires : goal.pass_point-requires
@@ -19,3 +19,6 @@ pub returns : goal.returns
 returns c = λ ps h.
     let e = c.loop-left.invariant.each ps h in
     omega (arith, e.sum, ap length (c.loop-left-test.ensures.passed e.before e.qs e.rest e.from e.within e.is))
+
+pub loop-left-init : goal.loop-left-init
+loop-left-init c = search rules
