@@ -72,6 +72,13 @@ module _ {K : Type 0} where
       let all = ends R u v w (r ++ s) m in
       omega (arith, all.same g, ap (total g) a, ap (total g) b, ap (total g) c, total-append g r s, total_runs g olds mids s e, total_runs g mids rs r f, total_runs g news rs t n)
 
+  pub whole_runs : (R : K → K → Ordering) (olds mids rs news : List (List (K × ℕ))) (r s t u v w : List (K × ℕ)) → olds ≡ mids ++ s ∷ [] → mids ≡ rs ++ r ∷ []
+      → news ≡ rs ++ t ∷ [] → t ≡ u → IsMerging R u v w (r ++ s) → AreRuns R olds → AreRuns R news
+  whole_runs R olds mids rs news r s t u v w e f n a m h =
+      let all = ends R u v w (r ++ s) m in
+      let before = (split_runs R mids rs r f (split_runs R olds mids s e h).0).0 in
+      more_runs R news rs t n before (subst (IsRun R) (sym a) all.done)
+
   -- t is a part, and v and w are left
   pub part_same : (R : K → K → Ordering) (olds mids rs one two three : List (List (K × ℕ))) (r s t u v w : List (K × ℕ)) → olds ≡ mids ++ s ∷ []
       → mids ≡ rs ++ r ∷ [] → one ≡ rs ++ t ∷ [] → two ≡ one ++ v ∷ [] → three ≡ two ++ w ∷ [] → t ≡ u → IsMerging R u v w (r ++ s) → SameTotals (joined three) (joined olds)
