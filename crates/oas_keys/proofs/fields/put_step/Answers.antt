@@ -4,6 +4,12 @@ use Rattle.oas_keys.specs.Numbers.{signed_key}
 use Rattle.oas_keys.specs.Laws.FieldLaws.{parts, coordinate_bounds}
 use Rattle.oas_keys.proofs.fields.put_step.Goals as goal
 
+pub put_signed_pair-requires-clause-first : goal.put_signed_pair-requires-clause-first
+put_signed_pair-requires-clause-first c =
+    let p = coordinate_bounds c.args.point.x (parts c.args.point c.requires.to).0 in
+    let q = coordinate_bounds c.args.before.x (parts c.args.before c.requires.from).0 in
+    record { above = omega (arith, ints, p.0, p.1, q.0, q.1); below = omega (arith, ints, p.0, p.1, q.0, q.1) }
+
 pub put_signed_pair-requires-clause-second : goal.put_signed_pair-requires-clause-second
 put_signed_pair-requires-clause-second c =
     let p = coordinate_bounds c.args.point.y (parts c.args.point c.requires.to).1 in
