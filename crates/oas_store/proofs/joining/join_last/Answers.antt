@@ -9,7 +9,7 @@ pub merge_all-whole-requires-clause-left : goal.merge_all-whole-requires-clause-
 merge_all-whole-requires-clause-left c =
     let e = sym c.reserve.ensures.items ∙ c.in-Some-Some.ensures.items in
     (split_runs (slice_cmp nat_cmp) c.pop.new.self.items c.pop-2.new.self.items c.in-Some-Some.before c.in-Some-Some.ensures'.items
-        (split_runs (slice_cmp nat_cmp) c.args.runs.now.items c.pop.new.self.items c.in-Some-Some.last e c.requires.runs).0).1
+    (split_runs (slice_cmp nat_cmp) c.args.runs.now.items c.pop.new.self.items c.in-Some-Some.last e c.requires.runs).0).1
 
 pub merge_all-whole-requires-clause-right : goal.merge_all-whole-requires-clause-right
 merge_all-whole-requires-clause-right c =
@@ -57,10 +57,10 @@ ok_then (Err x) e h = absurd cc
 
 pub push_reserved-requires-in-Some-Some-2 : goal.push_reserved-requires-in-Some-Some-2
 push_reserved-requires-in-Some-Some-2 c = omega (
-    arith,
-    ok_then c.reserve.result (sym c.is_err.ensures.value ∙ c.if-is_err.false) c.reserve.ensures.ok,
-    c.in-Some-Some.ensures.len,
-    c.in-Some-Some.ensures'.len,
-    c.in-Some-Some.ensures.capacity,
-    c.in-Some-Some.ensures'.capacity,
-  )
+  arith,
+  ok_then c.reserve.result (sym c.is_err.ensures.value ∙ c.if-is_err.false) c.reserve.ensures.ok,
+  c.in-Some-Some.ensures.len,
+  c.in-Some-Some.ensures'.len,
+  c.in-Some-Some.ensures.capacity,
+  c.in-Some-Some.ensures'.capacity,
+)

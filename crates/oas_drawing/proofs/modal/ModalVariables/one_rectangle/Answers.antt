@@ -40,4 +40,3 @@ returns-then-fits_grid-clause-ok c = search rules
 
 pub returns-then-fits_grid-clause-fits : goal.returns-then-fits_grid-clause-fits
 returns-then-fits_grid-clause-fits c = search rules
-
