@@ -1,6 +1,6 @@
 //! Cells by name and by number, and what END refuses. The answers are those of the plain program in tests/reference.
 
-use super::{expect_within, limits_of};
+use super::{expect_within, limits_of, parts};
 use oas_layout::Profile;
 use std::alloc::Global;
 use std::process::Abort;
@@ -22,8 +22,7 @@ const ROWS: &str = "\
 0E0141 0D01 | 4 | 25@12";
 
 fn expect_row(rt: &impl Abort, alloc: Global, row: &str) -> Result<(), Fail> {
-    let (cells, rest) = row.split_once(" | ").ok_or("a row has cells")?;
-    let (weight, wanted) = rest.split_once(" | ").ok_or("a row has an answer")?;
+    let [cells, weight, wanted] = parts(row);
     let limits = limits_of(0, weight.parse().unwrap_or(0), 1000)?;
     let records = format!(in alloc; "030141 03024242 {cells}")?;
     expect_within(rt, alloc, limits, Profile::One, records.as_str(), wanted)

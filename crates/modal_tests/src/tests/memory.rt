@@ -4,7 +4,7 @@
 //! before they succeed, and so is the finish, by a reader that has taken its records before. Where the heap cannot be filled, as
 //! under a checker of addresses, no call is refused, and the answers are the same.
 
-use super::{is_met, refuses_on, unit};
+use super::{discard, is_met, refuses_on, unit};
 use oas_layout::{Layout, Limits, Profile};
 use oas_modal::Reader;
 use oas_num::{Fraction, Name, Refusal, SliceSource, Spelled, Why};
@@ -138,14 +138,25 @@ fn reader_without_memory(rt: HostRuntime) {
     assert!(rt; reader_in_want(rt.alloc()) == Ok((true, [true; 2])));
 }
 
-/// A reader that has taken a name of a cell, and two cells.
-fn ready(alloc: Global, unit: Fraction) -> Result<Reader, Why> {
+/// Has the reader take a name of a cell, and two cells.
+fn make_ready(reader: &mut Reader, alloc: Global) -> Result<(), Why> {
     let first = name(alloc, b"\x01A")?;
     let second = name(alloc, b"\x01B")?;
-    let mut reader = Reader::new(alloc, unit, Limits::standard(), Profile::One);
-    match take_all(&mut reader, first, second) {
-        Ok(()) => Ok(reader),
+    match take_all(reader, first, second) {
+        Ok(()) => Ok(()),
         Err(refusal) => Err(refusal.why),
+    }
+}
+
+/// A reader that has taken them.
+fn ready(alloc: Global, unit: Fraction) -> Result<Reader, Why> {
+    let mut reader = Reader::new(alloc, unit, Limits::standard(), Profile::One);
+    match make_ready(&mut reader, alloc) {
+        Ok(()) => Ok(reader),
+        Err(why) => {
+            discard(reader);
+            Err(why)
+        }
     }
 }
 

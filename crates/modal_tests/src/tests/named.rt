@@ -1,7 +1,7 @@
 //! A placement or a text that stands once, taken at hand and as a record: what comes of both is the same.
 
 use super::named_table::{LISTED, RECORDS, RENAMED, RENAMED_LISTED};
-use super::{expect, is_met, limits_of, listed, unit};
+use super::{discard, expect, is_met, limits_of, listed, unit};
 use oas_ahead::named_ahead;
 use oas_layout::{Limits, Profile};
 use oas_modal::{CellStore, CountedCell, HeldCell, Reader};
@@ -166,7 +166,9 @@ fn answers_behind(
     bytes: &[u8],
 ) -> Result<[Result<(), Refusal>; 2], Why> {
     let mut reader: Reader = Reader::new(alloc, unit()?, Limits::standard(), Profile::One);
-    Ok(take_behind(&mut reader, inside, bytes))
+    let answers = take_behind(&mut reader, inside, bytes);
+    discard(reader);
+    Ok(answers)
 }
 
 /// Each is refused outside a cell, and where no record gave what it leaves out.
@@ -198,7 +200,9 @@ fn place(reader: &mut Reader) -> Option<Refusal> {
 /// Why a new reader refuses it within these limits.
 fn placed_within(alloc: Global, unit: Fraction, limits: Limits) -> Option<Refusal> {
     let mut reader: Reader = Reader::new(alloc, unit, limits, Profile::One);
-    place(&mut reader)
+    let refused = place(&mut reader);
+    discard(reader);
+    refused
 }
 
 /// Has readers take a placement until one does so, and gives back a piece of memory after each that doesn't. How many didn't;
@@ -275,11 +279,13 @@ fn answers_in_want(alloc: Global) -> Result<[Result<(), Refusal>; 3], Why> {
         Limits::standard(),
         Profile::One,
     );
-    Ok([
+    let answers = [
         reader.take(3, Record::Cell(CellRef::Number(7))),
         take_at_hand(&mut reader, 5, PLACED),
         take_shorter_in_want(alloc, &mut reader),
-    ])
+    ];
+    discard(reader);
+    Ok(answers)
 }
 
 /// Such a name goes into the memory of the modal one: a cell that is counted wants none for it.

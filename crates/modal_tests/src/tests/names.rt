@@ -4,7 +4,7 @@
 //! succeeds. Where the heap cannot be filled, as under a checker of addresses, no call is refused, and the answers are the same.
 
 use super::memory::name;
-use super::{refuses_on, unit};
+use super::{discard, refuses_on, unit};
 use oas_layout::{Limits, Profile};
 use oas_modal::Reader;
 use oas_num::{Fraction, Name, Refusal, Why};
@@ -35,7 +35,9 @@ fn take_names(reader: &mut Reader, names: &mut Vec<Name>) -> Option<u64> {
 /// The same of a new reader.
 fn taken(alloc: Global, unit: Fraction, mut names: Vec<Name>) -> Option<u64> {
     let mut reader = Reader::new(alloc, unit, Limits::standard(), Profile::One);
-    take_names(&mut reader, &mut names)
+    let count = take_names(&mut reader, &mut names);
+    discard(reader);
+    count
 }
 
 /// Gives back so many pieces, and nothing else that was freed.

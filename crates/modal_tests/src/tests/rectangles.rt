@@ -2,7 +2,7 @@
 
 ghost use Rattle.std.specs.Prelude.{◌≡◌, None};
 
-use super::{expect, limits_of, listed, unit};
+use super::{discard, expect, limits_of, listed, unit};
 use oas_layout::{Layout, Limits, Profile};
 use oas_modal::Reader;
 use oas_num::{Name, Refusal, SliceSource, Spelled, Why};
@@ -109,14 +109,18 @@ fn take_on(reader: &mut Reader, at: u64) -> [Result<(), Refusal>; 3] {
 /// What a new reader answers to them outside a cell.
 fn answers_outside(alloc: Global) -> Result<[Result<(), Refusal>; 3], Why> {
     let mut reader = Reader::new(alloc, unit()?, Limits::standard(), Profile::One);
-    Ok(take_on(&mut reader, 7))
+    let answers = take_on(&mut reader, 7);
+    discard(reader);
+    Ok(answers)
 }
 
 /// What it answers to a cell, and to them in it.
 fn answers_inside(alloc: Global) -> Result<(Result<(), Refusal>, [Result<(), Refusal>; 3]), Why> {
     let mut reader = Reader::new(alloc, unit()?, Limits::standard(), Profile::One);
     let taken = reader.take(3, Record::Cell(CellRef::Number(7)));
-    Ok((taken, take_on(&mut reader, 5)))
+    let answers = take_on(&mut reader, 5);
+    discard(reader);
+    Ok((taken, answers))
 }
 
 /// A rectangle outside a cell is refused, and one after a variable that no record gave; and then all that follows.
