@@ -111,12 +111,17 @@ fn empty_cells(alloc: Global, line: &str) -> Result<Layout, Why> {
     sealed(draft)
 }
 
+/// Whether the layout of the line is the same as another.
+fn is_same(alloc: Global, a: &Layout, line: &str) -> Result<bool, Why> {
+    let b = empty_cells(alloc, line)?;
+    Ok(same(a, &b))
+}
+
 /// Whether the two of a row are the same.
 fn are_same(alloc: Global, row: &str) -> Result<bool, Why> {
     let [first, second, _, _] = parts(row);
     let a = empty_cells(alloc, first)?;
-    let b = empty_cells(alloc, second)?;
-    Ok(same(&a, &b))
+    is_same(alloc, &a, second)
 }
 
 #[test]

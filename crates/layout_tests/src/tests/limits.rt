@@ -1,6 +1,6 @@
 //! Limits at and past the bounds of all limits, and drafts at theirs.
 
-use super::{Words, draft_of_a, element, layout_of_a, limits_of, parts, put, put_many, sealed};
+use super::{Words, draft_of_a, layout_of_a, limits_of, put, put_many, sealed, twice};
 use oas_layout::{Draft, Element, Limits, Profile};
 use oas_num::Why;
 use std::alloc::Global;
@@ -50,10 +50,11 @@ fn number(draft: &mut Draft, given: Element, times: u64, wanted: &Element) -> u8
 }
 
 /// The same of the element of the line.
-fn refusal(draft: &mut Draft, alloc: Global, times: u64, line: &str) -> Result<u8, Why> {
-    let given = element(alloc, line)?;
-    let wanted = element(alloc, line)?;
-    Ok(number(draft, given, times, &wanted))
+fn refusal(draft: &mut Draft, alloc: Global, times: u64, line: &str) -> u8 {
+    match twice(alloc, line) {
+        Ok((given, wanted)) => number(draft, given, times, &wanted),
+        Err(_) => 0,
+    }
 }
 
 /// Limits of elements and weight, so many of an element, and the number of the reason: 16 before 24, 24 before 25, 25
@@ -78,24 +79,22 @@ const REFUSED: &str = "16777216 268435456 1 16|polygon 1 0 0,0 1,1
 9 99 1 23|path 1 0 0 -1152921504606846977 0 0,0
 9 99 1 23|polygon 1 0 0,0 1,1 0,1152921504606846977";
 
-/// The number of the reason for which a draft within the limits of a row hands so many of its element back, and how many
-/// elements its layout then has and their weight; and the number of the row.
-fn refused(alloc: Global, row: &str) -> Result<([u64; 3], u64), Why> {
-    let [numbers, line, _, _] = parts(row);
-    let mut numbers = Words { rest: numbers };
-    let limits = limits_of(numbers.unsigned(), numbers.unsigned(), 1 << 38)?;
-    let times = numbers.unsigned();
+/// The number of the reason for which a draft within these limits hands so many of the element of the line back, and how many
+/// elements its layout then has and their weight.
+fn refused(alloc: Global, limits: Limits, times: u64, line: &str) -> Result<[u64; 3], Why> {
     let mut draft = draft_of_a(alloc, limits, Profile::Two)?;
-    let number = refusal(&mut draft, alloc, times, line)?;
+    let number = refusal(&mut draft, alloc, times, line);
     let layout = sealed(draft)?;
-    let found = [u64::from(number), layout.count(), layout.weight()];
-    Ok((found, numbers.unsigned()))
+    Ok([u64::from(number), layout.count(), layout.weight()])
 }
 
 /// Whether the row's element is handed back for the row's reason, and the layout stays empty.
 fn is_refused(alloc: Global, row: &str) -> Result<bool, Why> {
-    let (found, wanted) = refused(alloc, row)?;
-    Ok(found == [wanted, 0, 2])
+    let (numbers, line) = row.split_once("|").unwrap_or((row, ""));
+    let mut numbers = Words { rest: numbers };
+    let limits = limits_of(numbers.unsigned(), numbers.unsigned(), 1 << 38)?;
+    let found = refused(alloc, limits, numbers.unsigned(), line)?;
+    Ok(found == [numbers.unsigned(), 0, 2])
 }
 
 #[test]
@@ -134,7 +133,7 @@ fn behind(
 ) -> Result<u8, Why> {
     let mut draft = draft_of_a(alloc, limits?, profile)?;
     put(&mut draft, alloc, 0, line)?;
-    refusal(&mut draft, alloc, 1, "circle 1 0 5 0 0")
+    Ok(refusal(&mut draft, alloc, 1, "circle 1 0 5 0 0"))
 }
 
 /// A polygon that is kept as its rectangle leaves no more room than the polygon does.

@@ -1,7 +1,7 @@
 //! Each growth refused in turn: a refused call answers want of memory, hands back what it was given and changes nothing.
 
 use super::want::Want;
-use super::{element, holds, name, put_many, sealed};
+use super::{holds, name, put_many, sealed, twice};
 use oas_layout::{Draft, Element, Limits, Profile};
 use oas_num::{Fraction, Name, Why};
 use std::alloc::{AllocError, Global};
@@ -109,8 +109,7 @@ const HELD: &str =
 fn elements(alloc: Global) -> Result<Vec<(Element, Element)>, Why> {
     let mut list = Vec::new(alloc);
     for line in LINES.lines() {
-        let given = element(alloc, line)?;
-        list.push((given, element(alloc, line)?))?;
+        list.push(twice(alloc, line)?)?;
     }
     Ok(list)
 }

@@ -33,15 +33,16 @@ fn add_three(draft: &mut Draft, alloc: Global) -> Result<usize, Why> {
 const WHOLE: &str = "4 rectangle 1 0 10 20 0 0;2 circle 1 0 5 0 0";
 
 /// What a draft of A answers to B, and to B again; then, with more elements in B, how many cells and elements its layout
-/// has and their weight, and whether the pairs of B are those.
+/// has and their weight, and whether they were added and the pairs of B are those.
 fn whole(alloc: Global) -> Result<([Result<usize, Why>; 2], (usize, u64, u64), bool), Why> {
     let mut draft = draft_of_a(alloc, Limits::standard(), Profile::Two)?;
     let answers = [add_three(&mut draft, alloc), add_three(&mut draft, alloc)];
     let more = "2 circle 1 0 5 0 0;1 rectangle 1 0 10 20 0 0";
-    put_all(&mut draft, alloc, 1, more)?;
+    let is_put = put_all(&mut draft, alloc, 1, more).is_ok();
     let layout = sealed(draft)?;
     let counts = (layout.cells(), layout.count(), layout.weight());
-    Ok((answers, counts, holds(alloc, &layout, 1, WHOLE)))
+    let is_whole = is_put && holds(alloc, &layout, 1, WHOLE);
+    Ok((answers, counts, is_whole))
 }
 
 #[test]
