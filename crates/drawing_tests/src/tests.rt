@@ -112,6 +112,9 @@ fn last_seen(alloc: Global, modal: &ModalVariables) -> Option<Seen> {
     seen(last_copy(alloc, modal, Kind::Rectangle, false).ok()?)
 }
 
+/// Drops the modal variables, in a step of its own.
+fn discard(_modal: ModalVariables) {}
+
 /// A rectangle, a square of its width, and a rectangle of that square's size.
 fn squares_seen(alloc: Global) -> [Option<Seen>; 3] {
     let mut modal = ModalVariables::new();
@@ -120,7 +123,9 @@ fn squares_seen(alloc: Global) -> [Option<Seen>; 3] {
     modal.draw_rectangle(&mut bare(true, at(Some(20), None)));
     let square = last_seen(alloc, &modal);
     modal.draw_rectangle(&mut bare(false, at(None, Some(30))));
-    [rectangle, square, last_seen(alloc, &modal)]
+    let last = last_seen(alloc, &modal);
+    discard(modal);
+    [rectangle, square, last]
 }
 
 #[test]
@@ -155,7 +160,9 @@ fn copies_drawn(alloc: Global) -> (bool, Option<Why>) {
         y: -5,
     });
     let is_drawn = draws(alloc, &modal, Kind::Circle, true, &last);
-    (is_drawn, refusal(alloc, &modal, Kind::Rectangle, true))
+    let refused = refusal(alloc, &modal, Kind::Rectangle, true);
+    discard(modal);
+    (is_drawn, refused)
 }
 
 #[test]
@@ -176,12 +183,14 @@ fn counted(modal: &ModalVariables, repeated: bool, count: u64, weight: u64) -> R
 fn counts() -> [Result<u64, Why>; 4] {
     let mut modal = ModalVariables::new();
     modal.draw_circle(&mut circles());
-    [
+    let counts = [
         counted(&modal, true, (1 << 24) - 3, 0),
         counted(&modal, true, (1 << 24) - 2, 0),
         counted(&modal, true, 0, (1 << 28) - 2),
         counted(&modal, false, 0, (1 << 28) - 2),
-    ]
+    ];
+    discard(modal);
+    counts
 }
 
 #[test]

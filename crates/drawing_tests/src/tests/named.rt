@@ -6,7 +6,7 @@ ghost use Rattle.oas_ahead.specs.Named.{GivesName, named_record};
 ghost use Rattle.oas_drawing.specs.Positions.{IsNear};
 ghost use Rattle.oas_drawing.specs.Modal.{fresh, stepped};
 
-use super::{at, draws};
+use super::{at, discard, draws};
 use oas_ahead::{Given, NamedOnce};
 use oas_drawing::{Drawn, Kind, ModalVariables};
 use oas_layout::{Element, Limits, Turns};
@@ -115,7 +115,9 @@ fn places(alloc: Global, modal_cell: CellRef, wanted: &Drawn) -> Result<(bool, b
         turn: Turn::Quarters(3),
         flip: true,
     };
-    draws_both(alloc, &mut modal, &next, kind, wanted)
+    let drawn = draws_both(alloc, &mut modal, &next, kind, wanted);
+    discard(modal);
+    drawn
 }
 
 /// The placement that is drawn.
@@ -148,7 +150,9 @@ fn writes(alloc: Global, modal_string: TextRef, wanted: &Drawn) -> Result<(bool,
         x: Some(-7),
         y: None,
     };
-    draws_both(alloc, &mut modal, &next, Kind::Text, wanted)
+    let drawn = draws_both(alloc, &mut modal, &next, Kind::Text, wanted);
+    discard(modal);
+    drawn
 }
 
 /// The text that is drawn.

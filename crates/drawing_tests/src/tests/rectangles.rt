@@ -2,7 +2,7 @@
 
 ghost use Rattle.std.specs.Prelude.{◌≤◌, ◌^◌};
 
-use super::{Seen, at, bare, full, seen};
+use super::{Seen, at, bare, discard, full, seen};
 use oas_drawing::ModalVariables;
 use oas_layout::Limits;
 use oas_num::Why;
@@ -22,12 +22,11 @@ fn within_limits() -> [Result<Option<Seen>, Why>; 4] {
     let undefined = one(&modal, 1 << 24, 1 << 28);
     modal.draw_rectangle(&mut full(10, 20, at(Some(7), Some(-1))));
     modal.draw_rectangle(&mut bare(true, at(None, Some(3))));
-    [
-        undefined,
-        one(&modal, (1 << 24) - 1, (1 << 28) - 1),
-        one(&modal, 1 << 24, 1 << 28),
-        one(&modal, (1 << 24) - 1, 1 << 28),
-    ]
+    let inside = one(&modal, (1 << 24) - 1, (1 << 28) - 1);
+    let many = one(&modal, 1 << 24, 1 << 28);
+    let heavy = one(&modal, (1 << 24) - 1, 1 << 28);
+    discard(modal);
+    [undefined, inside, many, heavy]
 }
 
 #[test]
@@ -49,7 +48,10 @@ fn at_the_edge() -> [Result<Option<Seen>, Why>; 4] {
     modal.draw_rectangle(&mut bare(false, at(Some((1 << 60) - 9), None)));
     let right = one(&modal, 0, 0);
     modal.draw_rectangle(&mut bare(false, at(Some(0), Some(-(1 << 60) - 1))));
-    [edge, right, one(&modal, 0, 0), one(&modal, 0, 1 << 28)]
+    let low = one(&modal, 0, 0);
+    let heavy = one(&modal, 0, 1 << 28);
+    discard(modal);
+    [edge, right, low, heavy]
 }
 
 #[test]
