@@ -112,7 +112,7 @@ fn last_seen(alloc: Global, modal: &ModalVariables) -> Option<Seen> {
     seen(last_copy(alloc, modal, Kind::Rectangle, false).ok()?)
 }
 
-/// Drops the modal variables, in a step of its own.
+/// Drops the modal variables in a step of its own, since that is dear to prove beside other values.
 fn discard(_modal: ModalVariables) {}
 
 /// A rectangle, a square of its width, and a rectangle of that square's size.

@@ -140,7 +140,7 @@ fn expect_row(rt: &impl Abort, alloc: Global, row: &str) -> Result<(), Fail> {
     Ok(())
 }
 
-/// Drops the reader, in a step of its own.
+/// Drops the reader in a step of its own, since that is dear to prove beside other values.
 fn discard<S: CellStore>(_reader: Reader<S>) {}
 
 /// Whether the reader refuses a PAD with what it refused before.
