@@ -173,12 +173,6 @@ fn element(alloc: Global, line: &str) -> Result<Element, Why> {
     }
 }
 
-/// The element of a line, and one that equals it.
-fn twice(alloc: Global, line: &str) -> Result<(Element, Element), Why> {
-    let given = element(alloc, line)?;
-    Ok((given, element(alloc, line)?))
-}
-
 /// Adds a cell of this name.
 fn add_cell(draft: &mut Draft, alloc: Global, text: &str) -> Result<usize, Why> {
     match draft.add_cell(name(alloc, text)?) {

@@ -1,6 +1,7 @@
 //! Limits at and past the bounds of all limits, and drafts at theirs.
 
-use super::{Words, draft_of_a, layout_of_a, limits_of, put, put_many, sealed, twice};
+use super::memory::twice;
+use super::{Words, draft_of_a, layout_of_a, limits_of, put, put_many, sealed};
 use oas_layout::{Draft, Element, Limits, Profile};
 use oas_num::Why;
 use std::alloc::Global;
