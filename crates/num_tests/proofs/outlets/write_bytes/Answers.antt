@@ -1,5 +1,5 @@
 use Rattle.oas_bytes.specs.Laws.OutletLaws.{writer_has, writer_took, writer_took_rest}
-use Rattle.bytes_tests.proofs.outlets.write_bytes.Goals as goal
+use Rattle.num_tests.proofs.outlets.write_bytes.Goals as goal
 
 pub returns-in_default-clause-err : goal.returns-in_default-clause-err
 returns-in_default-clause-err g c = rw c.taken.ensures (writer_took g.W.Write.contents _ _ _ _ _ c.new-outlet.ensures c.in_default.ensures c.writer-1.given.1)
