@@ -1,12 +1,10 @@
-mod lists;
-mod memory;
-mod repetitions;
+//! Rows of text that give what is read, and what comes of it.
 
 use oas_num::Why;
 use std::alloc::Global;
 
 /// The parts of a row, which `|` keeps apart; those that it lacks are empty.
-fn row_parts(row: &str) -> [&str; 4] {
+pub(crate) fn row_parts(row: &str) -> [&str; 4] {
     let (first, rest) = row.split_once("|").unwrap_or((row, ""));
     let (second, rest) = rest.split_once("|").unwrap_or((rest, ""));
     let (third, fourth) = rest.split_once("|").unwrap_or((rest, ""));
@@ -14,7 +12,7 @@ fn row_parts(row: &str) -> [&str; 4] {
 }
 
 /// The bytes of these numbers.
-fn bytes_of(alloc: Global, numbers: &str) -> Result<Vec<u8>, Why> {
+pub(crate) fn bytes_of(alloc: Global, numbers: &str) -> Result<Vec<u8>, Why> {
     let mut bytes = Vec::new(alloc);
     for word in numbers.split_whitespace() {
         bytes.push(word.parse().unwrap_or(0))?;
@@ -23,7 +21,7 @@ fn bytes_of(alloc: Global, numbers: &str) -> Result<Vec<u8>, Why> {
 }
 
 /// The coordinates of a point.
-fn point(word: &str) -> (i64, i64) {
+pub(crate) fn point(word: &str) -> (i64, i64) {
     let (x, y) = word.split_once(",").unwrap_or(("", ""));
     (x.parse().unwrap_or(i64::MAX), y.parse().unwrap_or(i64::MAX))
 }

@@ -1,4 +1,4 @@
-use super::{bytes_of, point, row_parts};
+use crate::rows::{bytes_of, point, row_parts};
 use oas_num::{SliceSource, Why};
 use oas_ring::Point;
 use oas_shape::{ListUse, PointList};

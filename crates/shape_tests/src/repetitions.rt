@@ -1,4 +1,4 @@
-use super::{bytes_of, point, row_parts};
+use crate::rows::{bytes_of, point, row_parts};
 use oas_num::{GDelta, SliceSource, Why};
 use oas_shape::{Places, RepField, Repetition};
 use std::alloc::{AllocError, Global};
