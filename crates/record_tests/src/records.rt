@@ -1,11 +1,10 @@
+//! Files that are read up to the first refusal or END, and how many bytes a record takes.
+
 use oas_num::{INPUT_MAX, SliceSource, Source};
 use oas_record::{Record, read_head};
 use std::alloc::{AllocError, Global};
 use std::process::Abort;
 use std::test::Fail;
-
-mod fields;
-mod memory;
 
 /// A file in the style of a usual writer, with its names at the end.
 const COMPACT: &str =
@@ -83,7 +82,7 @@ fn push_times(digits: &mut String, hex: &str, times: usize) -> Result<(), AllocE
 }
 
 /// The bytes of a file that is given in pieces.
-fn bytes_of(alloc: Global, pieces: &str) -> Result<Vec<u8>, Fail> {
+pub(crate) fn bytes_of(alloc: Global, pieces: &str) -> Result<Vec<u8>, Fail> {
     let mut digits = String::new(alloc);
     for text in pieces.split_whitespace() {
         let (hex, times) = piece(text);
@@ -94,16 +93,16 @@ fn bytes_of(alloc: Global, pieces: &str) -> Result<Vec<u8>, Fail> {
 
 /// What the read of a record comes to.
 #[derive(Clone, Copy)]
-struct Outcome {
+pub(crate) struct Outcome {
     // The number of a refusal, or 0.
-    number: u8,
+    pub(crate) number: u8,
     // Where it is refused, or ends.
-    at: u64,
+    pub(crate) at: u64,
     is_end: bool,
 }
 
 /// Reads a record.
-fn read_one(alloc: Global, source: &mut SliceSource<'_>, flag_in_end: bool) -> Outcome {
+pub(crate) fn read_one(alloc: Global, source: &mut SliceSource<'_>, flag_in_end: bool) -> Outcome {
     match Record::read(alloc, source, flag_in_end) {
         Ok(record) => Outcome {
             number: 0,

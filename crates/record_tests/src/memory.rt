@@ -1,8 +1,9 @@
 //! Each growth refused in turn: a read answers want of memory, or what stands there.
 
-use super::*;
-use oas_num::Why;
+use crate::records::read_one;
+use oas_num::{INPUT_MAX, SliceSource, Why};
 use scarce_memory::Hoard;
+use std::alloc::{AllocError, Global};
 
 /// A name, a string, and a path with a list and a repetition that grow.
 const RECORDS: [&[u8]; 3] = [
