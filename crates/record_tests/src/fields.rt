@@ -1,5 +1,6 @@
 //! The fields of a record that is read.
 
+use crate::records::discard;
 use oas_num::SliceSource;
 use oas_record::{Extension, Extensions, Record, Turn};
 use std::alloc::Global;
@@ -44,7 +45,11 @@ fn is_wanted(record: &Record, wanted: Wanted) -> bool {
 /// Whether such a record stands there.
 fn gives(alloc: Global, source: &mut SliceSource<'_>, wanted: Wanted) -> bool {
     match Record::read(alloc, source, false) {
-        Ok(record) => is_wanted(&record, wanted),
+        Ok(record) => {
+            let is_wanted = is_wanted(&record, wanted);
+            discard(record);
+            is_wanted
+        }
         Err(_refusal) => false,
     }
 }

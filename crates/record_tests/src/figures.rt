@@ -1,11 +1,10 @@
-//! Polygons and paths that stand once, beside what a reader of records answers.
+//! What is found of polygons and paths that stand once, beside what a reader of records answers.
 
-use crate::records::bytes_of;
+use crate::records::discard;
 use oas_ahead::{path_ahead, polygon_ahead};
 use oas_num::{INPUT_MAX, SliceSource, Source};
 use oas_record::Record;
 use std::alloc::Global;
-use std::process::Abort;
 use std::test::Fail;
 
 /// What is looked for.
@@ -15,36 +14,11 @@ pub(crate) enum Figure {
     Path,
 }
 
-/// What is seen of it.
-#[derive(Clone, Copy, PartialEq, Eq)]
-pub(crate) enum Seen {
-    /// It isn't found, and a reader answers none.
-    Nothing,
-    /// It isn't found, and a reader answers one.
-    LeftToTheReader,
-    /// It is found as a reader answers it, with so many bytes behind it.
-    Found { behind: usize, shortest: bool },
-    /// It is found, and a reader answers something else.
-    Unlike,
-}
-
-/// It takes all bytes, in the shortest style.
-pub(crate) const SHORTEST: Seen = Seen::Found {
-    behind: 0,
-    shortest: true,
-};
-
-/// It takes all bytes, in another style.
-pub(crate) const LONGER: Seen = Seen::Found {
-    behind: 0,
-    shortest: false,
-};
-
-/// A figure as a debugger shows it, or no text where there is none.
+/// A figure as a debugger shows it behind its length, or no text where there is none.
 #[derive(Drop)]
 struct Told {
     text: String,
-    length: u64,
+    length: usize,
     shortest: bool,
 }
 
@@ -61,8 +35,8 @@ fn untold(alloc: Global) -> Told {
 fn polygon_told(alloc: Global, bytes: &[u8]) -> Result<Told, Fail> {
     match polygon_ahead(alloc, bytes) {
         Some(ahead) => Ok(Told {
-            text: format!(in alloc; "{:?}", ahead.polygon)?,
-            length: ahead.length as u64,
+            text: format!(in alloc; "{} {:?}", ahead.length, ahead.polygon)?,
+            length: ahead.length,
             shortest: ahead.shortest,
         }),
         None => Ok(untold(alloc)),
@@ -73,94 +47,56 @@ fn polygon_told(alloc: Global, bytes: &[u8]) -> Result<Told, Fail> {
 fn path_told(alloc: Global, bytes: &[u8]) -> Result<Told, Fail> {
     match path_ahead(alloc, bytes) {
         Some(ahead) => Ok(Told {
-            text: format!(in alloc; "{:?}", ahead.path)?,
-            length: ahead.length as u64,
+            text: format!(in alloc; "{} {:?}", ahead.length, ahead.path)?,
+            length: ahead.length,
             shortest: ahead.shortest,
         }),
         None => Ok(untold(alloc)),
     }
 }
 
-/// The record as a debugger shows it, if it is such a figure.
-fn text_of(alloc: Global, figure: Figure, record: &Record) -> Result<String, Fail> {
+/// The record of so many bytes, told as a figure is, if it is such a one.
+fn text_of(alloc: Global, figure: Figure, record: &Record, length: u64) -> Result<String, Fail> {
     match (figure, record) {
-        (Figure::Polygon, Record::Polygon(polygon)) => Ok(format!(in alloc; "{polygon:?}")?),
-        (Figure::Path, Record::Path(path)) => Ok(format!(in alloc; "{path:?}")?),
+        (Figure::Polygon, Record::Polygon(polygon)) => {
+            Ok(format!(in alloc; "{length} {polygon:?}")?)
+        }
+        (Figure::Path, Record::Path(path)) => Ok(format!(in alloc; "{length} {path:?}")?),
         _ => Ok(String::new(alloc)),
     }
 }
 
 /// The figure that a reader answers.
-fn read(alloc: Global, figure: Figure, bytes: &[u8]) -> Result<Told, Fail> {
+fn read(alloc: Global, figure: Figure, bytes: &[u8]) -> Result<String, Fail> {
     let mut source = SliceSource::new(bytes, INPUT_MAX);
     match Record::read(alloc, &mut source, false) {
-        Ok(record) => Ok(Told {
-            text: text_of(alloc, figure, &record)?,
-            length: source.at(),
-            shortest: false,
-        }),
-        Err(_refusal) => Ok(untold(alloc)),
+        Ok(record) => {
+            let text = text_of(alloc, figure, &record, source.at());
+            discard(record);
+            text
+        }
+        Err(_refusal) => Ok(String::new(alloc)),
     }
 }
 
-/// What is seen where that is found, and a reader answers this, of so many bytes.
-fn compared(found: &Told, read: &Told, count: usize) -> Seen {
-    if found.text.is_empty() {
-        return if read.text.is_empty() {
-            Seen::Nothing
-        } else {
-            Seen::LeftToTheReader
-        };
-    }
-    if found.text != read.text || found.length != read.length {
-        return Seen::Unlike;
-    }
-    Seen::Found {
-        behind: count.saturating_sub(found.length as usize),
-        shortest: found.shortest,
-    }
+/// What a row says of what is found, where a reader answers that text: how many bytes it has, and whether they are of the
+/// shortest style; no text, where both are none; or that it is left to the reader, or unlike what that answers.
+fn compared(alloc: Global, found: &Told, read: &str) -> Result<String, Fail> {
+    let shown = match (found.text.is_empty(), found.text.as_str() == read) {
+        (false, true) => format!(in alloc; "{} {}", found.length, found.shortest)?,
+        (true, true) => String::new(alloc),
+        (true, false) => String::from_str(alloc, "left")?,
+        (false, false) => String::from_str(alloc, "unlike")?,
+    };
+    Ok(shown)
 }
 
-/// What is seen of a figure.
-pub(crate) fn look(alloc: Global, figure: Figure, bytes: &[u8]) -> Result<Seen, Fail> {
+/// What a row says of a figure.
+pub(crate) fn figure_shown(alloc: Global, figure: Figure, bytes: &[u8]) -> Result<String, Fail> {
     let found = match figure {
         Figure::Polygon => polygon_told(alloc, bytes)?,
         Figure::Path => path_told(alloc, bytes)?,
     };
     let read = read(alloc, figure, bytes)?;
-    Ok(compared(&found, &read, bytes.len()))
-}
-
-/// What is seen of a figure in pieces.
-fn look_in(alloc: Global, figure: Figure, pieces: &str) -> Result<Seen, Fail> {
-    let bytes = bytes_of(alloc, pieces)?;
-    look(alloc, figure, &bytes)
-}
-
-/// Asserts that this is seen in each row.
-pub(crate) fn assert_seen(
-    rt: &impl Abort,
-    alloc: Global,
-    figure: Figure,
-    rows: &str,
-    wanted: Seen,
-) -> Result<(), Fail> {
-    for row in rows.lines() {
-        assert!(rt; look_in(alloc, figure, row)? == wanted, "{row}");
-    }
-    Ok(())
-}
-
-/// Asserts that nothing is seen where the bytes are cut.
-pub(crate) fn assert_nothing_where_cut(
-    rt: &impl Abort,
-    alloc: Global,
-    figure: Figure,
-    bytes: &[u8],
-) -> Result<(), Fail> {
-    for length in 0..bytes.len() {
-        let found = look(alloc, figure, &bytes[..length])?;
-        assert!(rt; found == Seen::Nothing, "{length}");
-    }
-    Ok(())
+    compared(alloc, &found, &read)
 }

@@ -1,14 +1,14 @@
 //! Polygons that stand once.
 
-use crate::figures::{Figure, LONGER, SHORTEST, Seen, assert_nothing_where_cut, assert_seen, look};
+use crate::shown::{Kind, assert_nothing_where_cut, assert_shown, is_shown};
 use oas_ahead::polygon_ahead;
 use oas_record::Polygon;
 use std::alloc::{AllocError, Global};
 use std::test::Fail;
 
-/// A polygon of layer 1, datatype 0 at (-1, 64), of the steps (10, 0), (0, 20) and (-10, 0), and a byte behind it.
-const WHOLE: [u8; 16] = [
-    0x15, 0x3B, 0x01, 0x00, 0x04, 0x03, 0x29, 0x00, 0x01, 0x28, 0x2B, 0x00, 0x03, 0x80, 0x01, 0x22,
+/// A polygon of layer 1, datatype 0 at (-1, 64), of the steps (10, 0), (0, 20) and (-10, 0).
+const WHOLE: [u8; 15] = [
+    0x15, 0x3B, 0x01, 0x00, 0x04, 0x03, 0x29, 0x00, 0x01, 0x28, 0x2B, 0x00, 0x03, 0x80, 0x01,
 ];
 
 /// How many points the list has that it gives, or none.
@@ -36,67 +36,56 @@ fn finds_whole(alloc: Global) -> bool {
     }
 }
 
+/// The whole one, and a byte behind it.
+const ALL_FIELDS: &str = "15 3b 01 00 04 03 2900 0128 2b00 03 8001 22: 15 true";
+
 #[test]
 fn all_fields(rt: HostRuntime) -> Result<(), Fail> {
-    let found = look(rt.alloc(), Figure::Polygon, &WHOLE)?;
-    let whole = Seen::Found {
-        behind: 1,
-        shortest: true,
-    };
-    assert!(rt; found == whole && finds_whole(rt.alloc()));
-    Ok(())
+    assert!(rt; finds_whole(rt.alloc()));
+    assert_shown(&rt, rt.alloc(), Kind::Polygon, ALL_FIELDS)
 }
 
 /// No point list, no field, a point list alone, and all but one field.
 const SOME_FIELDS: &str = "\
-15 1b 01 00 03 02\n\
-15 00\n\
-15 20 04 02 2900 0128\n\
-15 3a 01 04 02 2900 0128 02 04\n\
-15 33 01 02 04 02 2900 0128 02\n\
-15 2b 01 02 04 02 2900 0128 02";
+15 1b 01 00 03 02: 6 false\n\
+15 00: 2 false\n\
+15 20 04 02 2900 0128: 8 false\n\
+15 3a 01 04 02 2900 0128 02 04: 11 false\n\
+15 33 01 02 04 02 2900 0128 02: 11 false\n\
+15 2b 01 02 04 02 2900 0128 02: 11 false";
 
 #[test]
 fn some_fields(rt: HostRuntime) -> Result<(), Fail> {
-    assert_seen(&rt, rt.alloc(), Figure::Polygon, SOME_FIELDS, LONGER)
+    assert_shown(&rt, rt.alloc(), Kind::Polygon, SOME_FIELDS)
 }
 
 /// In each of the eight directions; one such step among others; and two of no length.
 const STEPS_OF_ONE_NUMBER: &str = "\
-15 3b 01 00 04 08 10 22 34 46 58 6a 7c 8e01 02 04\n\
-15 3b 01 00 04 03 2900 42 2b00 02 04\n\
-15 3b 01 00 04 02 00 0e 02 04";
+15 3b 01 00 04 08 10 22 34 46 58 6a 7c 8e01 02 04: 17 false\n\
+15 3b 01 00 04 03 2900 42 2b00 02 04: 13 false\n\
+15 3b 01 00 04 02 00 0e 02 04: 10 false";
 
 #[test]
 fn steps_of_one_number(rt: HostRuntime) -> Result<(), Fail> {
-    assert_seen(
-        &rt,
-        rt.alloc(),
-        Figure::Polygon,
-        STEPS_OF_ONE_NUMBER,
-        LONGER,
-    )
+    assert_shown(&rt, rt.alloc(), Kind::Polygon, STEPS_OF_ONE_NUMBER)
 }
 
-/// A step of (0, 0), and one of nine bytes a number.
-const IN_THE_SHORTEST: &str = "\
-15 3b 01 00 04 02 0100 2900 02 04\n\
-15 3b 01 00 04 02 ff*8 7f ff*8 7f 2900 02 04";
-
-/// Minus zero to the east and to the north; the type, the count, either number of a step and x in a byte too many.
-const IN_OTHERS: &str = "\
-15 3b 01 00 04 02 0300 2900 02 04\n\
-15 3b 01 00 04 02 0101 2900 02 04\n\
-15 3b 01 00 8400 02 0128 2900 02 04\n\
-15 3b 01 00 04 8200 0128 2900 02 04\n\
-15 3b 01 00 04 02 810028 2900 02 04\n\
-15 3b 01 00 04 02 01a800 2900 02 04\n\
-15 3b 01 00 04 02 0128 2900 8200 04";
+/// A step of (0, 0), and one of nine bytes a number. Minus zero to the east and to the north; the type, the count, either number of a
+/// step and x in a byte too many.
+const STYLES: &str = "\
+15 3b 01 00 04 02 0100 2900 02 04: 12 true\n\
+15 3b 01 00 04 02 ff*8 7f ff*8 7f 2900 02 04: 28 true\n\
+15 3b 01 00 04 02 0300 2900 02 04: 12 false\n\
+15 3b 01 00 04 02 0101 2900 02 04: 12 false\n\
+15 3b 01 00 8400 02 0128 2900 02 04: 13 false\n\
+15 3b 01 00 04 8200 0128 2900 02 04: 13 false\n\
+15 3b 01 00 04 02 810028 2900 02 04: 13 false\n\
+15 3b 01 00 04 02 01a800 2900 02 04: 13 false\n\
+15 3b 01 00 04 02 0128 2900 8200 04: 13 false";
 
 #[test]
 fn only_the_shortest_is_it(rt: HostRuntime) -> Result<(), Fail> {
-    assert_seen(&rt, rt.alloc(), Figure::Polygon, IN_THE_SHORTEST, SHORTEST)?;
-    assert_seen(&rt, rt.alloc(), Figure::Polygon, IN_OTHERS, LONGER)
+    assert_shown(&rt, rt.alloc(), Kind::Polygon, STYLES)
 }
 
 /// A polygon of so many steps, not all in the shortest style.
@@ -109,51 +98,49 @@ fn of_steps(alloc: Global, count: u8) -> Result<Vec<u8>, AllocError> {
     Ok(bytes)
 }
 
-/// What is seen of it, and how many points it has.
-fn seen_of_steps(alloc: Global, count: u8) -> Result<(Seen, usize), Fail> {
+/// Whether it is found with its points.
+fn finds_points(alloc: Global, bytes: &[u8], count: usize) -> bool {
+    match polygon_ahead(alloc, bytes) {
+        Some(ahead) => points_of(&ahead.polygon) == count,
+        None => false,
+    }
+}
+
+/// Whether it is found, with its points, as a reader answers it.
+fn finds_steps(alloc: Global, count: u8) -> Result<bool, Fail> {
     let bytes = of_steps(alloc, count)?;
-    let points = match polygon_ahead(alloc, &bytes) {
-        Some(ahead) => points_of(&ahead.polygon),
-        None => 0,
-    };
-    Ok((look(alloc, Figure::Polygon, &bytes)?, points))
+    let wanted = format!(in alloc; "{} false", bytes.len())?;
+    Ok(
+        is_shown(alloc, Kind::Polygon, &bytes, &wanted)?
+            && finds_points(alloc, &bytes, usize::from(count) + 1),
+    )
 }
 
 #[test]
 fn more_steps_than_there_is_room_for_at_first(rt: HostRuntime) -> Result<(), Fail> {
     for count in [31u8, 32, 33, 100] {
-        let found = seen_of_steps(rt.alloc(), count)?;
-        assert!(rt; found == (LONGER, usize::from(count) + 1), "{count}");
+        assert!(rt; finds_steps(rt.alloc(), count)?, "{count}");
     }
     Ok(())
 }
 
 #[test]
 fn nothing_where_they_are_cut(rt: HostRuntime) -> Result<(), Fail> {
-    assert_nothing_where_cut(&rt, rt.alloc(), Figure::Polygon, &WHOLE[..15])
+    assert_nothing_where_cut(&rt, rt.alloc(), Kind::Polygon, &WHOLE)
 }
 
 /// Lists of each other type, and one of a type that there isn't.
 const OF_OTHER_TYPES: &str = "\
-15 20 00 02 29 02 29 02\n\
-15 20 01 02 29 02 29 02\n\
-15 20 02 02 29 02 29 02\n\
-15 20 03 02 29 02 29 02\n\
-15 20 05 02 29 02 29 02";
-
-const OF_NO_TYPE: &str = "15 20 06 02 29 02 29 02";
+15 20 00 02 29 02 29 02: left\n\
+15 20 01 02 29 02 29 02: left\n\
+15 20 02 02 29 02 29 02: left\n\
+15 20 03 02 29 02 29 02: left\n\
+15 20 05 02 29 02 29 02: left\n\
+15 20 06 02 29 02 29 02";
 
 #[test]
 fn nothing_where_the_list_has_another_type(rt: HostRuntime) -> Result<(), Fail> {
-    let alloc = rt.alloc();
-    assert_seen(
-        &rt,
-        alloc,
-        Figure::Polygon,
-        OF_OTHER_TYPES,
-        Seen::LeftToTheReader,
-    )?;
-    assert_seen(&rt, alloc, Figure::Polygon, OF_NO_TYPE, Seen::Nothing)
+    assert_shown(&rt, rt.alloc(), Kind::Polygon, OF_OTHER_TYPES)
 }
 
 /// None, one, and more than there are.
@@ -165,19 +152,16 @@ const COUNTS: &str = "\
 
 #[test]
 fn nothing_where_the_count_does_not_fit(rt: HostRuntime) -> Result<(), Fail> {
-    assert_seen(&rt, rt.alloc(), Figure::Polygon, COUNTS, Seen::Nothing)
+    assert_shown(&rt, rt.alloc(), Kind::Polygon, COUNTS)
 }
 
-/// A repetition; a count and a step of ten bytes; an id of two bytes.
-const LEFT: &str = "\
-15 04 00\n\
-15 24 04 02 2900 0128 02 00 08\n\
-15 20 04 82 80*8 00 2900 2900\n\
-15 20 04 02 a9 80*8 00 00 2900\n\
-9500 00";
-
-/// An info byte that no polygon has, and other ids.
+/// A repetition; a count and a step of ten bytes; an id of two bytes; an info byte that no polygon has, and other ids.
 const OTHERS: &str = "\
+15 04 00: left\n\
+15 24 04 02 2900 0128 02 00 08: left\n\
+15 20 04 82 80*8 00 2900 2900: left\n\
+15 20 04 02 a9 80*8 00 00 2900: left\n\
+9500 00: left\n\
 15 40 00\n\
 15 80 00\n\
 14 00\n\
@@ -185,7 +169,5 @@ const OTHERS: &str = "\
 
 #[test]
 fn nothing_else(rt: HostRuntime) -> Result<(), Fail> {
-    let alloc = rt.alloc();
-    assert_seen(&rt, alloc, Figure::Polygon, LEFT, Seen::LeftToTheReader)?;
-    assert_seen(&rt, alloc, Figure::Polygon, OTHERS, Seen::Nothing)
+    assert_shown(&rt, rt.alloc(), Kind::Polygon, OTHERS)
 }

@@ -1,5 +1,6 @@
-//! What is found of rectangles, placements and texts that stand once, as a debugger shows it.
+//! Rows of bytes, and what is found there of elements that stand once.
 
+use crate::figures::{Figure, figure_shown};
 use crate::records::bytes_of;
 use oas_ahead::{named_ahead, rectangle_ahead};
 use std::alloc::Global;
@@ -11,9 +12,11 @@ use std::test::Fail;
 pub(crate) enum Kind {
     Rectangle,
     Named,
+    Polygon,
+    Path,
 }
 
-/// The rectangle that is found, behind its length and whether that is the shortest; or no text.
+/// The rectangle that is found, as a debugger shows it behind its length and whether that is the shortest; or no text.
 fn rectangle_shown(alloc: Global, bytes: &[u8]) -> Result<String, Fail> {
     match rectangle_ahead(bytes) {
         Some(ahead) => {
@@ -36,10 +39,17 @@ fn named_shown(alloc: Global, bytes: &[u8]) -> Result<String, Fail> {
 }
 
 /// Whether what is found is shown so.
-fn is_shown(alloc: Global, kind: Kind, bytes: &[u8], wanted: &str) -> Result<bool, Fail> {
+pub(crate) fn is_shown(
+    alloc: Global,
+    kind: Kind,
+    bytes: &[u8],
+    wanted: &str,
+) -> Result<bool, Fail> {
     let shown = match kind {
         Kind::Rectangle => rectangle_shown(alloc, bytes)?,
         Kind::Named => named_shown(alloc, bytes)?,
+        Kind::Polygon => figure_shown(alloc, Figure::Polygon, bytes)?,
+        Kind::Path => figure_shown(alloc, Figure::Path, bytes)?,
     };
     Ok(shown.as_str() == wanted)
 }
