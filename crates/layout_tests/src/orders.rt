@@ -11,7 +11,6 @@ use oas_entries::Run;
 use oas_store::KeyStore;
 use std::alloc::{AllocError, Global};
 use std::process::Abort;
-use std::test::Fail;
 
 /// How many numbers come, of most orders.
 const COUNT: u32 = 100_000;
@@ -98,61 +97,76 @@ fn closed(store: KeyStore) -> Result<Run, AllocError> {
     }
 }
 
-/// Asserts that the numbers below `distinct` come out, each so many times.
+/// How many numbers come out of a run, each so many times; or which one does not.
+fn numbers_of(run: &Run, times: u64) -> Result<u32, u32> {
+    let mut next: u32 = 0;
+    for (key, count) in run.entries() {
+        if key != next.to_be_bytes().as_slice() || count != times {
+            return Err(next);
+        }
+        next = next.saturating_add(1);
+    }
+    Ok(next)
+}
+
+/// The same, of the numbers in an order.
+fn numbers(alloc: Global, order: Order, times: u64) -> Result<Result<u32, u32>, AllocError> {
+    let run = closed(filled(alloc, order)?)?;
+    Ok(numbers_of(&run, times))
+}
+
+/// Asserts of each order that the numbers below the first one beside it come out, each as often as the second says.
 fn assert_numbers(
     rt: &impl Abort,
     alloc: Global,
-    order: Order,
-    distinct: u32,
-    times: u64,
+    rows: &[(Order, u32, u64)],
 ) -> Result<(), AllocError> {
-    let run = closed(filled(alloc, order)?)?;
-    let mut next: u32 = 0;
-    for (key, count) in run.entries() {
-        let wanted = next.to_be_bytes();
-        assert!(rt;
-            key == wanted.as_slice() && count == times,
-            "{order:?} at {next}"
-        );
-        next = next.saturating_add(1);
+    for (order, distinct, times) in rows {
+        let found = numbers(alloc, *order, *times)?;
+        assert!(rt; found == Ok(*distinct), "{order:?}: {found:?}");
     }
-    assert!(rt; next == distinct, "{order:?}");
     Ok(())
 }
 
-#[test]
-fn keys_come_in_any_order(rt: HostRuntime) -> Result<(), Fail> {
-    let alloc = rt.alloc();
-    assert_numbers(&rt, alloc, Order::Ascending, 100_000, 1)?;
-    assert_numbers(&rt, alloc, Order::Descending, 100_000, 1)?;
-    assert_numbers(&rt, alloc, Order::Sawtooth, 25_000, 4)?;
-    assert_numbers(&rt, alloc, Order::OrganPipe, 50_000, 2)?;
-    assert_numbers(&rt, alloc, Order::Scattered, 100_000, 1)?;
-    assert_numbers(&rt, alloc, Order::Few, 10, 10_000)?;
-    Ok(())
-}
+const ANY_ORDER: &[(Order, u32, u64)] = &[
+    (Order::Ascending, 100_000, 1),
+    (Order::Descending, 100_000, 1),
+    (Order::Sawtooth, 25_000, 4),
+    (Order::OrganPipe, 50_000, 2),
+    (Order::Scattered, 100_000, 1),
+    (Order::Few, 10, 10_000),
+];
 
 #[test]
-fn a_few_keys_rise_or_wait(rt: HostRuntime) -> Result<(), Fail> {
-    let alloc = rt.alloc();
-    assert_numbers(&rt, alloc, Order::Apart(0, 0), 0, 1)?;
-    assert_numbers(&rt, alloc, Order::Apart(1, 0), 1, 1)?;
-    assert_numbers(&rt, alloc, Order::Apart(1, 1), 2, 1)?;
-    assert_numbers(&rt, alloc, Order::Apart(100, 3), 103, 1)?;
-    assert_numbers(&rt, alloc, Order::Apart(3, 100), 103, 1)?;
-    assert_numbers(&rt, alloc, Order::Apart(40, 41), 81, 1)?;
-    assert_numbers(&rt, alloc, Order::Again(1, 1), 1, 2)?;
-    assert_numbers(&rt, alloc, Order::Again(20, 1), 20, 2)?;
-    assert_numbers(&rt, alloc, Order::Again(20, 300), 20, 301)?;
-    Ok(())
+fn keys_come_in_any_order(rt: HostRuntime) -> Result<(), AllocError> {
+    assert_numbers(&rt, rt.alloc(), ANY_ORDER)
 }
 
+const FEW_KEYS: &[(Order, u32, u64)] = &[
+    (Order::Apart(0, 0), 0, 1),
+    (Order::Apart(1, 0), 1, 1),
+    (Order::Apart(1, 1), 2, 1),
+    (Order::Apart(100, 3), 103, 1),
+    (Order::Apart(3, 100), 103, 1),
+    (Order::Apart(40, 41), 81, 1),
+    (Order::Again(1, 1), 1, 2),
+    (Order::Again(20, 1), 20, 2),
+    (Order::Again(20, 300), 20, 301),
+];
+
 #[test]
-fn a_block_of_keys_rises_or_waits(rt: HostRuntime) -> Result<(), Fail> {
-    let alloc = rt.alloc();
-    assert_numbers(&rt, alloc, Order::Apart(10_000, 30_000), 40_000, 1)?;
-    assert_numbers(&rt, alloc, Order::Apart(12_000, 30_000), 42_000, 1)?;
-    assert_numbers(&rt, alloc, Order::Apart(30_000, 10_000), 40_000, 1)?;
-    assert_numbers(&rt, alloc, Order::Again(10_900, 1), 10_900, 2)?;
-    Ok(())
+fn a_few_keys_rise_or_wait(rt: HostRuntime) -> Result<(), AllocError> {
+    assert_numbers(&rt, rt.alloc(), FEW_KEYS)
+}
+
+const BLOCKS_OF_KEYS: &[(Order, u32, u64)] = &[
+    (Order::Apart(10_000, 30_000), 40_000, 1),
+    (Order::Apart(12_000, 30_000), 42_000, 1),
+    (Order::Apart(30_000, 10_000), 40_000, 1),
+    (Order::Again(10_900, 1), 10_900, 2),
+];
+
+#[test]
+fn a_block_of_keys_rises_or_waits(rt: HostRuntime) -> Result<(), AllocError> {
+    assert_numbers(&rt, rt.alloc(), BLOCKS_OF_KEYS)
 }
