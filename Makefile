@@ -66,7 +66,7 @@ test-reading:
 
 # Random deflated streams, inflated by the proved crate and by zlib.
 test-inflate:
-	cd crates/inflate_bench && rt run --jobs $(JOBS) </dev/null >/dev/null
+	cd crates/oas_bench && rt run --jobs $(JOBS) </dev/null >/dev/null
 	tests/inflate
 
 # The packages: a tar.gz, a .deb and SHA256SUMS in dist/, tried in clean folders.
@@ -98,9 +98,7 @@ test-klayout-prepared: all
 FAST ?= ../shared/bench
 bench: all
 	bench/run
-	cd crates/layout_bench && rt run --jobs $(JOBS) </dev/null >/dev/null
 	bench/layouts
-	cd crates/inflate_bench && rt run --jobs $(JOBS) </dev/null >/dev/null
 	bench/inflate
 	bench/canon ./oascanon
 	bench/questions ./oascanon

@@ -1,7 +1,6 @@
-//! The baseline of `bench/layouts`: plain Rust that does what `crates/layout_bench` does, with the same tests and counters.
+//! The baseline of `bench/layouts`: plain Rust that does what `oas_bench layouts` does, with the same tests and counters.
 
 use std::collections::BTreeMap;
-use std::io::BufRead;
 use std::time::Instant;
 
 #[derive(Clone, Copy, PartialEq, Eq, PartialOrd, Ord)]
@@ -139,9 +138,11 @@ impl Draft {
 struct Numbers(u64);
 
 impl Numbers {
-    fn next(&mut self) -> i64 {
-        self.0 = self.0.wrapping_mul(6364136223846793005).wrapping_add(1442695040888963407);
-        (self.0 >> 24) as i64
+    fn next(&mut self) -> u64 {
+        self.0 ^= self.0 << 13;
+        self.0 ^= self.0 >> 7;
+        self.0 ^= self.0 << 17;
+        self.0
     }
 }
 
@@ -159,25 +160,23 @@ fn polygon(x: i64) -> Element {
 }
 
 fn main() {
-    for line in std::io::stdin().lock().lines() {
-        let line = line.unwrap();
-        let words: Vec<&str> = line.split_whitespace().collect();
-        let (polygons, random, count) = (words[0] == "polygons", words[1] == "random", words[2].parse::<u64>().unwrap());
-        let start = Instant::now();
-        let mut draft = Draft { cells: vec![(b"A".to_vec(), BTreeMap::new())], count: 0, weight: 2 };
-        let mut numbers = Numbers(88172645463325252);
-        for k in 0..count {
-            let x = if random { numbers.next() } else { k as i64 };
-            let element = if polygons { polygon(x) } else { rectangle(x) };
-            if draft.add(0, element).is_err() {
-                panic!("refused");
-            }
+    let words: Vec<String> = std::env::args().collect();
+    let (polygons, random, count) = (words[2] == "polygons", words[3] == "random", words[4].parse::<u64>().unwrap());
+    let start = Instant::now();
+    let mut draft = Draft { cells: vec![(b"A".to_vec(), BTreeMap::new())], count: 0, weight: 2 };
+    let mut numbers = Numbers(0x9e37_79b9_7f4a_7c15);
+    for k in 0..count {
+        let place = if random { numbers.next() } else { k };
+        let x = (place % (1 << 40)) as i64;
+        let element = if polygons { polygon(x) } else { rectangle(x) };
+        if draft.add(0, element).is_err() {
+            panic!("refused");
         }
-        draft.cells.sort_by(|a, b| a.0.cmp(&b.0));
-        let built = start.elapsed();
-        let distinct = draft.cells[0].1.iter().count();
-        let read = start.elapsed();
-        println!("{} elements, {distinct} distinct, weight {}", draft.count, draft.weight);
-        eprintln!("{} {} {line}", built.as_micros(), read.as_micros());
     }
+    draft.cells.sort_by(|a, b| a.0.cmp(&b.0));
+    let built = start.elapsed();
+    let distinct = draft.cells[0].1.iter().count();
+    let read = start.elapsed();
+    println!("{} elements, {distinct} distinct, weight {}", draft.count, draft.weight);
+    eprintln!("{} {}", built.as_micros(), read.as_micros());
 }

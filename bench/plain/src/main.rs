@@ -1,8 +1,8 @@
-//! What `oas_bench` does, in plain Rust: the same work by the same steps, for `bench/run` to compare with. `buffered` is
-//! the writing once more, by a `BufWriter` of the standard library.
+//! What `oas_bench numbers` does, in plain Rust: the same work by the same steps, for `bench/run` to compare with.
+//! `buffered` is the writing once more, by a `BufWriter` of the standard library.
 
 use std::io::{self, Read, Write};
-use std::time::{Duration, Instant};
+use std::time::Instant;
 
 const MADE: u64 = 65536;
 
@@ -319,12 +319,8 @@ fn put<W: Write>(numbers: &[u64], times: u64, writer: &mut W) -> Result<(), Sink
 }
 
 fn main() {
-    let words: Vec<u64> = std::env::args()
-        .skip(1)
-        .filter_map(|word| word.parse().ok())
-        .collect();
-    let times = words.first().copied().unwrap_or(1);
-    let rounds = words.get(1).copied().unwrap_or(1);
+    let word = std::env::args().nth(1);
+    let times = word.and_then(|word| word.parse().ok()).unwrap_or(1);
     let mut made = Numbers {
         state: 0x9e37_79b9_7f4a_7c15,
     };
@@ -332,52 +328,46 @@ fn main() {
     let mut bytes = Vec::new();
     put(&numbers, times, &mut bytes).unwrap();
     let count = MADE * times;
-    let mut least = [Duration::MAX; 4];
-    for _ in 0..rounds {
-        let start = Instant::now();
-        let mut tally = Tally {
-            count: 0,
-            digest: 0,
-        };
-        put(&numbers, times, &mut tally).unwrap();
-        least[0] = least[0].min(start.elapsed());
-        println!("put {} {}", tally.count, tally.digest);
 
-        let start = Instant::now();
-        let mut source = SliceSource {
-            bytes: &bytes,
-            at: 0,
-            limit: u64::MAX,
-        };
-        let total = sum(&mut source, count).unwrap();
-        least[1] = least[1].min(start.elapsed());
-        println!("slice {total}");
+    let start = Instant::now();
+    let mut tally = Tally {
+        count: 0,
+        digest: 0,
+    };
+    put(&numbers, times, &mut tally).unwrap();
+    eprintln!("put {}", start.elapsed().as_micros());
+    println!("put {} {}", tally.count, tally.digest);
 
-        let start = Instant::now();
-        let mut source = ReaderSource {
-            reader: bytes.as_slice(),
-            window: vec![0; 65536],
-            start: 0,
-            end: 0,
-            filled: 0,
-            before: 0,
-            limit: u64::MAX,
-            ending: Ending::Open,
-        };
-        let total = sum(&mut source, count).unwrap();
-        least[2] = least[2].min(start.elapsed());
-        println!("reader {total}");
+    let start = Instant::now();
+    let mut source = SliceSource {
+        bytes: &bytes,
+        at: 0,
+        limit: u64::MAX,
+    };
+    let total = sum(&mut source, count).unwrap();
+    eprintln!("slice {}", start.elapsed().as_micros());
+    println!("slice {count} {total}");
 
-        let start = Instant::now();
-        let mut tally = Tally {
-            count: 0,
-            digest: 0,
-        };
-        put_buffered(&numbers, times, &mut tally).unwrap();
-        least[3] = least[3].min(start.elapsed());
-    }
-    eprintln!("put {}", least[0].as_micros());
-    eprintln!("slice {}", least[1].as_micros());
-    eprintln!("reader {}", least[2].as_micros());
-    eprintln!("buffered {}", least[3].as_micros());
+    let start = Instant::now();
+    let mut source = ReaderSource {
+        reader: bytes.as_slice(),
+        window: vec![0; 65536],
+        start: 0,
+        end: 0,
+        filled: 0,
+        before: 0,
+        limit: u64::MAX,
+        ending: Ending::Open,
+    };
+    let total = sum(&mut source, count).unwrap();
+    eprintln!("reader {}", start.elapsed().as_micros());
+    println!("reader {count} {total}");
+
+    let start = Instant::now();
+    let mut tally = Tally {
+        count: 0,
+        digest: 0,
+    };
+    put_buffered(&numbers, times, &mut tally).unwrap();
+    eprintln!("buffered {}", start.elapsed().as_micros());
 }

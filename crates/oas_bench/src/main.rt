@@ -1,74 +1,63 @@
-//! The speed of reading and writing integers. `oas_bench TIMES ROUNDS` puts and reads 65,536 numbers so many times, in so
-//! many rounds, and prints what came out; on standard error it prints the least time of each part, in microseconds.
-//! `bench/run` compares it with a plain Rust program.
+//! The speed of parts of the library. The scripts of `bench/` run each beside another program.
+//!
+//! - `oas_bench numbers TIMES` puts and reads 65,536 integers so many times.
+//! - `oas_bench layouts SHAPE ORDER COUNT` adds so many elements to a draft: `rectangles` or `polygons`, in the order
+//!   `random` or `ascending`.
+//! - `oas_bench inflate TIMES` inflates each packet of standard input so many times.
+//! - `oas_bench` alone does a little of each, and so shows that all of it runs.
+//!
+//! What came out goes to standard output, the same at each run. The times go to standard error, in microseconds.
 #![tactic(auto)]
 
+mod generator;
+mod inflating;
+mod layouts;
 mod numbers;
+mod shapes;
 
-use numbers::{Numbers, Tally, put_numbers, sum};
-use oas_num::{Outlet, ReaderSource, SliceSource};
-use std::time::{Duration, Instant};
+use layouts::Row;
 use std::{env, io};
 
-/// How many numbers are made.
-const MADE: u64 = 65536;
-
 fn main(rt: HostRuntime) -> io::Result<()> {
-    let (times, rounds) = arguments(&rt)?;
-    let mut made = Numbers::new();
-    let mut numbers = Vec::new(rt.alloc());
-    for _ in 0..MADE {
-        numbers.push(made.next())?;
+    if says(&rt, 1, "numbers")? {
+        numbers::measure(&rt, number(&rt, 2)?)
+    } else if says(&rt, 1, "layouts")? {
+        layouts::measure(&rt, row(&rt)?)
+    } else if says(&rt, 1, "inflate")? {
+        inflating::measure(&rt, number(&rt, 2)?)
+    } else {
+        measure_all(&rt)
     }
-    let mut bytes = Vec::new(rt.alloc());
-    put(numbers.as_slice(), times, &mut bytes)?;
-    let count = MADE.saturating_mul(times);
-    let mut least = [Duration::MAX; 3];
-    for _ in 0..rounds {
-        let start = Instant::now(&rt)?;
-        let mut tally = Tally {
-            count: 0,
-            digest: 0,
-        };
-        put(numbers.as_slice(), times, &mut tally)?;
-        least[0] = least[0].min(start.elapsed(&rt)?);
-        println!(rt; "put {} {}", tally.count, tally.digest)?;
-
-        let start = Instant::now(&rt)?;
-        let mut source = SliceSource::new(bytes.as_slice(), u64::MAX);
-        let total = sum(&mut source, count).unwrap_or(0);
-        least[1] = least[1].min(start.elapsed(&rt)?);
-        println!(rt; "slice {total}")?;
-
-        let start = Instant::now(&rt)?;
-        let mut source = ReaderSource::new(rt.alloc(), bytes.as_slice(), u64::MAX)?;
-        let total = sum(&mut source, count).unwrap_or(0);
-        least[2] = least[2].min(start.elapsed(&rt)?);
-        println!(rt; "reader {total}")?;
-    }
-    eprintln!(rt; "put {}", least[0].as_micros())?;
-    eprintln!(rt; "slice {}", least[1].as_micros())?;
-    eprintln!(rt; "reader {}", least[2].as_micros())
 }
 
-/// How often, and in how many rounds: once, where the words say nothing else.
-fn arguments(rt: &HostRuntime) -> io::Result<(u64, u64)> {
-    let mut given = [1u64, 1u64];
-    let mut place = 0;
-    for word in env::args(rt)?.skip(1) {
-        if place < 2 {
-            given[place] = word.as_str().parse::<u64>().unwrap_or(1);
-            place += 1;
-        }
-    }
-    Ok((given[0], given[1]))
+/// A little of each.
+fn measure_all(rt: &HostRuntime) -> io::Result<()> {
+    numbers::measure(rt, 1)?;
+    layouts::measure_few(rt)?;
+    inflating::measure(rt, 1)
 }
 
-/// Puts the numbers through an outlet.
-fn put<W: io::Write>(numbers: &[u64], times: u64, writer: &mut W) -> io::Result<()> {
-    let mut outlet = Outlet::new(writer);
-    if put_numbers(numbers, times, &mut outlet).is_err() || outlet.close().is_err() {
-        return Err(io::Error::from(io::ErrorKind::Other));
+/// Whether the word at this place of the command line is this one.
+fn says(rt: &HostRuntime, place: usize, wanted: &str) -> io::Result<bool> {
+    match env::args(rt)?.nth(place) {
+        Some(word) => Ok(word.as_str() == wanted),
+        None => Ok(false),
     }
-    Ok(())
+}
+
+/// The number at this place of the command line: 1, where there is none.
+fn number(rt: &HostRuntime, place: usize) -> io::Result<u64> {
+    match env::args(rt)?.nth(place) {
+        Some(word) => Ok(word.as_str().parse::<u64>().unwrap_or(1)),
+        None => Ok(1),
+    }
+}
+
+/// The elements that the command line asks for.
+fn row(rt: &HostRuntime) -> io::Result<Row> {
+    Ok(Row {
+        polygons: says(rt, 2, "polygons")?,
+        random: says(rt, 3, "random")?,
+        count: number(rt, 4)?,
+    })
 }

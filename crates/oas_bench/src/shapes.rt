@@ -4,28 +4,6 @@ use oas_layout::Element;
 use oas_ring::{Point, Points};
 use std::alloc::{AllocError, Global};
 
-/// Numbers below 2^40 that come in no order.
-#[derive(Drop)]
-pub(crate) struct Numbers {
-    state: u64,
-}
-
-impl Numbers {
-    pub(crate) fn new() -> Numbers {
-        Numbers {
-            state: 88172645463325252,
-        }
-    }
-
-    pub(crate) fn next(&mut self) -> i64 {
-        self.state = self
-            .state
-            .wrapping_mul(6364136223846793005)
-            .wrapping_add(1442695040888963407);
-        (self.state >> 24) as i64
-    }
-}
-
 /// A rectangle of 10 by 20 at x.
 pub(crate) fn rectangle(x: i64) -> Element {
     Element::Rectangle {
