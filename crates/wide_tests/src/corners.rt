@@ -85,15 +85,20 @@ const NAMED: &str = "\
 13 50 99:nothing\n\
 12 50 50:nothing";
 
+/// The corners by a kind, a width and a height.
+fn by_kind(text: &str) -> Option<Corners> {
+    let mut words = text.split(' ');
+    let kind = number(words.next());
+    let width = number(words.next());
+    let height = number(words.next());
+    named_corners(kind, width, height)
+}
+
 #[test]
 fn kinds(rt: HostRuntime) -> Result<(), Fail> {
     for row in NAMED.lines() {
         let (text, wanted) = row.split_once(':').unwrap_or((row, ""));
-        let mut words = text.split(' ');
-        let kind = number(words.next());
-        let width = number(words.next());
-        let height = number(words.next());
-        let found = line(rt.alloc(), named_corners(kind, width, height))?;
+        let found = line(rt.alloc(), by_kind(text))?;
         assert_eq!(rt; found.as_str(), wanted, "{row}");
     }
     Ok(())
@@ -129,46 +134,89 @@ level 10 0 3 0:nothing\n\
 level 0 40 0 0:nothing\n\
 level 10 40 -9223372036854775807 9223372036854775807:nothing";
 
+/// The corners by which sides are parallel, a width, a height and the deltas.
+fn by_deltas(text: &str) -> Option<Corners> {
+    let mut words = text.split(' ');
+    let is_upright = words.next().unwrap_or("") == "upright";
+    let width = number(words.next());
+    let height = number(words.next());
+    let a = delta(words.next());
+    let b = delta(words.next());
+    trapezoid_corners(is_upright, width, height, a, b)
+}
+
 #[test]
 fn deltas(rt: HostRuntime) -> Result<(), Fail> {
     for row in BY_DELTAS.lines() {
         let (text, wanted) = row.split_once(':').unwrap_or((row, ""));
-        let mut words = text.split(' ');
-        let is_upright = words.next().unwrap_or("") == "upright";
-        let width = number(words.next());
-        let height = number(words.next());
-        let a = delta(words.next());
-        let b = delta(words.next());
-        let found = line(
-            rt.alloc(),
-            trapezoid_corners(is_upright, width, height, a, b),
-        )?;
+        let found = line(rt.alloc(), by_deltas(text))?;
         assert_eq!(rt; found.as_str(), wanted, "{row}");
     }
     Ok(())
 }
 
-/// A box.
-fn sides(width: u64, height: u64) -> Result<Sides, Unsided> {
-    Ok(Sides { width, height })
-}
+/// A kind, the width and the height as far as they are defined, and the box.
+const IMPLIED: [(u64, Option<u64>, Option<u64>, Result<Sides, Unsided>); 9] = [
+    (
+        0,
+        Some(9),
+        Some(5),
+        Ok(Sides {
+            width: 9,
+            height: 5,
+        }),
+    ),
+    (0, Some(9), None, Err(Unsided::Undefined)),
+    (
+        16,
+        Some(9),
+        None,
+        Ok(Sides {
+            width: 9,
+            height: 9,
+        }),
+    ),
+    (16, None, Some(9), Err(Unsided::Undefined)),
+    (
+        20,
+        None,
+        Some(9),
+        Ok(Sides {
+            width: 18,
+            height: 9,
+        }),
+    ),
+    (21, Some(9), None, Err(Unsided::Undefined)),
+    (
+        22,
+        Some(9),
+        Some(5),
+        Ok(Sides {
+            width: 9,
+            height: 18,
+        }),
+    ),
+    (23, Some(u64::MAX), None, Err(Unsided::TooLong)),
+    (
+        25,
+        Some(9),
+        Some(5),
+        Ok(Sides {
+            width: 9,
+            height: 9,
+        }),
+    ),
+];
 
 #[test]
 fn implied(rt: HostRuntime) -> Result<(), Fail> {
-    assert!(rt; sides_of(0, Some(9), Some(5)) == sides(9, 5));
-    assert!(rt; sides_of(0, Some(9), None) == Err(Unsided::Undefined));
-    assert!(rt; sides_of(16, Some(9), None) == sides(9, 9));
-    assert!(rt; sides_of(16, None, Some(9)) == Err(Unsided::Undefined));
-    assert!(rt; sides_of(20, None, Some(9)) == sides(18, 9));
-    assert!(rt; sides_of(21, Some(9), None) == Err(Unsided::Undefined));
-    assert!(rt; sides_of(22, Some(9), Some(5)) == sides(9, 18));
-    assert!(rt; sides_of(23, Some(u64::MAX), None) == Err(Unsided::TooLong));
-    assert!(rt; sides_of(25, Some(9), Some(5)) == sides(9, 9));
+    for (kind, width, height, wanted) in IMPLIED {
+        assert!(rt; sides_of(kind, width, height) == wanted, "{kind}");
+    }
     let square = Sides {
         width: 9,
         height: 9,
     };
-    assert!(rt; square.agree(None, Some(9)));
-    assert!(rt; !square.agree(Some(9), Some(5)));
+    assert!(rt; square.agree(None, Some(9)) && !square.agree(Some(9), Some(5)));
     Ok(())
 }

@@ -3,8 +3,7 @@
 use oas_num::{INPUT_MAX, Padding, SliceSource, Source, Spelled, Why};
 use oas_wide::{
     BlockHead, ExtensionGeometry, LayerName, NamedTrapezoid, Property, Trapezoid, WideEnd,
-    WidePlacement, WideReal, WideRecord, WideRefusal, WideStart, WideWhy, read_attributed,
-    read_string,
+    WidePlacement, WideReal, WideRecord, WideRefusal, WideStart, read_attributed, read_string,
 };
 use std::alloc::Global;
 use std::test::Fail;
@@ -13,21 +12,32 @@ use std::test::Fail;
 fn bytes_of(alloc: Global, text: &str) -> Result<Vec<u8>, Fail> {
     let mut bytes = Vec::new(alloc);
     for piece in text.split_whitespace() {
-        let (digits, times) = match piece.split_once('*') {
-            Some((digits, times)) => (digits, times.parse::<usize>().unwrap_or(0)),
-            None => (piece, 1),
-        };
-        let digits = digits.repeat(alloc, times)?;
-        bytes.extend_from_slice(hex::decode(alloc, &digits)?.as_slice())?;
+        put_piece(alloc, &mut bytes, piece)?;
     }
     Ok(bytes)
 }
 
-/// A real, as `num den doubled halved` behind its sign, or the number of the refusal.
-fn real_line(alloc: Global, text: &str) -> Result<String, Fail> {
+/// Puts a piece of hex, or one byte so many times.
+fn put_piece(alloc: Global, bytes: &mut Vec<u8>, piece: &str) -> Result<(), Fail> {
+    let (digits, times) = match piece.split_once('*') {
+        Some((digits, times)) => (digits, times.parse::<usize>().unwrap_or(0)),
+        None => (piece, 1),
+    };
+    let digits = digits.repeat(alloc, times)?;
+    bytes.extend_from_slice(hex::decode(alloc, &digits)?.as_slice())?;
+    Ok(())
+}
+
+/// The real that stands in a text.
+fn real_of(alloc: Global, text: &str) -> Result<Result<WideReal, Why>, Fail> {
     let bytes = bytes_of(alloc, text)?;
     let mut source = SliceSource::new(&bytes, INPUT_MAX);
-    match WideReal::read(alloc, &mut source) {
+    Ok(WideReal::read(alloc, &mut source))
+}
+
+/// A real, as `num den doubled halved` behind its sign, or the number of the refusal.
+fn real_line(alloc: Global, text: &str) -> Result<String, Fail> {
+    match real_of(alloc, text)? {
         Ok(real) => {
             let sign = if real.negative { "-" } else { "+" };
             let (num, den) = (real.num, real.den);
@@ -77,45 +87,45 @@ fn reals(rt: HostRuntime) -> Result<(), Fail> {
 
 /// 0, or the number of the refusal.
 fn number<T: Drop>(answer: Result<T, Why>) -> u8 {
-    match answer {
-        Ok(_) => 0,
-        Err(why) => why.number(),
-    }
+    answer.err().map_or(0, |why| why.number())
 }
 
 /// 0, or the number of the refusal of a record.
 fn wide_number(answer: Result<WideRecord, WideRefusal>) -> u8 {
-    match answer {
-        Ok(_) => 0,
-        Err(refusal) => refusal.why.number(),
-    }
+    answer.err().map_or(0, |refusal| refusal.why.number())
 }
 
 /// How a read of that kind ends, and after how many bytes.
 fn outcome(alloc: Global, kind: &str, bytes: &[u8]) -> (u8, u64) {
     let mut source = SliceSource::new(bytes, INPUT_MAX);
-    let s = &mut source;
     let found = match kind {
-        "start" => number(WideStart::read(alloc, s)),
-        "end" => number(WideEnd::read(false, s)),
-        "end-with-offsets" => number(WideEnd::read(true, s)),
-        "propname" => number(read_string(alloc, false, s)),
-        "propname-8" => number(read_string(alloc, true, s)),
-        "property" => number(Property::read(alloc, s)),
-        "layername" => number(LayerName::read(alloc, s)),
-        "xname" => number(read_attributed(alloc, false, s)),
-        "xname-31" => number(read_attributed(alloc, true, s)),
-        "xgeometry" => number(ExtensionGeometry::read(alloc, s)),
-        "cblock" => number(BlockHead::read(s)),
-        "trapezoid" => number(Trapezoid::read(alloc, true, true, s)),
-        "trapezoid-24" => number(Trapezoid::read(alloc, true, false, s)),
-        "trapezoid-25" => number(Trapezoid::read(alloc, false, true, s)),
-        "placement" => number(WidePlacement::read(alloc, s)),
-        "ctrapezoid" => number(NamedTrapezoid::read(alloc, s)),
-        "record" => wide_number(WideRecord::read(alloc, s, false)),
-        _ => 255,
+        "record" => wide_number(WideRecord::read(alloc, &mut source, false)),
+        "xgeometry" => number(ExtensionGeometry::read(alloc, &mut source)),
+        "trapezoid" => number(Trapezoid::read(alloc, true, true, &mut source)),
+        "trapezoid-24" => number(Trapezoid::read(alloc, true, false, &mut source)),
+        "trapezoid-25" => number(Trapezoid::read(alloc, false, true, &mut source)),
+        "placement" => number(WidePlacement::read(alloc, &mut source)),
+        "ctrapezoid" => number(NamedTrapezoid::read(alloc, &mut source)),
+        _ => outcome_outside(alloc, kind, &mut source),
     };
     (found, source.at())
+}
+
+/// How a read of what gives no element ends.
+fn outcome_outside(alloc: Global, kind: &str, source: &mut SliceSource<'_>) -> u8 {
+    match kind {
+        "start" => number(WideStart::read(alloc, source)),
+        "end" => number(WideEnd::read(false, source)),
+        "end-with-offsets" => number(WideEnd::read(true, source)),
+        "propname" => number(read_string(alloc, false, source)),
+        "propname-8" => number(read_string(alloc, true, source)),
+        "property" => number(Property::read(alloc, source)),
+        "layername" => number(LayerName::read(alloc, source)),
+        "xname" => number(read_attributed(alloc, false, source)),
+        "xname-31" => number(read_attributed(alloc, true, source)),
+        "cblock" => number(BlockHead::read(source)),
+        _ => 255,
+    }
 }
 
 /// A kind, how its read ends, after how many bytes, and the bytes, of which one more stands behind what is read whole.
@@ -221,17 +231,22 @@ record 13 1 01\n\
 record 12 1 23\n\
 record 2 0";
 
+/// The parts of a row. A number that is none is one that no read answers.
+fn parts_of(row: &str) -> (&str, u8, u64, &str) {
+    let mut words = row.splitn(4, ' ');
+    let kind = words.next().unwrap_or("");
+    let wanted = words.next().unwrap_or("").parse::<u8>().unwrap_or(99);
+    let taken = words.next().unwrap_or("").parse::<u64>().unwrap_or(9999);
+    (kind, wanted, taken, words.next().unwrap_or(""))
+}
+
 #[test]
 fn records(rt: HostRuntime) -> Result<(), Fail> {
     for row in ROWS.lines() {
-        let mut words = row.splitn(4, ' ');
-        let kind = words.next().unwrap_or("");
-        let wanted = words.next().unwrap_or("").parse::<u8>().unwrap_or(99);
-        let taken = words.next().unwrap_or("").parse::<u64>().unwrap_or(9999);
-        let bytes = bytes_of(rt.alloc(), words.next().unwrap_or(""))?;
+        let (kind, wanted, taken, text) = parts_of(row);
+        let bytes = bytes_of(rt.alloc(), text)?;
         let found = outcome(rt.alloc(), kind, &bytes);
-        assert!(rt; found.0 == wanted, "{row}");
-        assert!(rt; found.1 == taken, "{row}");
+        assert!(rt; found == (wanted, taken), "{row}");
     }
     Ok(())
 }
