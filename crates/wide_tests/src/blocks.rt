@@ -10,7 +10,7 @@ use std::io::{ErrorKind, Read};
 use std::test::Fail;
 
 /// Heads with their bytes, and what they stand for: nothing, a stored block, one of fixed codes, one of its own.
-const GIVEN: [(&str, &str); 4] = [
+const GIVEN: &[(&str, &str)] = &[
     ("0000020300", ""),
     (
         "001116011100eeff68656c6c6f2068656c6c6f2068656c6c6f",
@@ -27,7 +27,7 @@ const GIVEN: [(&str, &str); 4] = [
 ];
 
 /// Heads with their bytes, and why they aren't read.
-const REFUSED: [(&str, BlockFault); 6] = [
+const REFUSED: &[(&str, BlockFault)] = &[
     // kind 1
     ("01110acb48cdc9c957c8409000", BlockFault::Kind),
     // one byte fewer stated
@@ -46,7 +46,7 @@ const REFUSED: [(&str, BlockFault); 6] = [
 ];
 
 /// Heads with their bytes, of which the stream doesn't end as it should, how it ends, and what zlib gives of it.
-const WRONG: [(&str, BlockEnd, &str); 6] = [
+const WRONG: &[(&str, BlockEnd, &str)] = &[
     // no byte
     ("000000", BlockEnd::Unfinished, ""),
     // the stream is cut
@@ -154,7 +154,7 @@ fn gives(
 
 #[test]
 fn blocks_are_read(rt: HostRuntime) -> Result<(), Fail> {
-    for (block, data) in GIVEN {
+    for &(block, data) in GIVEN {
         let is_given = gives(rt.alloc(), block, data.len() / 2, data, BlockEnd::Whole)?;
         assert!(rt; is_given, "{block}");
     }
@@ -163,7 +163,7 @@ fn blocks_are_read(rt: HostRuntime) -> Result<(), Fail> {
 
 #[test]
 fn what_a_stream_gave_is_kept(rt: HostRuntime) -> Result<(), Fail> {
-    for (block, end, data) in WRONG {
+    for &(block, end, data) in WRONG {
         assert!(rt; gives(rt.alloc(), block, 100, data, end)?, "{block}");
     }
     Ok(())
@@ -171,7 +171,7 @@ fn what_a_stream_gave_is_kept(rt: HostRuntime) -> Result<(), Fail> {
 
 #[test]
 fn blocks_are_refused(rt: HostRuntime) -> Result<(), Fail> {
-    for (block, fault) in REFUSED {
+    for &(block, fault) in REFUSED {
         let found = read_text(rt.alloc(), block, 100, 100)?;
         assert!(rt; found.err() == Some(fault));
     }

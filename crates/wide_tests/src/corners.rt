@@ -156,7 +156,7 @@ fn deltas(rt: HostRuntime) -> Result<(), Fail> {
 }
 
 /// A kind, the width and the height as far as they are defined, and the box.
-const IMPLIED: [(u64, Option<u64>, Option<u64>, Result<Sides, Unsided>); 9] = [
+const IMPLIED: &[(u64, Option<u64>, Option<u64>, Result<Sides, Unsided>)] = &[
     (
         0,
         Some(9),
@@ -210,7 +210,7 @@ const IMPLIED: [(u64, Option<u64>, Option<u64>, Result<Sides, Unsided>); 9] = [
 
 #[test]
 fn implied(rt: HostRuntime) -> Result<(), Fail> {
-    for (kind, width, height, wanted) in IMPLIED {
+    for &(kind, width, height, wanted) in IMPLIED {
         assert!(rt; sides_of(kind, width, height) == wanted, "{kind}");
     }
     let square = Sides {
