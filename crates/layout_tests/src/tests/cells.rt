@@ -2,40 +2,59 @@
 
 use super::drafts::same;
 use super::{
-    Words, add_cell, add_cells, draft_of, draft_of_a, holds, limits_of, name, parts, put_all,
-    sealed,
+    add_cell, add_cells, discard, draft_of, draft_of_a, holds, limits_of, name, put_all, sealed,
 };
 use oas_layout::{Draft, Layout, Limits, Profile};
-use oas_num::{Name, Why};
+use oas_num::Why;
 use std::alloc::Global;
 use std::process::Abort;
 
 /// Cells in order of definition, each a name and lines of elements; and as they are given.
-const CELLS: &str =
-    "TOP|1 text 3 0 0 0 Hi;1 placement A 50 50 0 0;1 placement A 50 0 0 0;1 placement A 0 50 0 0;1 placement A 0 0 0 0
-a|1 circle 1 0 5 0 0
-A|1 rectangle 1 0 10 10 20 0;1 rectangle 1 0 10 10 0 0
-B|1 circle 1 0 5 0 0;1 circle 1 0 5 0 0
-AB|1 circle 1 0 5 0 0;1 circle 1 0 6 0 0;1 circle 1 0 5 0 0";
+const CELLS: &[(&str, &str)] = &[
+    (
+        "TOP",
+        "1 text 3 0 0 0 Hi\n1 placement A 50 50 0 0\n1 placement A 50 0 0 0\n1 placement A 0 50 0 0\n1 placement A 0 0 0 0",
+    ),
+    ("a", "1 circle 1 0 5 0 0"),
+    ("A", "1 rectangle 1 0 10 10 20 0\n1 rectangle 1 0 10 10 0 0"),
+    ("B", "1 circle 1 0 5 0 0\n1 circle 1 0 5 0 0"),
+    (
+        "AB",
+        "1 circle 1 0 5 0 0\n1 circle 1 0 6 0 0\n1 circle 1 0 5 0 0",
+    ),
+];
 
-const ASCENDING_CELLS: &str = "A|1 rectangle 1 0 10 10 0 0;1 rectangle 1 0 10 10 20 0
-AB|2 circle 1 0 5 0 0;1 circle 1 0 6 0 0
-B|2 circle 1 0 5 0 0
-TOP|1 placement A 0 0 0 0;1 placement A 0 50 0 0;1 placement A 50 0 0 0;1 placement A 50 50 0 0;1 text 3 0 0 0 Hi
-a|1 circle 1 0 5 0 0";
+const ASCENDING_CELLS: &[(&str, &str)] = &[
+    ("A", "1 rectangle 1 0 10 10 0 0\n1 rectangle 1 0 10 10 20 0"),
+    ("AB", "2 circle 1 0 5 0 0\n1 circle 1 0 6 0 0"),
+    ("B", "2 circle 1 0 5 0 0"),
+    (
+        "TOP",
+        "1 placement A 0 0 0 0\n1 placement A 0 50 0 0\n1 placement A 50 0 0 0\n1 placement A 50 50 0 0\n1 text 3 0 0 0 Hi",
+    ),
+    ("a", "1 circle 1 0 5 0 0"),
+];
 
 /// Seven elements, which are added in reverse order.
-const SEVEN: &str =
-    "TOP|1 placement A 0 0 0 0;1 placement A 0 50 0 0;1 placement A 50 0 0 0;1 placement A 50 50 0 0;1 text 3 0 0 0 Hi
-A|1 rectangle 1 0 10 10 0 0;1 rectangle 1 0 10 10 20 0";
+const SEVEN: &[(&str, &str)] = &[
+    (
+        "TOP",
+        "1 placement A 0 0 0 0\n1 placement A 0 50 0 0\n1 placement A 50 0 0 0\n1 placement A 50 50 0 0\n1 text 3 0 0 0 Hi",
+    ),
+    ("A", "1 rectangle 1 0 10 10 0 0\n1 rectangle 1 0 10 10 20 0"),
+];
 
-const ASCENDING_SEVEN: &str = "A|1 rectangle 1 0 10 10 0 0;1 rectangle 1 0 10 10 20 0
-TOP|1 placement A 0 0 0 0;1 placement A 0 50 0 0;1 placement A 50 0 0 0;1 placement A 50 50 0 0;1 text 3 0 0 0 Hi";
+const ASCENDING_SEVEN: &[(&str, &str)] = &[
+    ("A", "1 rectangle 1 0 10 10 0 0\n1 rectangle 1 0 10 10 20 0"),
+    (
+        "TOP",
+        "1 placement A 0 0 0 0\n1 placement A 0 50 0 0\n1 placement A 50 0 0 0\n1 placement A 50 50 0 0\n1 text 3 0 0 0 Hi",
+    ),
+];
 
 /// Adds the cells with their elements.
-fn put_cells(draft: &mut Draft, alloc: Global, cells: &str) -> Result<(), Why> {
-    for row in cells.lines() {
-        let [text, lines, _, _] = parts(row);
+fn put_cells(draft: &mut Draft, alloc: Global, cells: &[(&str, &str)]) -> Result<(), Why> {
+    for &(text, lines) in cells {
         let cell = add_cell(draft, alloc, text)?;
         put_all(draft, alloc, cell, lines)?;
     }
@@ -43,26 +62,25 @@ fn put_cells(draft: &mut Draft, alloc: Global, cells: &str) -> Result<(), Why> {
 }
 
 /// The layout of the cells, which are defined in their order.
-fn layout_of(alloc: Global, profile: Profile, cells: &str) -> Result<Layout, Why> {
+fn layout_of(alloc: Global, profile: Profile, cells: &[(&str, &str)]) -> Result<Layout, Why> {
     let mut draft = draft_of(alloc, (2000, 2), Limits::standard(), profile)?;
-    put_cells(&mut draft, alloc, cells)?;
-    sealed(draft)
+    let added = put_cells(&mut draft, alloc, cells);
+    sealed(draft, added)
 }
 
-/// Whether there is such a cell, of the name of the row and with exactly its pairs.
-fn is_cell(alloc: Global, layout: &Layout, cell: usize, row: &str) -> bool {
-    let [text, lines, _, _] = parts(row);
+/// Whether there is such a cell, of this name and with exactly the pairs of the lines.
+fn is_cell(alloc: Global, layout: &Layout, cell: usize, text: &str, lines: &str) -> bool {
     cell < layout.cells()
         && layout.cell_name(cell).as_bytes() == text.as_bytes()
         && holds(alloc, layout, cell, lines)
 }
 
 /// How many of these cells the layout has, each at its place.
-fn cells_as(alloc: Global, layout: &Layout, cells: &str) -> usize {
+fn cells_as(alloc: Global, layout: &Layout, cells: &[(&str, &str)]) -> usize {
     let mut cell = 0usize;
     let mut same = 0usize;
-    for row in cells.lines() {
-        same = same.saturating_add(usize::from(is_cell(alloc, layout, cell, row)));
+    for &(text, lines) in cells {
+        same = same.saturating_add(usize::from(is_cell(alloc, layout, cell, text, lines)));
         cell = cell.saturating_add(1);
     }
     same
@@ -73,13 +91,15 @@ fn cells_as(alloc: Global, layout: &Layout, cells: &str) -> usize {
 fn seen(
     alloc: Global,
     profile: Profile,
-    given: &str,
-    ascending: &str,
+    given: &[(&str, &str)],
+    ascending: &[(&str, &str)],
 ) -> Result<([usize; 2], Profile, [u64; 3]), Why> {
     let layout = layout_of(alloc, profile, given)?;
     let cells = [layout.cells(), cells_as(alloc, &layout, ascending)];
     let numbers = [layout.unit().num(), layout.count(), layout.weight()];
-    Ok((cells, layout.profile(), numbers))
+    let profile = layout.profile();
+    discard(layout);
+    Ok((cells, profile, numbers))
 }
 
 #[test]
@@ -97,44 +117,47 @@ fn cells_and_elements_in_their_order(rt: HostRuntime) {
     }
 }
 
-/// The parts of a unit and the names of empty cells, of two layouts; whether they are the same.
-const EMPTY: &str = "1000 1 A B|2000 2 B A|yes
-1000 1 A B|1001 1 A B|no
-1000 1 A B|1000 1 A C|no
-1000 1 A B|1000 1 A|no";
-
-fn empty_cells(alloc: Global, line: &str) -> Result<Layout, Why> {
-    let mut words = Words { rest: line };
-    let unit = (words.unsigned(), words.unsigned());
+/// The layout of these empty cells.
+fn empty_cells(alloc: Global, unit: (u64, u64), names: &str) -> Result<Layout, Why> {
     let mut draft = draft_of(alloc, unit, Limits::standard(), Profile::One)?;
-    add_cells(&mut draft, alloc, words.rest)?;
-    sealed(draft)
+    let added = add_cells(&mut draft, alloc, names);
+    sealed(draft, added)
 }
 
-/// Whether the layout of the line is the same as another.
-fn is_same(alloc: Global, a: &Layout, line: &str) -> Result<bool, Why> {
-    let b = empty_cells(alloc, line)?;
-    Ok(same(a, &b))
+/// Whether the layout of these cells is the same as another.
+fn is_same(alloc: Global, a: &Layout, unit: (u64, u64), names: &str) -> Result<bool, Why> {
+    let b = empty_cells(alloc, unit, names)?;
+    let is_same = same(a, &b);
+    discard(b);
+    Ok(is_same)
 }
 
-/// Whether the two of a row are the same.
-fn are_same(alloc: Global, row: &str) -> Result<bool, Why> {
-    let [first, second, _, _] = parts(row);
-    let a = empty_cells(alloc, first)?;
-    is_same(alloc, &a, second)
+/// Whether it is the same as that of the unit 1000/1 and the cells A and B.
+fn is_same_as_both(alloc: Global, unit: (u64, u64), names: &str) -> Result<bool, Why> {
+    let a = empty_cells(alloc, (1000, 1), "A B")?;
+    let is_same = is_same(alloc, &a, unit, names);
+    discard(a);
+    is_same
 }
 
 #[test]
 fn units_and_cells_tell_layouts_apart(rt: HostRuntime) {
-    for row in EMPTY.lines() {
-        let wanted = row.ends_with("|yes");
-        assert!(rt; are_same(rt.alloc(), row) == Ok(wanted), "at {row}");
+    for (unit, names, wanted) in [
+        ((2000, 2), "B A", true),
+        ((1001, 1), "A B", false),
+        ((1000, 1), "A C", false),
+        ((1000, 1), "A", false),
+    ] {
+        assert!(rt;
+            is_same_as_both(rt.alloc(), unit, names) == Ok(wanted),
+            "at {unit:?} {names}"
+        );
     }
 }
 
 /// Why the draft hands back a cell of this name, if it does.
-fn refusal(draft: &mut Draft, name: Name, text: &str) -> Option<Why> {
-    match draft.add_cell(name) {
+fn refusal(draft: &mut Draft, alloc: Global, text: &str) -> Option<Why> {
+    match draft.add_cell(name(alloc, text).ok()?) {
         Ok(_) => None,
         Err((why, back)) => {
             if back.as_bytes() == text.as_bytes() {
@@ -159,11 +182,12 @@ fn is_of_a(layout: &Layout) -> bool {
 /// is then that of the cell A.
 fn refused(alloc: Global, text: &str) -> Result<(Option<Why>, bool), Why> {
     let limits = limits_of(1, 2, 448)?;
-    let name = name(alloc, text)?;
     let mut draft = draft_of_a(alloc, limits, Profile::Two)?;
-    let why = refusal(&mut draft, name, text);
-    let layout = sealed(draft)?;
-    Ok((why, is_of_a(&layout)))
+    let why = refusal(&mut draft, alloc, text);
+    let layout = sealed(draft, Ok(()))?;
+    let is_left = is_of_a(&layout);
+    discard(layout);
+    Ok((why, is_left))
 }
 
 #[test]

@@ -1,7 +1,7 @@
 //! Limits at and past the bounds of all limits, and drafts at theirs.
 
-use super::memory::twice;
-use super::{Words, draft_of_a, layout_of_a, limits_of, put, put_many, sealed};
+use super::elements::twice;
+use super::{discard, draft_of_a, layout_of_a, limits_of, put, put_many, sealed, whole};
 use oas_layout::{Draft, Element, Limits, Profile};
 use oas_num::Why;
 use std::alloc::Global;
@@ -51,73 +51,80 @@ fn number(draft: &mut Draft, given: Element, times: u64, wanted: &Element) -> u8
 }
 
 /// The same of the element of the line.
-fn refusal(draft: &mut Draft, alloc: Global, times: u64, line: &str) -> u8 {
-    match twice(alloc, line) {
-        Ok((given, wanted)) => number(draft, given, times, &wanted),
-        Err(_) => 0,
-    }
+fn refusal(draft: &mut Draft, alloc: Global, times: u64, line: &str) -> Result<u8, Why> {
+    let (given, wanted) = twice(alloc, line)?;
+    Ok(number(draft, given, times, &wanted))
 }
 
 /// Limits of elements and weight, so many of an element, and the number of the reason: 16 before 24, 24 before 25, 25
 /// before 23. Then each coordinate, one past the grid.
-const REFUSED: &str = "16777216 268435456 1 16|polygon 1 0 0,0 1,1
-16777216 268435456 1 16|path 1 0 5 0 0
-16777216 268435456 16777217 24|rectangle 1 0 10 20 0 0
-1 3 5 16|polygon 1 0 9,9 2000000000000000000,0
-1 3 5 16|path 1 0 9000000000000000000 0 0
-1 3 5 24|path 1 0 9000000000000000000 0 0 1,1
-9 3 5 25|path 1 0 9000000000000000000 0 0 1,1
-9 99 5 23|path 1 0 9000000000000000000 0 0 1,1
-67108864 3 67108864 25|rectangle 1 0 1 1 0 0
-9 5 1 25|polygon 1 0 0,0 10,0 10,20 0,20
-9 99 1 23|rectangle 1 0 1 1 1152921504606846976 0
-9 99 1 23|rectangle 1 0 18446744073709551615 1 0 0
-9 99 1 23|rectangle 1 0 1 2 0 1152921504606846975
-9 99 1 23|text 1 0 0 -1152921504606846977 a
-9 99 1 23|placement B -1152921504606846977 0 0 0
-9 99 1 23|circle 1 0 1152921504606846977 0 0
-9 99 1 23|path 1 0 0 0 1152921504606846977 0,0
-9 99 1 23|path 1 0 0 -1152921504606846977 0 0,0
-9 99 1 23|polygon 1 0 0,0 1,1 0,1152921504606846977";
+const REFUSED: &[([u64; 4], &str)] = &[
+    ([16777216, 268435456, 1, 16], "polygon 1 0 0,0 1,1"),
+    ([16777216, 268435456, 1, 16], "path 1 0 5 0 0"),
+    (
+        [16777216, 268435456, 16777217, 24],
+        "rectangle 1 0 10 20 0 0",
+    ),
+    ([1, 3, 5, 16], "polygon 1 0 9,9 2000000000000000000,0"),
+    ([1, 3, 5, 16], "path 1 0 9000000000000000000 0 0"),
+    ([1, 3, 5, 24], "path 1 0 9000000000000000000 0 0 1,1"),
+    ([9, 3, 5, 25], "path 1 0 9000000000000000000 0 0 1,1"),
+    ([9, 99, 5, 23], "path 1 0 9000000000000000000 0 0 1,1"),
+    ([67108864, 3, 67108864, 25], "rectangle 1 0 1 1 0 0"),
+    ([9, 5, 1, 25], "polygon 1 0 0,0 10,0 10,20 0,20"),
+    ([9, 99, 1, 23], "rectangle 1 0 1 1 1152921504606846976 0"),
+    ([9, 99, 1, 23], "rectangle 1 0 18446744073709551615 1 0 0"),
+    ([9, 99, 1, 23], "rectangle 1 0 1 2 0 1152921504606846975"),
+    ([9, 99, 1, 23], "text 1 0 0 -1152921504606846977 a"),
+    ([9, 99, 1, 23], "placement B -1152921504606846977 0 0 0"),
+    ([9, 99, 1, 23], "circle 1 0 1152921504606846977 0 0"),
+    ([9, 99, 1, 23], "path 1 0 0 0 1152921504606846977 0,0"),
+    ([9, 99, 1, 23], "path 1 0 0 -1152921504606846977 0 0,0"),
+    ([9, 99, 1, 23], "polygon 1 0 0,0 1,1 0,1152921504606846977"),
+];
 
 /// The number of the reason for which a draft within these limits hands so many of the element of the line back, and how many
 /// elements its layout then has and their weight.
-fn refused(alloc: Global, limits: Limits, times: u64, line: &str) -> Result<[u64; 3], Why> {
-    let mut draft = draft_of_a(alloc, limits, Profile::Two)?;
+fn refused(
+    alloc: Global,
+    limits: Result<Limits, Why>,
+    times: u64,
+    line: &str,
+) -> Result<[u64; 3], Why> {
+    let mut draft = draft_of_a(alloc, limits?, Profile::Two)?;
     let number = refusal(&mut draft, alloc, times, line);
-    let layout = sealed(draft)?;
-    Ok([u64::from(number), layout.count(), layout.weight()])
-}
-
-/// Whether the row's element is handed back for the row's reason, and the layout stays empty.
-fn is_refused(alloc: Global, row: &str) -> Result<bool, Why> {
-    let (numbers, line) = row.split_once("|").unwrap_or((row, ""));
-    let mut numbers = Words { rest: numbers };
-    let limits = limits_of(numbers.unsigned(), numbers.unsigned(), 1 << 38)?;
-    let found = refused(alloc, limits, numbers.unsigned(), line)?;
-    Ok(found == [numbers.unsigned(), 0, 2])
+    let layout = sealed(draft, Ok(()))?;
+    let (count, weight) = (layout.count(), layout.weight());
+    discard(layout);
+    Ok([u64::from(number?), count, weight])
 }
 
 #[test]
 fn reasons_in_their_order(rt: HostRuntime) {
-    for row in REFUSED.lines() {
-        assert!(rt; is_refused(rt.alloc(), row) == Ok(true), "at {row}");
+    for &([elements, weight, times, reason], line) in REFUSED {
+        let limits = limits_of(elements, weight, 1 << 38);
+        assert!(rt;
+            refused(rt.alloc(), limits, times, line) == Ok([reason, 0, 2]),
+            "at {line}"
+        );
     }
 }
 
 const AT_THE_EDGE: &str =
-    "1 rectangle 1 0 2305843009213693952 2305843009213693952 -1152921504606846976 -1152921504606846976;
-1 rectangle 1 0 0 0 1152921504606846976 1152921504606846976;
-1 text 1 0 1152921504606846976 -1152921504606846976 a;
-1 placement B -1152921504606846976 1152921504606846976 3 1;
-1 circle 1 0 1152921504606846976 1152921504606846976 0;
-1 path 1 0 1152921504606846976 -1152921504606846976 1152921504606846976 0,1152921504606846976;
+    "1 rectangle 1 0 2305843009213693952 2305843009213693952 -1152921504606846976 -1152921504606846976
+1 rectangle 1 0 0 0 1152921504606846976 1152921504606846976
+1 text 1 0 1152921504606846976 -1152921504606846976 a
+1 placement B -1152921504606846976 1152921504606846976 3 1
+1 circle 1 0 1152921504606846976 1152921504606846976 0
+1 path 1 0 1152921504606846976 -1152921504606846976 1152921504606846976 0,1152921504606846976
 1 polygon 1 0 0,0 0,1152921504606846976 -1152921504606846976,0";
 
 /// How many elements the layout of the lines has.
 fn count(alloc: Global, lines: &str) -> Result<u64, Why> {
     let layout = layout_of_a(alloc, Profile::One, lines)?;
-    Ok(layout.count())
+    let count = layout.count();
+    discard(layout);
+    Ok(count)
 }
 
 #[test]
@@ -133,8 +140,10 @@ fn behind(
     line: &str,
 ) -> Result<u8, Why> {
     let mut draft = draft_of_a(alloc, limits?, profile)?;
-    put(&mut draft, alloc, 0, line)?;
-    Ok(refusal(&mut draft, alloc, 1, "circle 1 0 5 0 0"))
+    let added = put(&mut draft, alloc, 0, line);
+    let number = refusal(&mut draft, alloc, 1, "circle 1 0 5 0 0");
+    discard(whole(draft, added)?);
+    number
 }
 
 /// A polygon that is kept as its rectangle leaves no more room than the polygon does.

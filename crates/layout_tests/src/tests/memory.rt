@@ -1,7 +1,8 @@
 //! Each growth refused in turn: a refused call answers want of memory, hands back what it was given and changes nothing.
 
+use super::elements::{name, twice};
 use super::want::Want;
-use super::{element, holds, name, put_many, sealed};
+use super::{discard, holds, put_many, sealed};
 use oas_layout::{Draft, Element, Limits, Profile};
 use oas_num::{Fraction, Name, Why};
 use std::alloc::{AllocError, Global};
@@ -102,14 +103,29 @@ rectangle 1 0 10 20 0 0
 text 3 0 0 0 Hi";
 
 /// What the cell then holds, in its order.
-const HELD: &str =
-    "1 text 3 0 0 0 Hi;10 rectangle 1 0 10 20 0 0;4 polygon 1 0 0,0 0,20 10,20 10,0 5,5;25 circle 1 0 1 0 0;24 circle 1 0 2 0 0;23 circle 1 0 3 0 0;22 circle 1 0 4 0 0;21 circle 1 0 5 0 0;20 circle 1 0 6 0 0;19 circle 1 0 7 0 0;18 circle 1 0 8 0 0;17 circle 1 0 9 0 0;16 circle 1 0 10 0 0;15 circle 1 0 11 0 0;14 circle 1 0 12 0 0;13 circle 1 0 13 0 0;12 circle 1 0 14 0 0;11 circle 1 0 15 0 0;10 circle 1 0 16 0 0;9 circle 1 0 17 0 0;8 circle 1 0 18 0 0;7 circle 1 0 19 0 0;6 circle 1 0 20 0 0";
-
-/// The element of a line, and one that equals it.
-pub(super) fn twice(alloc: Global, line: &str) -> Result<(Element, Element), Why> {
-    let given = element(alloc, line)?;
-    Ok((given, element(alloc, line)?))
-}
+const HELD: &str = "1 text 3 0 0 0 Hi
+10 rectangle 1 0 10 20 0 0
+4 polygon 1 0 0,0 0,20 10,20 10,0 5,5
+25 circle 1 0 1 0 0
+24 circle 1 0 2 0 0
+23 circle 1 0 3 0 0
+22 circle 1 0 4 0 0
+21 circle 1 0 5 0 0
+20 circle 1 0 6 0 0
+19 circle 1 0 7 0 0
+18 circle 1 0 8 0 0
+17 circle 1 0 9 0 0
+16 circle 1 0 10 0 0
+15 circle 1 0 11 0 0
+14 circle 1 0 12 0 0
+13 circle 1 0 13 0 0
+12 circle 1 0 14 0 0
+11 circle 1 0 15 0 0
+10 circle 1 0 16 0 0
+9 circle 1 0 17 0 0
+8 circle 1 0 18 0 0
+7 circle 1 0 19 0 0
+6 circle 1 0 20 0 0";
 
 /// Each element twice: one to be added, and one that a refusal hands back.
 fn elements(alloc: Global) -> Result<Vec<(Element, Element)>, Why> {
@@ -185,9 +201,11 @@ fn filled_in_want(alloc: Global) -> Result<([bool; 2], (usize, u64), bool), Why>
     let mut names = names(alloc)?;
     let mut elements = elements(alloc)?;
     let (draft, seen) = draft_in_want(alloc, &mut names, &mut elements).ok_or(Why::Memory)?;
-    let layout = sealed(draft)?;
+    let layout = sealed(draft, Ok(()))?;
     let counts = (layout.cells(), layout.count());
-    Ok((seen, counts, holds(alloc, &layout, 0, HELD)))
+    let is_held = holds(alloc, &layout, 0, HELD);
+    discard(layout);
+    Ok((seen, counts, is_held))
 }
 
 #[test]

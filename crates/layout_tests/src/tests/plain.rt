@@ -1,6 +1,6 @@
 //! Cells that a draft takes as a whole.
 
-use super::{draft_of_a, holds, limits_of, name, put_all, sealed};
+use super::{discard, draft_of_a, holds, limits_of, name, put_all, sealed};
 use oas_layout::{Draft, Element, Limits, PlainElements, Profile};
 use oas_num::Why;
 use std::alloc::Global;
@@ -30,32 +30,35 @@ fn add_three(draft: &mut Draft, alloc: Global) -> Result<usize, Why> {
 }
 
 /// The pairs of B, which is added as a whole, and then given two circles and a rectangle more.
-const WHOLE: &str = "4 rectangle 1 0 10 20 0 0;2 circle 1 0 5 0 0";
+const WHOLE: &str = "4 rectangle 1 0 10 20 0 0\n2 circle 1 0 5 0 0";
 
 /// What a draft of A answers to B, and to B again; then, with more elements in B, how many cells and elements its layout
-/// has and their weight, and whether they were added and the pairs of B are those.
-fn whole(alloc: Global) -> Result<([Result<usize, Why>; 2], (usize, u64, u64), bool), Why> {
+/// has and their weight, and whether the pairs of B are those.
+fn taken_whole(alloc: Global) -> Result<([Result<usize, Why>; 2], (usize, u64, u64), bool), Why> {
     let mut draft = draft_of_a(alloc, Limits::standard(), Profile::Two)?;
     let answers = [add_three(&mut draft, alloc), add_three(&mut draft, alloc)];
-    let more = "2 circle 1 0 5 0 0;1 rectangle 1 0 10 20 0 0";
-    let is_put = put_all(&mut draft, alloc, 1, more).is_ok();
-    let layout = sealed(draft)?;
+    let more = "2 circle 1 0 5 0 0\n1 rectangle 1 0 10 20 0 0";
+    let added = put_all(&mut draft, alloc, 1, more);
+    let layout = sealed(draft, added)?;
     let counts = (layout.cells(), layout.count(), layout.weight());
-    let is_whole = is_put && holds(alloc, &layout, 1, WHOLE);
+    let is_whole = holds(alloc, &layout, 1, WHOLE);
+    discard(layout);
     Ok((answers, counts, is_whole))
 }
 
 #[test]
 fn cells_taken_as_a_whole(rt: HostRuntime) {
     let answers = [Ok(1), Err(Why::DuplicateCell)];
-    assert!(rt; whole(rt.alloc()) == Ok((answers, (2, 6, 10), true)));
+    assert!(rt; taken_whole(rt.alloc()) == Ok((answers, (2, 6, 10), true)));
 }
 
 /// What a draft of one cell, A, within these limits, answers to three rectangles in another.
 fn answer(alloc: Global, elements: u64, weight: u64) -> Result<usize, Why> {
     let limits = limits_of(elements, weight, 768)?;
     let mut draft = draft_of_a(alloc, limits, Profile::One)?;
-    add_three(&mut draft, alloc)
+    let answer = add_three(&mut draft, alloc);
+    discard(draft);
+    answer
 }
 
 #[test]

@@ -1,7 +1,7 @@
 //! Sealing refused in turn: it answers want of memory, or the layout.
 
 use super::want::Want;
-use super::{add_cells, draft_of_a, put, sealed};
+use super::{add_cells, discard, draft_of_a, put, sealed, whole};
 use oas_layout::{Draft, Layout, Limits, Profile};
 use oas_num::Why;
 use std::alloc::{AllocError, Global};
@@ -10,12 +10,17 @@ use std::process::Abort;
 /// The names of 25 cells, the last one first.
 const NAMES: &str = "Z Y X W V U T S R Q P O N M L K J I H G F E D C B";
 
-/// A draft of these cells behind A, which has three circles.
+/// Adds these cells to a draft of A, and three circles to A.
+fn add_many(draft: &mut Draft, alloc: Global) -> Result<(), Why> {
+    add_cells(draft, alloc, NAMES)?;
+    put(draft, alloc, 0, "3 circle 1 0 5 0 0")
+}
+
+/// A draft of them.
 fn draft_of_many(alloc: Global) -> Result<Draft, Why> {
     let mut draft = draft_of_a(alloc, Limits::standard(), Profile::One)?;
-    add_cells(&mut draft, alloc, NAMES)?;
-    put(&mut draft, alloc, 0, "3 circle 1 0 5 0 0")?;
-    Ok(draft)
+    let added = add_many(&mut draft, alloc);
+    whole(draft, added)
 }
 
 /// Whether it is the layout of such a draft.
@@ -61,8 +66,10 @@ fn seals(alloc: Global) -> Result<([bool; 2], bool), Why> {
     let last = draft_of_many(alloc)?;
     let drafts = drafts_of_many(alloc)?;
     let in_want = seal_in_want(alloc, drafts);
-    let layout = sealed(last)?;
-    Ok((in_want, is_of_many(&layout)))
+    let layout = sealed(last, Ok(()))?;
+    let is_right = is_of_many(&layout);
+    discard(layout);
+    Ok((in_want, is_right))
 }
 
 #[test]
