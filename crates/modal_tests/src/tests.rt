@@ -13,12 +13,11 @@ use self::table::ROWS;
 use itoa::Buffer;
 use oas_layout::{Elements, Layout, Limits, Profile};
 use oas_listing::{put_element, put_name, put_unit};
-use oas_modal::{CellStore, Reader};
+use oas_modal::Reader;
 use oas_num::{Fraction, INPUT_MAX, Outlet, Refusal, Sink, SinkFault, SliceSource, Source, Why};
 use oas_record::{CellRef, Record};
 use std::alloc::Global;
 use std::process::Abort;
-use std::test::Fail;
 
 /// The unit of all tests.
 fn unit() -> Result<Fraction, Why> {
@@ -30,13 +29,19 @@ fn limits_of(elements: u64, weight: u64, input: u64) -> Result<Limits, Why> {
     Limits::new(elements, weight, input).ok_or(Why::TooHeavy)
 }
 
+/// Whether the heap can be filled, and how often a call is then refused before it succeeds; none where it never does.
+type Refused = Result<(bool, Option<u32>), Why>;
+
 /// Whether a call was refused before it succeeded, if the heap could be filled.
-fn is_met(is_full: bool, refused: Option<u32>) -> bool {
+fn is_met(refused: Refused) -> bool {
     match refused {
-        Some(times) => times > 0 || !is_full,
-        None => false,
+        Ok((is_full, Some(times))) => times > 0 || !is_full,
+        _ => false,
     }
 }
+
+/// Drops a value in a step of its own, since that is dear to prove beside other values.
+fn discard<T: Drop>(_value: T) {}
 
 /// Has the reader take the records of these bytes.
 fn take_all(alloc: Global, bytes: &[u8], reader: &mut Reader) -> Result<(), Refusal> {
@@ -52,12 +57,21 @@ fn take_all(alloc: Global, bytes: &[u8], reader: &mut Reader) -> Result<(), Refu
     Ok(())
 }
 
+/// Has the reader finish there, unless it was refused before.
+fn finish(reader: Reader, taken: Result<(), Refusal>, end: u64) -> Result<Layout, Refusal> {
+    match taken {
+        Ok(()) => reader.finish(end),
+        Err(refusal) => {
+            discard(reader);
+            Err(refusal)
+        }
+    }
+}
+
 /// Has the reader take the records of these bytes, and finish where they end.
 fn read(alloc: Global, bytes: &[u8], mut reader: Reader) -> Result<Layout, Refusal> {
     let taken = take_all(alloc, bytes, &mut reader);
-    let layout = reader.finish(bytes.len() as u64);
-    taken?;
-    layout
+    finish(reader, taken, bytes.len() as u64)
 }
 
 /// Puts the lines of elements, each behind its count.
@@ -89,40 +103,47 @@ fn write_layout(bytes: &mut Vec<u8>, layout: &Layout) -> Result<(), SinkFault> {
 }
 
 /// The listing of a layout, but each distinct element once, behind its count, and with `;` at the end of each line.
-fn lines_of(alloc: Global, layout: &Layout) -> Result<String, Fail> {
+fn lines_of(alloc: Global, layout: &Layout) -> Option<String> {
     let mut bytes: Vec<u8> = Vec::new(alloc);
-    write_layout(&mut bytes, layout)?;
-    Ok(str::from_utf8(&bytes)?.replace(alloc, "\n", ";")?)
+    write_layout(&mut bytes, layout).ok()?;
+    str::from_utf8(&bytes).ok()?.replace(alloc, "\n", ";").ok()
+}
+
+/// NUMBER@OFFSET of a refusal.
+fn refused_as(alloc: Global, Refusal { at, why }: Refusal) -> Option<String> {
+    let number = why.number();
+    format!(in alloc; "{number}@{at}").ok()
 }
 
 /// The lines of a layout, or NUMBER@OFFSET of a refusal.
-fn listed(alloc: Global, answer: Result<Layout, Refusal>) -> Result<String, Fail> {
+fn listed(alloc: Global, answer: Result<Layout, Refusal>) -> Option<String> {
     match answer {
-        Ok(layout) => lines_of(alloc, &layout),
-        Err(Refusal { at, why }) => {
-            let number = why.number();
-            Ok(format!(in alloc; "{number}@{at}")?)
+        Ok(layout) => {
+            let lines = lines_of(alloc, &layout);
+            discard(layout);
+            lines
         }
+        Err(refusal) => refused_as(alloc, refusal),
     }
 }
 
 /// The bytes of a text in hex.
-fn bytes_of(alloc: Global, text: &str) -> Result<Vec<u8>, Fail> {
-    let digits = text.replace(alloc, " ", "")?;
-    Ok(hex::decode(alloc, &digits)?)
+fn bytes_of(alloc: Global, text: &str) -> Option<Vec<u8>> {
+    let digits = text.replace(alloc, " ", "").ok()?;
+    hex::decode(alloc, digits).ok()
 }
 
 /// What comes of records in hex by a reader of these limits and this profile.
-fn answer(alloc: Global, text: &str, limits: Limits, profile: Profile) -> Result<String, Fail> {
-    let unit = unit()?;
+fn answer(
+    alloc: Global,
+    text: &str,
+    limits: Result<Limits, Why>,
+    profile: Profile,
+) -> Option<String> {
+    let (unit, limits) = (unit().ok()?, limits.ok()?);
     let bytes = bytes_of(alloc, text)?;
     let reader = Reader::new(alloc, unit, limits, profile);
     listed(alloc, read(alloc, &bytes, reader))
-}
-
-/// Asserts that this is found.
-fn expect(rt: &impl Abort, at: &str, found: &str, wanted: &str) {
-    assert!(rt; found == wanted, "at {at}: {found}");
 }
 
 /// The three parts of a row; those that it lacks are empty, which is no answer.
@@ -132,16 +153,13 @@ fn parts(row: &str) -> [&str; 3] {
     [first, second, third]
 }
 
-/// Asserts what one row says.
-fn expect_row(rt: &impl Abort, alloc: Global, row: &str) -> Result<(), Fail> {
-    let [name, bytes, wanted] = parts(row);
-    let found = answer(alloc, bytes, Limits::standard(), Profile::One)?;
-    expect(rt, name, found.as_str(), wanted);
-    Ok(())
+/// Asserts that this is found.
+fn expect(rt: &impl Abort, at: &str, found: Option<String>, wanted: &str) {
+    match found {
+        Some(lines) => assert!(rt; lines.as_str() == wanted, "at {at}: {lines}"),
+        None => panic!(rt; "at {at}: no answer"),
+    }
 }
-
-/// Drops the reader in a step of its own, since that is dear to prove beside other values.
-fn discard<S: CellStore>(_reader: Reader<S>) {}
 
 /// Whether the reader refuses a PAD with what it refused before.
 fn refuses_on(reader: &mut Reader, at: u64, refusal: Refusal) -> bool {
@@ -176,61 +194,59 @@ fn refused_again(rt: HostRuntime) {
     );
 }
 
-/// Asserts what a reader of these limits and this profile makes of the records.
-fn expect_within(
-    rt: &impl Abort,
-    alloc: Global,
-    limits: Limits,
-    profile: Profile,
-    bytes: &str,
-    wanted: &str,
-) -> Result<(), Fail> {
-    let found = answer(alloc, bytes, limits, profile)?;
-    expect(rt, bytes, found.as_str(), wanted);
-    Ok(())
-}
-
 /// Limits and a profile, records in hex, and what comes of them: a cell with four equal rectangles, one whose number is named
 /// behind it, and a ring round a rectangle.
-const WITHIN: &str = "\
-3 100 6720 one | 0E0141 147F01000A1400000100000000 | 24@3
-100 6 1000 one | 0E0141 147F01000A1400000100000000 | unit 1000/1;cell A;4 rectangle 1 0 10 20 0 0;
-100 5 1000 one | 0E0141 147F01000A1400000100000000 | 25@3
-100 5 1000 one | 0D00 147F01000A1400000100000000 030141 | 25@18
-16777216 268435456 68719476736 two | 0E0141 153B0100000214280000 | unit 1000/1;cell A;1 rectangle 1 0 10 20 0 0;";
+const WITHIN: &[([u64; 3], Profile, &str, &str)] = &[
+    (
+        [3, 100, 6720],
+        Profile::One,
+        "0E0141 147F01000A1400000100000000",
+        "24@3",
+    ),
+    (
+        [100, 6, 1000],
+        Profile::One,
+        "0E0141 147F01000A1400000100000000",
+        "unit 1000/1;cell A;4 rectangle 1 0 10 20 0 0;",
+    ),
+    (
+        [100, 5, 1000],
+        Profile::One,
+        "0E0141 147F01000A1400000100000000",
+        "25@3",
+    ),
+    (
+        [100, 5, 1000],
+        Profile::One,
+        "0D00 147F01000A1400000100000000 030141",
+        "25@18",
+    ),
+    (
+        [16777216, 268435456, 68719476736],
+        Profile::Two,
+        "0E0141 153B0100000214280000",
+        "unit 1000/1;cell A;1 rectangle 1 0 10 20 0 0;",
+    ),
+];
 
-/// The limits and the profile of a row.
-fn under(text: &str) -> Result<(Limits, Profile), Why> {
-    let mut words = text.split_whitespace();
-    let elements = words.next().unwrap_or("").parse().unwrap_or(0);
-    let weight = words.next().unwrap_or("").parse().unwrap_or(0);
-    let input = words.next().unwrap_or("").parse().unwrap_or(0);
-    let limits = limits_of(elements, weight, input)?;
-    if text.ends_with("two") {
-        Ok((limits, Profile::Two))
-    } else {
-        Ok((limits, Profile::One))
+#[test]
+fn limits_and_profiles(rt: HostRuntime) {
+    for &([elements, weight, input], profile, bytes, wanted) in WITHIN {
+        let limits = limits_of(elements, weight, input);
+        expect(
+            &rt,
+            bytes,
+            answer(rt.alloc(), bytes, limits, profile),
+            wanted,
+        );
     }
 }
 
-fn expect_row_within(rt: &impl Abort, alloc: Global, row: &str) -> Result<(), Fail> {
-    let [numbers, bytes, wanted] = parts(row);
-    let (limits, profile) = under(numbers)?;
-    expect_within(rt, alloc, limits, profile, bytes, wanted)
-}
-
 #[test]
-fn limits_and_profiles(rt: HostRuntime) -> Result<(), Fail> {
-    for row in WITHIN.lines() {
-        expect_row_within(&rt, rt.alloc(), row)?;
-    }
-    Ok(())
-}
-
-#[test]
-fn each_row(rt: HostRuntime) -> Result<(), Fail> {
+fn each_row(rt: HostRuntime) {
     for row in ROWS.lines() {
-        expect_row(&rt, rt.alloc(), row)?;
+        let [name, bytes, wanted] = parts(row);
+        let found = answer(rt.alloc(), bytes, Ok(Limits::standard()), Profile::One);
+        expect(&rt, name, found, wanted);
     }
-    Ok(())
 }

@@ -5,10 +5,11 @@
 
 ghost use Rattle.oas_modal.specs.Finish.{IsFit};
 
-use super::is_met;
+use super::{Refused, discard, is_met};
 use oas_drawing::Drawn;
 use oas_layout::Element;
 use oas_modal::HeldCell;
+use oas_num::Why;
 use oas_record::CellRef;
 use scarce_memory::Hoard;
 use std::alloc::{AllocError, Global};
@@ -41,7 +42,9 @@ fn drawing(number: u64) -> Drawn
 /// Whether it is handed back as it was, if a new cell does not draw it.
 fn refused(alloc: Global, number: u64) -> Option<bool> {
     let mut cell = HeldCell::new(alloc, CellRef::Number(number));
-    match cell.add(drawing(number), 5) {
+    let added = cell.add(drawing(number), 5);
+    discard(cell);
+    match added {
         Ok(()) => None,
         Err(back) => Some(back == drawing(number)),
     }
@@ -61,20 +64,20 @@ fn insist_on_drawing(alloc: Global, number: u64, hoard: &mut Hoard) -> Option<u3
 }
 
 /// Whether the heap can be filled, and how often the drawing is then refused.
-fn refusals(alloc: Global, number: u64) -> (bool, Option<u32>) {
+fn refusals(alloc: Global, number: u64) -> Refused {
     match Hoard::new(alloc) {
-        Ok(mut hoard) => (
+        Ok(mut hoard) => Ok((
             hoard.is_full(),
             insist_on_drawing(alloc, number, &mut hoard),
-        ),
-        Err(AllocError) => (false, None),
+        )),
+        Err(AllocError) => Err(Why::Memory),
     }
 }
 
 #[test]
 fn drawn_without_memory(rt: HostRuntime) {
     for number in [7, 8] {
-        let (is_full, refused) = refusals(rt.alloc(), number);
-        assert!(rt; is_met(is_full, refused), "{number}: {refused:?}");
+        let refused = refusals(rt.alloc(), number);
+        assert!(rt; is_met(refused), "{number}: {refused:?}");
     }
 }

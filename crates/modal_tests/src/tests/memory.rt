@@ -4,7 +4,7 @@
 //! before they succeed, and so is the finish, by a reader that has taken its records before. Where the heap cannot be filled, as
 //! under a checker of addresses, no call is refused, and the answers are the same.
 
-use super::{discard, is_met, refuses_on, unit};
+use super::{Refused, discard, is_met, refuses_on, unit};
 use oas_layout::{Layout, Limits, Profile};
 use oas_modal::Reader;
 use oas_num::{Fraction, Name, Refusal, SliceSource, Spelled, Why};
@@ -12,12 +12,11 @@ use oas_record::{CellRef, Record, Rectangle, Spot};
 use scarce_memory::Hoard;
 use std::alloc::{AllocError, Global};
 use std::process::Abort;
-use std::test::Fail;
 
 /// Where END starts.
 const END: u64 = 24;
 
-pub(super) fn name(alloc: Global, spelled: &[u8]) -> Result<Name, Why> {
+fn name(alloc: Global, spelled: &[u8]) -> Result<Name, Why> {
     Name::read(alloc, &mut SliceSource::new(spelled, 100))
 }
 
@@ -37,27 +36,31 @@ fn rectangle() -> Record {
     })
 }
 
-/// Has the reader take two cells, each with a rectangle.
-fn take_cells(reader: &mut Reader, second: Name) -> Result<(), Refusal> {
+/// What is answered where no name is left: no reader refuses so.
+const NO_NAME: Refusal = Refusal {
+    at: u64::MAX,
+    why: Why::Memory,
+};
+
+/// Has the reader take two cells, each with a rectangle, the second by the last of the names.
+fn take_cells(reader: &mut Reader, names: &mut Vec<Name>) -> Result<(), Refusal> {
     reader.take(3, Record::Cell(CellRef::Number(0)))?;
     reader.take(5, rectangle())?;
-    reader.take(13, Record::Cell(CellRef::Name(second)))?;
+    let name = names.pop().ok_or(NO_NAME)?;
+    reader.take(13, Record::Cell(CellRef::Name(name)))?;
     reader.take(16, rectangle())
 }
 
-/// Has the reader take a name of a cell, and two cells.
-fn take_all(reader: &mut Reader, first: Name, second: Name) -> Result<(), Refusal> {
-    let first = Record::CellName {
-        name: first,
-        number: None,
-    };
-    reader.take(0, first)?;
-    take_cells(reader, second)
+/// Has the reader take the last of the names as that of a cell, and two cells.
+fn take_all(reader: &mut Reader, names: &mut Vec<Name>) -> Result<(), Refusal> {
+    let name = names.pop().ok_or(NO_NAME)?;
+    reader.take(0, Record::CellName { name, number: None })?;
+    take_cells(reader, names)
 }
 
 /// Has the reader take them. Whether, if it was refused, it refuses a record more.
-fn is_kept(reader: &mut Reader, first: Name, second: Name) -> bool {
-    match take_all(reader, first, second) {
+fn is_kept(reader: &mut Reader, names: &mut Vec<Name>) -> bool {
+    match take_all(reader, names) {
         Ok(()) => true,
         Err(refusal) => refuses_on(reader, END, refusal),
     }
@@ -68,12 +71,20 @@ fn is_right(layout: &Layout) -> bool {
     layout.cells() == 2 && layout.count() == 2
 }
 
-/// Has a new reader take them, and finish. Where it is refused, or else whether all is right.
-fn run(alloc: Global, unit: Fraction, first: Name, second: Name) -> Result<bool, Refusal> {
-    let mut reader = Reader::new(alloc, unit, Limits::standard(), Profile::One);
-    let is_kept = is_kept(&mut reader, first, second);
+/// Finishes the reader. Where it is refused, or else whether the layout is right.
+fn finished(reader: Reader) -> Result<bool, Refusal> {
     match reader.finish(END) {
-        Ok(layout) => Ok(is_kept && is_right(&layout)),
+        Ok(layout) => Ok(is_right(&layout)),
+        Err(refusal) => Err(refusal),
+    }
+}
+
+/// Has a new reader take them, and finish. Where it is refused, or else whether all is right.
+fn run(alloc: Global, unit: Fraction, names: &mut Vec<Name>) -> Result<bool, Refusal> {
+    let mut reader = Reader::new(alloc, unit, Limits::standard(), Profile::One);
+    let is_kept = is_kept(&mut reader, names);
+    match finished(reader) {
+        Ok(is_right) => Ok(is_kept && is_right),
         Err(refusal) if is_kept => Err(refusal),
         Err(_) => Ok(false),
     }
@@ -84,19 +95,17 @@ fn run(alloc: Global, unit: Fraction, first: Name, second: Name) -> Result<bool,
 fn insist(
     alloc: Global,
     unit: Fraction,
-    names: &mut Vec<(Name, Name)>,
+    names: &mut Vec<Name>,
     hoard: &mut Hoard,
 ) -> (bool, [bool; 2]) {
     let mut refused = [false; 2];
     let mut all = true;
-    for _ in 0..names.len() {
-        if let Some((first, second)) = names.pop() {
-            match run(alloc, unit, first, second) {
-                Ok(is_right) => return (is_right && all, refused),
-                Err(Refusal { at, why }) => {
-                    all &= why == Why::Memory;
-                    refused = [refused[0] || at == 0, refused[1] || at == 5];
-                }
+    for _ in 0..2000u32 {
+        match run(alloc, unit, names) {
+            Ok(is_right) => return (is_right && all, refused),
+            Err(Refusal { at, why }) => {
+                all &= why == Why::Memory;
+                refused = [refused[0] || at == 0, refused[1] || at == 5];
             }
         }
         hoard.give_back();
@@ -104,18 +113,19 @@ fn insist(
     (false, refused)
 }
 
-/// 2000 pairs of names.
-fn pairs(alloc: Global) -> Result<Vec<(Name, Name)>, Why> {
+/// So many names, by turns A and B.
+pub(super) fn many_names(alloc: Global, count: u32) -> Result<Vec<Name>, Why> {
     let mut names = Vec::new(alloc);
-    for _ in 0..2000u32 {
-        names.push((name(alloc, b"\x01A")?, name(alloc, b"\x01B")?))?;
+    for number in 0..count {
+        let spelled = if number % 2 == 0 { b"\x01A" } else { b"\x01B" };
+        names.push(name(alloc, spelled)?)?;
     }
     Ok(names)
 }
 
 /// Whether all is right where there is no memory at first, and whether, where the heap can be filled, the name and the first
 /// rectangle are each refused.
-fn in_want(alloc: Global, unit: Fraction, names: &mut Vec<(Name, Name)>) -> (bool, [bool; 2]) {
+fn in_want(alloc: Global, unit: Fraction, names: &mut Vec<Name>) -> (bool, [bool; 2]) {
     match Hoard::new(alloc) {
         Ok(mut hoard) => {
             let is_full = hoard.is_full();
@@ -126,10 +136,10 @@ fn in_want(alloc: Global, unit: Fraction, names: &mut Vec<(Name, Name)>) -> (boo
     }
 }
 
-/// The same with those names.
+/// The same with two names for each run.
 fn reader_in_want(alloc: Global) -> Result<(bool, [bool; 2]), Why> {
     let unit = unit()?;
-    let mut names = pairs(alloc)?;
+    let mut names = many_names(alloc, 4000)?;
     Ok(in_want(alloc, unit, &mut names))
 }
 
@@ -140,9 +150,8 @@ fn reader_without_memory(rt: HostRuntime) {
 
 /// Has the reader take a name of a cell, and two cells.
 fn make_ready(reader: &mut Reader, alloc: Global) -> Result<(), Why> {
-    let first = name(alloc, b"\x01A")?;
-    let second = name(alloc, b"\x01B")?;
-    match take_all(reader, first, second) {
+    let mut names = many_names(alloc, 2)?;
+    match take_all(reader, &mut names) {
         Ok(()) => Ok(()),
         Err(refusal) => Err(refusal.why),
     }
@@ -169,14 +178,6 @@ fn all_ready(alloc: Global, unit: Fraction) -> Result<Vec<Reader>, Why> {
     Ok(readers)
 }
 
-/// Finishes the reader. Where it is refused, or else whether the layout is right.
-fn finished(reader: Reader) -> Result<bool, Refusal> {
-    match reader.finish(END) {
-        Ok(layout) => Ok(is_right(&layout)),
-        Err(refusal) => Err(refusal),
-    }
-}
-
 /// Finishes one after another until a layout is made, and gives back a piece of memory after each refusal. How many were refused;
 /// none where no layout is made, or one is wrong, or anything but want of memory is answered.
 fn insist_on_finish(readers: &mut Vec<Reader>, hoard: &mut Hoard) -> Option<u32> {
@@ -200,22 +201,21 @@ fn insist_on_finish(readers: &mut Vec<Reader>, hoard: &mut Hoard) -> Option<u32>
 }
 
 /// Whether the heap can be filled, and how many readers are then refused.
-fn finish_in_want(alloc: Global, readers: &mut Vec<Reader>) -> (bool, Option<u32>) {
+fn finish_in_want(alloc: Global, readers: &mut Vec<Reader>) -> Refused {
     match Hoard::new(alloc) {
-        Ok(mut hoard) => (hoard.is_full(), insist_on_finish(readers, &mut hoard)),
-        Err(AllocError) => (false, None),
+        Ok(mut hoard) => Ok((hoard.is_full(), insist_on_finish(readers, &mut hoard))),
+        Err(AllocError) => Err(Why::Memory),
     }
 }
 
 /// The same of those readers.
-fn finish_refused(alloc: Global) -> Result<(bool, Option<u32>), Why> {
+fn finish_refused(alloc: Global) -> Refused {
     let mut readers = all_ready(alloc, unit()?)?;
-    Ok(finish_in_want(alloc, &mut readers))
+    finish_in_want(alloc, &mut readers)
 }
 
 #[test]
-fn finish_without_memory(rt: HostRuntime) -> Result<(), Fail> {
-    let (is_full, refused) = finish_refused(rt.alloc())?;
-    assert!(rt; is_met(is_full, refused), "{refused:?}");
-    Ok(())
+fn finish_without_memory(rt: HostRuntime) {
+    let refused = finish_refused(rt.alloc());
+    assert!(rt; is_met(refused), "{refused:?}");
 }

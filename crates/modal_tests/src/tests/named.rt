@@ -1,7 +1,7 @@
 //! A placement or a text that stands once, taken at hand and as a record: what comes of both is the same.
 
 use super::named_table::{LISTED, RECORDS, RENAMED, RENAMED_LISTED};
-use super::{discard, expect, is_met, limits_of, listed, unit};
+use super::{Refused, discard, expect, is_met, limits_of, listed, unit};
 use oas_ahead::named_ahead;
 use oas_layout::{Limits, Profile};
 use oas_modal::{CellStore, CountedCell, HeldCell, Reader};
@@ -10,7 +10,6 @@ use oas_record::{CellRef, Record};
 use scarce_memory::Hoard;
 use std::alloc::{AllocError, Global};
 use std::process::Abort;
-use std::test::Fail;
 
 /// What is answered where bytes are no element at hand: no reader refuses so.
 const NOT_AT_HAND: Refusal = Refusal {
@@ -73,31 +72,26 @@ fn taken<S: CellStore>(
     reader
 }
 
-/// Asserts that this comes of the records, at hand or by records.
-fn expect_listed(
-    rt: &impl Abort,
-    alloc: Global,
-    records: &[&[u8]; 14],
-    by_hand: bool,
-    wanted: &str,
-) -> Result<(), Fail> {
-    let unit = unit()?;
+/// What comes of the records, at hand or by records.
+fn answer(alloc: Global, records: &[&[u8]; 14], by_hand: bool) -> Option<String> {
+    let unit = unit().ok()?;
     let reader: Reader<HeldCell> = taken(alloc, unit, Limits::standard(), records, by_hand);
-    let found = listed(alloc, reader.finish(14))?;
-    expect(rt, wanted, found.as_str(), wanted);
-    Ok(())
+    listed(alloc, reader.finish(14))
 }
 
 #[test]
-fn named_alike(rt: HostRuntime) -> Result<(), Fail> {
-    expect_listed(&rt, rt.alloc(), &RECORDS, true, LISTED)?;
-    expect_listed(&rt, rt.alloc(), &RECORDS, false, LISTED)
+fn named_alike(rt: HostRuntime) {
+    for by_hand in [true, false] {
+        expect(&rt, LISTED, answer(rt.alloc(), &RECORDS, by_hand), LISTED);
+    }
 }
 
 #[test]
-fn renamed_alike(rt: HostRuntime) -> Result<(), Fail> {
-    expect_listed(&rt, rt.alloc(), &RENAMED, true, RENAMED_LISTED)?;
-    expect_listed(&rt, rt.alloc(), &RENAMED, false, RENAMED_LISTED)
+fn renamed_alike(rt: HostRuntime) {
+    for by_hand in [true, false] {
+        let found = answer(rt.alloc(), &RENAMED, by_hand);
+        expect(&rt, RENAMED_LISTED, found, RENAMED_LISTED);
+    }
 }
 
 /// What refuses the records within these limits, if anything does, by held cells.
@@ -231,7 +225,7 @@ fn insist_on_placing(
 }
 
 /// Whether the heap can be filled, and how often the placement is then refused.
-fn placing_refused(alloc: Global) -> Result<(bool, Option<u32>), Why> {
+fn placing_refused(alloc: Global) -> Refused {
     let unit = unit()?;
     let light = limits_of(10, 3, 2000)?;
     match Hoard::new(alloc) {
@@ -246,10 +240,9 @@ fn placing_refused(alloc: Global) -> Result<(bool, Option<u32>), Why> {
 /// A placement weighs one, and one for each byte of its name. The heap is filled up, and given back a small piece after each run.
 /// Where it cannot be filled, as under a checker of addresses, no call wants memory.
 #[test]
-fn named_without_memory(rt: HostRuntime) -> Result<(), Fail> {
-    let (is_full, refused) = placing_refused(rt.alloc())?;
-    assert!(rt; is_met(is_full, refused), "{refused:?}");
-    Ok(())
+fn named_without_memory(rt: HostRuntime) {
+    let refused = placing_refused(rt.alloc());
+    assert!(rt; is_met(refused), "{refused:?}");
 }
 
 /// Has a reader take placements of names that aren't longer than the modal one.

@@ -2,14 +2,13 @@
 
 ghost use Rattle.std.specs.Prelude.{◌≡◌, None};
 
-use super::{discard, expect, limits_of, listed, unit};
+use super::{discard, expect, finish, limits_of, listed, unit};
 use oas_layout::{Layout, Limits, Profile};
 use oas_modal::Reader;
 use oas_num::{Name, Refusal, SliceSource, Spelled, Why};
 use oas_record::{CellRef, Record, Rectangle, Spot};
 use std::alloc::Global;
 use std::process::Abort;
-use std::test::Fail;
 
 /// What comes of a rectangle, one that is 5 to its left and 3 above it, and one where the first is.
 const LISTED_THREE: &str =
@@ -56,45 +55,29 @@ fn take_three(reader: &mut Reader, alone: bool, cell: Name) -> Result<(), Refusa
 /// The layout of a cell and three rectangles.
 fn layout_of_three(mut reader: Reader, alone: bool, cell: Name) -> Result<Layout, Refusal> {
     let taken = take_three(&mut reader, alone, cell);
-    let layout = reader.finish(23);
-    taken?;
-    layout
+    finish(reader, taken, 23)
 }
 
 /// What comes of three rectangles, within these limits: the lines of the layout, or NUMBER@OFFSET.
-fn three(alloc: Global, alone: bool, limits: Limits) -> Result<String, Fail> {
-    let unit = unit()?;
-    let cell = Name::read(alloc, &mut SliceSource::new(b"\x01A", 100))?;
+fn three(alloc: Global, alone: bool, limits: Result<Limits, Why>) -> Option<String> {
+    let (unit, limits) = (unit().ok()?, limits.ok()?);
+    let cell = Name::read(alloc, &mut SliceSource::new(b"\x01A", 100)).ok()?;
     let reader = Reader::new(alloc, unit, limits, Profile::One);
     listed(alloc, layout_of_three(reader, alone, cell))
 }
 
-/// Asserts that this comes of three rectangles, taken by themselves or as records.
-fn expect_three(
-    rt: &impl Abort,
-    alloc: Global,
-    alone: bool,
-    limits: Limits,
-    wanted: &str,
-) -> Result<(), Fail> {
-    let found = three(alloc, alone, limits)?;
-    expect(rt, wanted, found.as_str(), wanted);
-    Ok(())
-}
-
 /// Two elements may stand there, and then a third may not; or all may weigh 4 with a name that weighs 2.
 #[test]
-fn taken_or_refused_alike(rt: HostRuntime) -> Result<(), Fail> {
+fn taken_or_refused_alike(rt: HostRuntime) {
     for (elements, weight, input, wanted) in [
         (3, 100, 6720, LISTED_THREE),
         (2, 100, 6720, "24@17"),
         (3, 4, 1000, "25@17"),
     ] {
-        let limits = limits_of(elements, weight, input)?;
-        expect_three(&rt, rt.alloc(), true, limits, wanted)?;
-        expect_three(&rt, rt.alloc(), false, limits, wanted)?;
+        let limits = limits_of(elements, weight, input);
+        expect(&rt, wanted, three(rt.alloc(), true, limits), wanted);
+        expect(&rt, wanted, three(rt.alloc(), false, limits), wanted);
     }
-    Ok(())
 }
 
 /// What the reader answers to a rectangle of the modal layer, to one of a layer, and to a record.
@@ -106,36 +89,33 @@ fn take_on(reader: &mut Reader, at: u64) -> [Result<(), Refusal>; 3] {
     ]
 }
 
-/// What a new reader answers to them outside a cell.
-fn answers_outside(alloc: Global) -> Result<[Result<(), Refusal>; 3], Why> {
-    let mut reader = Reader::new(alloc, unit()?, Limits::standard(), Profile::One);
-    let answers = take_on(&mut reader, 7);
-    discard(reader);
-    Ok(answers)
+/// What it answers to them in a cell, if it's inside, or outside.
+fn take_behind(reader: &mut Reader, inside: bool, at: u64) -> [Result<(), Refusal>; 3] {
+    if inside && reader.take(3, Record::Cell(CellRef::Number(7))).is_err() {
+        return [Ok(()); 3];
+    }
+    take_on(reader, at)
 }
 
-/// What it answers to a cell, and to them in it.
-fn answers_inside(alloc: Global) -> Result<(Result<(), Refusal>, [Result<(), Refusal>; 3]), Why> {
+/// The same of a new reader.
+fn answers(alloc: Global, inside: bool, at: u64) -> Result<[Result<(), Refusal>; 3], Why> {
     let mut reader = Reader::new(alloc, unit()?, Limits::standard(), Profile::One);
-    let taken = reader.take(3, Record::Cell(CellRef::Number(7)));
-    let answers = take_on(&mut reader, 5);
+    let answers = take_behind(&mut reader, inside, at);
     discard(reader);
-    Ok((taken, answers))
+    Ok(answers)
 }
 
 /// A rectangle outside a cell is refused, and one after a variable that no record gave; and then all that follows.
 #[test]
 fn rectangle_refused_again(rt: HostRuntime) {
-    let outside = Err(Refusal {
-        at: 7,
-        why: Why::OutOfPlace(20),
-    });
-    let inside = Err(Refusal {
-        at: 5,
-        why: Why::ModalUndefined,
-    });
-    assert!(rt;
-        (answers_outside(rt.alloc()), answers_inside(rt.alloc()))
-            == (Ok([outside; 3]), Ok((Ok(()), [inside; 3])))
-    );
+    for (inside, at, why) in [
+        (false, 7, Why::OutOfPlace(20)),
+        (true, 5, Why::ModalUndefined),
+    ] {
+        let refused = Err(Refusal { at, why });
+        assert!(rt;
+            answers(rt.alloc(), inside, at) == Ok([refused; 3]),
+            "at {at}"
+        );
+    }
 }
