@@ -6,11 +6,14 @@ mod rectangles;
 mod turns;
 
 ghost use Rattle.std.specs.Prelude.{◌≡◌, ◌≤◌, ◌^◌, None, Some};
+ghost use Rattle.oas_record.specs.declared.records.Record.{Record as OneRecord};
+ghost use Rattle.oas_drawing.specs.Positions.{IsNear};
+ghost use Rattle.oas_drawing.specs.Modal.{stepped};
 
 use oas_drawing::{Drawn, Kind, ModalVariables};
 use oas_layout::{Element, Limits};
 use oas_num::Why;
-use oas_record::{Circle, Rectangle, Spot};
+use oas_record::{Circle, Placement, Rectangle, Spot};
 use oas_shape::{RepField, Repetition};
 use std::alloc::Global;
 use std::process::Abort;
@@ -53,6 +56,25 @@ fn bare(square: bool, spot: Spot) -> Rectangle
         spot,
     }
 }
+
+/// Draws the rectangle, which is dropped in a step of its own, since that is dear to prove beside other values.
+fn draw(modal: &mut ModalVariables, mut drawn: Rectangle)
+    requires { IsNear modal.old.geometry }
+    ensures { modal.new ≡ stepped modal.old (OneRecord.Rectangle drawn) }
+{
+    modal.draw_rectangle(&mut drawn);
+}
+
+/// Places a cell by the record, which is dropped in such a step.
+fn place(modal: &mut ModalVariables, mut placed: Placement)
+    requires { IsNear modal.old.placement }
+    ensures { modal.new ≡ stepped modal.old (OneRecord.Placement placed) }
+{
+    modal.place(&mut placed);
+}
+
+/// Drops a value in such a step.
+fn discard<T: Drop>(_value: T) {}
 
 /// The last copy of an element.
 fn last_copy(
@@ -112,17 +134,14 @@ fn last_seen(alloc: Global, modal: &ModalVariables) -> Option<Seen> {
     seen(last_copy(alloc, modal, Kind::Rectangle, false).ok()?)
 }
 
-/// Drops the modal variables in a step of its own, since that is dear to prove beside other values.
-fn discard(_modal: ModalVariables) {}
-
 /// A rectangle, a square of its width, and a rectangle of that square's size.
 fn squares_seen(alloc: Global) -> [Option<Seen>; 3] {
     let mut modal = ModalVariables::new();
-    modal.draw_rectangle(&mut full(10, 20, at(Some(0), Some(0))));
+    draw(&mut modal, full(10, 20, at(Some(0), Some(0))));
     let rectangle = last_seen(alloc, &modal);
-    modal.draw_rectangle(&mut bare(true, at(Some(20), None)));
+    draw(&mut modal, bare(true, at(Some(20), None)));
     let square = last_seen(alloc, &modal);
-    modal.draw_rectangle(&mut bare(false, at(None, Some(30))));
+    draw(&mut modal, bare(false, at(None, Some(30))));
     let last = last_seen(alloc, &modal);
     discard(modal);
     [rectangle, square, last]
@@ -130,8 +149,12 @@ fn squares_seen(alloc: Global) -> [Option<Seen>; 3] {
 
 #[test]
 fn squares(rt: HostRuntime) {
-    let wanted = [(10, 20, 0, 0), (10, 10, 20, 0), (10, 10, 20, 30)];
-    assert!(rt; squares_seen(rt.alloc()) == wanted.map(Some));
+    let wanted = [
+        Some((10, 20, 0, 0)),
+        Some((10, 10, 20, 0)),
+        Some((10, 10, 20, 30)),
+    ];
+    assert!(rt; squares_seen(rt.alloc()) == wanted);
 }
 
 /// Three circles of a radius that is the grid's, the last at its edge.
@@ -202,15 +225,18 @@ fn copies_within_limits(rt: HostRuntime) {
 /// Why a square is refused whose corner is past the edge of the grid.
 fn far_corner(alloc: Global) -> Option<Why> {
     let mut modal = ModalVariables::new();
-    modal.draw_rectangle(&mut Rectangle {
+    let square = Rectangle {
         square: true,
         layer: Some(1),
         datatype: Some(0),
         width: Some(10),
         height: None,
         spot: at(Some((1 << 60) - 9), None),
-    });
-    refusal(alloc, &modal, Kind::Rectangle, false)
+    };
+    draw(&mut modal, square);
+    let refused = refusal(alloc, &modal, Kind::Rectangle, false);
+    discard(modal);
+    refused
 }
 
 #[test]

@@ -2,28 +2,28 @@
 mod weights;
 
 ghost use Rattle.std.specs.Prelude.{◌≡◌, ◌≤◌, ◌^◌, None, Some, OnOk};
+ghost use Rattle.oas_record.specs.declared.records.Record.{Record as OneRecord};
 ghost use Rattle.oas_ahead.specs.Named.{GivesName, named_record};
 ghost use Rattle.oas_drawing.specs.Positions.{IsNear};
 ghost use Rattle.oas_drawing.specs.Modal.{fresh, stepped};
 
-use super::{at, discard, draws};
+use super::{at, discard, draws, place};
 use oas_ahead::{Given, NamedOnce};
-use oas_drawing::{Drawn, Kind, ModalVariables};
+use oas_drawing::{Drawn, DrawnOnce, Kind, ModalVariables};
 use oas_layout::{Element, Limits, Turns};
 use oas_num::{Label, Name, SliceSource, Spelled, Why};
 use oas_record::{CellRef, Placement, Text, TextRef, Turn};
-use std::alloc::Global;
+use std::alloc::{AllocError, Global};
 use std::process::Abort;
-use std::test::Fail;
 
 /// The name AB.
-fn name(alloc: Global) -> Result<Name, Fail> {
-    Ok(Name::read(alloc, &mut SliceSource::new(b"\x02AB", 10))?)
+fn name(alloc: Global) -> Result<Name, Why> {
+    Name::read(alloc, &mut SliceSource::new(b"\x02AB", 10))
 }
 
 /// The string AB.
-fn label(alloc: Global) -> Result<Label, Fail> {
-    Ok(Label::read(alloc, &mut SliceSource::new(b"\x02AB", 10))?)
+fn label(alloc: Global) -> Result<Label, Why> {
+    Label::read(alloc, &mut SliceSource::new(b"\x02AB", 10))
 }
 
 /// The record of a placement of a cell, or of the modal one.
@@ -50,6 +50,14 @@ fn text(string: Option<TextRef>, texttype: Option<u64>, x: i64, y: Option<i64>) 
     }
 }
 
+/// Writes a text by the record, which is dropped in a step of its own.
+fn write(modal: &mut ModalVariables, mut written: Text)
+    requires { IsNear modal.old.text }
+    ensures { modal.new ≡ stepped modal.old (OneRecord.Text written) }
+{
+    modal.write(&mut written);
+}
+
 /// What the element weighs, or why it is refused.
 fn weighs(modal: &ModalVariables, next: &NamedOnce<'_>, count: u64, weight: u64) -> Result<u64, Why>
     requires few { count ≤ 2 ^ 24 }
@@ -62,13 +70,21 @@ fn weighs(modal: &ModalVariables, next: &NamedOnce<'_>, count: u64, weight: u64)
     }
 }
 
+/// Whether the element is this.
+fn is_drawn(alloc: Global, once: &DrawnOnce<'_>, wanted: &Drawn) -> bool {
+    match once.try_drawn(alloc) {
+        Ok(drawn) => drawn == *wanted,
+        Err(AllocError) => false,
+    }
+}
+
 /// Whether the element is this, once the record has set what it gives.
 fn draws_next(
     alloc: Global,
     modal: &mut ModalVariables,
     next: &NamedOnce<'_>,
     wanted: &Drawn,
-) -> Result<bool, Fail>
+) -> Result<bool, Why>
     requires placement { IsNear modal.old.placement }
     requires text { IsNear modal.old.text }
     requires named { GivesName next.now }
@@ -76,9 +92,11 @@ fn draws_next(
 {
     modal.set_fields(next);
     modal.check_named(next, Limits::standard(), 0, 0)?;
-    modal.set_name(alloc, next)?;
+    if modal.set_name(alloc, next).is_err() {
+        return Err(Why::Memory);
+    }
     match modal.one_named(next) {
-        Some(once) => Ok(once.try_drawn(alloc)? == *wanted),
+        Some(once) => Ok(is_drawn(alloc, &once, wanted)),
         None => Ok(false),
     }
 }
@@ -90,7 +108,7 @@ fn draws_both(
     next: &NamedOnce<'_>,
     kind: Kind,
     wanted: &Drawn,
-) -> Result<(bool, bool), Fail>
+) -> Result<(bool, bool), Why>
     requires placement { IsNear modal.old.placement }
     requires text { IsNear modal.old.text }
     requires named { GivesName next.now }
@@ -100,9 +118,10 @@ fn draws_both(
 }
 
 /// Whether a placement of AB, a step from the one before, is drawn as this.
-fn places(alloc: Global, modal_cell: CellRef, wanted: &Drawn) -> Result<(bool, bool), Fail> {
+fn places(alloc: Global, wanted: &Drawn) -> Result<(bool, bool), Why> {
+    let cell = CellRef::Name(name(alloc)?);
     let mut modal = ModalVariables::new();
-    modal.place(&mut placement(Some(modal_cell), 5, Some(-6)));
+    place(&mut modal, placement(Some(cell), 5, Some(-6)));
     modal.set_relative(true);
     let next = NamedOnce::Placement {
         cell: Given::Bytes(b"AB"),
@@ -121,7 +140,7 @@ fn places(alloc: Global, modal_cell: CellRef, wanted: &Drawn) -> Result<(bool, b
 }
 
 /// The placement that is drawn.
-fn placed_element(alloc: Global) -> Result<Drawn, Fail> {
+fn placed_element(alloc: Global) -> Result<Drawn, Why> {
     Ok(Drawn::Named(Element::Placement {
         cell: name(alloc)?,
         x: -2,
@@ -131,18 +150,22 @@ fn placed_element(alloc: Global) -> Result<Drawn, Fail> {
     }))
 }
 
+/// Whether it is drawn.
+fn is_placed(alloc: Global) -> Result<(bool, bool), Why> {
+    let wanted = placed_element(alloc)?;
+    places(alloc, &wanted)
+}
+
 #[test]
-fn placements(rt: HostRuntime) -> Result<(), Fail> {
-    let alloc = rt.alloc();
-    let drawn = places(alloc, CellRef::Name(name(alloc)?), &placed_element(alloc)?)?;
-    assert!(rt; drawn == (true, true));
-    Ok(())
+fn placements(rt: HostRuntime) {
+    assert!(rt; is_placed(rt.alloc()) == Ok((true, true)));
 }
 
 /// Whether a text of AB is drawn as this.
-fn writes(alloc: Global, modal_string: TextRef, wanted: &Drawn) -> Result<(bool, bool), Fail> {
+fn writes(alloc: Global, wanted: &Drawn) -> Result<(bool, bool), Why> {
+    let string = TextRef::Label(label(alloc)?);
     let mut modal = ModalVariables::new();
-    modal.write(&mut text(Some(modal_string), Some(0), 5, Some(-6)));
+    write(&mut modal, text(Some(string), Some(0), 5, Some(-6)));
     let next = NamedOnce::Text {
         string: Given::Bytes(b"AB"),
         textlayer: None,
@@ -156,7 +179,7 @@ fn writes(alloc: Global, modal_string: TextRef, wanted: &Drawn) -> Result<(bool,
 }
 
 /// The text that is drawn.
-fn written_element(alloc: Global) -> Result<Drawn, Fail> {
+fn written_element(alloc: Global) -> Result<Drawn, Why> {
     Ok(Drawn::Named(Element::Text {
         string: label(alloc)?,
         textlayer: 4,
@@ -166,35 +189,35 @@ fn written_element(alloc: Global) -> Result<Drawn, Fail> {
     }))
 }
 
+/// Whether it is drawn.
+fn is_written(alloc: Global) -> Result<(bool, bool), Why> {
+    let wanted = written_element(alloc)?;
+    writes(alloc, &wanted)
+}
+
 #[test]
-fn texts(rt: HostRuntime) -> Result<(), Fail> {
-    let alloc = rt.alloc();
-    let drawn = writes(
-        alloc,
-        TextRef::Label(label(alloc)?),
-        &written_element(alloc)?,
-    )?;
-    assert!(rt; drawn == (true, true));
-    Ok(())
+fn texts(rt: HostRuntime) {
+    assert!(rt; is_written(rt.alloc()) == Ok((true, true)));
 }
 
 /// Whether a placement and a text of numbers are drawn one after another, and what the text weighs.
 fn draws_numbers(
     alloc: Global,
+    modal: &mut ModalVariables,
     placement: &NamedOnce<'_>,
     text: &NamedOnce<'_>,
     placed: &Drawn,
     written: &Drawn,
-) -> Result<(bool, bool, Result<u64, Why>), Fail>
+) -> Result<(bool, bool, u64), Why>
+    requires modal { modal.old ≡ fresh }
     requires placement { GivesName placement.now }
     requires text { GivesName text.now }
     requires near { IsNear (stepped fresh (named_record placement.now)).placement }
     requires text_near { IsNear (stepped fresh (named_record placement.now)).text }
 {
-    let mut modal = ModalVariables::new();
-    let is_placed = draws_next(alloc, &mut modal, placement, placed)?;
-    let is_written = draws_next(alloc, &mut modal, text, written)?;
-    Ok((is_placed, is_written, weighs(&modal, text, 0, 0)))
+    let is_placed = draws_next(alloc, modal, placement, placed)?;
+    let is_written = draws_next(alloc, modal, text, written)?;
+    Ok((is_placed, is_written, weighs(modal, text, 0, 0)?))
 }
 
 /// Placement 9 and text 8 at hand.
@@ -234,15 +257,20 @@ const BY_NUMBER: (Drawn, Drawn) = (
 );
 
 /// Whether these are drawn so, and what the text weighs.
-fn numbers_drawn(alloc: Global) -> Result<(bool, bool, Result<u64, Why>), Fail> {
+fn numbers_drawn(alloc: Global, placed: &Drawn, written: &Drawn) -> Result<(bool, bool, u64), Why> {
     let (placement, text) = NUMBERED;
-    let (placed, written) = BY_NUMBER;
-    draws_numbers(alloc, &placement, &text, &placed, &written)
+    let mut modal = ModalVariables::new();
+    let drawn = draws_numbers(alloc, &mut modal, &placement, &text, placed, written);
+    discard(modal);
+    drawn
 }
 
 /// A number sets its variable, and the element has it.
 #[test]
-fn numbers(rt: HostRuntime) -> Result<(), Fail> {
-    assert!(rt; numbers_drawn(rt.alloc())? == (true, true, Ok(1)));
-    Ok(())
+fn numbers(rt: HostRuntime) {
+    let (placed, written) = BY_NUMBER;
+    let drawn = numbers_drawn(rt.alloc(), &placed, &written);
+    discard(placed);
+    discard(written);
+    assert!(rt; drawn == Ok((true, true, 1)));
 }

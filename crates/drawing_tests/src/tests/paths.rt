@@ -1,8 +1,11 @@
 //! Paths, whose point list and extensions are modal variables.
 
 ghost use Rattle.std.specs.Prelude.{◌≡◌};
+ghost use Rattle.oas_record.specs.declared.records.Record.{Record as OneRecord};
+ghost use Rattle.oas_drawing.specs.Positions.{IsNear};
+ghost use Rattle.oas_drawing.specs.Modal.{stepped};
 
-use super::{at, draws, refusal};
+use super::{at, discard, draws, refusal};
 use oas_drawing::{Drawn, Kind, ModalVariables};
 use oas_layout::Element;
 use oas_num::{SliceSource, Why};
@@ -11,7 +14,6 @@ use oas_ring::{Point, Points};
 use oas_shape::{ListUse, PointList};
 use std::alloc::{AllocError, Global};
 use std::process::Abort;
-use std::test::Fail;
 
 /// A path of layer 1 and no other field but these and its half-width.
 fn path(
@@ -32,10 +34,18 @@ fn path(
     }
 }
 
+/// Draws the path, which is dropped in a step of its own.
+fn draw_path(modal: &mut ModalVariables, mut drawn: Path)
+    requires { IsNear modal.old.geometry }
+    ensures { modal.new ≡ stepped modal.old (OneRecord.Path drawn) }
+{
+    modal.draw_path(&mut drawn);
+}
+
 /// The list of a path that goes 10 to the east.
-fn eastward(alloc: Global) -> Result<PointList, Fail> {
+fn eastward(alloc: Global) -> Result<PointList, Why> {
     let mut source = SliceSource::new(b"\x04\x01\x29\x00", 10);
-    Ok(PointList::read(alloc, &mut source, ListUse::Path)?)
+    PointList::read(alloc, &mut source, ListUse::Path)
 }
 
 /// The path that goes 10 to the east from there.
@@ -78,49 +88,61 @@ const BOTH: Extensions = Extensions {
 };
 
 /// Whether a path has the extensions of the path before it, by the half-width of that.
-fn keeps_extensions(alloc: Global) -> Result<bool, Fail> {
+fn keeps_extensions(alloc: Global) -> Result<bool, Why> {
     let points = eastward(alloc)?;
     let mut modal = ModalVariables::new();
-    modal.draw_path(&mut path(Some(points), 5, Some(BOTH), at(Some(0), Some(0))));
-    modal.draw_path(&mut path(None, 9, None, at(None, Some(20))));
-    Ok(gives_line(alloc, &modal, 9, 5, -3, Point { x: 0, y: 20 }))
+    draw_path(
+        &mut modal,
+        path(Some(points), 5, Some(BOTH), at(Some(0), Some(0))),
+    );
+    draw_path(&mut modal, path(None, 9, None, at(None, Some(20))));
+    let is_kept = gives_line(alloc, &modal, 9, 5, -3, Point { x: 0, y: 20 });
+    discard(modal);
+    Ok(is_kept)
 }
 
 #[test]
-fn extensions(rt: HostRuntime) -> Result<(), Fail> {
-    assert!(rt; keeps_extensions(rt.alloc())?);
-    Ok(())
+fn extensions(rt: HostRuntime) {
+    assert!(rt; keeps_extensions(rt.alloc()) == Ok(true));
 }
 
 /// Why a path is refused in the cell behind that of a path.
-fn behind_their_cell(alloc: Global) -> Result<Option<Why>, Fail> {
+fn behind_their_cell(alloc: Global) -> Result<Option<Why>, Why> {
     let points = eastward(alloc)?;
     let mut modal = ModalVariables::new();
-    modal.draw_path(&mut path(Some(points), 5, Some(BOTH), at(None, None)));
+    draw_path(
+        &mut modal,
+        path(Some(points), 5, Some(BOTH), at(None, None)),
+    );
     modal.begin_cell();
-    Ok(refusal(alloc, &modal, Kind::Path, false))
+    let refused = refusal(alloc, &modal, Kind::Path, false);
+    discard(modal);
+    Ok(refused)
 }
 
 #[test]
-fn paths_end_with_their_cell(rt: HostRuntime) -> Result<(), Fail> {
-    assert!(rt; behind_their_cell(rt.alloc())? == Some(Why::ModalUndefined));
-    Ok(())
+fn paths_end_with_their_cell(rt: HostRuntime) {
+    assert!(rt; behind_their_cell(rt.alloc()) == Ok(Some(Why::ModalUndefined)));
 }
 
 /// Whether a path has flush ends.
-fn is_flush(alloc: Global) -> Result<bool, Fail> {
+fn is_flush(alloc: Global) -> Result<bool, Why> {
     let flush = Extensions {
         start: Extension::Flush,
         end: Extension::Flush,
     };
     let points = eastward(alloc)?;
     let mut modal = ModalVariables::new();
-    modal.draw_path(&mut path(Some(points), 9, Some(flush), at(None, None)));
-    Ok(gives_line(alloc, &modal, 9, 0, 0, Point { x: 0, y: 0 }))
+    draw_path(
+        &mut modal,
+        path(Some(points), 9, Some(flush), at(None, None)),
+    );
+    let is_flush = gives_line(alloc, &modal, 9, 0, 0, Point { x: 0, y: 0 });
+    discard(modal);
+    Ok(is_flush)
 }
 
 #[test]
-fn flush_extensions(rt: HostRuntime) -> Result<(), Fail> {
-    assert!(rt; is_flush(rt.alloc())?);
-    Ok(())
+fn flush_extensions(rt: HostRuntime) {
+    assert!(rt; is_flush(rt.alloc()) == Ok(true));
 }

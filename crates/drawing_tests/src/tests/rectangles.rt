@@ -2,7 +2,7 @@
 
 ghost use Rattle.std.specs.Prelude.{◌≤◌, ◌^◌};
 
-use super::{Seen, at, bare, discard, full, seen};
+use super::{Seen, at, bare, discard, draw, full, seen};
 use oas_drawing::ModalVariables;
 use oas_layout::Limits;
 use oas_num::Why;
@@ -20,8 +20,8 @@ fn one(modal: &ModalVariables, count: u64, weight: u64) -> Result<Option<Seen>, 
 fn within_limits() -> [Result<Option<Seen>, Why>; 4] {
     let mut modal = ModalVariables::new();
     let undefined = one(&modal, 1 << 24, 1 << 28);
-    modal.draw_rectangle(&mut full(10, 20, at(Some(7), Some(-1))));
-    modal.draw_rectangle(&mut bare(true, at(None, Some(3))));
+    draw(&mut modal, full(10, 20, at(Some(7), Some(-1))));
+    draw(&mut modal, bare(true, at(None, Some(3))));
     let inside = one(&modal, (1 << 24) - 1, (1 << 28) - 1);
     let many = one(&modal, 1 << 24, 1 << 28);
     let heavy = one(&modal, (1 << 24) - 1, 1 << 28);
@@ -43,11 +43,14 @@ fn one_rectangle(rt: HostRuntime) {
 /// A rectangle at the edge of the grid, two past it, and the last where it is too heavy.
 fn at_the_edge() -> [Result<Option<Seen>, Why>; 4] {
     let mut modal = ModalVariables::new();
-    modal.draw_rectangle(&mut full(10, 20, at(Some((1 << 60) - 10), Some(-(1 << 60)))));
+    draw(
+        &mut modal,
+        full(10, 20, at(Some((1 << 60) - 10), Some(-(1 << 60)))),
+    );
     let edge = one(&modal, 0, 0);
-    modal.draw_rectangle(&mut bare(false, at(Some((1 << 60) - 9), None)));
+    draw(&mut modal, bare(false, at(Some((1 << 60) - 9), None)));
     let right = one(&modal, 0, 0);
-    modal.draw_rectangle(&mut bare(false, at(Some(0), Some(-(1 << 60) - 1))));
+    draw(&mut modal, bare(false, at(Some(0), Some(-(1 << 60) - 1))));
     let low = one(&modal, 0, 0);
     let heavy = one(&modal, 0, 1 << 28);
     discard(modal);

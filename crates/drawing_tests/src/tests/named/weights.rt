@@ -1,7 +1,7 @@
 //! What placements and texts at hand weigh, and each reason in its turn, where 2^24 elements may weigh 2^28.
 ghost use Rattle.std.specs.Prelude.{◌≤◌, ◌^◌};
 
-use super::{label, name, placement, text, weighs};
+use super::{discard, label, name, place, placement, text, weighs, write};
 use oas_ahead::{Given, NamedOnce};
 use oas_drawing::ModalVariables;
 use oas_layout::Limits;
@@ -9,7 +9,6 @@ use oas_num::Why;
 use oas_record::{CellRef, TextRef};
 use std::alloc::Global;
 use std::process::Abort;
-use std::test::Fail;
 
 /// A placement that gives no coordinate.
 fn placed(cell: Given<'_>) -> NamedOnce<'_> {
@@ -35,25 +34,27 @@ fn written(string: Given<'_>) -> NamedOnce<'_> {
 
 /// What a placement of the modal cell weighs: before there is one, at the limits, and beyond the grid, in the order of the
 /// reasons.
-fn placements_weighed(alloc: Global) -> Result<[Result<u64, Why>; 5], Fail> {
+fn placements_weighed(alloc: Global) -> Result<[Result<u64, Why>; 5], Why> {
     let cell = CellRef::Name(name(alloc)?);
     let mut modal = ModalVariables::new();
     let next = placed(Given::Modal);
     let undefined = weighs(&modal, &next, 1 << 24, 1 << 28);
-    modal.place(&mut placement(Some(cell), 1 << 60, None));
+    place(&mut modal, placement(Some(cell), 1 << 60, None));
     let within = weighs(&modal, &next, (1 << 24) - 1, (1 << 28) - 3);
-    modal.place(&mut placement(None, (1 << 60) + 1, None));
-    Ok([
+    place(&mut modal, placement(None, (1 << 60) + 1, None));
+    let weighed = [
         undefined,
         within,
         weighs(&modal, &next, 1 << 24, 1 << 28),
         weighs(&modal, &next, 0, (1 << 28) - 2),
         weighs(&modal, &next, 0, 0),
-    ])
+    ];
+    discard(modal);
+    Ok(weighed)
 }
 
 #[test]
-fn reasons_of_placements(rt: HostRuntime) -> Result<(), Fail> {
+fn reasons_of_placements(rt: HostRuntime) {
     let wanted = [
         Err(Why::ModalUndefined),
         Ok(3),
@@ -61,36 +62,36 @@ fn reasons_of_placements(rt: HostRuntime) -> Result<(), Fail> {
         Err(Why::TooHeavy),
         Err(Why::CoordinateRange),
     ];
-    assert!(rt; placements_weighed(rt.alloc())? == wanted);
-    Ok(())
+    assert!(rt; placements_weighed(rt.alloc()) == Ok(wanted));
 }
 
 /// What a text of the modal string weighs: before there is a texttype, and beyond the grid, in the order of the reasons.
-fn texts_weighed(alloc: Global) -> Result<[Result<u64, Why>; 4], Fail> {
+fn texts_weighed(alloc: Global) -> Result<[Result<u64, Why>; 4], Why> {
     let string = TextRef::Label(label(alloc)?);
     let mut modal = ModalVariables::new();
     let next = written(Given::Modal);
-    modal.write(&mut text(Some(string), None, 5, Some(-6)));
+    write(&mut modal, text(Some(string), None, 5, Some(-6)));
     let undefined = weighs(&modal, &next, 1 << 24, 1 << 28);
-    modal.write(&mut text(None, Some(0), 5, Some(-(1 << 60) - 1)));
-    Ok([
+    write(&mut modal, text(None, Some(0), 5, Some(-(1 << 60) - 1)));
+    let weighed = [
         undefined,
         weighs(&modal, &next, 1 << 24, 1 << 28),
         weighs(&modal, &next, 0, (1 << 28) - 2),
         weighs(&modal, &next, 0, 0),
-    ])
+    ];
+    discard(modal);
+    Ok(weighed)
 }
 
 #[test]
-fn reasons_of_texts(rt: HostRuntime) -> Result<(), Fail> {
+fn reasons_of_texts(rt: HostRuntime) {
     let wanted = [
         Err(Why::ModalUndefined),
         Err(Why::TooManyElements),
         Err(Why::TooHeavy),
         Err(Why::CoordinateRange),
     ];
-    assert!(rt; texts_weighed(rt.alloc())? == wanted);
-    Ok(())
+    assert!(rt; texts_weighed(rt.alloc()) == Ok(wanted));
 }
 
 /// Why what gives a name of its own is refused beside so many elements of that weight, if it is.
@@ -105,28 +106,29 @@ fn checked(modal: &ModalVariables, next: &NamedOnce<'_>, count: u64, weight: u64
 
 /// A placement of ABC at the limit and past it, before there is a modal cell and behind another; one of a number at the limit;
 /// and a text of ABC without a texttype.
-fn names_checked(alloc: Global) -> Result<[Option<Why>; 6], Fail> {
+fn names_checked(alloc: Global) -> Result<[Option<Why>; 6], Why> {
     let cell = CellRef::Name(name(alloc)?);
     let mut modal = ModalVariables::new();
     let next = placed(Given::Bytes(b"ABC"));
     let first = checked(&modal, &next, 0, (1 << 28) - 4);
     let first_past = checked(&modal, &next, 0, (1 << 28) - 3);
-    modal.place(&mut placement(Some(cell), 5, None));
-    Ok([
+    place(&mut modal, placement(Some(cell), 5, None));
+    let checked = [
         first,
         first_past,
         checked(&modal, &next, 0, (1 << 28) - 4),
         checked(&modal, &next, 0, (1 << 28) - 3),
         checked(&modal, &placed(Given::Number(7)), 0, (1 << 28) - 1),
         checked(&modal, &written(Given::Bytes(b"ABC")), 1 << 24, 1 << 28),
-    ])
+    ];
+    discard(modal);
+    Ok(checked)
 }
 
 /// A name that is given weighs what it does before it is the modal one, whatever that is.
 #[test]
-fn names_weighed_before_they_are_modal(rt: HostRuntime) -> Result<(), Fail> {
+fn names_weighed_before_they_are_modal(rt: HostRuntime) {
     let heavy = Some(Why::TooHeavy);
     let wanted = [None, heavy, None, heavy, None, Some(Why::ModalUndefined)];
-    assert!(rt; names_checked(rt.alloc())? == wanted);
-    Ok(())
+    assert!(rt; names_checked(rt.alloc()) == Ok(wanted));
 }
