@@ -113,7 +113,7 @@ fn refusal(alloc: Global, modal: &ModalVariables, kind: Kind, repeated: bool) ->
 type Seen = (u64, u64, i64, i64);
 
 /// What is seen of a rectangle; None of any other element.
-fn seen(drawn: Drawn) -> Option<Seen> {
+fn seen(drawn: &Drawn) -> Option<Seen> {
     match drawn {
         Drawn::Named(
             Element::Rectangle {
@@ -124,14 +124,17 @@ fn seen(drawn: Drawn) -> Option<Seen> {
                 x,
                 y,
             },
-        ) => Some((width, height, x, y)),
+        ) => Some((*width, *height, *x, *y)),
         _ => None,
     }
 }
 
 /// What is seen of the rectangle that was drawn last.
 fn last_seen(alloc: Global, modal: &ModalVariables) -> Option<Seen> {
-    seen(last_copy(alloc, modal, Kind::Rectangle, false).ok()?)
+    let drawn = last_copy(alloc, modal, Kind::Rectangle, false).ok()?;
+    let seen = seen(&drawn);
+    discard(drawn);
+    seen
 }
 
 /// A rectangle, a square of its width, and a rectangle of that square's size.

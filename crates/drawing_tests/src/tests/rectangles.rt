@@ -13,7 +13,10 @@ fn one(modal: &ModalVariables, count: u64, weight: u64) -> Result<Option<Seen>, 
     requires few { count ≤ 2 ^ 24 }
     requires light { weight ≤ 2 ^ 28 }
 {
-    Ok(seen(modal.one_rectangle(Limits::standard(), count, weight)?))
+    let drawn = modal.one_rectangle(Limits::standard(), count, weight)?;
+    let seen = seen(&drawn);
+    discard(drawn);
+    Ok(seen)
 }
 
 /// Before any rectangle; and a square within the limits, and past each of them.

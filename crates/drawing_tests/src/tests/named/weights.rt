@@ -32,9 +32,26 @@ fn written(string: Given<'_>) -> NamedOnce<'_> {
     }
 }
 
-/// What a placement of the modal cell weighs: before there is one, at the limits, and beyond the grid, in the order of the
-/// reasons.
-fn placements_weighed(alloc: Global) -> Result<[Result<u64, Why>; 5], Why> {
+/// What an element beyond the grid that weighs 3 weighs past each limit, and within them.
+fn beyond_the_grid(modal: &ModalVariables, next: &NamedOnce<'_>) -> [Result<u64, Why>; 3] {
+    [
+        weighs(modal, next, 1 << 24, 1 << 28),
+        weighs(modal, next, 0, (1 << 28) - 2),
+        weighs(modal, next, 0, 0),
+    ]
+}
+
+/// In the order of the reasons.
+const BEYOND_THE_GRID: [Result<u64, Why>; 3] = [
+    Err(Why::TooManyElements),
+    Err(Why::TooHeavy),
+    Err(Why::CoordinateRange),
+];
+
+/// What a placement of the modal cell weighs: before there is one, at the limits, and beyond the grid.
+fn placements_weighed(
+    alloc: Global,
+) -> Result<([Result<u64, Why>; 2], [Result<u64, Why>; 3]), Why> {
     let cell = CellRef::Name(name(alloc)?);
     let mut modal = ModalVariables::new();
     let next = placed(Given::Modal);
@@ -42,56 +59,34 @@ fn placements_weighed(alloc: Global) -> Result<[Result<u64, Why>; 5], Why> {
     place(&mut modal, placement(Some(cell), 1 << 60, None));
     let within = weighs(&modal, &next, (1 << 24) - 1, (1 << 28) - 3);
     place(&mut modal, placement(None, (1 << 60) + 1, None));
-    let weighed = [
-        undefined,
-        within,
-        weighs(&modal, &next, 1 << 24, 1 << 28),
-        weighs(&modal, &next, 0, (1 << 28) - 2),
-        weighs(&modal, &next, 0, 0),
-    ];
+    let beyond = beyond_the_grid(&modal, &next);
     discard(modal);
-    Ok(weighed)
+    Ok(([undefined, within], beyond))
 }
 
 #[test]
 fn reasons_of_placements(rt: HostRuntime) {
-    let wanted = [
-        Err(Why::ModalUndefined),
-        Ok(3),
-        Err(Why::TooManyElements),
-        Err(Why::TooHeavy),
-        Err(Why::CoordinateRange),
-    ];
-    assert!(rt; placements_weighed(rt.alloc()) == Ok(wanted));
+    let first = [Err(Why::ModalUndefined), Ok(3)];
+    assert!(rt; placements_weighed(rt.alloc()) == Ok((first, BEYOND_THE_GRID)));
 }
 
-/// What a text of the modal string weighs: before there is a texttype, and beyond the grid, in the order of the reasons.
-fn texts_weighed(alloc: Global) -> Result<[Result<u64, Why>; 4], Why> {
+/// What a text of the modal string weighs: before there is a texttype, and beyond the grid.
+fn texts_weighed(alloc: Global) -> Result<(Result<u64, Why>, [Result<u64, Why>; 3]), Why> {
     let string = TextRef::Label(label(alloc)?);
     let mut modal = ModalVariables::new();
     let next = written(Given::Modal);
     write(&mut modal, text(Some(string), None, 5, Some(-6)));
     let undefined = weighs(&modal, &next, 1 << 24, 1 << 28);
     write(&mut modal, text(None, Some(0), 5, Some(-(1 << 60) - 1)));
-    let weighed = [
-        undefined,
-        weighs(&modal, &next, 1 << 24, 1 << 28),
-        weighs(&modal, &next, 0, (1 << 28) - 2),
-        weighs(&modal, &next, 0, 0),
-    ];
+    let beyond = beyond_the_grid(&modal, &next);
     discard(modal);
-    Ok(weighed)
+    Ok((undefined, beyond))
 }
 
 #[test]
 fn reasons_of_texts(rt: HostRuntime) {
-    let wanted = [
-        Err(Why::ModalUndefined),
-        Err(Why::TooManyElements),
-        Err(Why::TooHeavy),
-        Err(Why::CoordinateRange),
-    ];
-    assert!(rt; texts_weighed(rt.alloc()) == Ok(wanted));
+    let first = Err(Why::ModalUndefined);
+    assert!(rt; texts_weighed(rt.alloc()) == Ok((first, BEYOND_THE_GRID)));
 }
 
 /// Why what gives a name of its own is refused beside so many elements of that weight, if it is.
@@ -104,31 +99,35 @@ fn checked(modal: &ModalVariables, next: &NamedOnce<'_>, count: u64, weight: u64
         .err()
 }
 
-/// A placement of ABC at the limit and past it, before there is a modal cell and behind another; one of a number at the limit;
+/// Why what weighs 4 is refused at the limit, and past it.
+fn at_the_limit(modal: &ModalVariables, next: &NamedOnce<'_>) -> [Option<Why>; 2] {
+    [
+        checked(modal, next, 0, (1 << 28) - 4),
+        checked(modal, next, 0, (1 << 28) - 3),
+    ]
+}
+
+/// A placement of ABC at the limit and past it, before there is a modal cell and behind another; one of a number at the limit,
 /// and a text of ABC without a texttype.
-fn names_checked(alloc: Global) -> Result<[Option<Why>; 6], Why> {
+fn names_checked(alloc: Global) -> Result<[[Option<Why>; 2]; 3], Why> {
     let cell = CellRef::Name(name(alloc)?);
     let mut modal = ModalVariables::new();
     let next = placed(Given::Bytes(b"ABC"));
-    let first = checked(&modal, &next, 0, (1 << 28) - 4);
-    let first_past = checked(&modal, &next, 0, (1 << 28) - 3);
+    let first = at_the_limit(&modal, &next);
     place(&mut modal, placement(Some(cell), 5, None));
-    let checked = [
-        first,
-        first_past,
-        checked(&modal, &next, 0, (1 << 28) - 4),
-        checked(&modal, &next, 0, (1 << 28) - 3),
+    let behind = at_the_limit(&modal, &next);
+    let others = [
         checked(&modal, &placed(Given::Number(7)), 0, (1 << 28) - 1),
         checked(&modal, &written(Given::Bytes(b"ABC")), 1 << 24, 1 << 28),
     ];
     discard(modal);
-    Ok(checked)
+    Ok([first, behind, others])
 }
 
 /// A name that is given weighs what it does before it is the modal one, whatever that is.
 #[test]
 fn names_weighed_before_they_are_modal(rt: HostRuntime) {
-    let heavy = Some(Why::TooHeavy);
-    let wanted = [None, heavy, None, heavy, None, Some(Why::ModalUndefined)];
+    let heavy = [None, Some(Why::TooHeavy)];
+    let wanted = [heavy, heavy, [None, Some(Why::ModalUndefined)]];
     assert!(rt; names_checked(rt.alloc()) == Ok(wanted));
 }
