@@ -142,10 +142,14 @@ fn add_resolved(alloc: Global, line: &mut String, resolved: &Resolved) -> Result
     }
 }
 
+/// Drops what was handed out, in a step of its own.
+fn discard(_answer: Result<Resolved, WideWhy>) {}
+
 /// A resolver behind a CELL.
 fn in_a_cell(alloc: Global) -> Resolver {
     let mut resolver = Resolver::new();
-    let _ = resolver.resolve(alloc, WideRecord::Profile(Record::Cell(CellRef::Number(0))));
+    let cell = WideRecord::Profile(Record::Cell(CellRef::Number(0)));
+    discard(resolver.resolve(alloc, cell));
     resolver
 }
 
@@ -188,7 +192,9 @@ fn add_next(
     resolver: &mut Resolver,
 ) -> Result<bool, AllocError> {
     let answer = next(alloc, source, resolver);
-    add_answer(alloc, line, &answer)
+    let is_refused = add_answer(alloc, line, &answer);
+    discard(answer);
+    is_refused
 }
 
 /// Adds what is handed out for the next records of a source, whose end is there, up to the first that is refused.

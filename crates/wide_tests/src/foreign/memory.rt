@@ -4,7 +4,7 @@
 //! of a trapezoid is refused before it succeeds. Where the heap cannot be filled, as under a checker of addresses, no call is
 //! refused, and the answers are the same.
 
-use super::{in_a_cell, next};
+use super::{discard, in_a_cell, next};
 use oas_foreign::{Resolved, Resolver};
 use oas_num::{SliceSource, Why};
 use oas_record::Record;
@@ -34,7 +34,9 @@ fn resolves_next(
     resolver: &mut Resolver,
 ) -> Result<bool, WideWhy> {
     let answer = next(alloc, source, resolver);
-    is_polygon(&answer)
+    let is_polygon = is_polygon(&answer);
+    discard(answer);
+    is_polygon
 }
 
 /// Resolves the records behind a CELL, and answers whether each is one polygon with points.
