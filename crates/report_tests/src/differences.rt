@@ -41,8 +41,19 @@ fn differ_by(
     text: &str,
 ) -> Result<bool, Fail> {
     let before = layout(rt.alloc(), before)?;
+    differ_from(rt, &before, after, options, text)
+}
+
+/// As `differ_by`, of a layout and a sketch.
+fn differ_from(
+    rt: &HostRuntime,
+    before: &Layout,
+    after: Sketch<'_>,
+    options: Options,
+    text: &str,
+) -> Result<bool, Fail> {
     let after = layout(rt.alloc(), after)?;
-    Ok(is_written(rt, &before, &after, options, text))
+    Ok(is_written(rt, before, &after, options, text))
 }
 
 /// As `differ_by`, of all that differs.

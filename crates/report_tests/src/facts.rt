@@ -1,6 +1,6 @@
 //! A layout of each kind, with numbers that were counted by hand.
 
-use crate::parts::{add_cell, draft, label, name, put, ring};
+use crate::parts::{add_cell, draft, label, name, put, ring, sealed};
 use oas_facts::{Facts, Group, count_groups, facts_of};
 use oas_layout::{Draft, Element, Layout, Profile, Turns};
 use oas_num::{Fraction, Name};
@@ -8,13 +8,12 @@ use std::alloc::Global;
 use std::collections::BTreeMap;
 use std::test::Fail;
 
-/// A draft of unit 1000/1 with cells of these names.
-fn draft_of(alloc: Global, names: &[&str]) -> Result<Draft, Fail> {
-    let mut draft = draft(alloc, 1000, 1, Profile::Two)?;
+/// Adds cells of these names.
+fn add_cells(draft: &mut Draft, alloc: Global, names: &[&str]) -> Result<(), Fail> {
     for text in names {
-        add_cell(&mut draft, alloc, text)?;
+        add_cell(draft, alloc, text)?;
     }
-    Ok(draft)
+    Ok(())
 }
 
 /// Five placements of A.
@@ -58,8 +57,9 @@ fn put_plain(draft: &mut Draft) -> Result<(), Fail> {
     put(draft, 0, Element::circle(2, 0, 5, 0, 0), 1)
 }
 
-/// All of them.
+/// Two cells, and all of them.
 fn put_each_kind(draft: &mut Draft, alloc: Global) -> Result<(), Fail> {
+    add_cells(draft, alloc, &["A", "TOP"])?;
     put_placements(draft, alloc)?;
     put_texts(draft, alloc)?;
     put_points(draft, alloc, false)?;
@@ -69,9 +69,9 @@ fn put_each_kind(draft: &mut Draft, alloc: Global) -> Result<(), Fail> {
 
 /// A placement, texts, a polygon and paths in one cell, and rectangles and a circle in two.
 fn each_kind(alloc: Global) -> Result<Layout, Fail> {
-    let mut draft = draft_of(alloc, &["A", "TOP"])?;
-    put_each_kind(&mut draft, alloc)?;
-    Ok(draft.seal()?)
+    let mut draft = draft(alloc, 1000, 1, Profile::Two)?;
+    let filled = put_each_kind(&mut draft, alloc);
+    sealed(draft, filled)
 }
 
 /// The layer of shapes with these numbers.
@@ -145,13 +145,26 @@ fn place(alloc: Global, draft: &mut Draft, cell: usize, text: &str) -> Result<()
     Ok(())
 }
 
-/// Placements of cells that are there and of others, in TOP and in A.
-fn placed_names(alloc: Global) -> Result<Layout, Fail> {
-    let mut draft = draft_of(alloc, &["TOP", "A", "B"])?;
+/// Puts placements of cells that are there and of others, in TOP and in A.
+fn place_names(draft: &mut Draft, alloc: Global) -> Result<(), Fail> {
+    add_cells(draft, alloc, &["TOP", "A", "B"])?;
     for (cell, text) in [(0, "A"), (0, "Z"), (1, "ZZ"), (1, "Z"), (1, "C")] {
-        place(alloc, &mut draft, cell, text)?;
+        place(alloc, draft, cell, text)?;
     }
-    Ok(draft.seal()?)
+    Ok(())
+}
+
+/// A layout of unit 1000/1 with those placements.
+fn placed_names(alloc: Global) -> Result<Layout, Fail> {
+    let mut draft = draft(alloc, 1000, 1, Profile::Two)?;
+    let filled = place_names(&mut draft, alloc);
+    sealed(draft, filled)
+}
+
+/// What is found of it.
+fn placed_facts(alloc: Global) -> Result<Facts, Fail> {
+    let layout = placed_names(alloc)?;
+    Ok(facts_of(alloc, &layout)?)
 }
 
 /// Whether the numbers are those of that layout.
@@ -164,10 +177,10 @@ fn are_numbers(facts: &Facts) -> bool {
 
 #[test]
 fn names_that_are_placed_and_not_defined(rt: HostRuntime) -> Result<(), Fail> {
-    let layout = placed_names(rt.alloc())?;
-    let facts = facts_of(rt.alloc(), &layout)?;
-    assert!(rt; are_numbers(&facts));
-    assert!(rt; are(&facts.undefined, &[b"C".as_slice(), b"Z", b"ZZ"]));
-    assert!(rt; are(&facts.unplaced, &[b"B".as_slice(), b"TOP"]));
+    let facts = placed_facts(rt.alloc())?;
+    let numbers = are_numbers(&facts);
+    let undefined = are(&facts.undefined, &[b"C".as_slice(), b"Z", b"ZZ"]);
+    let unplaced = are(&facts.unplaced, &[b"B".as_slice(), b"TOP"]);
+    assert_eq!(rt; (numbers, undefined, unplaced), (true, true, true));
     Ok(())
 }

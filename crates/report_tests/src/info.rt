@@ -1,7 +1,7 @@
 //! The texts of a layout, beside those that were written by hand. Its canonical form has 35 bytes of head, 52 of the cell A, 19 of
 //! TOP, and 256 of END.
 
-use crate::parts::{add_cell, draft, label, name, put};
+use crate::parts::{add_cell, draft, label, name, put, sealed};
 use oas_info::{Info, info_of, json_of, text_of};
 use oas_layout::{Draft, Element, Layout, Profile, Turns};
 use std::alloc::Global;
@@ -31,8 +31,8 @@ fn fill(draft: &mut Draft, alloc: Global) -> Result<(), Fail> {
 /// Two cells, of which one places a third, that isn't there.
 fn two_cells(alloc: Global) -> Result<Layout, Fail> {
     let mut draft = draft(alloc, 2000, 3, Profile::Two)?;
-    fill(&mut draft, alloc)?;
-    Ok(draft.seal()?)
+    let filled = fill(&mut draft, alloc);
+    sealed(draft, filled)
 }
 
 /// What is told of them.

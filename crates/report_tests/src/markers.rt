@@ -37,11 +37,16 @@ fn mark(rt: &HostRuntime, before: &Layout, after: &Layout, end: &str) -> bool {
     count == Ok(written.len() as u64) && written.as_slice().ends_with(end.as_bytes())
 }
 
-/// As `mark`, of two layouts of an element of each kind.
+/// As `mark`, of a second layout of an element of each kind.
+fn mark_kinds(rt: &HostRuntime, before: &Layout) -> Result<bool, Fail> {
+    let after = kinds(rt.alloc())?;
+    Ok(mark(rt, before, &after, NONE))
+}
+
+/// As `mark`, of two such layouts.
 fn mark_the_same(rt: &HostRuntime) -> Result<bool, Fail> {
     let before = kinds(rt.alloc())?;
-    let after = kinds(rt.alloc())?;
-    Ok(mark(rt, &before, &after, NONE))
+    mark_kinds(rt, &before)
 }
 
 #[test]
@@ -58,8 +63,13 @@ fn mark_rectangles(
     end: &str,
 ) -> Result<bool, Fail> {
     let before = rectangles(rt.alloc(), before)?;
+    mark_after(rt, &before, after, end)
+}
+
+/// As `mark`, of the second sketch's layout.
+fn mark_after(rt: &HostRuntime, before: &Layout, after: Sketch, end: &str) -> Result<bool, Fail> {
     let after = rectangles(rt.alloc(), after)?;
-    Ok(mark(rt, &before, &after, end))
+    Ok(mark(rt, before, &after, end))
 }
 
 #[test]

@@ -1,6 +1,6 @@
 //! What the layouts of these tests are made of.
 
-use oas_layout::{Draft, Element, Limits, Profile};
+use oas_layout::{Draft, Element, Layout, Limits, Profile};
 use oas_num::{Fraction, Label, Name};
 use oas_ring::{Point, Points};
 use std::alloc::{AllocError, Global};
@@ -37,6 +37,12 @@ pub fn ring(alloc: Global, places: &[(i64, i64)]) -> Result<Points, AllocError> 
 pub fn draft(alloc: Global, num: u64, den: u64, profile: Profile) -> Result<Draft, Fail> {
     let unit = Fraction::reduced(num, den).ok_or("no unit")?;
     Ok(Draft::new(alloc, unit, Limits::large(), profile)?)
+}
+
+/// The layout of a draft, where it was filled. A function that fills one drops it on this way alone.
+pub fn sealed(draft: Draft, filled: Result<(), Fail>) -> Result<Layout, Fail> {
+    filled?;
+    Ok(draft.seal()?)
 }
 
 /// Adds an empty cell of that name.

@@ -52,11 +52,15 @@ fn first_wrong(alloc: Global, before: &Layout, after: &Layout, most: usize) -> O
 /// As `first_wrong`, of writers that take one byte a call, seven, and all that they are given.
 fn first_wrongs(alloc: Global) -> Result<[Option<usize>; 3], Fail> {
     let before = layout(alloc, BEFORE)?;
+    first_wrongs_from(alloc, &before)
+}
+
+fn first_wrongs_from(alloc: Global, before: &Layout) -> Result<[Option<usize>; 3], Fail> {
     let after = layout(alloc, AFTER)?;
     Ok([
-        first_wrong(alloc, &before, &after, 1),
-        first_wrong(alloc, &before, &after, 7),
-        first_wrong(alloc, &before, &after, usize::MAX),
+        first_wrong(alloc, before, &after, 1),
+        first_wrong(alloc, before, &after, 7),
+        first_wrong(alloc, before, &after, usize::MAX),
     ])
 }
 
@@ -70,10 +74,14 @@ fn a_fault_comes_with_what_was_taken(rt: HostRuntime) -> Result<(), Fail> {
 /// Whether a writer that takes all, and whose flush fails, is refused at the end.
 fn is_refused_at_the_end(alloc: Global) -> Result<bool, Fail> {
     let before = layout(alloc, BEFORE)?;
+    is_refused_from(alloc, &before)
+}
+
+fn is_refused_from(alloc: Global, before: &Layout) -> Result<bool, Fail> {
     let after = layout(alloc, AFTER)?;
     let mut writer = Narrow::new(alloc, 100, usize::MAX);
     writer.flushes = false;
-    Ok(is_cut_off(&before, &after, writer))
+    Ok(is_cut_off(before, &after, writer))
 }
 
 #[test]

@@ -1,6 +1,6 @@
 //! Layouts that differ.
 
-use crate::parts::{draft, put};
+use crate::parts::{draft, put, sealed};
 use oas_layout::{Draft, Element, Layout, Profile};
 use oas_num::Name;
 use std::alloc::Global;
@@ -34,11 +34,21 @@ fn add_rectangles(draft: &mut Draft, rectangles: &[(usize, u64, u64)]) -> Result
     Ok(())
 }
 
+/// Adds the cells and their rectangles.
+fn fill(
+    draft: &mut Draft,
+    alloc: Global,
+    names: &str,
+    rectangles: &[(usize, u64, u64)],
+) -> Result<(), Fail> {
+    add_letters(draft, alloc, names)?;
+    add_rectangles(draft, rectangles)
+}
+
 /// The layout of a sketch, by profile two.
 pub fn layout(alloc: Global, sketch: Sketch<'_>) -> Result<Layout, Fail> {
     let (steps, names, rectangles) = sketch;
     let mut draft = draft(alloc, steps, 1, Profile::Two)?;
-    add_letters(&mut draft, alloc, names)?;
-    add_rectangles(&mut draft, rectangles)?;
-    Ok(draft.seal()?)
+    let filled = fill(&mut draft, alloc, names, rectangles);
+    sealed(draft, filled)
 }

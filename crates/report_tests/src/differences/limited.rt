@@ -5,7 +5,7 @@ use oas_difference::{Detail, Options};
 use std::test::Fail;
 
 /// How many lines there may be, and what is then written.
-const ROWS: [(u64, &str); 5] = [
+const ROWS: &[(u64, &str)] = &[
     (0, "...\n"),
     (1, "@ cell A\n...\n"),
     (2, "@ cell A\n- 2 rectangle 1 0 10 20 0 0\n...\n"),
@@ -39,7 +39,7 @@ fn begins(rt: &HostRuntime, lines: u64, text: &str) -> Result<bool, Fail> {
 
 #[test]
 fn a_last_line_says_that_there_are_more(rt: HostRuntime) -> Result<(), Fail> {
-    for (lines, text) in ROWS {
+    for &(lines, text) in ROWS {
         assert!(rt; begins(&rt, lines, text)?, "{lines} lines");
     }
     Ok(())

@@ -1,6 +1,6 @@
 //! Layouts to list.
 
-use crate::parts::{add_cell, draft, label, name, put, ring};
+use crate::parts::{add_cell, draft, label, name, put, ring, sealed};
 use oas_layout::{Draft, Element, Layout, Profile, Turns};
 use std::alloc::Global;
 use std::test::Fail;
@@ -10,29 +10,31 @@ pub fn empty(alloc: Global) -> Result<Layout, Fail> {
     Ok(draft(alloc, 2000, 2, Profile::One)?.seal()?)
 }
 
-/// Unit 1000 and a cell, A, with the element so many times.
-fn layout_of(
-    alloc: Global,
-    profile: Profile,
-    element: Element,
-    times: u64,
-) -> Result<Layout, Fail> {
-    let mut draft = draft(alloc, 1000, 1, profile)?;
-    add_cell(&mut draft, alloc, "A")?;
-    put(&mut draft, 0, element, times)?;
-    Ok(draft.seal()?)
+/// Adds a cell, A, with a rectangle so many times.
+fn add_rectangles(draft: &mut Draft, alloc: Global, times: u64) -> Result<(), Fail> {
+    add_cell(draft, alloc, "A")?;
+    put(draft, 0, Element::rectangle(1, 0, 10, 20, 0, 0), times)
 }
 
 /// Unit 1000 and a cell, A, with a rectangle so many times.
 pub fn rectangles(alloc: Global, times: u64) -> Result<Layout, Fail> {
-    let rectangle = Element::rectangle(1, 0, 10, 20, 0, 0);
-    layout_of(alloc, Profile::One, rectangle, times)
+    let mut draft = draft(alloc, 1000, 1, Profile::One)?;
+    let filled = add_rectangles(&mut draft, alloc, times);
+    sealed(draft, filled)
 }
 
-/// Unit 1000 and a cell, A, with a polygon that is a rectangle, its points backwards.
-pub fn backwards(alloc: Global, profile: Profile) -> Result<Layout, Fail> {
+/// Adds a cell, A, with a polygon that is a rectangle, its points backwards.
+fn add_backwards(draft: &mut Draft, alloc: Global) -> Result<(), Fail> {
+    add_cell(draft, alloc, "A")?;
     let points = ring(alloc, &[(10, 20), (0, 20), (0, 0), (10, 0)])?;
-    layout_of(alloc, profile, Element::polygon(1, 0, points), 1)
+    put(draft, 0, Element::polygon(1, 0, points), 1)
+}
+
+/// Unit 1000 and a cell, A, with that polygon.
+pub fn backwards(alloc: Global, profile: Profile) -> Result<Layout, Fail> {
+    let mut draft = draft(alloc, 1000, 1, profile)?;
+    let filled = add_backwards(&mut draft, alloc);
+    sealed(draft, filled)
 }
 
 /// Adds a text.
@@ -68,13 +70,18 @@ fn add_points(draft: &mut Draft, alloc: Global) -> Result<(), Fail> {
     put(draft, 0, Element::polygon(1, 2, triangle), 1)
 }
 
-/// Unit 3/2, a cell with elements of each kind, and one with none.
+/// Adds a cell with elements of each kind, and one with none.
+fn add_kinds(draft: &mut Draft, alloc: Global) -> Result<(), Fail> {
+    add_cell(draft, alloc, "TOP")?;
+    add_points(draft, alloc)?;
+    add_plain(draft)?;
+    add_named(draft, alloc)?;
+    add_cell(draft, alloc, "!")
+}
+
+/// Unit 3/2, and those cells.
 pub fn kinds(alloc: Global) -> Result<Layout, Fail> {
     let mut draft = draft(alloc, 3, 2, Profile::Two)?;
-    add_cell(&mut draft, alloc, "TOP")?;
-    add_points(&mut draft, alloc)?;
-    add_plain(&mut draft)?;
-    add_named(&mut draft, alloc)?;
-    add_cell(&mut draft, alloc, "!")?;
-    Ok(draft.seal()?)
+    let filled = add_kinds(&mut draft, alloc);
+    sealed(draft, filled)
 }

@@ -1,6 +1,6 @@
 //! Layouts that differ.
 
-use crate::parts::{add_cell, draft, label, name, put, ring};
+use crate::parts::{add_cell, draft, label, name, put, ring, sealed};
 use oas_layout::{Draft, Element, Layout, Profile, Turns};
 use std::alloc::Global;
 use std::test::Fail;
@@ -8,14 +8,18 @@ use std::test::Fail;
 /// How many steps are in a micron, as a fraction, and how many equal rectangles are in the cell `A`.
 pub type Sketch = (u64, u64, u64);
 
+/// Adds a cell, A, with so many rectangles.
+fn add_rectangles(draft: &mut Draft, alloc: Global, times: u64) -> Result<(), Fail> {
+    add_cell(draft, alloc, "A")?;
+    put(draft, 0, Element::rectangle(1, 0, 10, 25, -1, -1000), times)
+}
+
 /// The layout of a sketch.
 pub fn rectangles(alloc: Global, sketch: Sketch) -> Result<Layout, Fail> {
     let (num, den, times) = sketch;
     let mut draft = draft(alloc, num, den, Profile::Two)?;
-    add_cell(&mut draft, alloc, "A")?;
-    let rectangle = Element::rectangle(1, 0, 10, 25, -1, -1000);
-    put(&mut draft, 0, rectangle, times)?;
-    Ok(draft.seal()?)
+    let filled = add_rectangles(&mut draft, alloc, times);
+    sealed(draft, filled)
 }
 
 /// A flipped placement.
@@ -38,18 +42,18 @@ fn add_points(draft: &mut Draft, alloc: Global) -> Result<(), Fail> {
     put(draft, 0, Element::path(6, 7, 8, -9, 10, bent), 1)
 }
 
-/// Adds an element of each kind but a rectangle, and of one of them two.
+/// Adds a cell with an element of each kind but a rectangle, and of one of them two.
 fn add_kinds(draft: &mut Draft, alloc: Global) -> Result<(), Fail> {
+    add_cell(draft, alloc, "<&'>")?;
     put(draft, 0, flipped(alloc)?, 2)?;
     put(draft, 0, text(alloc)?, 1)?;
     add_points(draft, alloc)?;
     put(draft, 0, Element::circle(5, 6, 7, -8, 9), 1)
 }
 
-/// With 1000 steps in a micron, a cell with an element of each kind but a rectangle.
+/// With 1000 steps in a micron, that cell.
 pub fn kinds(alloc: Global) -> Result<Layout, Fail> {
     let mut draft = draft(alloc, 1000, 1, Profile::Two)?;
-    add_cell(&mut draft, alloc, "<&'>")?;
-    add_kinds(&mut draft, alloc)?;
-    Ok(draft.seal()?)
+    let filled = add_kinds(&mut draft, alloc);
+    sealed(draft, filled)
 }
