@@ -66,6 +66,7 @@ fn time_reader(rt: &HostRuntime, bytes: &[u8], count: u64) -> io::Result<()> {
     tell(rt, "reader", count, total, start.elapsed(rt)?)
 }
 
+/// The sum of so many numbers that are read so.
 fn sum_by_reader(alloc: Global, bytes: &[u8], count: u64) -> Result<u64, AllocError> {
     let mut source = ReaderSource::new(alloc, bytes, u64::MAX)?;
     Ok(sum(&mut source, count).unwrap_or(0))

@@ -39,7 +39,8 @@ pub fn draft(alloc: Global, num: u64, den: u64, profile: Profile) -> Result<Draf
     Ok(Draft::new(alloc, unit, Limits::large(), profile)?)
 }
 
-/// The layout of a draft, where it was filled. A function that fills one drops it on this way alone.
+/// The layout of a draft, or why it wasn't filled. A function that ends with this call has no other way on which it drops
+/// the draft.
 pub fn sealed(draft: Draft, filled: Result<(), Fail>) -> Result<Layout, Fail> {
     filled?;
     Ok(draft.seal()?)

@@ -55,6 +55,7 @@ fn first_wrongs(alloc: Global) -> Result<[Option<usize>; 3], Fail> {
     first_wrongs_from(alloc, &before)
 }
 
+/// The same, of a first layout and the one of `AFTER`.
 fn first_wrongs_from(alloc: Global, before: &Layout) -> Result<[Option<usize>; 3], Fail> {
     let after = layout(alloc, AFTER)?;
     Ok([
@@ -77,6 +78,7 @@ fn is_refused_at_the_end(alloc: Global) -> Result<bool, Fail> {
     is_refused_from(alloc, &before)
 }
 
+/// The same, of a first layout and the one of `AFTER`.
 fn is_refused_from(alloc: Global, before: &Layout) -> Result<bool, Fail> {
     let after = layout(alloc, AFTER)?;
     let mut writer = Narrow::new(alloc, 100, usize::MAX);
