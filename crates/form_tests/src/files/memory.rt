@@ -3,9 +3,8 @@
 //! The heap is filled up, and given back a small piece after each run. Where the heap cannot be filled, as under a checker
 //! of addresses, nothing is refused, and the answer is the same.
 
-use super::bytes_of;
-use oas_compact::ByProfileTwo;
-use oas_judge::{is_canonical, read_judged};
+use super::{bytes_of, discard, judged};
+use oas_judge::is_canonical;
 use oas_layout::{Limits, Profile};
 use oas_num::{INPUT_MAX, Refusal, SliceSource, Why};
 use scarce_memory::Hoard;
@@ -13,13 +12,13 @@ use std::alloc::Global;
 
 /// Judges a file that is canonical, and reads its layout if that is wanted.
 fn judge(alloc: Global, file: &[u8], reads: bool) -> Result<bool, Refusal> {
-    let mut source = SliceSource::new(file, INPUT_MAX);
-    let limits = Limits::standard();
     if reads {
-        let (_, yes) = read_judged::<_, ByProfileTwo>(alloc, &mut source, limits, Profile::One)?;
+        let (layout, yes) = judged(alloc, file, INPUT_MAX)?;
+        discard(layout);
         Ok(yes)
     } else {
-        is_canonical(alloc, &mut source, limits, Profile::One)
+        let mut source = SliceSource::new(file, INPUT_MAX);
+        is_canonical(alloc, &mut source, Limits::standard(), Profile::One)
     }
 }
 
