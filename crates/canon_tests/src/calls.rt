@@ -160,16 +160,19 @@ fn a_refused_file_is_told(rt: HostRuntime) {
     assert!(rt; found == [first, second]);
 }
 
+/// The reason of a refusal.
+fn why_of(refusal: Option<Refusal>) -> Option<Why> {
+    Some(refusal?.why)
+}
+
 /// Why it isn't told whether the first bytes of the file of the front are canonical behind which a device fails, and how
 /// many bytes were read.
 fn judged_failing(alloc: Global, length: usize) -> Option<(Option<Why>, u64)> {
     let file = file_of(alloc, &[])?;
     let rest = file.as_slice().get(..length)?;
     let mut from = ReaderSource::new(alloc, Failing { rest }, 1000).ok()?;
-    match is_canonical(alloc, &mut from, Limits::standard()) {
-        Ok(_) => Some((None, from.at())),
-        Err(refusal) => Some((Some(refusal.why), from.at())),
-    }
+    let judged = is_canonical(alloc, &mut from, Limits::standard());
+    Some((why_of(judged.err()), from.at()))
 }
 
 #[test]
@@ -184,10 +187,13 @@ fn a_device_that_fails(rt: HostRuntime) {
 fn keyed_failing(alloc: Global) -> Option<Why> {
     let file = file_of(alloc, &[])?;
     let mut from = ReaderSource::new(alloc, Failing { rest: &file }, 1000).ok()?;
-    match key(alloc, &mut from, Limits::standard()) {
-        Ok(_) => None,
-        Err(refusal) => Some(refusal.why),
-    }
+    why_of(key(alloc, &mut from, Limits::standard()).err())
+}
+
+/// Which of two files isn't read, and why.
+fn blamed(same: Result<bool, (Which, Refusal)>) -> Option<(Which, Why)> {
+    let (which, refusal) = same.err()?;
+    Some((which, refusal.why))
 }
 
 /// Which of that file behind which a device fails and the same file isn't read, and why.
@@ -195,10 +201,7 @@ fn compared_failing(alloc: Global) -> Option<(Which, Why)> {
     let file = file_of(alloc, &[])?;
     let mut a = ReaderSource::new(alloc, Failing { rest: &file }, 1000).ok()?;
     let mut b = SliceSource::new(&file, 1000);
-    match same_files(alloc, &mut a, &mut b, Limits::standard()) {
-        Ok(_) => None,
-        Err((which, refusal)) => Some((which, refusal.why)),
-    }
+    blamed(same_files(alloc, &mut a, &mut b, Limits::standard()))
 }
 
 #[test]
