@@ -89,15 +89,29 @@ fn answers(alloc: Global, file: &[u8], limits: Limits) -> [Told; 2] {
     [told(read), told(accepted)]
 }
 
+/// Drops a layout, in a step of its own.
+pub(crate) fn discard(_layout: Layout) {}
+
+/// Whether a file has this layout; `None` where it is refused.
+fn has(alloc: Global, layout: &Layout, file: &[u8]) -> Option<bool>
+    requires { layout.now.profile ≡ One }
+{
+    let Ok(other) = read(alloc, file, Limits::standard()) else {
+        return None;
+    };
+    let same = layout.same(&other);
+    discard(other);
+    Some(same)
+}
+
 /// Whether two files have the same layout; `None` where one of them is refused.
 fn is_same(alloc: Global, file: &[u8], other: &[u8]) -> Option<bool> {
     let Ok(layout) = read(alloc, file, Limits::standard()) else {
         return None;
     };
-    let Ok(other) = read(alloc, other, Limits::standard()) else {
-        return None;
-    };
-    Some(layout.same(&other))
+    let same = has(alloc, &layout, other);
+    discard(layout);
+    same
 }
 
 /// What comes of a file, and whether it has the layout of the other, where there is an other.

@@ -1,6 +1,7 @@
 //! The keys of cells: what `sha256sum` prints of the files of one cell each.
 
 use super::{KEY, file_of};
+use crate::files::discard;
 use oas_canon::{
     Layout, Limits, PROFILE, Refusal, SliceSource, Why, cell_key, key, read_layout, write_cell_keys,
 };
@@ -47,10 +48,11 @@ fn layout_of(alloc: Global, more: &[u8]) -> Option<Layout> {
 /// Writes the keys of the cells `A` and `B` to a writer with so much room: what is answered, how many bytes the writer
 /// took, and whether they are the first of the lines.
 fn written(alloc: Global, room: usize) -> Option<(Result<u64, Refusal>, usize, bool)> {
-    let layout = layout_of(alloc, &B)?;
     let took = Vec::with_capacity(alloc, 256).ok()?;
     let mut out = Narrow { took, room };
+    let layout = layout_of(alloc, &B)?;
     let answer = write_cell_keys(&layout, &mut out);
+    discard(layout);
     let is_front = LINES.as_bytes().starts_with(out.took.as_slice());
     Some((answer, out.took.len(), is_front))
 }
@@ -60,13 +62,20 @@ fn each_cell_has_its_line(rt: HostRuntime) {
     assert!(rt; written(rt.alloc(), 1000) == Some((Ok(136), 136, true)));
 }
 
-/// The keys of the cells of the file of the front alone, if there is one, and of that file.
-fn keys(alloc: Global) -> Option<[[u8; 32]; 2]> {
-    let layout = layout_of(alloc, &[])?;
+/// The key of the only cell of a layout.
+fn only_key(layout: &Layout) -> Option<[u8; 32]> {
     if layout.cells() != 1 {
         return None;
     }
-    Some([cell_key(&layout, 0), file_key(alloc)?])
+    Some(cell_key(layout, 0))
+}
+
+/// The same of the file of the front alone.
+fn key_of_its_cell(alloc: Global) -> Option<[u8; 32]> {
+    let layout = layout_of(alloc, &[])?;
+    let key = only_key(&layout);
+    discard(layout);
+    key
 }
 
 /// The key of the file of the front alone.
@@ -82,7 +91,8 @@ fn file_key(alloc: Global) -> Option<[u8; 32]> {
 
 #[test]
 fn a_file_of_one_cell_has_its_key(rt: HostRuntime) {
-    assert!(rt; keys(rt.alloc()) == Some([KEY; 2]));
+    let found = [key_of_its_cell(rt.alloc()), file_key(rt.alloc())];
+    assert!(rt; found == [Some(KEY); 2]);
 }
 
 #[test]

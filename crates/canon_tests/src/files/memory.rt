@@ -3,7 +3,7 @@
 //! The heap is filled up, and given back a small piece after each run. Where the heap cannot be filled, as under a checker
 //! of addresses, nothing is refused, and the answer is the same.
 
-use super::{COMPACT, bytes_of, read};
+use super::{COMPACT, bytes_of, discard, read};
 use oas_file::accept_file;
 use oas_layout::Limits;
 use oas_num::{INPUT_MAX, Refusal, SliceSource, Why};
@@ -22,7 +22,9 @@ fn is_right(alloc: Global, file: &[u8], call: Call) -> Result<bool, Refusal> {
     match call {
         Call::Read => {
             let layout = read(alloc, file, Limits::standard())?;
-            Ok(layout.cells() == 2 && layout.count() == 7)
+            let counts = (layout.cells(), layout.count());
+            discard(layout);
+            Ok(counts == (2, 7))
         }
         Call::Accept => {
             accept_file(
