@@ -6,7 +6,7 @@ use oas_wide::WideWhy;
 
 /// A block and what stands behind it, behind the head of a file and a cell (37 bytes), and where and why that file stops, which
 /// goes on by END.
-pub(crate) const REFUSED: [(&str, Place, WideWhy); 22] = [
+pub(crate) const REFUSED: &[(&str, Place, WideWhy)] = &[
     // kind 1
     ("220100020300", Place::File(37), WideWhy::CblockType),
     // no stream begins so

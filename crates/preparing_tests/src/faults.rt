@@ -44,11 +44,11 @@ fn lengths_of_the_files(rt: HostRuntime) -> Result<(), Fail> {
 
 /// What comes of a reader that fails at an offset of the file.
 fn answer_of_reader(alloc: Global, offset: usize) -> Result<Answer, Fail> {
+    let line = format!(in alloc; "{NAME}: refused 32 at {}\n", record_at(offset))?;
     let file = bytes_of(alloc, FILE)?;
     let rest = file.get(..offset).unwrap_or(&[]);
     let mut from = ReaderSource::new(alloc, Torn { rest }, INPUT_MAX)?;
     let dropping = dropping_of("properties");
-    let line = format!(in alloc; "{NAME}: refused 32 at {}\n", record_at(offset))?;
     Ok(answer(alloc, &mut from, dropping, &[], &line))
 }
 

@@ -4,7 +4,7 @@ use oas_canon::Limits;
 use oas_narrow::Dropping;
 use oas_num::{INPUT_MAX, SliceSource, Source};
 use oas_preparing::run_prepare;
-use std::alloc::Global;
+use std::alloc::{AllocError, Global};
 use std::process::Abort;
 use std::test::Fail;
 
@@ -109,34 +109,6 @@ pub fn answer(
     )
 }
 
-/// What comes of a file that is refused, which has no output.
-fn answer_of_refused(
-    alloc: Global,
-    from: &mut impl Source,
-    dropping: Dropping,
-    number: &str,
-    at: &str,
-) -> Result<Answer, Fail> {
-    let line = format!(in alloc; "{NAME}: refused {number} at {at}\n")?;
-    Ok(answer(alloc, from, dropping, &[], &line))
-}
-
-/// What comes of a file, beside its output and what is said of what was left out.
-fn answer_of_prepared(
-    alloc: Global,
-    from: &mut impl Source,
-    dropping: Dropping,
-    output: &str,
-    said: &str,
-) -> Result<Answer, Fail> {
-    let output = bytes_of(alloc, output)?;
-    if said == "-" {
-        return Ok(answer(alloc, from, dropping, &output, ""));
-    }
-    let line = format!(in alloc; "{NAME}: left out {said}\n")?;
-    Ok(answer(alloc, from, dropping, &output, &line))
-}
-
 /// What stands in a row behind its name: what is left out, the file, what comes of it, and what is said.
 fn fields_of(row: &str) -> [&str; 4] {
     let mut fields = row.split(" | ").skip(1);
@@ -148,16 +120,25 @@ fn fields_of(row: &str) -> [&str; 4] {
     ]
 }
 
-/// The status that a row says, and what comes of its file.
+/// The line of a file of which a row says this output, or refusal, and that this was left out.
+fn line_of(alloc: Global, output: &str, said: &str) -> Result<String, AllocError> {
+    match output.split_once('@') {
+        Some((number, at)) => format!(in alloc; "{NAME}: refused {number} at {at}\n"),
+        None if said == "-" => Ok(String::new(alloc)),
+        None => format!(in alloc; "{NAME}: left out {said}\n"),
+    }
+}
+
+/// The status that a row says, and what comes of its file. One that is refused has no output.
 fn answer_of_row(alloc: Global, row: &str) -> Result<(u8, Answer), Fail> {
     let [word, file, output, said] = fields_of(row);
-    let dropping = dropping_of(word);
+    let line = line_of(alloc, output, said)?;
+    let is_refused = output.contains('@');
+    let output = bytes_of(alloc, if is_refused { "" } else { output })?;
     let input = bytes_of(alloc, file)?;
     let from = &mut SliceSource::new(&input, INPUT_MAX);
-    match output.split_once('@') {
-        Some((number, at)) => Ok((1, answer_of_refused(alloc, from, dropping, number, at)?)),
-        None => Ok((0, answer_of_prepared(alloc, from, dropping, output, said)?)),
-    }
+    let answer = answer(alloc, from, dropping_of(word), &output, &line);
+    Ok((u8::from(is_refused), answer))
 }
 
 #[test]

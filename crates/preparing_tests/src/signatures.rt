@@ -88,7 +88,7 @@ fn right_ones(rt: HostRuntime) -> Result<(), Fail> {
 
 /// Schemes and wrong signatures: of the bytes from START on, of those before END, of those before the scheme, of the other
 /// scheme, and the right one with its bytes the other way round.
-const WRONG: [(u8, u32); 10] = [
+const WRONG: &[(u8, u32)] = &[
     (1, 12345),
     (1, 0x2AAD_0B1D),
     (1, 0x1683_686C),
@@ -104,7 +104,8 @@ const WRONG: [(u8, u32); 10] = [
 #[test]
 fn wrong_ones(rt: HostRuntime) -> Result<(), Fail> {
     for (scheme, signature) in WRONG {
-        let found = refused(rt.alloc(), &signed(rt.alloc(), &FRONT, scheme, signature)?);
+        let file = signed(rt.alloc(), &FRONT, *scheme, *signature)?;
+        let found = refused(rt.alloc(), &file);
         let wanted = (Place::File(45), WideWhy::Checksum);
         assert!(rt; found == Some(wanted), "{signature:x}");
     }
@@ -135,7 +136,7 @@ fn one_wrong_bit(rt: HostRuntime) -> Result<(), Fail> {
 }
 
 /// Schemes and signatures of the second front, and why it isn't prepared.
-const UNNAMED_ONES: [(u8, u32, WideWhy); 4] = [
+const UNNAMED_ONES: &[(u8, u32, WideWhy)] = &[
     (1, 0xAE5E_B578, WideWhy::Profile(Why::UnknownReference)),
     (1, 0xAE5E_B579, WideWhy::Checksum),
     (2, 0x650, WideWhy::Profile(Why::UnknownReference)),
@@ -145,11 +146,9 @@ const UNNAMED_ONES: [(u8, u32, WideWhy); 4] = [
 #[test]
 fn before_the_records_of_the_end(rt: HostRuntime) -> Result<(), Fail> {
     for (scheme, signature, why) in UNNAMED_ONES {
-        let found = refused(
-            rt.alloc(),
-            &signed(rt.alloc(), &UNNAMED, scheme, signature)?,
-        );
-        assert!(rt; found == Some((Place::File(44), why)), "{signature:x}");
+        let file = signed(rt.alloc(), &UNNAMED, *scheme, *signature)?;
+        let found = refused(rt.alloc(), &file);
+        assert!(rt; found == Some((Place::File(44), *why)), "{signature:x}");
     }
     Ok(())
 }
