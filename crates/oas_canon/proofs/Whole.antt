@@ -64,6 +64,12 @@ module _ {limits : Limits} {profile : Profile} {old new : Script} {l : Contents}
   pub keyed : (digest : List ℕ) → IsLayout l → digest ≡ sha256 (canonical_bytes (meaning_of l)) → IsKeyed limits profile old new digest
   keyed digest held is = record { bytes = read.bytes; taken = taken; canonical = canonical_bytes (meaning_of l); is = is_form held; hashed = is }
 
+-- what is cut off is the writer's fault
+pub unwritten : {W : Type 0} (contents : W → Option (List ℕ)) (before after : W) (bytes : List ℕ) (Other : Refusal → Type 0) (r : Result ℕ Refusal) →
+    IfErr r (IsCutOff contents before bytes after) → IfErr r (λ refusal. (refusal.why ≡ Write) ⊎ Other refusal)
+unwritten contents before after bytes Other (Ok n) h = tt
+unwritten contents before after bytes Other (Err refusal) h = inl h.reason
+
 -- ---- one file against its canonical form
 
 abbrev pub judged : {limits : Limits} {profile : Profile} {old new : Script} {yes : Bool} → IsJudgedBy limits profile old yes new → IsJudged limits profile old new yes

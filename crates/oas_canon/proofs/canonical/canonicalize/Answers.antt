@@ -1,6 +1,6 @@
-use Rattle.std.proofs.Common.{ℕ}
+use Rattle.std.proofs.Common.{ℕ, inr, rules}
 use Rattle.std.proofs.lemmas.Result.{err_from_is_err_and}
-use Rattle.oas_canon.proofs.Whole.{done, cut, exactly_refused, exactly_written}
+use Rattle.oas_canon.proofs.Whole.{done, cut, unwritten, exactly_refused, exactly_written}
 use Rattle.oas_canon.proofs.canonical.canonicalize.Goals as goal
 
 pub returns-in_err-layout-clause-exactly : goal.returns-in_err-layout-clause-exactly
@@ -19,3 +19,39 @@ returns-clause-cut g c = let l = c.in_ok-layout.ensures in cut l.2 _ _ _ _ l.1.l
 
 pub returns-clause-exactly : goal.returns-clause-exactly
 returns-clause-exactly g c = let l = c.in_ok-layout.ensures in exactly_written _ _ _ _ l.2 (c.write_compact.ensures.refused l.0 l.1)
+
+pub returns-in_err-layout-clause-refused : goal.returns-in_err-layout-clause-refused
+returns-in_err-layout-clause-refused g c =
+    let p = err_from_is_err_and c.from_residual.result c.from_residual.ensures.1 in
+    rw (p.1, p.2) (inr c.in_err-layout.ensures.0)
+
+pub returns-in_err-layout-clause-placed : goal.returns-in_err-layout-clause-placed
+returns-in_err-layout-clause-placed g c =
+    let p = err_from_is_err_and c.from_residual.result c.from_residual.ensures.1 in
+    rw (p.1, p.2) (inr c.in_err-layout.ensures.1)
+
+pub returns-in_err-layout-clause-decided : goal.returns-in_err-layout-clause-decided
+returns-in_err-layout-clause-decided g c =
+    let p = err_from_is_err_and c.from_residual.result c.from_residual.ensures.1 in
+    rw (p.1, p.2) (inr c.in_err-layout.ensures.2)
+
+pub returns-in_err-layout-clause-nothing : goal.returns-in_err-layout-clause-nothing
+returns-in_err-layout-clause-nothing g c = search rules
+
+pub returns-in_err-layout-clause-cut : goal.returns-in_err-layout-clause-cut
+returns-in_err-layout-clause-cut g c = search rules
+
+pub returns-in_err-layout-clause-done : goal.returns-in_err-layout-clause-done
+returns-in_err-layout-clause-done g c = search rules
+
+pub returns-clause-refused : goal.returns-clause-refused
+returns-clause-refused g c = let l = c.in_ok-layout.ensures in unwritten _ _ _ _ _ _ (c.write_compact.ensures.refused l.0 l.1)
+
+pub returns-clause-placed : goal.returns-clause-placed
+returns-clause-placed g c = let l = c.in_ok-layout.ensures in unwritten _ _ _ _ _ _ (c.write_compact.ensures.refused l.0 l.1)
+
+pub returns-clause-decided : goal.returns-clause-decided
+returns-clause-decided g c = let l = c.in_ok-layout.ensures in unwritten _ _ _ _ _ _ (c.write_compact.ensures.refused l.0 l.1)
+
+pub returns-clause-nothing : goal.returns-clause-nothing
+returns-clause-nothing g c = let l = c.in_ok-layout.ensures in unwritten _ _ _ _ _ _ (c.write_compact.ensures.refused l.0 l.1)
