@@ -1,4 +1,6 @@
-use oas_inflate::Inflated;
+//! A compressed block that was read.
+
+use oas_inflated::Inflated;
 
 /// A block's data, and how its stream ends.
 #[derive(Debug, Drop)]

@@ -1,12 +1,13 @@
 //! Reading a block.
-ghost use Rattle.std.specs.Prelude.{◌≡◌, ◌≢◌, ◌<◌, min, List, ℕ};
+ghost use Rattle.std.specs.Prelude.{◌≡◌, ◌<◌, min};
 ghost use Rattle.oas_block.specs.Reading.{ReadsBlock};
 ghost use Rattle.oas_block.specs.Inflating.{PassesByte, Passes, Finishes, Judges, FaultOf, EndOf};
 
 use crate::block::{Block, BlockEnd};
 use crate::faults::BlockFault;
 use crate::fronts::{FrontSource, Start};
-use oas_inflate::{Bits, Fault, Inflated, Stopped, inflate};
+use oas_inflate::{Bits, Fault, Stopped, inflate};
+use oas_inflated::Inflated;
 use oas_num::{Source, SourceFault, Why};
 use oas_wide::BlockHead;
 use std::alloc::Global;

@@ -1,3 +1,5 @@
+//! Why a compressed block isn't read.
+
 use oas_num::Why;
 
 /// Why a compressed block isn't read.

@@ -1,5 +1,4 @@
 //! A source of so many of another's next bytes.
-ghost use Rattle.std.specs.Prelude.{◌≡◌};
 ghost use Rattle.oas_block.specs.Fronts.{IsFront, IsFront-prop};
 
 use oas_num::{Source, SourceFault};

@@ -23,4 +23,4 @@ pub mod laws;
 pub use block::{Block, BlockEnd};
 pub use blocks::read_block;
 pub use faults::BlockFault;
-pub use oas_inflate::{Inflated, InflatedSource};
+pub use oas_inflated::{Inflated, InflatedSource};

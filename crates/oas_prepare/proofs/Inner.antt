@@ -3,7 +3,7 @@ use Rattle.std.proofs.Common.{◌≡◌, ◌≢◌, ℕ, ◌+◌, ◌-◌, ◌%�
 use Rattle.std.specs.Prelude.{nat_lt, replicate}
 use Rattle.std.proofs.lemmas.Bool.{le-ltb, cases_lt}
 use Rattle.std.proofs.lemmas.List.{append-nil, length-append, length-replicate, append_cancel_left, take_all}
-use Rattle.oas_inflate.specs.Zeros.{StopsIn, StopsAt}
+use Rattle.oas_inflated.specs.Zeros.{StopsIn, StopsAt}
 use Rattle.oas_num.specs.Reading.{ReadsValue}
 use Rattle.oas_num.specs.Script.{Script, Rest, Gave, Takes, slice_script}
 use Rattle.oas_num.proofs.ReadLemmas.{Takes-none, Takes-then}
