@@ -4,7 +4,7 @@ use Rattle.std.specs.Ordering.{nat_cmp}
 use Rattle.oas_entries.specs.Entries.{Entry}
 use Rattle.oas_store.specs.Tally.{count_at}
 use Rattle.oas_store.specs.Laws.CountLaws.{count_at-more}
-use Rattle.layout_tests.proofs.orders.filled.Goals as goal
+use Rattle.store_tests.proofs.orders.filled.Goals as goal
 
 pub loop-k-preserved : goal.loop-k-preserved
 loop-k-preserved c = λ q. omega (
