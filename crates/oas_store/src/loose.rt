@@ -1,11 +1,7 @@
 //! What rises and what waits loose, put into order.
 
-ghost use Rattle.std.specs.Prelude.{◌≡◌, ◌∷◌, ◌++◌, List, ℕ, OnOk, IfOk};
-ghost use Rattle.std.specs.Cmp.Lexicographic.{slice_cmp};
-ghost use Rattle.std.specs.Ordering.{nat_cmp};
-ghost use Rattle.oas_entries.specs.Runs.{IsRun, SameTotals};
-ghost use Rattle.oas_entries.specs.Blocks.{joined};
-ghost use Rattle.oas_store.specs.Parts.{AreRuns, CountsFit};
+ghost use Rattle.std.specs.Prelude.{◌∷◌, ◌++◌, OnOk, IfOk};
+ghost use Rattle.oas_entries.specs.Runs.{SameTotals};
 ghost use Rattle.oas_store.specs.Loose.{entries_of};
 
 use crate::rising::{Risen, Rising};
@@ -79,6 +75,16 @@ fn shared_with<'a>(front: &'a [u8], key: &[u8]) -> &'a [u8] {
     }
 }
 
+impl<'a> Common<'a> {
+    /// The same with a key more.
+    fn with(self, key: &[u8]) -> Common<'a> {
+        Common {
+            count: self.count.saturating_add(1),
+            front: shared_with(self.front, key),
+        }
+    }
+}
+
 /// A key of those that rise, or, where none does, the first that waits.
 fn any_key<'a>(risen: &Risen<'a>, loose: &'a Block) -> &'a [u8] {
     if risen.times > 0 {
@@ -90,22 +96,27 @@ fn any_key<'a>(risen: &Risen<'a>, loose: &'a Block) -> &'a [u8] {
     }
 }
 
+/// What all keys that rise have in common with a front of all.
+fn common_to_risen<'a>(risen: Risen<'a>, front: &'a [u8]) -> Common<'a> {
+    let count = usize::from(risen.times > 0);
+    let mut common = Common { count, front };
+    for (key, _) in risen.written {
+        common = common.with(key);
+    }
+    common
+}
+
 /// What all keys that rise or wait have in common.
 fn common_to_all<'a>(rising: &'a Rising<Vec<u8>>, loose: &'a Block) -> Common<'a> {
     let risen = rising.entries();
-    let mut front = any_key(&risen, loose);
-    let mut count = usize::from(risen.times > 0);
-    for (key, _) in risen.written {
-        front = shared_with(front, key);
-        count = count.saturating_add(1);
-    }
+    let front = any_key(&risen, loose);
+    let mut common = common_to_risen(risen, front);
     let mut left = loose.left();
     while let Some(entry) = read_entry(left) {
-        front = shared_with(front, entry.key);
-        count = count.saturating_add(1);
+        common = common.with(entry.key);
         left = after(left, entry.end);
     }
-    Common { count, front }
+    common
 }
 
 /// Puts an entry to the others, if it is there at all.
