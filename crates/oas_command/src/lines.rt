@@ -49,7 +49,7 @@ pub fn write_line<W: Write>(writer: &mut W, text: &[u8]) -> Result<u64, Refusal>
 }
 
 /// As `write_line`, of a text in pieces.
-pub fn write_pieces<W: Write>(writer: &mut W, pieces: Pieces<'_>) -> Result<u64, Refusal>
+pub(crate) fn write_pieces<W: Write>(writer: &mut W, pieces: Pieces<'_>) -> Result<u64, Refusal>
     requires short { length (line_of_pieces pieces) < 2 ^ 64 }
     ensures written { IfOk result (IsWritten W.contents writer.old (line_of_pieces pieces.entry) writer.new) }
     ensures refused { IfErr result (IsCutOff W.contents writer.old (line_of_pieces pieces.entry) writer.new) }

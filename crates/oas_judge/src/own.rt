@@ -1,6 +1,6 @@
 //! The element that a record gives by its own fields, with no modal variable.
 
-ghost use Rattle.std.specs.Prelude.{◌≡◌, true, false, IfSome, IfOk, OnOk};
+ghost use Rattle.std.specs.Prelude.{◌≡◌, IfSome, IfOk};
 ghost use Rattle.oas_shape.specs.Polylines.{vertices_of};
 ghost use Rattle.oas_layout.specs.Grid.{is_grid_point};
 ghost use Rattle.oas_record.specs.declared.records.Record.{Record as OneRecord};
@@ -245,7 +245,7 @@ fn own_path(alloc: Global, drawn: &Path) -> Result<Option<Element>, AllocError>
 }
 
 /// The element that a record gives by its own fields; None where there is none within the grid.
-pub fn own_element(alloc: Global, next: &Record) -> Result<Option<Element>, AllocError>
+pub(crate) fn own_element(alloc: Global, next: &Record) -> Result<Option<Element>, AllocError>
     ensures { IfOk result (λ own. IsOwn own (own_drawn next.now)) }
 {
     match next {

@@ -1,3 +1,4 @@
+//! What may be left out of a file, and what was.
 ghost use Rattle.std.specs.Prelude.{◌≡◌};
 ghost use Rattle.oas_narrow.specs.Dropping.{is_named, is_name, undropped, counted};
 
@@ -41,7 +42,7 @@ impl Extra {
     }
 
     /// Why it stops a file of which it isn't to be left out.
-    pub fn undropped(&self) -> WideWhy
+    pub(crate) fn undropped(&self) -> WideWhy
         ensures { result ≡ undropped self.now }
     {
         match self {

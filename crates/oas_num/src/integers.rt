@@ -1,4 +1,4 @@
-ghost use Rattle.std.specs.Prelude.{◌≡◌, List, ℕ};
+//! Integers with a sign, and without.
 ghost use Rattle.oas_num.specs.Grammar.{IsThere};
 ghost use Rattle.oas_num.specs.Integers.{IsUnsigned, IsSigned};
 ghost use Rattle.oas_num.specs.Reading.{ReadsPiece, IntegerMay};
@@ -40,7 +40,7 @@ pub fn read_unsigned<S: Source>(source: &mut S) -> Result<u64, Why>
 }
 
 /// Reads a number with a sign.
-pub fn read_signed<S: Source>(source: &mut S) -> Result<i64, Why>
+pub(crate) fn read_signed<S: Source>(source: &mut S) -> Result<i64, Why>
     ensures { ReadsPiece IsSigned IntegerMay (S.script source.old) result (S.script source.new) }
 {
     let coded = read_unsigned(source)?;
