@@ -1,3 +1,5 @@
+//! Deltas of each kind, in each direction.
+
 use oas_num::{Delta1, Delta2, Delta3, GDelta, SliceSource, Spelled, Why};
 use std::alloc::Global;
 

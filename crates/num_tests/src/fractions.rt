@@ -1,3 +1,5 @@
+//! Fractions, in lowest terms.
+
 use oas_num::Fraction;
 
 /// The parts of a fraction in lowest terms, or zeros where there is none.

@@ -1,3 +1,4 @@
+//! Writers that take a few bytes a call, or fail, below an outlet.
 ghost use Rattle.std.specs.Prelude.{OnOk, IfErr};
 ghost use Rattle.std.specs.Io.KnownBytes.{Appends};
 ghost use Rattle.oas_bytes.specs.Outlets.{TakesFront};

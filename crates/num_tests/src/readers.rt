@@ -1,3 +1,5 @@
+//! Readers that give a few bytes a call, or fail, below a source.
+
 use oas_bytes::{ReaderSource, SliceSource, Source, SourceFault};
 use std::alloc::AllocError;
 use std::io;

@@ -1,3 +1,5 @@
+//! Integers, reals and texts, by their bytes.
+
 use oas_num::{
     Label, Name, Padding, ReaderSource, Real, Signed, SliceSource, Source, Spelled, TextClass,
     Unsigned, Why, next_within, read_if, read_list, read_signed_if, read_text, read_unsigned_if,

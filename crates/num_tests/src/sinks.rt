@@ -1,3 +1,5 @@
+//! A sink that counts, and what a fault says.
+
 use oas_bytes::{Counter, Sink, SinkFault};
 use std::test::Fail;
 

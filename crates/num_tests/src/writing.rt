@@ -1,3 +1,5 @@
+//! What numbers are put as.
+
 use oas_num::{Counter, Outlet, Sink, put_gdelta, put_signed, put_unsigned, unsigned_len};
 use std::alloc::Global;
 

@@ -1,5 +1,5 @@
 //! What is left of bytes, read from their front.
-ghost use Rattle.std.specs.Prelude.{◌≡◌, ◌≤◌, ◌++◌, length, true, List, ℕ, IfSome};
+ghost use Rattle.std.specs.Prelude.{◌≡◌, ◌≤◌, ◌++◌, length, true, IfSome};
 ghost use Rattle.oas_record.specs.Kinds.{number, signed};
 ghost use Rattle.oas_record.specs.Trees.{there};
 ghost use Rattle.oas_ahead.specs.Fronts.{TakesByte, TakesFront, behind, noted};

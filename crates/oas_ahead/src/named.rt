@@ -1,5 +1,5 @@
 //! A placement or a text at the front of bytes: an element with a name, or with a number for one.
-ghost use Rattle.std.specs.Prelude.{◌≡◌, ◌↔◌, IsTrue, IfSome};
+ghost use Rattle.std.specs.Prelude.{◌↔◌, IsTrue, IfSome};
 ghost use Rattle.oas_record.specs.Placements.{IsCanonicalPlacement};
 ghost use Rattle.oas_ahead.specs.Named.{GivesName, IsNamedAhead, TakesGiven, TakesNamed};
 

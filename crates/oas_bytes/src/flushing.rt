@@ -1,3 +1,4 @@
+//! All calls of a writer, and a record of its last flush.
 ghost use Rattle.std.specs.Prelude.{◌≡◌, ◌<◌, true, false, length, take, OnOk, OnErr, IfErr};
 ghost use Rattle.std.specs.Io.KnownBytes.{Appends, Keeps};
 

@@ -1,3 +1,4 @@
+//! A sink over a writer.
 ghost use Rattle.std.specs.Prelude.{◌≡◌, ◌≤◌, ◌-◌, ◌^◌, true, false, length, [], ◌∷◌, OnOk};
 
 use crate::flushing::FlushRecord;

@@ -1,4 +1,5 @@
-ghost use Rattle.std.specs.Prelude.{◌≡◌, List, ℕ, IfOk, [], None};
+//! A source over a reader.
+ghost use Rattle.std.specs.Prelude.{◌≡◌, IfOk, [], None};
 ghost use Rattle.oas_bytes.specs.Readers.{reader_script};
 ghost use Rattle.oas_bytes.specs.Script.{Next};
 

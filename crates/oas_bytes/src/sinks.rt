@@ -1,3 +1,4 @@
+//! What bytes are put to, and a sink that counts them.
 ghost use Rattle.std.specs.Prelude.{◌≡◌, List, ℕ, [], ◌∷◌, ◌+◌, ◌≤◌, min, ◌-◌, ◌^◌, length};
 ghost use Rattle.std.proofs.Common.{arith};
 ghost use Rattle.oas_bytes.specs.Writing.{Writes};

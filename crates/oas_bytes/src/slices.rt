@@ -1,4 +1,5 @@
-ghost use Rattle.std.specs.Prelude.{◌≡◌, List, ℕ};
+//! A source over a slice.
+ghost use Rattle.std.specs.Prelude.{◌≡◌};
 
 use crate::sources::{Source, SourceFault};
 use std::marker::Model;

@@ -1,3 +1,4 @@
+//! What bytes are taken of.
 ghost use Rattle.std.specs.Prelude.{◌≡◌, ◌≤◌, List, ℕ, length, take};
 ghost use Rattle.oas_bytes.specs.Script.{Script, Next, Takes};
 

@@ -1,3 +1,5 @@
+//! The profile by which the calls of this crate answer.
+
 use oas_compact::ByProfileTwo;
 use oas_layout::Profile;
 

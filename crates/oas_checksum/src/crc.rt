@@ -1,3 +1,4 @@
+//! CRC-32.
 ghost use Rattle.std.specs.Prelude.{◌≡◌, List, [], ◌∷◌, ◌++◌, ℕ};
 ghost use Rattle.oas_checksum.specs.Crc.{IsRegister, after_byte, crc32};
 

@@ -1,3 +1,4 @@
+//! The sum of bytes.
 ghost use Rattle.std.specs.Prelude.{◌≡◌, List, [], ◌∷◌, ◌++◌, ℕ};
 ghost use Rattle.oas_checksum.specs.Sums.{checksum32};
 

@@ -1,6 +1,6 @@
 //! What cells weigh with the names of the whole file.
 
-ghost use Rattle.std.specs.Prelude.{◌≡◌, length};
+ghost use Rattle.std.specs.Prelude.{◌≡◌};
 ghost use Rattle.oas_names.specs.Weights.{head_weight, joined};
 ghost use Rattle.oas_names.specs.References.{cell_by};
 ghost use Rattle.oas_compact.specs.Short.{drawn_of, drawn_once};

@@ -1,4 +1,5 @@
-ghost use Rattle.std.specs.Prelude.{◌≡◌, ℕ, length, option_map, Some, None, if◌then◌else◌};
+//! Corners, and those of what two parallel sides enclose.
+ghost use Rattle.std.specs.Prelude.{◌≡◌, length, option_map, Some, None, if◌then◌else◌};
 ghost use Rattle.oas_corners.specs.Corners.{corner, listed, merged, are_bases, bases, level_drawn, upright_drawn};
 
 /// A corner, in grid steps from x and y.

@@ -1,3 +1,4 @@
+//! Trapezoids by their deltas.
 ghost use Rattle.std.specs.Prelude.{◌≡◌, option_map};
 ghost use Rattle.oas_corners.specs.Corners.{listed};
 ghost use Rattle.oas_corners.specs.Deltas.{lean_of, trapezoid};

@@ -1,3 +1,4 @@
+//! Trapezoids by their kind.
 ghost use Rattle.std.specs.Prelude.{◌≡◌, ◌∷◌, [], option_map, nat_lt, ◌&&◌};
 ghost use Rattle.oas_corners.specs.Corners.{listed, drawn, straight, plus, minus};
 ghost use Rattle.oas_corners.specs.Named.{named};

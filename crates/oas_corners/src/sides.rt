@@ -1,4 +1,5 @@
-ghost use Rattle.std.specs.Prelude.{◌≡◌, ◌↔◌, IsTrue, OnErr, MatchResult};
+//! The box of a kind of trapezoid.
+ghost use Rattle.std.specs.Prelude.{◌↔◌, IsTrue};
 ghost use Rattle.oas_corners.specs.Sides.{IsSides, Agree};
 
 /// The box in which a shape stands, in grid steps.

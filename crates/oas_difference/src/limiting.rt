@@ -1,6 +1,6 @@
 //! A sink that hands the first lines on.
 
-ghost use Rattle.std.specs.Prelude.{◌≡◌, false, Some};
+ghost use Rattle.std.specs.Prelude.{◌≡◌, false};
 ghost use Rattle.oas_num.specs.Writing.{Writes};
 ghost use Rattle.oas_num.specs.Outlets.{IsGiven, failures_of};
 ghost use Rattle.oas_difference.specs.Limited.{more_line};

@@ -1,5 +1,5 @@
 //! The modal variables.
-ghost use Rattle.std.specs.Prelude.{◌≡◌, Bool, cond};
+ghost use Rattle.std.specs.Prelude.{◌≡◌, cond};
 ghost use Rattle.std.specs.Option.{option_or};
 ghost use Rattle.oas_record.specs.declared.references.CellRef.{CellRef as OneCellRef};
 ghost use Rattle.oas_record.specs.declared.records.Record.{Record as OneRecord};

@@ -1,6 +1,6 @@
 //! A block of bytes that holds entries, of which the first may have been taken.
 
-ghost use Rattle.std.specs.Prelude.{◌≡◌, ◌+◌, ◌<◌, ◌≤◌, [], ◌∷◌, ◌++◌, List, ℕ, OnOk, OnErr, IfOk, IfSome, IfNone, IsTrue, IsFalse, ◌↔◌, length};
+ghost use Rattle.std.specs.Prelude.{◌≡◌, ◌+◌, ◌<◌, ◌≤◌, [], ◌∷◌, ◌++◌, List, ℕ, OnOk, OnErr, IfOk, IfSome, IfNone, IsTrue, IsFalse, length};
 ghost use Rattle.oas_entries.specs.Entries.{IsBlock, entries};
 
 use crate::entry::{Entry, after, is_over, push_entry, read_entry};

@@ -1,8 +1,6 @@
 //! Whether two runs are of the same entries.
 
 ghost use Rattle.std.specs.Prelude.{◌≡◌};
-ghost use Rattle.std.proofs.Common.{rules};
-ghost use Rattle.std.specs.Cmp.Rules.{comparing};
 ghost use Rattle.std.specs.Cmp.Lexicographic.{pointwise};
 ghost use Rattle.oas_entries.specs.Comparing.{same_entry, same_entry_per};
 

@@ -1,7 +1,7 @@
 //! An entry as bytes: the length of its key, its count, and the key.
 
-ghost use Rattle.std.specs.Prelude.{◌≡◌, ◌≢◌, ◌+◌, ◌<◌, ◌≤◌, [], ◌∷◌, ◌++◌, OnOk, OnErr, IsTrue, IsFalse, IfSome, IfNone, length, take, drop, slice_index};
-ghost use Rattle.oas_entries.specs.Entries.{number_bytes, entry_bytes, number_at, number_size, entry_at, entry_end, entries, IsBlock};
+ghost use Rattle.std.specs.Prelude.{◌≡◌, ◌+◌, ◌<◌, ◌≤◌, [], ◌∷◌, ◌++◌, OnOk, OnErr, IsTrue, IsFalse, IfSome, IfNone, length, take, drop, slice_index};
+ghost use Rattle.oas_entries.specs.Entries.{number_bytes, entry_bytes, number_at, number_size, entries, IsBlock};
 
 use crate::room::reserve_more;
 use std::alloc::AllocError;

@@ -1,6 +1,6 @@
 //! A run of entries that is being written.
 
-ghost use Rattle.std.specs.Prelude.{◌≡◌, [], ◌∷◌, ◌++◌, List, ℕ, OnOk, OnErr, IfOk};
+ghost use Rattle.std.specs.Prelude.{◌≡◌, [], ◌∷◌, ◌++◌, List, OnOk, OnErr, IfOk};
 ghost use Rattle.oas_entries.specs.Blocks.{joined};
 ghost use Rattle.oas_entries.specs.Runs.{SameTotals};
 

@@ -1,6 +1,6 @@
 //! A run of entries in blocks, from which the first can be taken.
 
-ghost use Rattle.std.specs.Prelude.{◌≡◌, ◌+◌, ◌<◌, ◌≤◌, [], ◌∷◌, ◌++◌, List, ℕ, IfSome, IfNone, IsTrue, IsFalse};
+ghost use Rattle.std.specs.Prelude.{◌≡◌, ◌+◌, ◌<◌, [], ◌∷◌, ◌++◌, List, ℕ, IfSome, IfNone, IsTrue, IsFalse};
 ghost use Rattle.oas_entries.specs.Blocks.{joined, NoneEmpty};
 
 use crate::block::Block;

@@ -1,6 +1,6 @@
 //! Telling what a run said on its error output, and explaining it.
 
-ghost use Rattle.std.specs.Prelude.{◌≡◌, ℕ, ◌-◌, List, [], ◌++◌, slice_get};
+ghost use Rattle.std.specs.Prelude.{ℕ, ◌-◌, List, [], ◌++◌, slice_get};
 ghost use Rattle.oas_num.specs.Refusals.{number_of};
 ghost use Rattle.oas_num.specs.Writing.{Writes};
 ghost use Rattle.oas_command.specs.Runs.{AppendsFront, Tells};

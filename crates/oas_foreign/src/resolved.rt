@@ -1,3 +1,4 @@
+//! What a record of the standard comes to.
 ghost use Rattle.std.specs.Prelude.{◌≡◌};
 ghost use Rattle.oas_foreign.specs.Tracked.{handed, placed};
 

@@ -1,6 +1,6 @@
 //! The text in which a layout's facts are told.
 
-ghost use Rattle.std.specs.Prelude.{◌≡◌, ◌++◌, ℕ, [], ◌∷◌, flat_map, IfOk, OnOk};
+ghost use Rattle.std.specs.Prelude.{◌≡◌, ◌++◌, [], flat_map, IfOk, OnOk};
 ghost use Rattle.oas_info.specs.Text.{behind_space, spaced_number, number_line, name_line, group_line, group_lines, unit_line, info_text};
 
 use crate::info::Info;

@@ -1,5 +1,5 @@
 //! What a record may be in a canonical file, seen from the record alone.
-ghost use Rattle.std.specs.Prelude.{◌≡◌, ◌↔◌, IsTrue, IfOk};
+ghost use Rattle.std.specs.Prelude.{◌↔◌, IsTrue, IfOk};
 ghost use Rattle.oas_record.specs.declared.records.Record.TheVariants.{Cell as OneCell};
 ghost use Rattle.oas_layout.specs.declared.profile.Profile.{Profile as OneProfile};
 ghost use Rattle.oas_judge.specs.Candidates.{IsCandidate, IsFitting, IsKeptFit, IsDrawable, IsShort};

@@ -1,7 +1,7 @@
 //! The classes of numbers, and which a number is of.
 
 ghost use Rattle.std.specs.Prelude.{◌≡◌, ◌+◌, ◌%◌, ◌/◌, ◌*◌, ◌^◌, ◌<◌, ◌≤◌, ◌∷◌};
-ghost use Rattle.oas_keys.specs.Numbers.{number_in, digits, room, firsts_of, AreClasses};
+ghost use Rattle.oas_keys.specs.Numbers.{number_in, digits, firsts_of, AreClasses};
 
 /// Numbers that stand side by side and take equally many bytes (own rule).
 #[derive(Clone, Copy)]

@@ -1,6 +1,6 @@
 //! The fields of a key that are no number alone, read from its front.
 
-ghost use Rattle.std.specs.Prelude.{◌≡◌, ◌≤◌, ◌<◌, ◌+◌, ◌*◌, ◌++◌, ◌∷◌, ◌^◌, true, Bool, ℕ, ℤ, List, length, IfSome};
+ghost use Rattle.std.specs.Prelude.{◌≡◌, ◌<◌, ◌+◌, ◌*◌, ◌++◌, ◌^◌, true, Bool, ℕ, ℤ, List, length, IfSome};
 ghost use Rattle.oas_ring.specs.declared.point.Point.{Point as OnePoint};
 ghost use Rattle.oas_layout.specs.declared.element.Turns.{Turns as SomeTurns};
 ghost use Rattle.oas_layout.specs.Element.{turn_count};

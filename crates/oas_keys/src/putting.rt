@@ -1,6 +1,6 @@
 //! An element's key.
 
-ghost use Rattle.std.specs.Prelude.{◌≡◌, ◌+◌, ◌<◌, ◌≤◌, ◌⊎◌, ◌++◌, ◌∷◌, [], OnOk, OnErr, vec_len, vec_capacity};
+ghost use Rattle.std.specs.Prelude.{◌≡◌, ◌+◌, ◌<◌, ◌≤◌, ◌⊎◌, ◌++◌, OnOk, OnErr, vec_len, vec_capacity};
 ghost use Rattle.oas_layout.specs.Element.{kind};
 ghost use Rattle.oas_layout.specs.Sound.{IsSound};
 ghost use Rattle.oas_keys.specs.Keys.{key_of, fields_key, room_of};

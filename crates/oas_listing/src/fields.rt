@@ -1,6 +1,6 @@
 //! The fields of a line.
 
-ghost use Rattle.std.specs.Prelude.{ℕ, ◌∷◌, ◌++◌, map, flat_map, decimal};
+ghost use Rattle.std.specs.Prelude.{◌∷◌, ◌++◌, map, flat_map, decimal};
 ghost use Rattle.std.specs.Fmt.{signed_decimal};
 ghost use Rattle.oas_num.specs.Writing.{Writes};
 ghost use Rattle.oas_listing.specs.Lines.{spaced};

@@ -1,3 +1,4 @@
+//! Records of the profile with integers in any number of bytes.
 ghost use Rattle.std.specs.Prelude.{◌≡◌, ◌≢◌};
 ghost use Rattle.oas_record.specs.Refusals.{IsKnown};
 ghost use Rattle.oas_long.specs.AnyLength.{first_of};

@@ -2,7 +2,6 @@
 
 ghost use Rattle.std.specs.Prelude.{◌≡◌, ◌++◌, ◌∷◌, [], codes};
 ghost use Rattle.oas_num.specs.Writing.{Writes};
-ghost use Rattle.oas_difference.specs.Difference.{same_ratio};
 ghost use Rattle.oas_markers.specs.Shapes.{shape, layer_of, layer_value};
 ghost use Rattle.oas_markers.specs.declared.items.Way.TheVariants.{Removed, Added};
 ghost use Rattle.oas_markers.specs.Markers.{way_name, way_file, category, about, head, cell_entry, item, change_item, cell_item};

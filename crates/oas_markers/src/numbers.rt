@@ -1,6 +1,6 @@
 //! Numbers of microns.
 
-ghost use Rattle.std.specs.Prelude.{◌≡◌, ◌<◌, ◌+ℤ◌, ◌*◌, pos, decimal, flat_map, ◌∷◌};
+ghost use Rattle.std.specs.Prelude.{◌<◌, ◌+ℤ◌, ◌*◌, pos, decimal, flat_map, ◌∷◌};
 ghost use Rattle.oas_num.specs.Writing.{Writes};
 ghost use Rattle.oas_markers.specs.Numbers.{quotient, pointed, decimals, length_in, microns, place, places};
 

@@ -1,6 +1,5 @@
 //! Names and strings in XML.
 
-ghost use Rattle.std.specs.Prelude.{◌≡◌, flat_map};
 ghost use Rattle.oas_num.specs.Writing.{Writes};
 ghost use Rattle.oas_markers.specs.Texts.{escape, escaped, quote, quoted};
 

@@ -4,8 +4,7 @@ ghost use Rattle.std.specs.Prelude.{◌≡◌, ◌⊎◌, List, None, Some, OnOk
 ghost use Rattle.std.specs.List.{AllByRecursion};
 ghost use Rattle.oas_num.specs.declared.refusals.Why.TheVariants.{Memory};
 ghost use Rattle.oas_names.specs.Meaning.{DrawnCell, end_reason};
-ghost use Rattle.oas_names.specs.References.{cell_by};
-ghost use Rattle.oas_names.specs.Weights.{AllUsed, joined, head_weight, names_weight};
+ghost use Rattle.oas_names.specs.Weights.{AllUsed};
 ghost use Rattle.oas_modal.specs.Stores.{HoldCells};
 ghost use Rattle.oas_modal.specs.Counted.{counted_store, counted_weight, all_weight};
 ghost use Rattle.oas_modal.specs.Parts.{Sound, cells};

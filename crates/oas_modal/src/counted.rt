@@ -1,6 +1,6 @@
 //! What is counted of a CELL, where none of its elements is kept.
 
-ghost use Rattle.std.specs.Prelude.{◌≡◌, ◌+◌, ◌<◌, ◌^◌, [], OnOk, OnErr};
+ghost use Rattle.std.specs.Prelude.{◌≡◌, ◌+◌, ◌<◌, ◌^◌, OnOk, OnErr};
 ghost use Rattle.oas_drawing.specs.Named.{drawn_once};
 ghost use Rattle.oas_modal.specs.Counted.{counted_store, placed_more, written_more};
 ghost use Rattle.oas_modal.specs.Laws.StoreLaws.{counted_in_any_order};

@@ -1,6 +1,6 @@
 //! The reader: it takes record after record, and finishes to a layout.
 
-ghost use Rattle.std.specs.Prelude.{◌≡◌, ◌⊎◌, IsTrue, ◌++◌, ◌∷◌, [], List, None, Some, OnOk, OnErr, IfOk, IfErr};
+ghost use Rattle.std.specs.Prelude.{◌≡◌, ◌⊎◌, ◌++◌, ◌∷◌, [], List, None, Some, OnOk, IfOk, IfErr};
 ghost use Rattle.oas_num.specs.declared.refusals.Why.TheVariants.{Memory};
 ghost use Rattle.oas_num.specs.declared.refusals.Refusal.{Refusal as OneRefusal};
 ghost use Rattle.oas_record.specs.declared.records.Record.{Record as OneRecord};

@@ -5,7 +5,7 @@ ghost use Rattle.std.specs.Option.{option_copied};
 ghost use Rattle.std.specs.Ordering.{nat_cmp};
 ghost use Rattle.std.specs.BTreeMap.{insert_entry};
 ghost use Rattle.oas_num.specs.declared.refusals.Why.TheVariants.{Memory};
-ghost use Rattle.oas_names.specs.Names.{numbering_given, is_mixed, name_of, is_other, no_names, table_reason, with_name};
+ghost use Rattle.oas_names.specs.Names.{numbering_given, name_of, is_other, no_names, table_reason, with_name};
 
 use oas_num::Why;
 use std::alloc::Global;

@@ -1,12 +1,10 @@
 //! How often numbers are used that stand for names, and what their names weigh together.
 
 ghost use Rattle.std.specs.Prelude.{◌≡◌, ◌+◌, ◌<◌, ◌^◌, [], unwrap_or, OnOk, OnErr};
-ghost use Rattle.std.specs.Map.{lookup};
-ghost use Rattle.std.specs.BTreeMap.{is_at};
 ghost use Rattle.std.specs.Ordering.{nat_cmp};
 ghost use Rattle.oas_layout.specs.Bag.{put_more};
 ghost use Rattle.oas_layout.specs.Laws.BagLaws.{total};
-ghost use Rattle.oas_names.specs.Weights.{joined, names_weight};
+ghost use Rattle.oas_names.specs.Weights.{names_weight};
 
 use crate::names::NameTable;
 use oas_num::{Label, Name};

@@ -1,3 +1,4 @@
+//! Where a record stands, in a file or in a block.
 ghost use Rattle.std.specs.Prelude.{◌≡◌};
 ghost use Rattle.oas_narrow.specs.Rejections.{rejected, refused};
 

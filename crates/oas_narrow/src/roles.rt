@@ -1,3 +1,4 @@
+//! What a record of the standard is to a file of the profile.
 ghost use Rattle.std.specs.Prelude.{◌≡◌};
 ghost use Rattle.oas_record.specs.declared.records.Record.TheVariants.{Placement as PlacementRecord};
 ghost use Rattle.oas_narrow.specs.Roles.{plain_role, trapezoid_id, role_of, opens, outside, unnamed, obstacle_by, extra_of, counted_if};

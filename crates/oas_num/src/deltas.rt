@@ -1,4 +1,5 @@
-ghost use Rattle.std.specs.Prelude.{◌≡◌, ◌<◌, ◌^◌, List, ℕ};
+//! 1-deltas, 2-deltas, 3-deltas and g-deltas.
+ghost use Rattle.std.specs.Prelude.{◌≡◌, ◌<◌, ◌^◌};
 ghost use Rattle.oas_num.specs.Deltas.{toward, delta2_of, delta3_of, gdelta_from};
 ghost use Rattle.oas_num.specs.Integers.{signed_of};
 ghost use Rattle.oas_num.specs.Reading.{ReadsPiece, IntegerMay};

@@ -1,3 +1,4 @@
+//! Fractions in lowest terms.
 ghost use Rattle.std.specs.Prelude.{◌≡◌, ◌⊎◌, ◌↔◌, IfSome, IsNone};
 ghost use Rattle.std.specs.Int.{IsGcd};
 

@@ -1,3 +1,4 @@
+//! Reals of types 0 to 5.
 ghost use Rattle.std.specs.Prelude.{◌≡◌};
 ghost use Rattle.oas_num.specs.Reals.{part_of};
 

@@ -1,3 +1,4 @@
+//! The 34 reasons, and a reason with its place.
 ghost use Rattle.std.specs.Prelude.{◌≡◌};
 ghost use Rattle.oas_num.specs.Refusals.{number_of};
 ghost use Rattle.oas_num.specs.declared.refusals.Why.TheVariants.{Memory};

@@ -1,3 +1,4 @@
+//! Numbers and steps, in their shortest spelling.
 ghost use Rattle.std.specs.Prelude.{◌≡◌, ◌+◌, ◌^◌, ◌<◌, length, nat_abs};
 ghost use Rattle.oas_num.specs.Writing.{Writes, shortest, shortest_signed, shortest_gdelta};
 ghost use Rattle.oas_num.specs.Style.{code};

@@ -1,5 +1,5 @@
 //! The unit as the profile has it.
-ghost use Rattle.std.specs.Prelude.{◌≡◌, ◌<◌, ◌*◌, ◌^◌, ℕ, IfSome, IsNone};
+ghost use Rattle.std.specs.Prelude.{◌<◌, ◌*◌, ◌^◌, ℕ, IfSome, IsNone};
 ghost use Rattle.oas_num.specs.Ratio.{Ratio, Reduces};
 ghost use Rattle.oas_narrow.specs.Preparable.{IsUnitOf};
 ghost use Rattle.oas_prepare.specs.Units.{ratio, IsPast};

@@ -1,7 +1,5 @@
 //! The line that says how many bytes went by.
 
-ghost use Rattle.std.specs.Prelude.{◌≡◌};
-
 use std::io::Write;
 
 /// After so many bytes the line is written anew.

@@ -1,3 +1,4 @@
+//! The END record.
 ghost use Rattle.oas_num.specs.Reading.{ReadsPiece};
 ghost use Rattle.oas_num.specs.Style.{Any};
 ghost use Rattle.oas_record.specs.Ends.{end_in, EndTook, offsets_if, OffsetsIfTook};

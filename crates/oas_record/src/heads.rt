@@ -1,3 +1,4 @@
+//! The front of a file: its first bytes and START.
 ghost use Rattle.oas_num.specs.Reading.{Reads, ReadsPiece};
 ghost use Rattle.oas_num.specs.Style.{Any};
 ghost use Rattle.oas_record.specs.Heads.{IsMagic, MagicMay, version_in, VersionTook, unit_in, UnitTook, start_in, StartTook, ReadsHead};

@@ -1,3 +1,4 @@
+//! The records that give names their numbers.
 ghost use Rattle.oas_num.specs.Reading.{ReadsPiece};
 ghost use Rattle.oas_num.specs.Style.{Any};
 ghost use Rattle.oas_record.specs.NameRecords.{cell_name_in, CellNameTook, text_string_in, TextStringTook};

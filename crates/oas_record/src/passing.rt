@@ -1,3 +1,4 @@
+//! Parts that are read and not kept.
 ghost use Rattle.oas_num.specs.Reading.{ReadsPiece};
 ghost use Rattle.oas_record.specs.Ends.{IsOffsets, OffsetsTook};
 ghost use Rattle.oas_record.specs.Heads.{IsPassedLabel, PassedTook};

@@ -1,3 +1,4 @@
+//! The PATH record.
 ghost use Rattle.std.specs.Prelude.{◌≡◌};
 ghost use Rattle.oas_num.specs.Grammar.{IsThere};
 ghost use Rattle.oas_num.specs.Reading.{ReadsPiece};

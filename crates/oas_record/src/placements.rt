@@ -1,3 +1,4 @@
+//! The PLACEMENT records.
 ghost use Rattle.oas_num.specs.Reading.{ReadsPiece};
 ghost use Rattle.oas_num.specs.Style.{Any};
 ghost use Rattle.oas_record.specs.Placements.{quarters_in, QuarterTook, degrees_in, DegreeTook};

@@ -1,3 +1,4 @@
+//! Cells and text strings, as elements refer to them.
 ghost use Rattle.oas_num.specs.Grammar.{IsThere};
 ghost use Rattle.oas_num.specs.Reading.{ReadsPiece};
 ghost use Rattle.oas_num.specs.Pieces.{ThereTook};

@@ -4,7 +4,7 @@
 //! In a slice the one point below all others, where there is one, is found first: each least reading begins
 //! there, so that only its two directions are left to be compared.
 
-ghost use Rattle.std.specs.Prelude.{◌≡◌, ℕ, ◌+◌, ◌-◌, ◌*◌, ◌<◌, ◌≤◌, ◌^◌, List, length, IfSome};
+ghost use Rattle.std.specs.Prelude.{◌≡◌, ◌+◌, ◌-◌, ◌*◌, ◌<◌, ◌≤◌, ◌^◌, List, length, IfSome};
 ghost use Rattle.oas_ring.specs.Points.{list_cmp};
 ghost use Rattle.oas_ring.specs.Rings.{rotation};
 ghost use Rattle.oas_ring.specs.Readings.{reading_of, directed, IsLeastReadingOf};

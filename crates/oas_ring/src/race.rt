@@ -4,7 +4,7 @@
 //! with it each start up to the one behind the points compared, since a rotation of the lesser beats it. So
 //! each comparison moves a candidate on or lengthens what they agree in, and none is wasted.
 
-ghost use Rattle.std.specs.Prelude.{◌≡◌, ℕ, ◌+◌, ◌*◌, ◌<◌, ◌≤◌, ◌^◌, List, length};
+ghost use Rattle.std.specs.Prelude.{◌≡◌, ◌+◌, ◌*◌, ◌<◌, ◌≤◌, ◌^◌, List, length};
 ghost use Rattle.oas_ring.specs.Race.{IsRace, next_order};
 ghost use Rattle.oas_ring.specs.declared.point.Point.{Point};
 

@@ -1,6 +1,6 @@
 //! Readings of a ring, and the lists that they read.
 
-ghost use Rattle.std.specs.Prelude.{◌≡◌, ℕ, ◌+◌, ◌-◌, ◌<◌, ◌≤◌, List, length, IfOk};
+ghost use Rattle.std.specs.Prelude.{◌≡◌, ◌+◌, ◌-◌, ◌<◌, List, length, IfOk};
 ghost use Rattle.oas_ring.specs.Points.{point_at};
 ghost use Rattle.oas_ring.specs.Readings.{reading_of};
 ghost use Rattle.oas_ring.specs.declared.point.Point.{Point};

@@ -1,5 +1,5 @@
 //! Where the copies of a repetition stand.
-ghost use Rattle.std.specs.Prelude.{◌≡◌, ◌+ℤ◌, ◌*ℤ◌, ◌+◌, ◌*◌, ◌/◌, ◌%◌, ◌^◌, ◌<◌, ℕ, pos, SomeIff};
+ghost use Rattle.std.specs.Prelude.{◌≡◌, ◌+ℤ◌, ◌*ℤ◌, ◌+◌, ◌*◌, ◌/◌, ◌%◌, ◌^◌, ◌<◌, pos, SomeIff};
 ghost use Rattle.oas_num.specs.Deltas.{step};
 ghost use Rattle.oas_num.specs.Reading.{ReadsPieceAs, ReadsPiece};
 ghost use Rattle.oas_shape.specs.Steps.{IsBounded, IsPartialSum, added, times};

@@ -1,5 +1,5 @@
 //! The places on which the copies of a repetition stand.
-ghost use Rattle.std.specs.Prelude.{◌≡◌, ◌*◌, ◌<◌, ◌^◌, Bool};
+ghost use Rattle.std.specs.Prelude.{◌≡◌, ◌*◌, ◌<◌, ◌^◌};
 ghost use Rattle.oas_shape.specs.Offsets.{count_of};
 ghost use Rattle.oas_shape.specs.Places.{is_still, places_one_way, places_two_ways, places_of};
 

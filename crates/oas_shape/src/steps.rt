@@ -1,5 +1,5 @@
 //! The deltas of a point list, read as steps.
-ghost use Rattle.std.specs.Prelude.{◌≡◌, ◌<◌, ◌+ℤ◌, pos, if◌then◌else◌, [], ◌∷◌, ◌++◌, OnOk, IfErr};
+ghost use Rattle.std.specs.Prelude.{◌≡◌, ◌<◌, pos, if◌then◌else◌, [], ◌∷◌, ◌++◌, OnOk, IfErr};
 ghost use Rattle.oas_num.specs.Grammar.{IsCount, IsImage};
 ghost use Rattle.oas_num.specs.Deltas.{SpellsDelta1, step};
 ghost use Rattle.oas_num.specs.Pieces.{ListTook};

@@ -1,3 +1,4 @@
+//! Places in an integer.
 ghost use Rattle.std.specs.Prelude.{◌≡◌};
 ghost use Rattle.oas_shortened.specs.Places.{joined, given_by, moved};
 

@@ -1,3 +1,4 @@
+//! A source whose integers are shortened.
 ghost use Rattle.std.specs.Prelude.{◌≡◌};
 ghost use Rattle.oas_bytes.specs.declared.readers.Ending.TheVariants.{Open};
 ghost use Rattle.oas_shortened.specs.Shortening.{ending_by, IsShortened, IsShortened-prop};

@@ -1,3 +1,4 @@
+//! A source whose bytes are summed up.
 ghost use Rattle.std.specs.Prelude.{◌≡◌, ℕ, List, IsSome};
 ghost use Rattle.oas_bytes.specs.Script.{Takes};
 ghost use Rattle.oas_checksum.specs.Signed.{signed};

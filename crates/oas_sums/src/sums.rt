@@ -1,3 +1,4 @@
+//! The checksums of some bytes.
 ghost use Rattle.std.specs.Prelude.{◌≡◌, List, [], ◌∷◌, ◌++◌, ℕ};
 ghost use Rattle.oas_checksum.specs.Crc.{crc32};
 ghost use Rattle.oas_checksum.specs.Sums.{checksum32};

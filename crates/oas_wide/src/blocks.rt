@@ -1,3 +1,4 @@
+//! The CBLOCK record, up to its bytes.
 ghost use Rattle.oas_num.specs.Reading.{ReadsPiece};
 ghost use Rattle.oas_wide.specs.Blocks.{SpellsBlockHead, BlockHeadTook};
 

@@ -1,3 +1,4 @@
+//! The END record, with any validation.
 ghost use Rattle.oas_num.specs.Reading.{ReadsPiece};
 ghost use Rattle.std.specs.Prelude.{◌≡◌};
 ghost use Rattle.oas_record.specs.Trees.{there};

@@ -1,3 +1,4 @@
+//! The XGEOMETRY record.
 ghost use Rattle.oas_num.specs.Reading.{ReadsPiece};
 ghost use Rattle.oas_wide.specs.Extensions.{SpellsGeometry, GeometryTook};
 

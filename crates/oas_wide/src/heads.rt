@@ -1,3 +1,4 @@
+//! The front of a file, with a unit of any type.
 ghost use Rattle.std.specs.Prelude.{◌↔◌, IsTrue};
 ghost use Rattle.oas_num.specs.Reading.{ReadsPiece};
 ghost use Rattle.oas_wide.specs.Heads.{IsPositive, SpellsUnit, UnitTook, SpellsWideStart, WideStartTook};

@@ -1,3 +1,4 @@
+//! The LAYERNAME records.
 ghost use Rattle.std.specs.Prelude.{◌≡◌};
 ghost use Rattle.oas_num.specs.Reading.{ReadsPiece};
 ghost use Rattle.oas_wide.specs.LayerNames.{interval_by, SpellsInterval, IntervalTook, SpellsLayerName, LayerNameTook};

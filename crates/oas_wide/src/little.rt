@@ -1,3 +1,4 @@
+//! Numbers in four and eight bytes.
 ghost use Rattle.oas_num.specs.Reading.{ReadsPiece};
 ghost use Rattle.oas_wide.specs.Little.{IsFour, FourTook, IsEight, EightTook};
 

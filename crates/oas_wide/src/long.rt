@@ -1,3 +1,4 @@
+//! Integers and strings whose numbers have any number of bytes.
 ghost use Rattle.std.specs.Prelude.{◌≡◌, ◌<◌, ◌≤◌, ◌+◌, ◌*◌, ◌^◌, IfSome, IsNone};
 ghost use Rattle.oas_num.specs.Grammar.{IsByte};
 ghost use Rattle.oas_num.specs.Pieces.{CountTook};

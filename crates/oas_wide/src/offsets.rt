@@ -1,3 +1,4 @@
+//! Table-offsets.
 ghost use Rattle.oas_num.specs.Reading.{ReadsPiece};
 ghost use Rattle.oas_wide.specs.Offsets.{IsLongOffsets, LongOffsetsTook, long_offsets_part};
 

@@ -1,3 +1,4 @@
+//! The PLACEMENT record whose magnification and angle are reals.
 ghost use Rattle.oas_num.specs.Grammar.{IsThere};
 ghost use Rattle.oas_num.specs.Pieces.{ThereTook};
 ghost use Rattle.oas_num.specs.Reading.{ReadsPiece};

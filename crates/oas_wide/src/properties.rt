@@ -1,3 +1,4 @@
+//! The PROPERTY record.
 ghost use Rattle.std.specs.Prelude.{◌↔◌, IsTrue};
 ghost use Rattle.oas_num.specs.Reading.{ReadsPiece};
 ghost use Rattle.oas_record.specs.Trees.{there};

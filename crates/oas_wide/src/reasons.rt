@@ -1,3 +1,4 @@
+//! Reasons, those of the profile and of what it leaves out.
 ghost use Rattle.std.specs.Prelude.{◌≡◌};
 ghost use Rattle.oas_wide.specs.Reasons.{named, wide_number_of};
 ghost use Rattle.oas_wide.specs.declared.reasons.WideWhy.TheVariants.{Profile};

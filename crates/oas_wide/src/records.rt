@@ -1,6 +1,7 @@
+//! Any record, by its id.
 ghost use Rattle.std.specs.Prelude.{◌≡◌, ◌≢◌, ◌≤◌, Bool, true};
 ghost use Rattle.oas_num.specs.Reading.{ReadsPiece};
-ghost use Rattle.oas_wide.specs.WideRecords.{foreign, is_profile_id, IsWideId, IsForeignId, RefusesWideId, ReadsWide, ReadsWideAt};
+ghost use Rattle.oas_wide.specs.WideRecords.{foreign, is_profile_id, IsForeignId, RefusesWideId, ReadsWide, ReadsWideAt};
 
 use crate::blocks::BlockHead;
 use crate::ends::WideEnd;

@@ -1,3 +1,4 @@
+//! Names and strings of properties and extensions.
 ghost use Rattle.oas_num.specs.Reading.{ReadsPiece};
 ghost use Rattle.oas_wide.specs.Strings.{SpellsString, StringTook, SpellsAttributed, AttributedTook};
 

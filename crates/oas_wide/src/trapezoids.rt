@@ -1,3 +1,4 @@
+//! The TRAPEZOID and CTRAPEZOID records.
 ghost use Rattle.oas_num.specs.Reading.{ReadsPiece};
 ghost use Rattle.oas_wide.specs.Trapezoids.{deltas, shape_kind, SpellsTrapezoid, TrapezoidTook, SpellsNamedTrapezoid, NamedTrapezoidTook};
 ghost use Rattle.oas_record.specs.Trees.{there};

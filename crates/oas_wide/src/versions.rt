@@ -1,3 +1,4 @@
+//! The version in START.
 ghost use Rattle.oas_num.specs.Reading.{ReadsPiece};
 ghost use Rattle.oas_wide.specs.Versions.{passed_label, SpellsVersion, LongVersionTook};
 

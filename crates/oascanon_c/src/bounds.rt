@@ -1,5 +1,5 @@
 //! Limits, as C hands them in.
-ghost use Rattle.std.specs.Prelude.{◌≡◌, ◌↔◌, IsSome, IfSome};
+ghost use Rattle.std.specs.Prelude.{◌↔◌, IsSome, IfSome};
 ghost use Rattle.oas_layout.specs.Limits.{IsLimits, AreLimits};
 
 use oas_canon::Limits;

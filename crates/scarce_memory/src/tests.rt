@@ -1,3 +1,5 @@
+//! That memory comes back.
+
 use super::*;
 use std::test::Fail;
 

@@ -1,3 +1,5 @@
+//! Point lists, by their bytes.
+
 use crate::rows::{bytes_of, point, row_parts};
 use oas_num::{SliceSource, Why};
 use oas_ring::Point;

@@ -1,3 +1,5 @@
+//! Repetitions, by their bytes.
+
 use crate::rows::{bytes_of, point, row_parts};
 use oas_num::{GDelta, SliceSource, Why};
 use oas_shape::{Places, RepField, Repetition};

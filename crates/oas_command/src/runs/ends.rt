@@ -1,6 +1,6 @@
 //! How a run ends.
 
-ghost use Rattle.std.specs.Prelude.{◌≡◌, ◌≢◌, ◌⊎◌, Bool, Ok};
+ghost use Rattle.std.specs.Prelude.{◌≡◌, ◌≢◌, ◌⊎◌, Ok};
 ghost use Rattle.oas_num.specs.Refusals.{number_of};
 ghost use Rattle.oas_command.specs.Lines.{refusal_line};
 ghost use Rattle.oas_command.specs.Runs.{status_after, verdict_status, Tells, Ends, AppendsFront};
