@@ -11,7 +11,7 @@ use Rattle.oas_layout.specs.Meaning.{cells_weight}
 use Rattle.oas_layout.specs.Contents.{Cell, Contents, names, expanded, meaning_of, IsLayout}
 use Rattle.oas_form.specs.Alone.{alone, cell_at}
 use Rattle.oas_form.specs.Bytes.{canonical_bytes}
-use Rattle.oas_canon.specs.CellKeys.{cell_key, cell_key_line, cell_key_lines}
+use Rattle.oas_canon.specs.CellKeys.{cell_key, named_key, cell_key_line, cell_key_lines}
 
 -- the name of the cell that stands at i
 pub name_at : (cs : List Cell) (i : ℕ) (name : List ℕ) → slice_get (names cs) i ≡ Some name → (get_or (expanded cs) i ([], [])).0 ≡ name
@@ -24,9 +24,11 @@ length-expanded [] = refl
 length-expanded (c ∷ cs) = ap suc (length-expanded cs)
 
 -- the line, of its parts as they are put
-pub line_is : (unit : Ratio) (c : List ℕ × List Element) (text name : List ℕ) → text ≡ encode_lower (cell_key unit c) → c.0 ≡ name → cell_key_line unit c ≡ text
-    ++ ((32 ∷ 32 ∷ []) ++ (name ++ (10 ∷ [])))
-line_is unit c text name t n = λ i. sym t i ++ ((32 ∷ 32 ∷ []) ++ (n i ++ (10 ∷ [])))
+pub line_is : (key text name : List ℕ) → text ≡ encode_lower key → named_key key name ≡ text ++ ((32 ∷ 32 ∷ []) ++ (name ++ (10 ∷ [])))
+line_is key text name t = ap (λ (xs : List ℕ). xs ++ ((32 ∷ 32 ∷ []) ++ (name ++ (10 ∷ [])))) (sym t)
+
+pub named_is : (unit : Ratio) (c : List ℕ × List Element) (key name : List ℕ) → key ≡ cell_key unit c → c.0 ≡ name → cell_key_line unit c ≡ named_key key name
+named_is unit c key name k n = λ i. named_key (sym k i) (n i)
 
 -- ---- one line after another
 

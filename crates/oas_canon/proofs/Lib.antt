@@ -1,4 +1,5 @@
 mod RekeyLemmas
 mod HashingLemmas
 mod CellKeyLemmas
+mod RunKeyLemmas
 pub mod Whole

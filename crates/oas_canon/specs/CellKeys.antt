@@ -13,8 +13,11 @@ abbrev pub cell_key : Ratio → List ℕ × List Element → List ℕ
 cell_key unit c = sha256 (canonical_bytes (alone unit c))
 
 -- HEX  CELL: two lower-case hex digits for each byte of the key, two spaces, the cell's name, and the line's end
+abbrev pub named_key : List ℕ → List ℕ → List ℕ
+named_key key name = encode_lower key ++ ((32 ∷ 32 ∷ []) ++ (name ++ (10 ∷ [])))
+
 abbrev pub cell_key_line : Ratio → List ℕ × List Element → List ℕ
-cell_key_line unit c = encode_lower (cell_key unit c) ++ ((32 ∷ 32 ∷ []) ++ (c.0 ++ (10 ∷ [])))
+cell_key_line unit c = named_key (cell_key unit c) c.0
 
 -- a line for each cell
 abbrev pub cell_key_lines : Meaning → List ℕ

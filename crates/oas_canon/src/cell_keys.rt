@@ -1,6 +1,5 @@
 //! The keys of a layout's cells.
 ghost use Rattle.std.specs.Prelude.{◌≡◌, ◌*◌, ◌^◌, ◌<◌, ◌≤◌, length, IfErr, IfOk, OnOk};
-ghost use Rattle.hex.specs.Hex.{encode_lower};
 ghost use Rattle.oas_num.specs.Outlets.{IsGiven, IsSent, failures_of};
 ghost use Rattle.oas_num.specs.Writing.{Writes};
 ghost use Rattle.oas_num.specs.Written.{IsWritten, IsCutOff};
@@ -9,7 +8,7 @@ ghost use Rattle.oas_form.specs.Alone.{cell_at};
 ghost use Rattle.oas_canon.specs.CellKeys.{cell_key, cell_key_line, cell_key_lines};
 
 use crate::hashing::Hasher;
-use hex::encode_to_slice;
+use crate::named_keys::put_named_key;
 use oas_form::put_cell_alone;
 use oas_layout::Layout;
 use oas_num::{Outlet, Refusal, Sink, SinkFault, Why};
@@ -27,15 +26,6 @@ pub fn cell_key(layout: &Layout, cell: usize) -> [u8; 32]
     hasher.finish()
 }
 
-/// The hex digits of a key.
-fn hex_text(key: &[u8; 32]) -> [u8; 64]
-    ensures { result ≡ encode_lower key.now }
-{
-    let mut text = [0; 64];
-    let _ = encode_to_slice(key.as_slice(), &mut text);
-    text
-}
-
 /// Puts the line of a cell's key.
 fn put_line<K: Sink>(sink: &mut K, layout: &Layout, cell: usize) -> Result<(), SinkFault>
     requires cell { cell < length layout.now.cells }
@@ -43,12 +33,8 @@ fn put_line<K: Sink>(sink: &mut K, layout: &Layout, cell: usize) -> Result<(), S
     ensures { Writes K.given K.failures sink.old
         (cell_key_line layout.now.unit (cell_at layout.now cell)) result sink.new }
 {
-    let text = hex_text(&cell_key(layout, cell));
-    let name = layout.cell_name(cell).as_bytes();
-    sink.put_all(&text)?;
-    sink.put_all(b"  ")?;
-    sink.put_all(name)?;
-    sink.put(b'\n')
+    let key = cell_key(layout, cell);
+    put_named_key(sink, &key, layout.cell_name(cell).as_bytes())
 }
 
 /// Puts the line of each cell's key.

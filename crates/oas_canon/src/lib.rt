@@ -11,7 +11,8 @@
 //!   [`same_files`] whether two accepted files mean the same layout (`IsCompared`); [`key`] the SHA-256 of an accepted file's
 //!   canonical form (`IsKeyed`).
 //! - [`write_cell_keys`] writes the key of each cell of a layout: the SHA-256 of the canonical file that has the layout's
-//!   unit and that cell alone, and the cell's name (`cell_key_lines`, specs/CellKeys.antt).
+//!   unit and that cell alone, and the cell's name (`cell_key_lines`, specs/CellKeys.antt). [`write_compact_cell_keys`] writes the
+//!   same of a layout that is held as keys of elements.
 //! - [`rekey`] writes the canonical file by profile two of a file that is canonical by profile one (`IsRekeyed`,
 //!   specs/Rekeying.antt), and answers [`Rekeyed::NotProfile1`], with the writer as it was, of an accepted file that isn't
 //!   (`IsOther`).
@@ -39,8 +40,10 @@ mod checking;
 mod hashing;
 mod keys;
 pub mod laws;
+mod named_keys;
 mod profile;
 mod rekeying;
+mod run_keys;
 mod sameness;
 
 pub use canonical::canonicalize;
@@ -58,4 +61,5 @@ pub use oas_num::{
 pub use oas_ring::{Point, Points};
 pub use profile::{ByProfile, PROFILE};
 pub use rekeying::{Rekeyed, rekey};
+pub use run_keys::write_compact_cell_keys;
 pub use sameness::{Which, same_files};

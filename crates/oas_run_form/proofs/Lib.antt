@@ -1,2 +1,3 @@
 pub mod PointLemmas
 pub mod CellLemmas
+pub mod AloneLemmas

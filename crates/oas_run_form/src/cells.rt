@@ -40,7 +40,7 @@ fn put_entries<K: Sink>(sink: &mut K, name: &[u8], entries: Entries<'_>) -> Resu
 }
 
 /// Puts a CELL record by name, and the elements of its run.
-fn put_cell<K: Sink>(sink: &mut K, name: &[u8], run: &Run) -> Result<u64, SinkFault>
+pub(crate) fn put_cell<K: Sink>(sink: &mut K, name: &[u8], run: &Run) -> Result<u64, SinkFault>
     requires { (es : List (OneElement × ℕ)) × AreEntries name.now run.now es }
     ensures { (es : List (OneElement × ℕ)) → AreEntries name.now run.now es → Counts K.given K.failures sink.old (cell_bytes (name.now, items es)) result sink.new }
 {

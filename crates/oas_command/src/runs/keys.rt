@@ -8,8 +8,9 @@ ghost use Rattle.oas_canon.specs.CellKeys.{cell_key_lines};
 ghost use Rattle.oas_command.specs.Runs.{status_of, Delivers, said, Ends, AppendsFront};
 
 use super::ends::{DONE, conclude, refuse};
-use oas_canon::{Limits, PROFILE, read_layout, write_cell_keys};
+use oas_canon::{ByProfile, Limits, PROFILE, write_compact_cell_keys};
 use oas_num::{Outlet, Sink, Source};
+use oas_runs::read_compact;
 use std::alloc::Global;
 use std::io::Write;
 
@@ -49,9 +50,9 @@ pub fn keys_telling<S: Source, W: Write, K: Sink>(
         × Delivers W.contents (λ l. cell_key_lines (meaning_of l)) out.old found answer out.new
         × Ends K.given K.failures name.now told.old answer told.new }
 {
-    match read_layout(alloc, from, limits, PROFILE) {
+    match read_compact::<S, ByProfile>(alloc, from, limits) {
         Ok(layout) => {
-            let written = write_cell_keys(&layout, out);
+            let written = write_compact_cell_keys(&layout, out);
             conclude(name, written, DONE, told)
         }
         Err(refusal) => refuse(name, refusal, told),
