@@ -8,6 +8,7 @@ mod memory;
 mod table;
 
 use self::table::ROWS;
+use file_pieces::bytes_of;
 use oas_file::{accept_file, read_layout};
 use oas_layout::{Layout, Limits, Profile};
 use oas_num::{INPUT_MAX, Refusal, SliceSource};
@@ -19,54 +20,6 @@ type Told = Option<(u8, u64)>;
 /// A file that calls its cells and its text by numbers that are named behind them, with the table-offsets in END.
 const COMPACT: &str =
     "MAGIC START 00E807 01 0D01 14DB01000A0000 141028 0D00 11F80100000100003232 137B0003000000 0403544F5000 04014101 0602486900 02 00*12 F001 00*240 00";
-
-/// The hex of a word, and how often it stands; any other piece is hex itself.
-fn meaning_of<'a>(piece: &'a str) -> (&'a str, usize) {
-    match piece {
-        "MAGIC" => ("2553454D492D4F415349530D0A", 1),
-        "START" => ("0103312E30", 1),
-        "OFFSETS" => ("00", 13),
-        "HEAD" => (
-            "2553454D492D4F415349530D0A0103312E3000E80700000000000000000000000000",
-            1,
-        ),
-        "CELL" => ("0E0141", 1),
-        "RECT" => ("147B01000A140000", 1),
-        "-" => ("", 1),
-        _ => match piece.split_once('*') {
-            Some((hex, times)) => (hex, times.parse::<usize>().unwrap_or(0)),
-            None => (piece, 1),
-        },
-    }
-}
-
-/// Appends so many copies of the bytes that are given in hex.
-fn append_times(alloc: Global, bytes: &mut Vec<u8>, text: &str, times: usize) -> Option<()> {
-    let one = hex::decode(alloc, text).ok()?;
-    for _ in 0..times {
-        bytes.extend_from_slice(one.as_slice()).ok()?;
-    }
-    Some(())
-}
-
-/// Appends the bytes of a piece.
-fn append(alloc: Global, bytes: &mut Vec<u8>, piece: &str) -> Option<()> {
-    if piece == "TAIL" {
-        append_times(alloc, bytes, "02FC01", 1)?;
-        return append_times(alloc, bytes, "00", 253);
-    }
-    let (text, times) = meaning_of(piece);
-    append_times(alloc, bytes, text, times)
-}
-
-/// The bytes of a file that is given in pieces; `None` where a piece is none, or memory is refused.
-fn bytes_of(alloc: Global, pieces: &str) -> Option<Vec<u8>> {
-    let mut bytes = Vec::new(alloc);
-    for piece in pieces.split_whitespace() {
-        append(alloc, &mut bytes, piece)?;
-    }
-    Some(bytes)
-}
 
 /// Reads a file.
 fn read(alloc: Global, file: &[u8], limits: Limits) -> Result<Layout, Refusal>
@@ -143,14 +96,14 @@ fn is_as_named(alloc: Global, file: &[u8], wanted: &str) -> Option<bool> {
     if wanted.contains('@') {
         return None;
     }
-    let other = bytes_of(alloc, wanted.strip_prefix("unlike ").unwrap_or(wanted))?;
+    let other = bytes_of(alloc, wanted.strip_prefix("unlike ").unwrap_or(wanted)).ok()?;
     is_same(alloc, file, other.as_slice())
 }
 
 /// What comes of the file of a row.
 fn found(alloc: Global, row: &str) -> Option<Answer> {
     let (file, wanted) = parts(row)?;
-    let file = bytes_of(alloc, file)?;
+    let file = bytes_of(alloc, file).ok()?;
     let answers = answers(alloc, file.as_slice(), Limits::standard());
     Some((answers, is_as_named(alloc, file.as_slice(), wanted)))
 }
@@ -189,7 +142,7 @@ fn record_at(offset: usize) -> u64 {
 
 /// How long the compact file is, and what comes of so many of its bytes.
 fn of_prefix(alloc: Global, len: usize) -> Option<(usize, [Told; 2])> {
-    let file = bytes_of(alloc, COMPACT)?;
+    let file = bytes_of(alloc, COMPACT).ok()?;
     let front = file.as_slice().get(..len)?;
     Some((file.len(), answers(alloc, front, Limits::standard())))
 }
@@ -211,7 +164,7 @@ const FOUR_BY_NUMBER: &str = "HEAD 0D00 RECT RECT RECT RECT 030141 TAIL";
 
 /// What comes of a file under these limits.
 fn within(alloc: Global, limits: Option<Limits>, file: &str) -> Option<[Told; 2]> {
-    let file = bytes_of(alloc, file)?;
+    let file = bytes_of(alloc, file).ok()?;
     Some(answers(alloc, file.as_slice(), limits?))
 }
 

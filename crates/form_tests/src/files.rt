@@ -5,59 +5,13 @@ mod memory;
 mod table;
 
 use self::table::ROWS;
+use file_pieces::bytes_of;
 use oas_compact::ByProfileTwo;
 use oas_judge::{is_canonical, read_judged};
 use oas_layout::{Limits, Profile};
 use oas_num::{INPUT_MAX, Refusal, SliceSource};
 use oas_runs::CompactLayout;
 use std::alloc::Global;
-
-/// The hex of a word, and how often it stands; any other piece is hex itself.
-fn meaning_of<'a>(piece: &'a str) -> (&'a str, usize) {
-    match piece {
-        "MAGIC" => ("2553454D492D4F415349530D0A", 1),
-        "START" => ("0103312E30", 1),
-        "HEAD" => (
-            "2553454D492D4F415349530D0A0103312E3000E80700000000000000000000000000",
-            1,
-        ),
-        "CELL" => ("0E0141", 1),
-        "RECT" => ("147B01000A140000", 1),
-        "BOX" => ("153B010004030128290001290000", 1),
-        _ => match piece.split_once('*') {
-            Some((hex, times)) => (hex, times.parse::<usize>().unwrap_or(0)),
-            None => (piece, 1),
-        },
-    }
-}
-
-/// Appends so many copies of the bytes that are given in hex.
-fn append_times(alloc: Global, bytes: &mut Vec<u8>, text: &str, times: usize) -> Option<()> {
-    let one = hex::decode(alloc, text).ok()?;
-    for _ in 0..times {
-        bytes.extend_from_slice(one.as_slice()).ok()?;
-    }
-    Some(())
-}
-
-/// Appends the bytes of a piece; TAIL is the canonical END.
-fn append(alloc: Global, bytes: &mut Vec<u8>, piece: &str) -> Option<()> {
-    if piece == "TAIL" {
-        append_times(alloc, bytes, "02FC01", 1)?;
-        return append_times(alloc, bytes, "00", 253);
-    }
-    let (text, times) = meaning_of(piece);
-    append_times(alloc, bytes, text, times)
-}
-
-/// The bytes of a file that is given in pieces; `None` where a piece is none, or memory is refused.
-fn bytes_of(alloc: Global, pieces: &str) -> Option<Vec<u8>> {
-    let mut bytes = Vec::new(alloc);
-    for piece in pieces.split_whitespace() {
-        append(alloc, &mut bytes, piece)?;
-    }
-    Some(bytes)
-}
 
 /// Whether a file is canonical, or its refusal as the number of its reason and its place.
 type Answer = Result<bool, (u8, u64)>;
@@ -73,7 +27,7 @@ fn answer(alloc: Global, file: &[u8], profile: Profile) -> Answer {
 
 /// What is answered of a file by profile one and by profile two.
 fn answers(alloc: Global, pieces: &str) -> Option<[Answer; 2]> {
-    let file = bytes_of(alloc, pieces)?;
+    let file = bytes_of(alloc, pieces).ok()?;
     let by_one = answer(alloc, file.as_slice(), Profile::One);
     let by_two = answer(alloc, file.as_slice(), Profile::Two);
     Some([by_one, by_two])
@@ -135,7 +89,7 @@ fn discard<T: Drop>(_value: T) {}
 
 /// The same of a file that is given in pieces.
 fn pieces_judged(alloc: Global, pieces: &str) -> Option<(CompactLayout, bool)> {
-    let file = bytes_of(alloc, pieces)?;
+    let file = bytes_of(alloc, pieces).ok()?;
     judged(alloc, file.as_slice(), INPUT_MAX).ok()
 }
 
@@ -177,7 +131,7 @@ fn one_box_is_not_two(rt: HostRuntime) {
 
 /// The number of the reason for which a file is refused of which so many bytes may be read.
 fn refused_within(alloc: Global, pieces: &str, limit: u64) -> Option<u8> {
-    let file = bytes_of(alloc, pieces)?;
+    let file = bytes_of(alloc, pieces).ok()?;
     match judged(alloc, file.as_slice(), limit) {
         Ok((layout, _)) => {
             discard(layout);

@@ -1,6 +1,7 @@
 //! Layouts whose bytes are known from outside, into sinks and writers of several kinds.
 
 use crate::elements::{Plain, add_cell};
+use file_pieces::put_pieces;
 use oas_form::{has_canonical_bytes, put_canonical, write_canonical};
 use oas_layout::{Draft, Layout, Limits, Profile, Turns};
 use oas_num::{Counter, Fraction, Refusal, Why};
@@ -37,11 +38,6 @@ impl Write for Narrow {
         }
     }
 }
-
-/// What stands before the unit of START, and behind it, in hex.
-const MAGIC: &str = "2553454D492D4F415349530D0A0103312E30";
-
-const OFFSETS: &str = "00000000000000000000000000";
 
 /// A layout and its bytes.
 #[derive(Clone, Copy)]
@@ -153,20 +149,13 @@ const ROWS: [Row; 7] = [
     },
 ];
 
-/// Appends the bytes of a piece of hex.
-fn append(alloc: Global, bytes: &mut Vec<u8>, piece: &str) -> Option<()> {
-    let more = hex::decode(alloc, piece).ok()?;
-    bytes.extend_from_slice(more.as_slice()).ok()
-}
-
 impl Row {
     /// The bytes of the layout.
     fn bytes(&self, alloc: Global) -> Option<Vec<u8>> {
         let mut bytes = Vec::new(alloc);
-        for piece in [MAGIC, self.start, OFFSETS, self.body, "02FC01"] {
-            append(alloc, &mut bytes, piece)?;
+        for piece in ["MAGIC START", self.start, "OFFSETS", self.body, "TAIL"] {
+            put_pieces(alloc, &mut bytes, piece).ok()?;
         }
-        bytes.extend_from_slice(&[0; 253]).ok()?;
         Some(bytes)
     }
 

@@ -10,6 +10,7 @@ mod rectangles;
 mod table;
 
 use self::table::ROWS;
+use file_pieces::bytes_of;
 use itoa::Buffer;
 use oas_layout::{Elements, Layout, Limits, Profile};
 use oas_listing::{put_element, put_name, put_unit};
@@ -127,12 +128,6 @@ fn listed(alloc: Global, answer: Result<Layout, Refusal>) -> Option<String> {
     }
 }
 
-/// The bytes of a text in hex.
-fn bytes_of(alloc: Global, text: &str) -> Option<Vec<u8>> {
-    let digits = text.replace(alloc, " ", "").ok()?;
-    hex::decode(alloc, digits).ok()
-}
-
 /// What comes of records in hex by a reader of these limits and this profile.
 fn answer(
     alloc: Global,
@@ -141,7 +136,7 @@ fn answer(
     profile: Profile,
 ) -> Option<String> {
     let (unit, limits) = (unit().ok()?, limits.ok()?);
-    let bytes = bytes_of(alloc, text)?;
+    let bytes = bytes_of(alloc, text).ok()?;
     let reader = Reader::new(alloc, unit, limits, profile);
     listed(alloc, read(alloc, &bytes, reader))
 }

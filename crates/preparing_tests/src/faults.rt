@@ -1,7 +1,8 @@
 //! Readers and writers that fail at each byte.
 
 use crate::devices::{Narrow, Torn};
-use crate::rows::{Answer, NAME, answer, bytes_of, dropping_of};
+use crate::rows::{Answer, NAME, answer, dropping_of};
+use file_pieces::bytes_of;
 use oas_canon::Limits;
 use oas_num::{INPUT_MAX, ReaderSource, SliceSource};
 use oas_preparing::run_prepare;

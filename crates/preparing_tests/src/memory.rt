@@ -4,7 +4,8 @@
 //! nothing is refused.
 
 use crate::devices::Narrow;
-use crate::rows::{bytes_of, dropping_of};
+use crate::rows::dropping_of;
+use file_pieces::bytes_of;
 use oas_canon::Limits;
 use oas_num::{INPUT_MAX, SliceSource};
 use oas_preparing::run_prepare;

@@ -1,5 +1,6 @@
 //! Files through `run_prepare`, over a slice.
 
+use file_pieces::bytes_of;
 use oas_canon::Limits;
 use oas_narrow::Dropping;
 use oas_num::{INPUT_MAX, SliceSource, Source};
@@ -33,47 +34,6 @@ a-name-that-is-left-out-closes-the-cell | properties | HEAD CELL RECT 070150 147
 an-id-that-no-record-has | all | HEAD CELL 23 TAIL | 12@37 | -
 nothing-behind-the-head | all | HEAD | 2@34 | -
 ";
-
-/// The hex of a word; any other piece is hex itself.
-fn hex_of<'a>(piece: &'a str) -> &'a str {
-    match piece {
-        "MAGIC" => "2553454D492D4F415349530D0A",
-        "START" => "0103312E30",
-        "CELL" => "0E0141",
-        "RECT" => "147B01000A140000",
-        _ => piece,
-    }
-}
-
-/// Appends the bytes of a piece, as often as it says.
-fn add_piece(alloc: Global, bytes: &mut Vec<u8>, piece: &str) -> Result<(), Fail> {
-    let (text, times) = match piece.split_once('*') {
-        Some((text, times)) => (text, times.parse::<usize>().unwrap_or(0)),
-        None => (piece, 1),
-    };
-    let one = hex::decode(alloc, hex_of(text))?;
-    for _ in 0..times {
-        bytes.extend_from_slice(one.as_slice())?;
-    }
-    Ok(())
-}
-
-/// The bytes of a file that is given in pieces.
-pub fn bytes_of(alloc: Global, pieces: &str) -> Result<Vec<u8>, Fail> {
-    let mut bytes = Vec::new(alloc);
-    for piece in pieces.split_whitespace() {
-        let parts = match piece {
-            "HEAD" => ["MAGIC", "START", "00E807", "00*13"],
-            "OFFSETS" => ["00*13", "", "", ""],
-            "TAIL" => ["02FC01", "00*253", "", ""],
-            _ => [piece, "", "", ""],
-        };
-        for part in parts {
-            add_piece(alloc, &mut bytes, part)?;
-        }
-    }
-    Ok(bytes)
-}
 
 /// What a word names to be left out.
 pub fn dropping_of(word: &str) -> Dropping {

@@ -1,8 +1,9 @@
 //! Files that are read up to the first refusal or END, and how many bytes a record takes.
 
+use file_pieces::bytes_of;
 use oas_num::{INPUT_MAX, SliceSource, Source};
 use oas_record::{Record, read_head};
-use std::alloc::{AllocError, Global};
+use std::alloc::Global;
 use std::process::Abort;
 use std::test::Fail;
 
@@ -13,10 +14,10 @@ const COMPACT: &str =
 /// Where the source stands after each record of it.
 const AT: [u64; 10] = [24, 31, 34, 36, 46, 53, 59, 63, 68, 324];
 
-/// The number of a refusal, its place, and the file in pieces (see `bytes_of`).
+/// The number of a refusal, its place, and the file in pieces.
 const ROWS: &str = "\
-3 37 MAGIC START 0e0141147b01008a 80*9 00140100 02fc01 00*253\n\
-3 37 MAGIC START 0e0141147b0100 ff*9 02140100 02fc01 00*253\n\
+3 37 HEAD 0e0141147b01008a 80*9 00140100 02fc01 00*253\n\
+3 37 HEAD 0e0141147b0100 ff*9 02140100 02fc01 00*253\n\
 8 13 MAGIC 0103312e3004d00f 00*14 02fc01 00*253\n\
 8 13 MAGIC 0103312e30 00*15 02fc01 00*253\n\
 8 13 MAGIC 0103312e30050101 00*13 02fc01 00*253\n\
@@ -24,72 +25,40 @@ const ROWS: &str = "\
 7 13 MAGIC 0103312e3008 00*13 02fc01 00*253\n\
 9 13 MAGIC 0103312e3100e807 00*13 02fc01 00*253\n\
 10 13 MAGIC 0103312e3000e80702 00*12 02fc01 00*253\n\
-28 34 MAGIC START 02fb01 00*252\n\
-28 34 MAGIC START 02fd01 00*254\n\
-29 34 MAGIC START 02f801 00*248 0112345678\n\
+28 34 HEAD 02fb01 00*252\n\
+28 34 HEAD 02fd01 00*254\n\
+29 34 HEAD 02f801 00*248 0112345678\n\
 2 0 -\n\
 1 0 26\n\
 13 13 MAGIC 22\n\
-13 34 MAGIC START 01\n\
-4 34 MAGIC START 0e0120 02fc01 00*253\n\
-5 34 MAGIC START 0e00 02fc01 00*253\n\
-11 37 MAGIC START 0e014122 02fc01 00*253\n\
-12 37 MAGIC START 0e014123 02fc01 00*253\n\
-14 37 MAGIC START 0e014114fb 02fc01 00*253\n\
-14 37 MAGIC START 0e01411b7b 02fc01 00*253\n\
-15 37 MAGIC START 0e0141153b010006 02fc01 00*253\n\
-16 37 MAGIC START 0e0141153b01000003 02fc01 00*253\n\
-16 37 MAGIC START 0e0141153b01000401 02fc01 00*253\n\
-14 37 MAGIC START 0e014116fb0100051004000000 02fc01 00*253\n\
-2 34 MAGIC START\n\
+13 34 HEAD 01\n\
+4 34 HEAD 0e0120 02fc01 00*253\n\
+5 34 HEAD 0e00 02fc01 00*253\n\
+11 37 HEAD 0e014122 02fc01 00*253\n\
+12 37 HEAD 0e014123 02fc01 00*253\n\
+14 37 HEAD 0e014114fb 02fc01 00*253\n\
+14 37 HEAD 0e01411b7b 02fc01 00*253\n\
+15 37 HEAD 0e0141153b010006 02fc01 00*253\n\
+16 37 HEAD 0e0141153b01000003 02fc01 00*253\n\
+16 37 HEAD 0e0141153b01000401 02fc01 00*253\n\
+14 37 HEAD 0e014116fb0100051004000000 02fc01 00*253\n\
+2 34 HEAD\n\
 3 13 MAGIC 80*9 02\n\
 2 13 MAGIC 0103312e\n\
 4 13 MAGIC 0103317f30\n\
 4 13 MAGIC 01041f\n\
 2 13 MAGIC 01043131\n\
-29 34 MAGIC START 02fc01 00*252 01\n\
-29 34 MAGIC START 02fb01 00*251 01\n\
-28 34 MAGIC START 02 00*12 f001 00*241\n\
-2 34 MAGIC START 02fd01 00*253\n\
-14 34 MAGIC START 14a0 00*9\n\
-14 34 MAGIC START 1380\n\
-17 34 MAGIC START 14040c\n\
-23 34 MAGIC START 14040a000182808080808080808001\n\
-12 34 MAGIC START 23\n\
-11 34 MAGIC START 07\n\
-13 34 MAGIC START 01";
-
-/// The hex of a piece, and how often it stands: `MAGIC`, `START` as canonical files have it for a unit of 1000, nothing
-/// (`-`), hex that stands so many times (`00*252`), or hex.
-fn piece(text: &str) -> (&str, usize) {
-    match text {
-        "MAGIC" => ("2553454d492d4f415349530d0a", 1),
-        "START" => ("0103312e3000e80700000000000000000000000000", 1),
-        "-" => ("", 1),
-        _ => match text.split_once('*') {
-            Some((hex, times)) => (hex, times.parse::<usize>().unwrap_or(0)),
-            None => (text, 1),
-        },
-    }
-}
-
-/// Adds a text so many times.
-fn push_times(digits: &mut String, hex: &str, times: usize) -> Result<(), AllocError> {
-    for _ in 0..times {
-        digits.push_str(hex)?;
-    }
-    Ok(())
-}
-
-/// The bytes of a file that is given in pieces.
-pub(crate) fn bytes_of(alloc: Global, pieces: &str) -> Result<Vec<u8>, Fail> {
-    let mut digits = String::new(alloc);
-    for text in pieces.split_whitespace() {
-        let (hex, times) = piece(text);
-        push_times(&mut digits, hex, times)?;
-    }
-    Ok(hex::decode(alloc, &digits)?)
-}
+29 34 HEAD 02fc01 00*252 01\n\
+29 34 HEAD 02fb01 00*251 01\n\
+28 34 HEAD 02 00*12 f001 00*241\n\
+2 34 HEAD 02fd01 00*253\n\
+14 34 HEAD 14a0 00*9\n\
+14 34 HEAD 1380\n\
+17 34 HEAD 14040c\n\
+23 34 HEAD 14040a000182808080808080808001\n\
+12 34 HEAD 23\n\
+11 34 HEAD 07\n\
+13 34 HEAD 01";
 
 /// What the read of a record comes to.
 #[derive(Clone, Copy)]

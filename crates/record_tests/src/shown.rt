@@ -1,7 +1,7 @@
 //! Rows of bytes, and what is found there of elements that stand once.
 
 use crate::figures::{Figure, figure_shown};
-use crate::records::bytes_of;
+use file_pieces::bytes_of;
 use oas_ahead::{named_ahead, rectangle_ahead};
 use std::alloc::Global;
 use std::process::Abort;

@@ -1,5 +1,6 @@
 //! Records that are read where memory is there, and the values of reals that are known from outside.
 
+use file_pieces::bytes_of;
 use oas_num::{INPUT_MAX, Padding, SliceSource, Source, Spelled, Why};
 use oas_wide::{
     BlockHead, ExtensionGeometry, LayerName, NamedTrapezoid, Property, Trapezoid, WideEnd,
@@ -7,26 +8,6 @@ use oas_wide::{
 };
 use std::alloc::Global;
 use std::test::Fail;
-
-/// The bytes of hex, blanks left out; `00*252` is a byte that stands so many times.
-fn bytes_of(alloc: Global, text: &str) -> Result<Vec<u8>, Fail> {
-    let mut bytes = Vec::new(alloc);
-    for piece in text.split_whitespace() {
-        put_piece(alloc, &mut bytes, piece)?;
-    }
-    Ok(bytes)
-}
-
-/// Puts a piece of hex, or one byte so many times.
-fn put_piece(alloc: Global, bytes: &mut Vec<u8>, piece: &str) -> Result<(), Fail> {
-    let (digits, times) = match piece.split_once('*') {
-        Some((digits, times)) => (digits, times.parse::<usize>().unwrap_or(0)),
-        None => (piece, 1),
-    };
-    let digits = digits.repeat(alloc, times)?;
-    bytes.extend_from_slice(hex::decode(alloc, &digits)?.as_slice())?;
-    Ok(())
-}
 
 /// The real that stands in a text.
 fn real_of(alloc: Global, text: &str) -> Result<Result<WideReal, Why>, Fail> {

@@ -1,6 +1,7 @@
 //! Readers that cut or fail, and limits of a source.
 
-use super::{COMPACT, Told, bytes_of, record_at, told};
+use super::{COMPACT, Told, record_at, told};
+use file_pieces::bytes_of;
 use oas_file::read_layout;
 use oas_layout::{Limits, Profile};
 use oas_num::{INPUT_MAX, ReaderSource, SliceSource};
@@ -38,7 +39,7 @@ fn read(alloc: Global, reader: Reader<'_>) -> Option<Told> {
 
 /// What comes of so many bytes of the compact file from such a reader.
 fn read_front(alloc: Global, len: usize, most: usize, fails: bool) -> Option<Told> {
-    let file = bytes_of(alloc, COMPACT)?;
+    let file = bytes_of(alloc, COMPACT).ok()?;
     let rest = file.as_slice().get(..len)?;
     read(alloc, Reader { rest, most, fails })
 }
@@ -61,7 +62,7 @@ fn readers_that_fail(rt: HostRuntime) {
 
 /// What comes of the compact file and a byte more, of which so many may be read.
 fn read_limited(alloc: Global, limit: u64) -> Option<Told> {
-    let mut file = bytes_of(alloc, COMPACT)?;
+    let mut file = bytes_of(alloc, COMPACT).ok()?;
     file.push(0).ok()?;
     let mut source = SliceSource::new(file.as_slice(), limit);
     let outcome = read_layout(alloc, &mut source, Limits::standard(), Profile::One);

@@ -3,7 +3,8 @@
 //! The heap is filled up, and given back a small piece after each run. Where the heap cannot be filled, as under a checker
 //! of addresses, nothing is refused, and the answer is the same.
 
-use super::{COMPACT, bytes_of, discard, read};
+use super::{COMPACT, discard, read};
+use file_pieces::bytes_of;
 use oas_file::accept_file;
 use oas_layout::Limits;
 use oas_num::{INPUT_MAX, Refusal, SliceSource, Why};
@@ -68,7 +69,7 @@ fn with_place(were: [bool; 4], at: u64) -> [bool; 4] {
 
 /// The same of the compact file with all memory taken. Where the heap can't be filled nothing is refused anywhere.
 fn insist_without_memory(alloc: Global, call: Call) -> Option<([bool; 2], [bool; 4])> {
-    let file = bytes_of(alloc, COMPACT)?;
+    let file = bytes_of(alloc, COMPACT).ok()?;
     let mut hoard = Hoard::new(alloc).ok()?;
     let is_full = hoard.is_full();
     let (ended, were) = insist(alloc, file.as_slice(), call, &mut hoard);

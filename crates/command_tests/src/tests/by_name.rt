@@ -1,6 +1,7 @@
 //! Runs over files by name: what stands under an output's name once a run has ended.
 
-use super::rows::{RECTANGLE, bytes_of};
+use super::rows::RECTANGLE;
+use file_pieces::bytes_of;
 use oas_canon::Limits;
 use oas_command::{run_canon, run_rekey};
 use oas_files::{Input, Output};

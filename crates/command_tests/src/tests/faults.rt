@@ -1,8 +1,9 @@
 //! Readers that cut, fail or never end, and writers that cut, fail or take nothing.
 
 use super::devices::{After, Full, Reader, Writer};
-use super::rows::{RECTANGLE, bytes_of, front_of, outcome, record_at};
+use super::rows::{RECTANGLE, front_of, outcome, record_at};
 use super::runs::{Outcome, unrefused};
+use file_pieces::bytes_of;
 use oas_canon::Limits;
 use oas_command::{run_canon, run_refused};
 use oas_num::{INPUT_MAX, ReaderSource, Refusal, SliceSource, Why};

@@ -1,8 +1,8 @@
 //! The difference with its markers, to writers that take all or fail.
 
 use super::devices::Writer;
-use super::rows::bytes_of;
 use super::runs::refusal_of;
+use file_pieces::bytes_of;
 use oas_canon::Limits;
 use oas_command::run_marking;
 use oas_difference::{Detail, Options};

@@ -2,6 +2,7 @@
 
 use super::runs::{Outcome, refusal_of};
 use super::table::ROWS;
+use file_pieces::{bytes_of, put_pieces};
 use oas_canon::Limits;
 use oas_command::run_canon;
 use oas_num::{INPUT_MAX, SliceSource, Source};
@@ -18,47 +19,6 @@ const LONGER: &str = "HEAD CELL RECT TAIL 00";
 /// The name of each input.
 pub const INPUT: &str = "standard input";
 
-/// The hex of a word, and how often it stands; any other piece is hex itself.
-fn meaning_of<'a>(piece: &'a str) -> (&'a str, usize) {
-    match piece {
-        "MAGIC" => ("2553454D492D4F415349530D0A", 1),
-        "START" => ("0103312E30", 1),
-        "OFFSETS" => ("00", 13),
-        "CELL" => ("0E0141", 1),
-        "RECT" => ("147B01000A140000", 1),
-        "-" => ("", 1),
-        _ => match piece.split_once('*') {
-            Some((hex, times)) => (hex, times.parse::<usize>().unwrap_or(0)),
-            None => (piece, 1),
-        },
-    }
-}
-
-/// Appends the bytes of a piece that is no HEAD and no TAIL.
-fn add_piece(alloc: Global, bytes: &mut Vec<u8>, piece: &str) -> Result<(), Fail> {
-    let (text, times) = meaning_of(piece);
-    let one = hex::decode(alloc, text)?;
-    for _ in 0..times {
-        bytes.extend_from_slice(one.as_slice())?;
-    }
-    Ok(())
-}
-
-/// Appends the bytes of these pieces.
-fn add_pieces(alloc: Global, bytes: &mut Vec<u8>, pieces: &str) -> Result<(), Fail> {
-    for piece in pieces.split_whitespace() {
-        let parts = match piece {
-            "HEAD" => ["MAGIC", "START", "00E807", "OFFSETS"],
-            "TAIL" => ["02FC01", "00*252", "00", "-"],
-            _ => [piece, "-", "-", "-"],
-        };
-        for part in parts {
-            add_piece(alloc, bytes, part)?;
-        }
-    }
-    Ok(())
-}
-
 /// The pieces before and behind those of a row.
 pub type Frame = [&'static str; 2];
 
@@ -72,15 +32,10 @@ pub const BODY: Frame = ["HEAD", "TAIL"];
 fn bytes_within(alloc: Global, frame: Frame, pieces: &str) -> Result<Vec<u8>, Fail> {
     let [before, behind] = frame;
     let mut bytes = Vec::new(alloc);
-    add_pieces(alloc, &mut bytes, before)?;
-    add_pieces(alloc, &mut bytes, pieces)?;
-    add_pieces(alloc, &mut bytes, behind)?;
+    put_pieces(alloc, &mut bytes, before)?;
+    put_pieces(alloc, &mut bytes, pieces)?;
+    put_pieces(alloc, &mut bytes, behind)?;
     Ok(bytes)
-}
-
-/// The bytes of a file that is given in pieces.
-pub fn bytes_of(alloc: Global, pieces: &str) -> Result<Vec<u8>, Fail> {
-    bytes_within(alloc, WHOLE_FILE, pieces)
 }
 
 /// What a run puts that ends with this status: all of these bytes, or nothing.

@@ -5,7 +5,7 @@
 //! the file instead, and nothing is answered.
 
 use super::devices::{Full, Writer};
-use super::rows::bytes_of;
+use file_pieces::bytes_of;
 use oas_canon::Limits;
 use oas_command::{
     run_canon, run_check, run_key, run_keys, run_named_check, run_named_key, run_rekey, run_same,
@@ -44,7 +44,7 @@ fn lines_of(alloc: Global, text: &str) -> Result<Vec<u8>, Fail> {
 fn answer_of(alloc: Global, command: &str, text: &str) -> Result<Vec<u8>, Fail> {
     match (text.strip_prefix("! "), command) {
         (Some(said), _) => lines_of(alloc, said),
-        (None, "canon" | "rekey") => bytes_of(alloc, text),
+        (None, "canon" | "rekey") => Ok(bytes_of(alloc, text)?),
         (None, _) => lines_of(alloc, text),
     }
 }

@@ -3,7 +3,8 @@
 //! The heap is filled up, and given back a small piece after each run. Where the heap cannot be filled, as under a checker
 //! of addresses, nothing is refused, and the answer is the same.
 
-use super::{bytes_of, discard, judged};
+use super::{discard, judged};
+use file_pieces::bytes_of;
 use oas_judge::is_canonical;
 use oas_layout::{Limits, Profile};
 use oas_num::{INPUT_MAX, Refusal, SliceSource, Why};
@@ -61,7 +62,7 @@ fn counts(alloc: Global, file: &[u8], reads: bool, hoard: &mut Hoard) -> [u64; 3
 /// Whether the file is judged rightly with all memory taken and given back little by little: whether no answer is wrong,
 /// and, where the heap can be filled, some are refused and some are given.
 fn is_judged_at_each_growth(alloc: Global, reads: bool) -> Option<[bool; 3]> {
-    let file = bytes_of(alloc, FILE)?;
+    let file = bytes_of(alloc, FILE).ok()?;
     let mut hoard = Hoard::new(alloc).ok()?;
     let is_full = hoard.is_full();
     let [refused, done, wrong] = counts(alloc, file.as_slice(), reads, &mut hoard);

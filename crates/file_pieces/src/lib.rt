@@ -1,0 +1,80 @@
+//! For tests whose files are given in pieces, apart by blanks, so that a row shows what is in a file.
+//!
+//! A piece is hex; hex that stands so many times (`00*252`); nothing (`-`); or a word for a part that most files have: `HEAD`, which
+//! is `MAGIC START 00E807 OFFSETS`, a cell `CELL` of the name `A`, a rectangle `RECT` with all fields, the same as a polygon but
+//! elsewhere and larger, `BOX`, and the canonical END, `TAIL`. Nothing but tests uses it.
+#![tactic(auto)]
+
+use std::alloc::Global;
+
+/// Pieces that spell no bytes, or for which there is no memory.
+#[derive(Clone, Copy, Debug)]
+pub struct Unspelled;
+
+/// Some hex, and how often it stands.
+type Part<'a> = (&'a str, usize);
+
+/// The part that a piece without a word is.
+fn counted<'a>(piece: &'a str) -> Part<'a> {
+    match piece.split_once('*') {
+        Some((hex, times)) => (hex, times.parse::<usize>().unwrap_or(0)),
+        None => (piece, 1),
+    }
+}
+
+/// The two parts of a piece, of which the second may be nothing.
+fn parts_of<'a>(piece: &'a str) -> [Part<'a>; 2] {
+    let first = match piece {
+        "MAGIC" => ("2553454D492D4F415349530D0A", 1),
+        "START" => ("0103312E30", 1),
+        "OFFSETS" => ("00", 13),
+        "HEAD" => ("2553454D492D4F415349530D0A0103312E3000E807", 1),
+        "CELL" => ("0E0141", 1),
+        "RECT" => ("147B01000A140000", 1),
+        "BOX" => ("153B010004030128290001290000", 1),
+        "TAIL" => ("02FC01", 1),
+        "-" => ("", 1),
+        _ => counted(piece),
+    };
+    let second = match piece {
+        "HEAD" => ("00", 13),
+        "TAIL" => ("00", 253),
+        _ => ("", 0),
+    };
+    [first, second]
+}
+
+/// Appends a part.
+fn put_part(alloc: Global, bytes: &mut Vec<u8>, (text, times): Part<'_>) -> Result<(), Unspelled> {
+    let Ok(one) = hex::decode(alloc, text) else {
+        return Err(Unspelled);
+    };
+    for _ in 0..times {
+        if bytes.extend_from_slice(one.as_slice()).is_err() {
+            return Err(Unspelled);
+        }
+    }
+    Ok(())
+}
+
+/// Appends both parts of a piece.
+fn put_piece(alloc: Global, bytes: &mut Vec<u8>, piece: &str) -> Result<(), Unspelled> {
+    let [first, second] = parts_of(piece);
+    put_part(alloc, bytes, first)?;
+    put_part(alloc, bytes, second)
+}
+
+/// Appends the bytes of these pieces.
+pub fn put_pieces(alloc: Global, bytes: &mut Vec<u8>, pieces: &str) -> Result<(), Unspelled> {
+    for piece in pieces.split_whitespace() {
+        put_piece(alloc, bytes, piece)?;
+    }
+    Ok(())
+}
+
+/// The bytes of these pieces.
+pub fn bytes_of(alloc: Global, pieces: &str) -> Result<Vec<u8>, Unspelled> {
+    let mut bytes = Vec::new(alloc);
+    put_pieces(alloc, &mut bytes, pieces)?;
+    Ok(bytes)
+}
