@@ -11,42 +11,42 @@ use std::alloc::Global;
 #[derive(Clone, Copy, Debug)]
 pub struct Unspelled;
 
-/// Some hex, and how often it stands.
-type Part<'a> = (&'a str, usize);
+/// Some hex, and how often it stands; None where its times are no number.
+type Part<'a> = (&'a str, Option<usize>);
 
 /// The part that a piece without a word is.
 fn counted<'a>(piece: &'a str) -> Part<'a> {
     match piece.split_once('*') {
-        Some((hex, times)) => (hex, times.parse::<usize>().unwrap_or(0)),
-        None => (piece, 1),
+        Some((hex, times)) => (hex, times.parse::<usize>().ok()),
+        None => (piece, Some(1)),
     }
 }
 
 /// The two parts of a piece, of which the second may be nothing.
 fn parts_of<'a>(piece: &'a str) -> [Part<'a>; 2] {
     let first = match piece {
-        "MAGIC" => ("2553454D492D4F415349530D0A", 1),
-        "START" => ("0103312E30", 1),
-        "OFFSETS" => ("00", 13),
-        "HEAD" => ("2553454D492D4F415349530D0A0103312E3000E807", 1),
-        "CELL" => ("0E0141", 1),
-        "RECT" => ("147B01000A140000", 1),
-        "BOX" => ("153B010004030128290001290000", 1),
-        "TAIL" => ("02FC01", 1),
-        "-" => ("", 1),
+        "MAGIC" => ("2553454D492D4F415349530D0A", Some(1)),
+        "START" => ("0103312E30", Some(1)),
+        "OFFSETS" => ("00", Some(13)),
+        "HEAD" => ("2553454D492D4F415349530D0A0103312E3000E807", Some(1)),
+        "CELL" => ("0E0141", Some(1)),
+        "RECT" => ("147B01000A140000", Some(1)),
+        "BOX" => ("153B010004030128290001290000", Some(1)),
+        "TAIL" => ("02FC01", Some(1)),
+        "-" => ("", Some(1)),
         _ => counted(piece),
     };
     let second = match piece {
-        "HEAD" => ("00", 13),
-        "TAIL" => ("00", 253),
-        _ => ("", 0),
+        "HEAD" => ("00", Some(13)),
+        "TAIL" => ("00", Some(253)),
+        _ => ("", Some(0)),
     };
     [first, second]
 }
 
 /// Appends a part.
 fn put_part(alloc: Global, bytes: &mut Vec<u8>, (text, times): Part<'_>) -> Result<(), Unspelled> {
-    let Ok(one) = hex::decode(alloc, text) else {
+    let (Ok(one), Some(times)) = (hex::decode(alloc, text), times) else {
         return Err(Unspelled);
     };
     for _ in 0..times {
