@@ -1,21 +1,21 @@
 # Everything here goes through `rt`, which builds only what it has proved.
 
 PREFIX ?= /usr/local
-JOBS ?= 2
+# How many processors a build works on: all that there are, where nothing is named.
+JOBS ?=
+PROVE = scripts/prove $(if $(JOBS),--jobs $(JOBS))
 
-.PHONY: all lib install install-built install-lib dist test test-c test-large test-reference test-readings test-reading test-inflate test-command test-workflows test-klayout test-klayout-prepared bench bench-klayout clean
+.PHONY: all lib install install-built install-lib dist test test-built test-house test-c test-large test-rows test-reference test-readings test-reading test-inflate test-command test-workflows test-cluster test-klayout test-klayout-prepared bench bench-klayout clean
 
-# The programs: proves every crate that they stand on, builds them, and leaves them as ./oascanon and ./oasprep.
+# The programs: proves every crate that they stand on and no other, and leaves them as ./oascanon and ./oasprep. It tells how far it
+# is, and goes on where it was stopped.
 all:
-	cd crates/oascanon && rt run --jobs $(JOBS) -- --help >/dev/null
-	cp crates/oascanon/out/oascanon oascanon
-	cd crates/oasprep && rt run --jobs $(JOBS) -- --help >/dev/null
-	cp crates/oasprep/out/oasprep oasprep
+	@$(PROVE) oascanon oasprep
 
 # The library for C: proves crates/oascanon_c and all that it stands on, and leaves lib/liboascanon.a and lib/liboascanon.so.
 LIBRARY ?= lib
 lib:
-	cd crates/oascanon_c && rt lib --jobs $(JOBS) >/dev/null
+	@$(PROVE) oascanon_c
 	scripts/library crates/oascanon_c/out/liboascanon_c.a lib
 
 install: all lib install-built
@@ -23,7 +23,7 @@ install: all lib install-built
 # The same of the ./oascanon and the ./oasprep that are there.
 install-built:
 	install -D -m 755 -t $(DESTDIR)$(PREFIX)/bin oascanon oasprep scripts/oascanon-textconv scripts/klayout-to-canonical
-	install -D -m 644 -t $(DESTDIR)$(PREFIX)/share/man/man1 man/oascanon.1 man/oasprep.1
+	install -D -m 644 -t $(DESTDIR)$(PREFIX)/share/man/man1 man/oascanon.1 man/oasprep.1 man/oascanon-textconv.1 man/klayout-to-canonical.1
 	install -D -m 644 completions/oascanon.bash $(DESTDIR)$(PREFIX)/share/bash-completion/completions/oascanon
 	install -D -m 644 completions/oasprep.bash $(DESTDIR)$(PREFIX)/share/bash-completion/completions/oasprep
 	install -D -m 644 -t $(DESTDIR)$(PREFIX)/share/zsh/site-functions completions/_oascanon completions/_oasprep
@@ -31,7 +31,7 @@ install-built:
 	if [ -e $(LIBRARY)/liboascanon.a ]; then $(MAKE) --no-print-directory install-lib; fi
 
 # The library that is there, its header, and its pkg-config file.
-VERSION = $(shell sed -n 's/^const VERSION.*"\([0-9.]*\) .*/\1/p' crates/oas_request/src/usage.rt)
+VERSION = $(shell sed -n 's/^const VERSION.*"\([0-9a-z.-]*\) .*/\1/p' crates/oas_request/src/usage.rt)
 install-lib:
 	install -D -m 644 include/oascanon.h $(DESTDIR)$(PREFIX)/include/oascanon.h
 	install -D -m 644 $(LIBRARY)/liboascanon.a $(DESTDIR)$(PREFIX)/lib/liboascanon.a
@@ -40,19 +40,33 @@ install-lib:
 	mkdir -p $(DESTDIR)$(PREFIX)/lib/pkgconfig
 	sed -e 's|@PREFIX@|$(PREFIX)|' -e 's|@VERSION@|$(VERSION)|' oascanon.pc.in >$(DESTDIR)$(PREFIX)/lib/pkgconfig/oascanon.pc
 
-# The gate: every proof from nothing, the edits that must fail, the tests, the stored runs.
+# The gate: `rt ci` (every proof from nothing, the edits that must fail, the tests of the crates, the stored runs), and then, on the
+# programs that it built, each of the tests below (tests/run). Its last line is `N passed, M failed`.
 test:
-	rt ci
+	tests/run
+
+# Those tests alone, side by side, on the programs as `make` builds them.
+test-built: all
+	@$(PROVE) oas_bench
+	tests/run --built
+
+# What may stand at the top, and how many paths crates.txt has.
+test-house:
+	tests/house/run
 
 # The worked rows through the library for C, from C and from Python.
 test-c: lib
 	tests/c/run lib
 
-# Files at the limits, given to the built program: too large for the gate.
+# Files at the limits, given to the built program: too large for the tests of a crate.
 test-large: all
 	tests/large ./oascanon
 
-# Random files, given to the built program and to a plain, slow one that was written from the same rules.
+# Rows for the built programs: files, and what each command has to say of them.
+test-rows: all
+	tests/rows/run ./oascanon
+
+# Random files, given to the built programs and to a plain, slow one that was written from the same rules. The gate gives 2,000.
 test-reference: all
 	tests/reference/compare ./oascanon
 
@@ -66,11 +80,12 @@ test-reading:
 
 # Random deflated streams, inflated by the proved crate and by zlib.
 test-inflate:
-	cd crates/oas_bench && rt run --jobs $(JOBS) </dev/null >/dev/null
+	@$(PROVE) oas_bench
 	tests/inflate
 
-# The packages: a tar.gz, a .deb and SHA256SUMS in dist/, tried in clean folders.
+# The packages: a tar.gz, a .deb and SHA256SUMS in dist/, tried in clean folders, and by Debian's lintian.
 dist: all
+	command -v lintian >/dev/null || apt-get install -y lintian
 	tests/dist/run
 	scripts/dist dist
 
@@ -78,21 +93,21 @@ dist: all
 test-command: all
 	tests/command/run ./oascanon
 
-# The recipes of docs/WORKFLOWS.md as they are printed there. One wants GNU parallel: Debian's package, where it isn't there.
+# The recipes of docs/WORKFLOWS.md as they are printed there. They want GNU parallel and pre-commit: Debian's packages, where they aren't there.
 test-workflows: all
-	command -v parallel >/dev/null || apt-get install -y parallel
-	tests/workflows/run ./oascanon
+	tests/run --built workflows pre-commit
+
+# The recipes for many machines, by Slurm on this one and by GNU parallel: Debian's packages, where they aren't there.
+test-cluster: all
+	tests/run --built cluster
 
 # The ways from KLayout's files into the profile, by the real KLayout: Debian's package, where it isn't there.
 test-klayout: all
-	test -x /usr/lib/klayout/strm2oas || apt-get install -y klayout
-	tests/klayout/run ./oascanon
-	tests/klayout/prepared .
+	tests/run --built klayout klayout-package klayout-prepared
 
 # Files as KLayout writes them, through the second program, byte for byte.
 test-klayout-prepared: all
-	test -x /usr/lib/klayout/strm2oas || apt-get install -y klayout
-	tests/klayout/prepared .
+	tests/run --built klayout-prepared
 
 # Speed and memory, beside a baseline in the same run; and beside a program written for speed, where its folder is at hand.
 FAST ?= ../shared/bench

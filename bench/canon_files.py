@@ -49,7 +49,7 @@ def place(chance, bits=30):
 
 
 def rectangles(chance, count=MILLION):
-    """So many, anywhere, with all fields."""
+    """This many, anywhere, with all fields."""
     yield CELL
     for _ in range(count):
         fields = (chance.randrange(64), chance.randrange(4), chance.randrange(1, 10_000), chance.randrange(1, 10_000))
@@ -72,8 +72,8 @@ def repetition(chance):
 
 
 def compact(chance):
-    """A million, as writers spell them: fields that are as before are left out, places are relative, and a third of the
-    million is in repetitions."""
+    """A million, as writers spell them: unchanged fields are left out, places are relative, and a third of the million is in
+    repetitions."""
     yield CELL + XYRELATIVE
     left, in_repetitions = MILLION, MILLION // 3
     for count in itertools.count():
@@ -136,7 +136,8 @@ def path(chance):
 def hierarchy(chance):
     """A thousand cells of a hundred placements, texts and paths each, by numbers that are named at the end.
 
-    A cell places those of higher numbers alone, and the last one none: KLayout takes no cell that holds itself.
+    A cell places only those with higher numbers, and the last one none: KLayout accepts no cell that contains itself.
+
     """
     cells = list(range(1000))
     chance.shuffle(cells)

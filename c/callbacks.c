@@ -55,8 +55,15 @@ static int grow(block *b) {
     return resize(b, b->size < PIECE ? 2 * PIECE : 2 * b->size);
 }
 
-/* Reads to the end, or past the limit of the input. */
+/* Whether the three numbers are limits. Of no bytes nothing else is asked before that. */
+static int are_limits(const oascanon_limits *limits) {
+    return oascanon_check(NULL, 0, limits).status != OASCANON_NOT_LIMITS;
+}
+
+/* Reads to the end, or past the limit of the input. Under numbers that are no limits nothing is read. */
 static oascanon_outcome gather(block *b, const oascanon_limits *limits, uint32_t file) {
+    if (!are_limits(limits))
+        return told(OASCANON_NOT_LIMITS, 0, 0);
     while (b->count <= limits->input) {
         ptrdiff_t got;
         if (!grow(b))
@@ -69,6 +76,12 @@ static oascanon_outcome gather(block *b, const oascanon_limits *limits, uint32_t
         b->count += (size_t)got;
     }
     return told(OASCANON_DONE, 0, 0);
+}
+
+/* Whether the bytes are refused, as the first file. */
+static oascanon_outcome judge(const block *b, const oascanon_limits *limits) {
+    oascanon_outcome outcome = oascanon_check(b->bytes, b->count, limits);
+    return outcome.status == OASCANON_NO ? told(OASCANON_DONE, 0, 0) : outcome;
 }
 
 static oascanon_outcome give(const block *b, size_t length) {
@@ -154,6 +167,8 @@ oascanon_outcome oascanon_same_callbacks(const oascanon_callbacks *one, const oa
     if (one == NULL || other == NULL || limits == NULL || one->read == NULL || other->read == NULL)
         return told(OASCANON_NULL, 0, 0);
     outcome = gather(&first, limits, 1);
+    if (outcome.status == OASCANON_DONE)
+        outcome = judge(&first, limits);
     if (outcome.status == OASCANON_DONE)
         outcome = gather(&second, limits, 2);
     if (outcome.status == OASCANON_DONE)

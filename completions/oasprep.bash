@@ -2,11 +2,11 @@
 _oasprep() {
   local word=${COMP_WORDS[COMP_CWORD]} kinds='properties layer-names extensions' named=
   if [ "${COMP_WORDS[COMP_CWORD - 1]}" = --drop ]; then
-    # Behind the last comma the next one begins.
+    # After the last comma the next one begins.
     [[ $word == *,* ]] && named=${word%,*},
     mapfile -t COMPREPLY < <(compgen -P "$named" -W "$kinds" -- "${word##*,}")
   elif [[ $word == -* ]]; then
-    mapfile -t COMPREPLY < <(compgen -W '--drop --large --help --version' -- "$word")
+    mapfile -t COMPREPLY < <(compgen -W '--drop --large --explain --progress --help --version' -- "$word")
   else
     mapfile -t COMPREPLY < <(compgen -f -- "$word")
   fi

@@ -71,7 +71,7 @@ oascanon_outcome oascanon_same(const uint8_t *bytes, size_t count, const uint8_t
 
 /*
  * Over callbacks. All that `read` gives is gathered before it is judged, and all of an output before it is written, so these
- * calls hold both in memory.
+ * calls hold both in memory. Of two files the first is judged before anything is read of the second.
  *
  * `read` puts bytes at the start of the buffer and answers how many: 0 at the end, and below 0 where it failed. `write`
  * answers how many of the first bytes it took; 0 or less is a failure. An answer above `size` is one too. `resize` is

@@ -1,4 +1,4 @@
-//! What stands in a cell, in its canonical order, and the limits of the grid.
+//! The elements of a cell, in canonical order, and the limits of the grid.
 
 #[derive(Clone, Copy, PartialEq, Eq, PartialOrd, Ord)]
 pub struct Point {
@@ -45,7 +45,7 @@ impl Element {
         Element::Rectangle { layer, datatype, width, height, x: low.x, y: low.y }
     }
 
-    /// Whether all of it lies within the grid. Its positions and points are known to.
+    /// Whether all of it is within the grid. Its positions and points are known to be.
     pub fn fits_grid(&self) -> bool {
         match self {
             Element::Rectangle { width, height, x, y, .. } => {

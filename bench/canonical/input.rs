@@ -56,7 +56,7 @@ pub struct Input<R> {
     window: Box<[u8]>,
     start: usize,
     end: usize,
-    /// How many bytes stood before those in the window.
+    /// How many bytes came before those in the window.
     before: u64,
 }
 

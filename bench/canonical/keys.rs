@@ -35,7 +35,7 @@ fn put_signed(key: &mut Vec<u8>, value: i64) {
     }
 }
 
-/// The way to each point from the one before, and an end.
+/// The step to each point from the one before, and an end.
 fn put_points(key: &mut Vec<u8>, points: &[Point]) {
     let mut last = Point { x: 0, y: 0 };
     for &point in points {

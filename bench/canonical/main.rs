@@ -31,7 +31,7 @@ fn gcd(a: u64, b: u64) -> u64 {
     if b == 0 { a } else { gcd(b, a % b) }
 }
 
-/// The magic and START: the unit in lowest terms, and whether the table offsets stand in END.
+/// The magic and START: the unit in lowest terms, and whether the table offsets are in END.
 fn read_head<R: io::Read>(input: &mut Input<R>) -> Result<((u64, u64), bool)> {
     for &wanted in MAGIC {
         if input.byte()? != wanted {
@@ -59,7 +59,7 @@ fn read_head<R: io::Read>(input: &mut Input<R>) -> Result<((u64, u64), bool)> {
     Ok(((unit.num / divisor, unit.den / divisor), flag == 1))
 }
 
-/// What follows END's id, which stands at `start`.
+/// What follows END's id, which is at `start`.
 fn read_end<R: io::Read>(input: &mut Input<R>, start: u64, has_offsets: bool) -> Result<()> {
     if has_offsets {
         input.skip_offsets()?;

@@ -55,7 +55,7 @@ pub struct Reader {
     key: Vec<u8>,
 }
 
-/// Adds an element, by its key, for which there is a buffer.
+/// Adds an element, by its key, which has a buffer.
 fn add(elements: &mut Store, key: &mut Vec<u8>, element: &Element, times: u64) {
     key.clear();
     keys::put(key, element);
@@ -82,7 +82,7 @@ fn read_cell_reference<R: Read>(input: &mut Input<R>, info: u8) -> Result<Refere
 }
 
 impl Reader {
-    /// Takes the record of that id, whose rest stands next.
+    /// Takes the record with that id, whose rest comes next.
     pub fn take<R: Read>(&mut self, id: u64, input: &mut Input<R>) -> Result<()> {
         match id {
             0 => {}
@@ -202,7 +202,7 @@ impl Reader {
         Ok(())
     }
 
-    /// What one copy weighs, where all that it needs is defined.
+    /// The weight of one copy, where all that it needs is defined.
     fn check_defined(&self, kind: &Kind, repeated: bool) -> Result<u64> {
         if self.open.is_none() {
             return Err(Why::OutOfPlace);
@@ -238,7 +238,7 @@ impl Reader {
         Ok(())
     }
 
-    /// The cells, with the strings behind numbers.
+    /// The cells, with the strings of numbers.
     pub fn finish(mut self) -> Result<BTreeMap<Vec<u8>, Run>> {
         self.done.extend(self.open.take());
         if !self.done.iter().all(|cell| self.knows(cell)) {

@@ -90,7 +90,7 @@ fn merge(mut left: Run, mut right: Run) -> Run {
     }
 }
 
-/// Keys in whatever order they come.
+/// Keys in any order.
 #[derive(Default)]
 pub struct Store {
     rising: Run,

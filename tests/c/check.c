@@ -1,7 +1,7 @@
 /*
  * Runs the worked rows through the library, and then what no row has: room that is too small, callbacks that fail, memory
  * that is refused, NULL, nothing. Rows come on standard input, one a line: a name, the file in hex, and its canonical file in
- * hex or its refusal as NUMBER@OFFSET; `-` is no byte. The last line says how many held.
+ * hex or its refusal as NUMBER@OFFSET; `-` is no byte. The last line is 'N passed, M failed'.
  */
 #include <stdio.h>
 #include <stdlib.h>
@@ -12,11 +12,11 @@
 #define MOST (1 << 20)
 
 static const oascanon_limits standard = OASCANON_STANDARD;
-static unsigned held, failed;
+static unsigned passed, failed;
 
 static void expect(int holds, const char *name, const char *what) {
     if (holds) {
-        held++;
+        passed++;
     } else {
         failed++;
         printf("%s: %s\n", name, what);
@@ -170,6 +170,28 @@ static void rows(void) {
     }
 }
 
+/* A reader without end. */
+static ptrdiff_t endless_read(void *context, uint8_t *buffer, size_t size) {
+    device *d = context;
+    d->at++;
+    memset(buffer, 0, size);
+    return (ptrdiff_t)size;
+}
+
+/* Numbers that are no limits, over readers without end: nothing is read of any. */
+static void no_limits(const oascanon_limits *limits) {
+    static uint8_t digest[32];
+    device d = device_over(NULL, 0, NULL);
+    oascanon_callbacks c = callbacks_of(&d);
+    c.read = endless_read;
+    expect(oascanon_canonicalize_callbacks(&c, limits).status == OASCANON_NOT_LIMITS, "no limits", "canonicalize");
+    expect(oascanon_list_callbacks(&c, limits).status == OASCANON_NOT_LIMITS, "no limits", "list");
+    expect(oascanon_key_callbacks(&c, limits, digest).status == OASCANON_NOT_LIMITS, "no limits", "key");
+    expect(oascanon_check_callbacks(&c, limits).status == OASCANON_NOT_LIMITS, "no limits", "check");
+    expect(oascanon_same_callbacks(&c, &c, limits).status == OASCANON_NOT_LIMITS, "no limits", "same");
+    expect(d.at == 0 && d.blocks == 0, "no limits", "nothing was read");
+}
+
 /* One cell with one rectangle. */
 static size_t rectangle(uint8_t *file) {
     return unhex("2553454D492D4F415349530D0A0103312E3000E80700000000000000000000000000" "0E0141147B01000A14000002FC01", file) + 253;
@@ -181,6 +203,7 @@ static void edges(void) {
     oascanon_limits none = {1, 1, 1};
     oascanon_limits few = {0, 1024, 1 << 20};
     oascanon_limits small = {16, 0, 320};
+    oascanon_limits wide = {16, 16, UINT64_MAX};
     oascanon_outcome o;
     device d, e;
     oascanon_callbacks c, f;
@@ -206,6 +229,9 @@ static void edges(void) {
     expect(oascanon_check(file, count, &small).status == 25, "edges", "too heavy");
     o = oascanon_same(file, count, file, 12, &standard);
     expect(o.status == 2 && o.file == 2 && o.at == 0, "edges", "the second of two is refused");
+
+    no_limits(&none);
+    no_limits(&wide);
 
     /* Each read fails in turn, and what was given before it is told. */
     for (i = 0; i < 43; i++) {
@@ -245,6 +271,14 @@ static void edges(void) {
     f = callbacks_of(&e);
     o = oascanon_same_callbacks(&c, &f, &standard);
     expect(o.status == 2 && o.file == 2, "edges", "the second of two callbacks is refused");
+    d = device_over(file, count - 1, out);
+    e = device_over(file, count, out);
+    e.reads_left = 0;
+    o = oascanon_same_callbacks(&c, &f, &standard);
+    expect(is_refusal(o, 2, 45) && e.at == 0 && e.blocks == 0, "edges", "the first of two is judged before the second is read");
+    d = device_over(file, count, out);
+    e = device_over(file, count, out);
+    expect(oascanon_same_callbacks(&c, &f, &standard).status == OASCANON_DONE && d.blocks == 0 && e.blocks == 0, "edges", "same by callbacks");
     d = device_over(file, count, out);
     c = callbacks_of(&d);
     c.resize = NULL;
@@ -256,6 +290,6 @@ static void edges(void) {
 int main(void) {
     rows();
     edges();
-    printf("%u held, %u failed\n", held, failed);
+    printf("%u passed, %u failed\n", passed, failed);
     return failed != 0;
 }

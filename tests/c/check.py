@@ -4,7 +4,7 @@
     check.py LIBRARY
 
 The key of an accepted row is held against the SHA-256 of the canonical bytes that the row gives, and the names of the reasons
-against docs/REFUSALS.md. The last line is 'N held, M failed'.
+against docs/REFUSALS.md. The last line is 'N passed, M failed'.
 """
 
 import ctypes
@@ -79,12 +79,12 @@ def names():
 
 def main():
     library = Library(sys.argv[1])
-    held = failed = 0
+    passed = failed = 0
 
     def expect(holds, name, what):
-        nonlocal held, failed
+        nonlocal passed, failed
         if holds:
-            held += 1
+            passed += 1
         else:
             failed += 1
             print(f"{name}: {what}")
@@ -110,7 +110,7 @@ def main():
     for number, name in found:
         expect(library.name(number) == name, "names", f"{number} is {name}")
     expect(library.name(len(found) + 1) == "Unknown", "names", "there is no further one")
-    print(f"{held} held, {failed} failed")
+    print(f"{passed} passed, {failed} failed")
     return failed != 0
 
 

@@ -19,12 +19,12 @@ def rows():
     """Each row's name and file, and either its canonical bytes or its refusal's number and offset."""
     given = gate()
     for row in given.all_rows():
-        if row.command != "canon" or row.limits != given.STANDARD:
+        if (row.program, row.command, row.limits, row.profile) != ("oascanon", ("canon",), given.STANDARD, 2):
             continue
         ((_, data),) = row.files
         status, canonical, told = row.wanted
         if status == 0:
             yield row.name, data, canonical
         else:
-            number, at = re.fullmatch(rb"a: refused (\d+) at (\d+)\n", told).groups()
+            number, at = re.fullmatch(rb"first: refused (\d+) at (\d+)\n", told).groups()
             yield row.name, data, (int(number), int(at))

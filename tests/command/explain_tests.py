@@ -7,7 +7,7 @@ TOP = pathlib.Path(__file__).resolve().parents[2]
 
 
 def run(folder, *words, **more):
-    """Runs in this folder; answers the status, the output and the error output."""
+    """Runs in this folder; returns the status, the output and the error output."""
     done = subprocess.run([str(word) for word in words], cwd=folder, capture_output=True, **more)
     return done.returncode, done.stdout.decode(), done.stderr.decode()
 
@@ -18,21 +18,33 @@ def reasons():
     return re.findall(r"^\| (\d+) \| (\w+) \| (.*?) \| .*? \| (.*) \|$", text, re.M)
 
 
-def line_of(number, words=""):
-    _, name, meaning, _ = reasons()[number - 1]
-    return f"  = {name}: {meaning}{words}\n"
+def preparing_reasons():
+    """The same for the reasons from 101 on, as docs/PREPARING.md has them."""
+    return re.findall(r"^\| (1\d\d) \| (\w+) \| (.*?) \| (.*?) \|$", (TOP / "docs/PREPARING.md").read_text(), re.M)
+
+
+def line_of(number, words="", advice=""):
+    """The lines below a refusal."""
+    _, name, meaning, remedy = reasons()[number - 1]
+    return f"  = {name}: {meaning}{words}\n  = {remedy}\n{advice}"
+
+
+CUT = SMALL[:-1]
+CUT_LINES = line_of(2, "", f"  = ends early: 45 of {len(CUT)} bytes are whole records\n")
 
 
 def test_reasons_are_those_of_the_page(program, folder):
-    page = [f"{n} {name}\n  {meaning}\n  {remedy}\n" for n, name, meaning, remedy in reasons()]
-    assert len(page) == 34
+    page = [f"{n} {name}\n  {meaning}\n  {remedy}\n" for n, name, meaning, remedy in reasons() + preparing_reasons()]
+    assert len(page) == 34 + 13
     assert run(folder, program, "explain") == (0, "".join(page), "")
-    for number, text in enumerate(page, 1):
-        assert run(folder, program, "explain", str(number)) == (0, text, "")
+    for text in page:
+        number, name = text.split("\n")[0].split()
+        assert run(folder, program, "explain", number) == (0, text, "")
+        assert run(folder, program, "explain", name) == (0, text, "")
 
 
 def test_numbers_that_are_none(program, folder):
-    for word in ("0", "35", "023", "x", "99999999999999999999", ""):
+    for word in ("0", "35", "100", "114", "023", "x", "coordinaterange", "Coordinate", "99999999999999999999", ""):
         status, out, errors = run(folder, program, "explain", word)
         assert (status, out) == (2, "") and len(errors.splitlines()) == 1, word
     assert run(folder, program, "explain", "1", "2")[0] == 2
@@ -51,7 +63,7 @@ def test_a_line_more_for_each_command(program, folder):
                   ["rekey", "bad", "out"], ["same", "a", "bad"], ["diff", "bad", "a"], ["key", "bad", "a"]):
         status, out, errors = run(folder, program, *words)
         assert (status, errors) == (1, "bad: refused 2 at 45\n"), words
-        assert run(folder, program, *words, "--explain") == (status, out, errors + line_of(2)), words
+        assert run(folder, program, *words, "--explain") == (status, out, errors + CUT_LINES), words
 
 
 def test_nothing_more_without_a_refusal(program, folder):
@@ -65,7 +77,7 @@ def test_many_refused(program, folder):
     (folder / "bad").write_bytes(SMALL[:-1])
     (folder / "text").write_bytes(b"%SEMI-OASIT")
     (folder / "list").write_bytes(b"text\0bad\0")
-    lines = f"text: refused 1 at 0\n{line_of(1)}bad: refused 2 at 45\n{line_of(2)}"
+    lines = f"text: refused 1 at 0\n{line_of(1)}bad: refused 2 at 45\n{CUT_LINES}"
     assert run(folder, program, "key", "--explain", "text", "bad") == (1, "", lines)
     assert run(folder, program, "check", "--explain", "--files0-from=list") == (1, "", lines)
 
@@ -74,8 +86,8 @@ def test_names_like_lines(program, folder):
     name = "a: refused 7 at 3"
     (folder / name).write_bytes(SMALL[:-1])
     (folder / "a\nb").write_bytes(SMALL[:-1])
-    assert run(folder, program, "key", "--explain", name)[2] == f"{name}: refused 2 at 45\n{line_of(2)}"
-    assert run(folder, program, "key", "--explain", "a\nb")[2] == f"a\\nb: refused 2 at 45\n{line_of(2)}"
+    assert run(folder, program, "key", "--explain", name)[2] == f"{name}: refused 2 at 45\n{CUT_LINES}"
+    assert run(folder, program, "key", "--explain", "a\nb")[2] == f"a\\nb: refused 2 at 45\n{CUT_LINES}"
 
 
 def test_words_of_the_system_for_an_input(program, folder):
@@ -85,7 +97,7 @@ def test_words_of_the_system_for_an_input(program, folder):
     assert run(folder, program, "key", "--explain", "--files0-from=list") == (1, "", missing)
     assert run(folder, program, "key", "--explain", "--files0-from=none") == (1, "", missing)
     status, _, errors = run(folder, program, "show", "--explain", ".")
-    assert (status, errors) == (1, f".: refused 32 at 0\n{line_of(32)}")
+    assert (status, errors) == (1, ".: refused 32 at 0\n" + line_of(32, "", "  = Is a directory (os error 21)\n"))
 
 
 def test_words_of_the_system_for_an_output(program, folder):

@@ -72,3 +72,25 @@ def test_examples(program, folder):
 
 def test_version_has_the_profiles(program, folder):
     assert re.search(r"profiles one and two", output(program, "--version"))
+
+
+def test_each_page_has_the_version_and_names_the_others(program, folder):
+    version = output(program, "--version").split()[1]
+    pages = {path.stem: path.read_text().replace("\\-", "-") for path in (TOP / "man").glob("*.1")}
+    assert set(pages) == {"oascanon", "oasprep", "oascanon-textconv", "klayout-to-canonical"}
+    for name, text in pages.items():
+        assert re.match(rf'\.TH [A-Z-]+ 1 "" "(oascanon|oasprep) {re.escape(version)}" ', text), name
+        named = set(re.findall(r"^\.BR ([a-z-]+) \(1\)", text.split(".SH SEE ALSO")[1], re.M))
+        assert named >= ({"oascanon"} if name != "oascanon" else set(pages) - {name}), name
+    assert "30 to 33" in pages["oasprep"]
+
+
+def test_scripts_have_pages(program, folder):
+    for script in ("klayout-to-canonical", "oascanon-textconv"):
+        assert (TOP / "man" / f"{script}.1").exists() and (TOP / "scripts" / script).exists()
+
+
+def test_version_of_a_build_that_is_no_release(program, folder):
+    version = output(program, "--version").split()[1]
+    released = re.findall(r"^## (\S+)$", (TOP / "CHANGELOG.md").read_text(), re.M)
+    assert version in released or re.fullmatch(r"[0-9.]+-dev", version) and version.removesuffix("-dev") not in released

@@ -1,4 +1,4 @@
-"""The facts of a layout: numbers counted by hand, and what a file that is refused leaves."""
+"""The facts of a layout: numbers counted by hand, and what a refused file leaves."""
 
 import json, subprocess
 

@@ -33,5 +33,5 @@ RESPELLED = file_of(cell(b"A") + b"\x00" + rectangle(1, 0, 10, 20, 0, 0))
 
 
 def large(count):
-    """A canonical file of so many rectangles."""
+    """A canonical file with this many rectangles."""
     return file_of(cell(b"A") + b"".join(rectangle(1, 0, 10, 20, i, 0) for i in range(count)))

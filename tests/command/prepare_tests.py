@@ -1,4 +1,4 @@
-"""The second program, `oasprep`, which stands beside the first."""
+"""The second program, `oasprep`, which is next to the first."""
 import pathlib, re, subprocess
 
 from layouts import SMALL, cell, file_of, rectangle
@@ -118,7 +118,7 @@ def test_version(program, folder):
 
 
 def test_manual_and_completions(program, folder):
-    assert flags(program) == {"--drop", "--large", "--help", "--version"}
+    assert flags(program) == {"--drop", "--large", "--explain", "--progress", "--help", "--version"}
     for path in ("man/oasprep.1", "completions/oasprep.bash", "completions/_oasprep", "completions/oasprep.fish"):
         text = (TOP / path).read_text().replace("\\-", "-").replace("-l ", "--")
         for word in flags(program) | set(ALL.split(",")):

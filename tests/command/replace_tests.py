@@ -1,5 +1,6 @@
-"""A file that is replaced: whatever happens, the old one stands as it was until the new one is whole."""
+"""A file that is replaced: whatever happens, the old one is unchanged until the new one is whole."""
 import os, resource, signal, subprocess, time
+from unittest import SkipTest
 
 from layouts import RESPELLED, SMALL, large
 
@@ -33,8 +34,7 @@ def test_full_disk(program, folder):
     disk = folder / "disk"
     disk.mkdir()
     if run("mount", "-t", "tmpfs", "-o", "size=4m", "tmpfs", disk).returncode:
-        print("not run: test_full_disk, since nothing can be mounted here")
-        return
+        raise SkipTest("nothing can be mounted here")
     try:
         (disk / "f").write_bytes(LARGE)
         done = run(program, "canon", disk / "f", disk / "f")
@@ -57,7 +57,7 @@ def test_kills(program, folder):
         process.send_signal(signal.SIGKILL)
         process.wait()
         assert (folder / "f").read_bytes() in (LARGE, CANONICAL), moment
-    # What a kill leaves has a name of its own, and doesn't stand in the way of the next run.
+    # What a kill leaves has a name of its own, and doesn't hinder the next run.
     (folder / "f").write_bytes(LARGE)
     assert run(program, "canon", folder / "f", folder / "f").returncode == 0
     assert (folder / "f").read_bytes() == CANONICAL

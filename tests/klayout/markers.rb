@@ -1,4 +1,4 @@
-# Prints of the report database that MARKERS names each item: its category, its cell, and its values.
+# Prints each item of the report database that MARKERS names: its category, its cell, and its values.
 
 database = RBA::ReportDatabase::new("markers")
 database.load(ENV["MARKERS"])

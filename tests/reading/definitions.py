@@ -1,13 +1,13 @@
-"""The definitions of the repository's specs/, and on which others each of them rests, as the text says it."""
+"""The definitions of the repository's specs/, and on which others each of them rests, from their text."""
 import pathlib, re
 
 TOP = pathlib.Path(__file__).resolve().parents[2]
 WORD = re.compile(r"[A-Za-z_][A-Za-z0-9_']*(?:-[A-Za-z0-9_]+)*")
-HEAD = re.compile(r"^(?:abbrev |unfoldable )*(?:pub )?(record |data |abbrev )?(?:pub )?([A-Za-z_][A-Za-z0-9_']*)")
+HEAD = re.compile(r"^(?:abbrev |unfoldable )*(?:pub )?(record |data |abbrev )?(?:pub )?(" + WORD.pattern + ")")
 
 
 class Definition:
-    """One definition: where it stands, its text without comments, and what it names."""
+    """One definition: where it is, its text without comments, and what it names."""
 
     def __init__(self, crate, file, name, lines):
         self.crate, self.file, self.name, self.lines = crate, file, name, lines
@@ -17,12 +17,14 @@ class Definition:
         return self.crate, self.file, self.name
 
 
+# A lower crate is named through the layer above it, which re-exports it under its own name.
+THROUGH = re.compile(r"\bRattle\.\w+\.specs\.(oas_\w+)\.")
 BEGINS = re.compile(r"^(abbrev|unfoldable|record|data|pub)\b")
 
 
 def blocks(text):
-    """The definitions of a file, each with all of its lines, without comments and imports. Those of a module within the file stand
-    further in."""
+    """The definitions of a file, each with all of its lines, without comments and imports. Those of a module within the file
+    are indented further."""
     lines, is_within = [], False
     for line in text.split("\n"):
         if line.lstrip().startswith("--") or line.startswith(("use ", "pub use ", "pub mod ")) or not line.strip():
@@ -43,6 +45,7 @@ def blocks(text):
 def imports(text):
     """What each imported word means: the crate, the file and the name; a name of None is the whole file."""
     found = {}
+    text = THROUGH.sub(r"Rattle.\1.specs.", text)
     for crate, file, names, alias in re.findall(r"^(?:pub )?use Rattle\.(\w+)\.specs\.(\w+)(?:\.\{([^}]*)\})?(?: as (\w+))?", text, re.M):
         if names:
             for part in names.split(","):
@@ -69,12 +72,12 @@ def read_all():
 
 
 def is_of_laws(file):
-    """Whether a file has laws: they are proved, so nobody has to believe them. A tree of a kind of record carries some."""
+    """Whether a file has laws: they are proved, so nobody has to trust them. A tree of a kind of record carries some."""
     return file.endswith("Laws") or file in ("Found", "FoundParts", "ShapeNever")
 
 
 def handed_on():
-    """For each crate the files of those below it that its specs/Lib.antt hands on, with the crate where each stands."""
+    """For each crate the files of those below it that its specs/Lib.antt re-exports, with the crate of each."""
     found = {}
     for path in TOP.glob("crates/*/specs/Lib.antt"):
         for crate, file in re.findall(r"^pub use Rattle\.(\w+)\.specs\.(\w+)$", path.read_text(), re.M):

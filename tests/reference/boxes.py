@@ -64,7 +64,7 @@ def gdelta(x, y):
 
 
 def towards(by, count):
-    """A step in one of so many directions, or None."""
+    """A step in one of this many directions, or None."""
     far = max(map(abs, by))
     for place, (x, y) in enumerate(DIRECTIONS[:count]):
         if (x * far, y * far) == by:
@@ -73,7 +73,7 @@ def towards(by, count):
 
 
 def alternating(points, kind):
-    """The 1-deltas of a ring whose last point is understood, or None."""
+    """The 1-deltas of a ring whose last point is implied, or None."""
     by = steps(points[:-1])
     last = (points[0][0], points[-2][1]) if kind == 0 else (points[-2][0], points[0][1])
     if len(by) % 2 or last != points[-1] or any(step[(i + kind + 1) % 2] for i, step in enumerate(by)):
@@ -82,7 +82,7 @@ def alternating(points, kind):
 
 
 def changes(by):
-    """Each step as what is to be added to the one before."""
+    """Each step as the difference from the one before."""
     return [gdelta(x - a, y - b) for (a, b), (x, y) in zip([(0, 0), *by], by)]
 
 
@@ -102,7 +102,7 @@ def rectangle(ring):
 
 
 def records(chance):
-    """A box or what looks like one, in a cell of its own or in the cell at hand, at times beside its rectangle."""
+    """A box or what looks like one, in a cell of its own or in the current cell, sometimes with its rectangle."""
     ring = corners(chance)
     beside = rectangle(ring) if chance.randrange(2) else b""
     if chance.randrange(3) == 0:

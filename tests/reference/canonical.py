@@ -1,4 +1,4 @@
-"""From a layout to its canonical bytes and its listing: docs/CANONICAL.md read aloud."""
+"""From a layout to its canonical bytes and its listing: docs/CANONICAL.md as code."""
 
 from reading import MAGIC
 

@@ -1,14 +1,20 @@
-"""What the commands answer, from the bytes of their files."""
+"""The results of the commands, from the bytes of their files."""
 
 import hashlib
 
 from canonical import canonical, listing
+from difference import diff
+from facts import info, info_json
 from layout import STANDARD, read
+from preparing import preparation
 from reading import Refused
 
 
 def answer(command, files, profile=2, limits=STANDARD):
-    """Status, output and error output of a command on files, each a name and its bytes. What `rekey` writes is its output."""
+    """Status, output and error output of a command, with its options, on files, each a name and its bytes. What `rekey` writes
+    is its output; `prepare` is the second program, and its options are what is named to be left out."""
+    if command.startswith("prepare"):
+        return preparation(*files[0], command.split()[1:])
     layouts = []
     for name, data in files:
         try:
@@ -21,7 +27,7 @@ def answer(command, files, profile=2, limits=STANDARD):
 
 
 def said(command, data, layouts):
-    """Status and output of a command on layouts, of which the first is that of the bytes."""
+    """Status and output of a command on layouts, the first of which is that of the bytes."""
     out = canonical(layouts[0])
     if command == "canon":
         return 0, out
@@ -31,6 +37,12 @@ def said(command, data, layouts):
         return 0, hashlib.sha256(out).hexdigest().encode() + b"\n"
     if command == "keys":
         return 0, b"".join(map(key_line, cells_alone(layouts[0])))
+    if command == "info":
+        return 0, info(layouts[0])
+    if command == "info --json":
+        return 0, info_json(layouts[0])
+    if command.startswith("diff"):
+        return diff(layouts, command.split()[1:])
     if command == "check":
         return (0, b"canonical\n") if out == data else (3, b"not canonical\n")
     return (0, b"same\n") if layouts[0] == layouts[1] else (3, b"different\n")

@@ -24,7 +24,7 @@ class Maker:
         return self.random.choice(EDGES) if self.one_in(60) else self.random.randrange(most)
 
     def spelled(self, value):
-        """A number, at times with idle bytes after it."""
+        """A number, sometimes with idle bytes after it."""
         out = bytearray(unsigned(value))
         while self.one_in(6) and len(out) < 11:
             out[-1] |= 0x80

@@ -1,4 +1,4 @@
-"""From a file to its layout, by either profile: docs/CANONICAL.md read aloud."""
+"""From a file to its layout, by either profile: docs/CANONICAL.md as code."""
 
 from collections import Counter, namedtuple
 from math import gcd

@@ -1,5 +1,5 @@
-"""From records to elements: docs/PROFILE.md read aloud. Nothing is kept from one record to the next: each value is looked
-for by going back over the records.
+"""From records to elements: docs/PROFILE.md as code. Nothing is kept from one record to the next: each value is found by going
+back over the records.
 """
 
 from collections import Counter
@@ -9,7 +9,9 @@ from reading import ELEMENTS, XY_ABSOLUTE, XY_RELATIVE
 FURTHEST = 2**60
 
 CELLS = (13, 14)
-NAMES = (3, 4, 5, 6)
+# The profile's name records, and all after which no cell is open.
+NUMBERED = (3, 4, 5, 6)
+NAMES = (*NUMBERED, 7, 8, 9, 10, 11, 12, 30, 31)
 CLASSES = {17: "placement", 18: "placement", 19: "text"}
 NEEDS = {
     17: ("cell",), 18: ("cell",), 19: ("string", "textlayer", "texttype"), 20: ("layer", "datatype", "width", "height"),
@@ -56,7 +58,7 @@ def position(records, i, axis):
     wanted, total = CLASSES.get(records[i]["kind"], "geometry"), 0
     for j in range(i, cell_of(records, i), -1):
         record = records[j]
-        if record["kind"] in ELEMENTS and CLASSES.get(record["kind"], "geometry") == wanted and axis in record:
+        if CLASSES.get(record["kind"], "geometry") == wanted and axis in record:
             total += record[axis]
             if not is_relative(records, j):
                 break
@@ -64,7 +66,7 @@ def position(records, i, axis):
 
 
 def copies(records, i):
-    """How many, and where copy n stands; None where the repetition before is meant and there is none."""
+    """How many, and the offset of copy n; None where the modal repetition is used and there is none."""
     if "repetition" not in records[i]:
         return 1, lambda n: (0, 0)
     return value(records, i, "repetition")
@@ -96,7 +98,7 @@ def turns(records, i):
 
 
 def at_place(records, i, by):
-    """The element that record i gives at an offset, or None where it lies too far out."""
+    """The element that record i gives at an offset, or None where it is too far out."""
     record, kind = records[i], records[i]["kind"]
     x, y = position(records, i, "x") + by[0], position(records, i, "y") + by[1]
     v = {name: value(records, i, name) for name in NEEDS[kind]}
@@ -123,7 +125,7 @@ def at_place(records, i, by):
 
 
 def weight(made):
-    """Of an element; a string behind a number has no bytes yet."""
+    """For an element; the string of a number has no bytes yet."""
     if made[0] < 2:
         return 1 + (len(made[1]) if isinstance(made[1], bytes) else 0)
     return 1 + (len(made[-1]) if made[0] in (3, 4) else 0)
@@ -164,7 +166,7 @@ def draw(records, i, drawn):
 
 
 def weight_of(records, i):
-    """Of one copy, wherever it stands."""
+    """For one copy, wherever it is."""
     kind = records[i]["kind"]
     if kind in (17, 18, 19):
         string = value(records, i, "cell" if kind < 19 else "string")
@@ -175,7 +177,7 @@ def weight_of(records, i):
 
 
 def numbers(records, kinds):
-    """The strings behind numbers: pairs of a number and a string, of a class."""
+    """The strings of numbers: pairs of a number and a string, of a class."""
     found = []
     for record in records:
         if record["kind"] in kinds:
@@ -197,7 +199,7 @@ def take(records, drawn):
     i, kind = len(records) - 1, records[-1]["kind"]
     if kind in ELEMENTS:
         return draw(records, i, drawn)
-    if kind in NAMES:
+    if kind in NUMBERED:
         return name(records, i)
     if kind in CELLS:
         drawn.cells[i] = Counter()

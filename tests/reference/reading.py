@@ -1,6 +1,6 @@
-"""From bytes to records: docs/PROFILE.md read aloud, with no care for speed or memory.
+"""From bytes to records: docs/PROFILE.md as code, without regard to speed or memory.
 
-A record is a dictionary of what it gives; a field that is absent isn't there.
+A record is a dictionary of what it gives; an absent field has no entry.
 """
 
 MAGIC = bytes.fromhex("2553454D492D4F415349530D0A")
@@ -16,7 +16,7 @@ TAKEN = (0, 2, 3, 4, 5, 6, 13, 14, 15, 16, *ELEMENTS)
 
 
 class Stop(Exception):
-    """What stands here can't be read, for the reason of that number."""
+    """What is here can't be read, for the reason with that number."""
 
 
 class Refused(Exception):
@@ -32,7 +32,7 @@ def step(direction, far):
 
 
 class Bytes:
-    """A place in a list of bytes, of which no more than a limit are looked at."""
+    """A place in a list of bytes; no more of them than a limit are read."""
 
     def __init__(self, data, limit):
         self.data, self.limit, self.at = data, limit, 0
@@ -89,7 +89,7 @@ class Bytes:
         return self.string(0x20)
 
     def towards(self, directions):
-        """A step in one of so many directions."""
+        """A step in one of this many directions."""
         value = self.unsigned()
         return step(DIRECTIONS[value % directions], value // directions)
 
@@ -124,7 +124,7 @@ def point_list(source, polygon):
 
 
 def repetition(source):
-    """None for the one before, else how many copies there are, and where copy i stands."""
+    """None for the modal one, else how many copies there are, and the offset of copy i."""
     kind = source.unsigned()
     if kind > 11:
         raise Stop(17)
@@ -199,7 +199,7 @@ def element(source, kind):
 
 
 def head(source):
-    """The unit, and whether the table offsets stand in END."""
+    """The unit, and whether the table offsets are in END."""
     for wanted in MAGIC:
         if source.byte() != wanted:
             raise Stop(1)

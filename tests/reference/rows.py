@@ -1,72 +1,78 @@
-"""The rows of the gate, from crates/command_tests: what a command has to answer to files."""
+"""The rows of the gate: those of tests/rows, and those of crates that have limits, or a profile, or go through memory."""
 
 import pathlib
 import re
-from collections import namedtuple
+import sys
 
-TESTS = pathlib.Path(__file__).resolve().parents[2] / "crates/command_tests/src/tests"
-STANDARD = (2**24, 2**28, 2**36)
-# As in rows.rt.
-WORDS = {
-    "MAGIC": "2553454D492D4F415349530D0A", "START": "0103312E30", "OFFSETS": "00*13", "CELL": "0E0141",
-    "RECT": "147B01000A140000", "HEAD": "MAGIC START 00E807 OFFSETS", "TAIL": "02FC01 00*252 00", "-": "",
-}
+TOP = pathlib.Path(__file__).resolve().parents[2]
+TESTS = TOP / "crates/command_tests/src/tests"
+BY_PROFILE_ONE = TOP / "crates/canon_tests/src/files/table.rt"
+CHECKED = TOP / "crates/form_tests/src/files/table.rt"
+sys.path.insert(0, str(TOP / "tests/rows"))
 
-# A command, its files as pairs of a name and bytes, the limits, and the wanted status, output and error output.
-Row = namedtuple("Row", "name command files limits wanted")
-
-
-def bytes_of(pieces):
-    """The bytes of a file that is given in pieces."""
-    out = b""
-    for piece in pieces.split():
-        one, _, times = piece.partition("*")
-        out += bytes_of(WORDS[piece]) if piece in WORDS else bytes.fromhex(one) * int(times or 1)
-    return out
+from tables import STANDARD, Row, bytes_of, canon_rows, command_rows, refused, rows_of_tables  # noqa: E402
 
 
 def lines(file, constant):
-    """The fields of each row of a string constant."""
-    text = (TESTS / file).read_text()
-    rows = re.search(rf'const {constant}: &str = "\\\n(.*?)";', text, re.DOTALL)[1].splitlines()
+    """The fields of each row of a string constant, whose quotes are escaped."""
+    text = file.read_text()
+    rows = re.search(rf'const {constant}: &str = "\\\n(.*?)(?<!\\)";', text, re.DOTALL)[1].replace('\\"', '"').splitlines()
     return [row.split(" | ") for row in rows if not row.startswith("#")]
 
 
-def of_canon(name, limits, file, answer):
-    """A row of `canon`, and that its output stays as it is."""
-    if "@" in answer:
-        number, at = answer.split("@")
-        yield Row(name, "canon", [("a", bytes_of(file))], limits, (1, b"", f"a: refused {number} at {at}\n".encode()))
-        return
-    out = bytes_of(file if answer == "same" else answer)
-    for data in (bytes_of(file), out):
-        yield Row(name, "canon", [("a", data)], limits, (0, out, b""))
+def under_limits(name, numbers, body, answer):
+    """A row of `canon` under limits of its own."""
+    limits = tuple(map(int, numbers.split()))
+    return [row._replace(limits=limits) for row in canon_rows(name, body, answer)]
 
 
-def of_body(name, limits, body, answer):
-    """A row of `canon`, of what stands between HEAD and TAIL."""
-    plain = answer == "same" or "@" in answer
-    return of_canon(name, limits, f"HEAD {body} TAIL", answer if plain else f"HEAD {answer} TAIL")
+def by_profile_one(name, file, answer):
+    """A row of a file by profile one: it is refused, or has the layout of another, or hasn't."""
+    if wanted := refused(answer):
+        return [Row(name, "oascanon", ("canon",), [("first", bytes_of(file))], wanted, profile=1)]
+    files = [("first", bytes_of(file)), ("second", bytes_of(answer.removeprefix("unlike ")))]
+    wanted = (3, b"different\n", b"") if answer.startswith("unlike ") else (0, b"same\n", b"")
+    return [Row(name, "oascanon", ("same",), files, wanted, profile=1)]
 
 
-def of_run(name, command, files, status, answer):
-    """A row of a run, as in runs.rt."""
-    named = list(zip(("first", "second"), map(bytes_of, files.split("&"))))
-    if answer.startswith("! "):
-        wanted = (int(status), b"", answer[2:].replace(";", "\n").encode())
-    else:
-        wanted = (int(status), bytes_of(answer) if command == "rekey" else answer.replace(";", "\n").encode(), b"")
-    return Row(name, command, named, STANDARD, wanted)
+def checked(name, file, *answers):
+    """The rows of a file for which `check` prints this, by profile one and by profile two."""
+    lines = {"canonical": (0, b"canonical\n", b""), "other": (3, b"not canonical\n", b"")}
+    wanted = [refused(answer) or lines[answer] for answer in (answers[0], answers[-1])]
+    return [Row(name, "oascanon", ("check",), [("first", bytes_of(file))], wanted[i], profile=i + 1) for i in (0, 1)]
+
+
+def in_both_profiles(row):
+    """A row of `canon` that also holds by profile one: whatever is refused, and what has no polygon that may be a box."""
+    has_polygons = b"\x15" in row.files[0][1]
+    is_alike = row.command == ("canon",) and (row.wanted[0] or not has_polygons)
+    return [row, row._replace(name=f"{row.name}-by-profile-one", profile=1)] if is_alike else [row]
+
+
+def of_crates():
+    """The rows of crates."""
+    out = []
+    for table in (("table.rt", "ROWS"), ("readings_table.rt", "WHOLE")):
+        out += [row for fields in lines(TESTS / table[0], table[1]) for row in canon_rows(*fields, bytes_of)]
+    for table in (("modal_table.rt", "MODAL"), ("readings_table.rt", "READINGS")):
+        out += [row for fields in lines(TESTS / table[0], table[1]) for row in canon_rows(*fields)]
+    out += [row for fields in lines(TESTS / "limits_table.rt", "UNDER_LIMITS") for row in under_limits(*fields)]
+    for table in (("readings_table.rt", "LISTED"), ("answers.rt", "ANSWERS"), ("answers.rt", "REFUSED"),
+                  ("rekeying.rt", "REKEYED")):
+        out += [row for fields in lines(TESTS / table[0], table[1]) for row in command_rows(*fields)]
+    return out
 
 
 def all_rows():
     """All rows of the gate."""
-    out = []
-    for name, file, answer in lines("table.rt", "ROWS") + lines("readings_table.rt", "WHOLE"):
-        out += of_canon(name, STANDARD, file, answer)
-    for name, body, answer in lines("modal_table.rt", "MODAL") + lines("readings_table.rt", "READINGS"):
-        out += of_body(name, STANDARD, body, answer)
-    for name, numbers, body, answer in lines("readings_table.rt", "UNDER_LIMITS"):
-        out += of_body(name, tuple(map(int, numbers.split())), body, answer)
-    runs = [("readings_table.rt", "LISTED"), ("answers.rt", "ANSWERS"), ("answers.rt", "REFUSED"), ("rekeying.rt", "REKEYED")]
-    return out + [of_run(*fields) for it in runs for fields in lines(*it)]
+    once = of_crates() + rows_of_tables()
+    one = [row for fields in lines(BY_PROFILE_ONE, "ROWS") for row in by_profile_one(*fields)]
+    both = [row for fields in lines(CHECKED, "ROWS") for row in checked(*fields)]
+    return [each for row in once for each in in_both_profiles(row)] + one + both
+
+
+def command_of(row):
+    """The command of a row as commands.py has it."""
+    if row.program == "oascanon":
+        return " ".join(row.command)
+    return " ".join(["prepare", *row.command[1:]]).replace(",", " ")

@@ -1,5 +1,5 @@
 //! What `oas_bench numbers` does, in plain Rust: the same work by the same steps, for `bench/run` to compare with.
-//! `buffered` is the writing once more, by a `BufWriter` of the standard library.
+//! `buffered` is the writing again, with a `BufWriter` of the standard library.
 
 use std::io::{self, Read, Write};
 use std::time::Instant;
@@ -142,7 +142,7 @@ fn put_numbers<K: Sink>(numbers: &[u64], times: u64, sink: &mut K) -> Result<(),
     Ok(())
 }
 
-/// By the writer of the standard library, a number at a time.
+/// With the writer of the standard library, a number at a time.
 #[inline(never)]
 fn put_buffered<W: Write>(numbers: &[u64], times: u64, writer: &mut W) -> io::Result<()> {
     let mut writer = io::BufWriter::new(writer);

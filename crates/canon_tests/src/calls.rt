@@ -1,5 +1,5 @@
-//! What no clause says: that each call succeeds where memory is there, which answers it gives of small files, a device that
-//! fails, and memory that is refused at each growth. The worked rows are the command's.
+//! What no contract says: each call succeeds where memory is there; its results for small files; a device that fails; and
+//! each allocation that fails. The worked rows are the command's.
 
 mod cell_keys;
 mod memory;
@@ -23,7 +23,7 @@ const FRONT: [u8; 45] = [
 /// Its rectangle again.
 const AGAIN: [u8; 8] = [0x14, 0x7B, 0x01, 0x00, 0x0A, 0x14, 0x00, 0x00];
 
-/// What `sha256sum` prints of the file of that front alone.
+/// What `sha256sum` prints for the file with only that head.
 const KEY: [u8; 32] = [
     0xFA, 0xA9, 0xCB, 0x7D, 0x21, 0x11, 0x0C, 0xAE, 0x5B, 0xDE, 0x56, 0x60, 0xC1, 0xB5, 0x6C, 0x7B,
     0x0B, 0x00, 0xA5, 0x48, 0x80, 0xEA, 0xCF, 0x1B, 0xFE, 0xBA, 0x45, 0xA6, 0xCC, 0x34, 0x8D, 0x77,
@@ -32,7 +32,7 @@ const KEY: [u8; 32] = [
 /// A PAD record.
 const PAD: [u8; 1] = [0x00];
 
-/// The id of a RECTANGLE and an info-byte that none has, and what comes of them behind the front.
+/// The id of a RECTANGLE and an info-byte that no rectangle has, and the result of them after the head.
 const BAD: [u8; 2] = [0x14, 0xFC];
 
 const REFUSAL: Refusal = Refusal {
@@ -49,12 +49,12 @@ fn ended(alloc: Global, front: &[u8], more: &[u8]) -> Option<Vec<u8>> {
     Some(file)
 }
 
-/// A file of that front, these bytes, and the canonical END.
+/// A file of that head, these bytes, and the canonical END.
 fn file_of(alloc: Global, more: &[u8]) -> Option<Vec<u8>> {
     ended(alloc, &FRONT, more)
 }
 
-/// Gives its bytes, and then fails.
+/// Returns its bytes, and then fails.
 #[derive(Drop)]
 struct Failing<'a> {
     rest: &'a [u8],
@@ -73,7 +73,7 @@ impl Read for Failing<'_> {
     }
 }
 
-/// What is answered when the file of the front alone is written anew, and whether it is that file again.
+/// The result of canonicalizing the file with only the head, and whether it is that file again.
 fn written(alloc: Global) -> Option<(Result<u64, Refusal>, bool)> {
     let file = file_of(alloc, &[])?;
     let mut out: Vec<u8> = Vec::new(alloc);
@@ -82,7 +82,7 @@ fn written(alloc: Global) -> Option<(Result<u64, Refusal>, bool)> {
     Some((count, out.as_slice() == file.as_slice()))
 }
 
-/// Whether the file of the front and these bytes is canonical, where so many bytes may be read.
+/// Whether the file of the head and these bytes is canonical, where this many bytes may be read.
 fn judged(alloc: Global, more: &[u8], limit: u64) -> Option<Result<bool, Refusal>> {
     let file = file_of(alloc, more)?;
     let mut from = SliceSource::new(&file, limit);
@@ -130,7 +130,7 @@ fn each_file_has_its_key(rt: HostRuntime) {
     assert!(rt; found == [Some(Ok(KEY)), Some(Ok(KEY)), Some(Err(REFUSAL))]);
 }
 
-/// What is answered of two files, each of the front and such bytes, and how many bytes were read of each.
+/// The result for two files, each of the head and such bytes, and how many bytes were read of each.
 fn compared(
     alloc: Global,
     more: &[u8],
@@ -165,7 +165,7 @@ fn why_of(refusal: Option<Refusal>) -> Option<Why> {
     Some(refusal?.why)
 }
 
-/// Why it isn't told whether the first bytes of the file of the front are canonical behind which a device fails, and how
+/// Why it isn't known whether the first bytes of the file of the head are canonical where a device fails after them, and how
 /// many bytes were read.
 fn judged_failing(alloc: Global, length: usize) -> Option<(Option<Why>, u64)> {
     let file = file_of(alloc, &[])?;
@@ -183,7 +183,7 @@ fn a_device_that_fails(rt: HostRuntime) {
     }
 }
 
-/// Why there is no key of that file behind which a device fails.
+/// Why there is no key of that file where a device fails after it.
 fn keyed_failing(alloc: Global) -> Option<Why> {
     let file = file_of(alloc, &[])?;
     let mut from = ReaderSource::new(alloc, Failing { rest: &file }, 1000).ok()?;
@@ -196,7 +196,7 @@ fn blamed(same: Result<bool, (Which, Refusal)>) -> Option<(Which, Why)> {
     Some((which, refusal.why))
 }
 
-/// Which of that file behind which a device fails and the same file isn't read, and why.
+/// Which of two isn't read, and why: that file where a device fails after it, or the same file.
 fn compared_failing(alloc: Global) -> Option<(Which, Why)> {
     let file = file_of(alloc, &[])?;
     let mut a = ReaderSource::new(alloc, Failing { rest: &file }, 1000).ok()?;

@@ -1,4 +1,4 @@
-//! What no clause says: that a layout is read where memory is there, and which of the reasons is answered.
+//! What no contract says: a layout is read where memory is there, and which of the reasons is returned.
 
 ghost use Rattle.std.specs.Prelude.{◌≡◌, IfOk};
 ghost use Rattle.oas_layout.specs.declared.profile.Profile.TheVariants.{One};
@@ -9,7 +9,7 @@ mod table;
 
 use self::table::ROWS;
 use file_pieces::bytes_of;
-use oas_file::{accept_file, read_layout};
+use oas_canon::oas_file::{accept_file, read_layout};
 use oas_layout::{Layout, Limits, Profile};
 use oas_num::{INPUT_MAX, Refusal, SliceSource};
 use std::alloc::Global;
@@ -17,7 +17,7 @@ use std::alloc::Global;
 /// A refusal, as the number of its reason and its place; `None` where nothing is refused.
 type Told = Option<(u8, u64)>;
 
-/// A file that calls its cells and its text by numbers that are named behind them, with the table-offsets in END.
+/// A file that calls its cells and its text by numbers that are named after them, with the table-offsets in END.
 const COMPACT: &str =
     "MAGIC START 00E807 01 0D01 14DB01000A0000 141028 0D00 11F80100000100003232 137B0003000000 0403544F5000 04014101 0602486900 02 00*12 F001 00*240 00";
 
@@ -34,7 +34,7 @@ fn told(refusal: Option<Refusal>) -> Told {
     Some((refusal.why.number(), refusal.at))
 }
 
-/// What comes of a file that is read, and of the same file of which nothing is kept.
+/// The result for a file that is read, and for the same file without keeping anything.
 fn answers(alloc: Global, file: &[u8], limits: Limits) -> [Told; 2] {
     let read = read(alloc, file, limits).err();
     let mut source = SliceSource::new(file, INPUT_MAX);
@@ -67,10 +67,10 @@ fn is_same(alloc: Global, file: &[u8], other: &[u8]) -> Option<bool> {
     same
 }
 
-/// What comes of a file, and whether it has the layout of the other, where there is an other.
+/// The result for a file, and whether it has the layout of the other, if there is one.
 type Answer = ([Told; 2], Option<bool>);
 
-/// The file of a row, and what comes of it; `None` of a heading.
+/// The file of a row, and the result for it; `None` for a heading.
 fn parts(row: &str) -> Option<(&str, &str)> {
     let (_, rest) = row.split_once(" | ")?;
     rest.split_once(" | ")
@@ -100,7 +100,7 @@ fn is_as_named(alloc: Global, file: &[u8], wanted: &str) -> Option<bool> {
     is_same(alloc, file, other.as_slice())
 }
 
-/// What comes of the file of a row.
+/// The result for the file of a row.
 fn found(alloc: Global, row: &str) -> Option<Answer> {
     let (file, wanted) = parts(row)?;
     let file = bytes_of(alloc, file).ok()?;
@@ -121,7 +121,7 @@ fn each_row(rt: HostRuntime) {
     assert!(rt; count == 68);
 }
 
-/// Where the record begins that stands at an offset of the compact file.
+/// Where the record at an offset of the compact file begins.
 fn record_at(offset: usize) -> u64 {
     match offset {
         0..=12 => 0,
@@ -140,7 +140,7 @@ fn record_at(offset: usize) -> u64 {
     }
 }
 
-/// How long the compact file is, and what comes of so many of its bytes.
+/// How long the compact file is, and the result for this many of its bytes.
 fn of_prefix(alloc: Global, len: usize) -> Option<(usize, [Told; 2])> {
     let file = bytes_of(alloc, COMPACT).ok()?;
     let front = file.as_slice().get(..len)?;
@@ -162,7 +162,7 @@ const FOUR: &str = "HEAD CELL RECT RECT RECT RECT TAIL";
 
 const FOUR_BY_NUMBER: &str = "HEAD 0D00 RECT RECT RECT RECT 030141 TAIL";
 
-/// What comes of a file under these limits.
+/// The result for a file under these limits.
 fn within(alloc: Global, limits: Option<Limits>, file: &str) -> Option<[Told; 2]> {
     let file = bytes_of(alloc, file).ok()?;
     Some(answers(alloc, file.as_slice(), limits?))

@@ -1,6 +1,6 @@
-//! What no clause of oas_file and oas_canon says, by their public calls alone: that they succeed where memory is there, which
-//! reason is answered of a file, and the answers of small files, failing devices and refused memory. It stands here so that
-//! both are proved without their tests.
+//! What no contract of oas_file and oas_canon says, tested by their public calls alone: they succeed where memory is there;
+//! which reason a file is refused for; and the results for small files, failing devices and failing allocations. The tests
+//! are in a crate of their own so that both are proved without them.
 #![tactic(auto)]
 
 #[cfg(test)]

@@ -1,4 +1,4 @@
-//! What records draw one after another, as the copies of the latest show it.
+//! What records draw one after another, as shown by the copies of the latest.
 mod named;
 mod paths;
 mod places;
@@ -18,7 +18,7 @@ use oas_shape::{RepField, Repetition};
 use std::alloc::Global;
 use std::process::Abort;
 
-/// A place with no repetition.
+/// A place without a repetition.
 fn at(x: Option<i64>, y: Option<i64>) -> Spot
     ensures { result ≡ record { x = x; y = y; repetition = None } }
 {
@@ -43,7 +43,7 @@ fn full(width: u64, height: u64, spot: Spot) -> Rectangle
     }
 }
 
-/// A rectangle, or a square, with no field but its place.
+/// A rectangle, or a square, with no field except its place.
 fn bare(square: bool, spot: Spot) -> Rectangle
     ensures { result.spot ≡ spot }
 {
@@ -57,7 +57,7 @@ fn bare(square: bool, spot: Spot) -> Rectangle
     }
 }
 
-/// Draws the rectangle, which is dropped in a step of its own, since that is dear to prove beside other values.
+/// Draws the rectangle, which is dropped in a step of its own, since that is expensive to prove beside other values.
 fn draw(modal: &mut ModalVariables, mut drawn: Rectangle)
     requires { IsNear modal.old.geometry }
     ensures { modal.new ≡ stepped modal.old (OneRecord.Rectangle drawn) }
@@ -160,7 +160,7 @@ fn squares(rt: HostRuntime) {
     assert!(rt; squares_seen(rt.alloc()) == wanted);
 }
 
-/// Three circles of a radius that is the grid's, the last at its edge.
+/// Three circles with a radius equal to the grid's, the last at its edge.
 fn circles() -> Circle {
     Circle {
         layer: Some(1),
@@ -174,7 +174,7 @@ fn circles() -> Circle {
     }
 }
 
-/// Whether the last of the circles is drawn, and why a rectangle behind them is refused.
+/// Whether the last of the circles is drawn, and why a rectangle after them is refused.
 fn copies_drawn(alloc: Global) -> (bool, Option<Why>) {
     let mut modal = ModalVariables::new();
     modal.draw_circle(&mut circles());
@@ -197,7 +197,7 @@ fn copies(rt: HostRuntime) {
     assert!(rt; copies_drawn(rt.alloc()) == wanted);
 }
 
-/// How many copies of a circle there are beside so many elements of that weight, or why it is refused.
+/// How many copies of a circle there are after this many elements with that weight, or why it is refused.
 fn counted(modal: &ModalVariables, repeated: bool, count: u64, weight: u64) -> Result<u64, Why>
     requires few { count ≤ 2 ^ 24 }
     requires light { weight ≤ 2 ^ 28 }

@@ -1,20 +1,20 @@
-//! For tests whose files are given in pieces, apart by blanks, so that a row shows what is in a file.
+//! For tests whose files are written as pieces between blanks, so that a row of a table shows what is in a file.
 //!
-//! A piece is hex; hex that stands so many times (`00*252`); nothing (`-`); or a word for a part that most files have: `HEAD`, which
-//! is `MAGIC START 00E807 OFFSETS`, a cell `CELL` of the name `A`, a rectangle `RECT` with all fields, the same as a polygon but
-//! elsewhere and larger, `BOX`, and the canonical END, `TAIL`. Nothing but tests uses it.
+//! A piece is hex; hex that is repeated (`00*252`); nothing (`-`); or a word for a part that most files have. The words are
+//! `HEAD`, which is `MAGIC START 00E807 OFFSETS`; a cell `CELL` with the name `A`; a rectangle `RECT` with all fields; a
+//! larger rectangle `BOX` elsewhere, written as a polygon; and the canonical END, `TAIL`. Only tests use this crate.
 #![tactic(auto)]
 
 use std::alloc::Global;
 
-/// Pieces that spell no bytes, or for which there is no memory.
+/// Pieces that spell no bytes, or out of memory.
 #[derive(Clone, Copy, Debug)]
 pub struct Unspelled;
 
-/// Some hex, and how often it stands; None where its times are no number.
+/// Some hex, and how often it is repeated; None where the count is no number.
 type Part<'a> = (&'a str, Option<usize>);
 
-/// The part that a piece without a word is.
+/// A piece without a word.
 fn counted<'a>(piece: &'a str) -> Part<'a> {
     match piece.split_once('*') {
         Some((hex, times)) => (hex, times.parse::<usize>().ok()),
@@ -22,7 +22,7 @@ fn counted<'a>(piece: &'a str) -> Part<'a> {
     }
 }
 
-/// The two parts of a piece, of which the second may be nothing.
+/// The two parts of a piece. The second may be empty.
 fn parts_of<'a>(piece: &'a str) -> [Part<'a>; 2] {
     let first = match piece {
         "MAGIC" => ("2553454D492D4F415349530D0A", Some(1)),

@@ -1,16 +1,16 @@
 //! Elements by plain values, as the rows of tests give them.
 
-use oas_layout::{Draft, Element, Turns};
-use oas_num::{Label, Name, SliceSource, Spelled};
+use oas_layout::{Draft, Element, Extensions, Layer, Turns};
+use oas_num::{Label, Name};
 use oas_ring::{Point, Points};
 use std::alloc::Global;
 
-/// An element. A name and a string are given as a file spells them.
+/// An element. A name and a string are given by their bytes.
 #[derive(Clone, Copy)]
 pub(crate) enum Plain {
-    /// A placement of the cell of this name there, by these turns, and whether it is flipped.
+    /// A placement of the cell with this name there, with these turns, and whether it is flipped.
     Placement(&'static [u8], (i64, i64), Turns, bool),
-    /// A text of this string, this textlayer and texttype, there.
+    /// A text with this string, this textlayer and texttype, there.
     Text(&'static [u8], (u64, u64), (i64, i64)),
     /// A rectangle of this layer, 10 wide and 20 high.
     Rectangle(u64),
@@ -22,14 +22,14 @@ pub(crate) enum Plain {
     Circle,
 }
 
-/// The name that is spelled so.
-pub(crate) fn name(alloc: Global, spelled: &[u8]) -> Option<Name> {
-    Name::read(alloc, &mut SliceSource::new(spelled, 1000)).ok()
+/// The name of these bytes.
+pub(crate) fn name(alloc: Global, bytes: &[u8]) -> Option<Name> {
+    Name::new(alloc, bytes).ok()
 }
 
-/// The string that is spelled so.
-pub(crate) fn label(alloc: Global, spelled: &[u8]) -> Option<Label> {
-    Label::read(alloc, &mut SliceSource::new(spelled, 1000)).ok()
+/// The string of these bytes.
+pub(crate) fn label(alloc: Global, bytes: &[u8]) -> Option<Label> {
+    Label::new(alloc, bytes).ok()
 }
 
 fn points(alloc: Global, list: &[(i64, i64)]) -> Option<Points> {
@@ -40,53 +40,87 @@ fn points(alloc: Global, list: &[(i64, i64)]) -> Option<Points> {
     Some(Points::new(points))
 }
 
-/// The placement of the cell of the name that is spelled so.
+/// The placement of the cell of the name of these bytes.
 fn placement(
     alloc: Global,
-    spelled: &[u8],
+    bytes: &[u8],
     at: (i64, i64),
     turns: Turns,
     flip: bool,
 ) -> Option<Element> {
-    let name = name(alloc, spelled)?;
-    Some(Element::placement(name, at.0, at.1, turns, flip))
+    let name = name(alloc, bytes)?;
+    Some(Element::placement(name, Point { x: at.0, y: at.1 }, turns, flip))
 }
 
-/// The text of the string that is spelled so.
-fn text(alloc: Global, spelled: &[u8], layers: (u64, u64), at: (i64, i64)) -> Option<Element> {
-    let label = label(alloc, spelled)?;
-    Some(Element::text(label, layers.0, layers.1, at.0, at.1))
+/// The text of the string of these bytes.
+fn text(alloc: Global, bytes: &[u8], layers: (u64, u64), at: (i64, i64)) -> Option<Element> {
+    let label = label(alloc, bytes)?;
+    Some(Element::text(
+        label,
+        Layer {
+            layer: layers.0,
+            datatype: layers.1,
+        },
+        Point { x: at.0, y: at.1 },
+    ))
 }
 
 fn polygon(alloc: Global, list: &[(i64, i64)]) -> Option<Element> {
     let points = points(alloc, list)?;
-    Some(Element::polygon(1, 0, points))
+    Some(Element::polygon(
+        Layer {
+            layer: 1,
+            datatype: 0,
+        },
+        points,
+    ))
 }
 
 fn path(alloc: Global, ends: i64, list: &[(i64, i64)]) -> Option<Element> {
     let points = points(alloc, list)?;
-    Some(Element::path(1, 0, 5, ends, ends, points))
+    Some(Element::path(
+        Layer {
+            layer: 1,
+            datatype: 0,
+        },
+        5,
+        Extensions {
+            start: ends,
+            end: ends,
+        },
+        points,
+    ))
 }
 
 impl Plain {
-    /// The element; `None` where nothing is spelled so, or memory is refused.
+    /// The element; `None` where the bytes are no name or no string, or if out of memory.
     pub(crate) fn element(self, alloc: Global) -> Option<Element> {
         match self {
-            Plain::Placement(spelled, at, turns, flip) => {
-                placement(alloc, spelled, at, turns, flip)
-            }
-            Plain::Text(spelled, layers, at) => text(alloc, spelled, layers, at),
-            Plain::Rectangle(layer) => Some(Element::rectangle(layer, 0, 10, 20, 0, 0)),
+            Plain::Placement(bytes, at, turns, flip) => { placement(alloc, bytes, at, turns, flip) }
+            Plain::Text(bytes, layers, at) => text(alloc, bytes, layers, at),
+            Plain::Rectangle(layer) => Some(Element::rectangle(
+                Layer { layer, datatype: 0 },
+                10,
+                20,
+                Point { x: 0, y: 0 },
+            )),
             Plain::Polygon(list) => polygon(alloc, list),
             Plain::Path(ends, list) => path(alloc, ends, list),
-            Plain::Circle => Some(Element::circle(1, 0, 5, 0, 0)),
+            Plain::Circle => Some(Element::circle(
+                Layer {
+                    layer: 1,
+                    datatype: 0,
+                },
+                5,
+                Point { x: 0, y: 0 },
+            )),
         }
     }
 }
 
-/// Adds the cell `A` with these elements, each so many times.
+/// Adds the cell `A` with these elements, each this many times.
 pub(crate) fn add_cell(alloc: Global, draft: &mut Draft, elements: &[(Plain, u64)]) -> Option<()> {
-    let name = name(alloc, b"\x01A")?;
+    let name = name(alloc, b"A")?;
     draft.add_cell(name).ok()?;
     for (element, times) in elements {
         add(alloc, draft, *element, *times)?;
@@ -94,10 +128,10 @@ pub(crate) fn add_cell(alloc: Global, draft: &mut Draft, elements: &[(Plain, u64
     Some(())
 }
 
-/// Adds an element so many times to the only cell.
+/// Adds an element this many times to the only cell.
 fn add(alloc: Global, draft: &mut Draft, element: Plain, times: u64) -> Option<()> {
     let element = element.element(alloc)?;
-    if times == 0 || draft.cells() != 1 {
+    if times == 0 || draft.cell_count() != 1 {
         return None;
     }
     draft.add_many(0, element, times).ok()

@@ -6,17 +6,17 @@ mod table;
 
 use self::table::ROWS;
 use file_pieces::bytes_of;
-use oas_compact::ByProfileTwo;
+use oas_judge::oas_compact::ByProfileTwo;
+use oas_judge::oas_runs::CompactLayout;
 use oas_judge::{is_canonical, read_judged};
 use oas_layout::{Limits, Profile};
 use oas_num::{INPUT_MAX, Refusal, SliceSource};
-use oas_runs::CompactLayout;
 use std::alloc::Global;
 
 /// Whether a file is canonical, or its refusal as the number of its reason and its place.
 type Answer = Result<bool, (u8, u64)>;
 
-/// What is answered of a file by a profile.
+/// The result for a file by a profile.
 fn answer(alloc: Global, file: &[u8], profile: Profile) -> Answer {
     let mut source = SliceSource::new(file, INPUT_MAX);
     match is_canonical(alloc, &mut source, Limits::standard(), profile) {
@@ -25,7 +25,7 @@ fn answer(alloc: Global, file: &[u8], profile: Profile) -> Answer {
     }
 }
 
-/// What is answered of a file by profile one and by profile two.
+/// The result for a file by profile one and by profile two.
 fn answers(alloc: Global, pieces: &str) -> Option<[Answer; 2]> {
     let file = bytes_of(alloc, pieces).ok()?;
     let by_one = answer(alloc, file.as_slice(), Profile::One);
@@ -33,7 +33,7 @@ fn answers(alloc: Global, pieces: &str) -> Option<[Answer; 2]> {
     Some([by_one, by_two])
 }
 
-/// The answer that a row gives as `canonical`, `other` or NUMBER@OFFSET.
+/// The result that a row gives as `canonical`, `other` or NUMBER@OFFSET.
 fn answer_of(text: &str) -> Option<Answer> {
     match text {
         "canonical" => Some(Ok(true)),
@@ -45,20 +45,20 @@ fn answer_of(text: &str) -> Option<Answer> {
     }
 }
 
-/// The file of a row, and what it says of it; `None` of a heading.
+/// The file of a row, and the result that it gives; `None` for a heading.
 fn parts(row: &str) -> Option<(&str, &str)> {
     let (_, rest) = row.split_once(" | ")?;
     rest.split_once(" | ")
 }
 
-/// What a row says: of both profiles one thing, or of each its own.
+/// The result of a row: one for both profiles, or one for each.
 fn wanted(row: &str) -> Option<[Answer; 2]> {
     let (_, wanted) = parts(row)?;
     let (by_one, by_two) = wanted.split_once(" | ").unwrap_or((wanted, wanted));
     Some([answer_of(by_one)?, answer_of(by_two)?])
 }
 
-/// What is answered of the file of a row.
+/// The result for the file of a row.
 fn found(alloc: Global, row: &str) -> Option<[Answer; 2]> {
     let (file, _) = parts(row)?;
     answers(alloc, file)
@@ -77,17 +77,17 @@ fn each_row(rt: HostRuntime) {
     assert!(rt; count == 49);
 }
 
-/// The layout of a file, kept by profile two, and whether the file is canonical by profile one, if no more bytes than so many
+/// The layout of a file, kept by profile two, and whether the file is canonical by profile one, if at most this many bytes
 /// are read.
 fn judged(alloc: Global, file: &[u8], limit: u64) -> Result<(CompactLayout, bool), Refusal> {
     let mut source = SliceSource::new(file, limit);
     read_judged::<_, ByProfileTwo>(alloc, &mut source, Limits::standard(), Profile::One)
 }
 
-/// Drops a value in a step of its own, since that is dear to prove beside other values.
+/// Drops a value in a step of its own, since that is expensive to prove beside other values.
 fn discard<T: Drop>(_value: T) {}
 
-/// The same of a file that is given in pieces.
+/// The same for a file that is given in pieces.
 fn pieces_judged(alloc: Global, pieces: &str) -> Option<(CompactLayout, bool)> {
     let file = bytes_of(alloc, pieces).ok()?;
     judged(alloc, file.as_slice(), INPUT_MAX).ok()
@@ -129,7 +129,7 @@ fn one_box_is_not_two(rt: HostRuntime) {
     assert!(rt; found == Some((false, [true, false])));
 }
 
-/// The number of the reason for which a file is refused of which so many bytes may be read.
+/// The number of the reason for which a file is refused where this many bytes may be read.
 fn refused_within(alloc: Global, pieces: &str, limit: u64) -> Option<u8> {
     let file = bytes_of(alloc, pieces).ok()?;
     match judged(alloc, file.as_slice(), limit) {

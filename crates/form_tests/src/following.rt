@@ -2,7 +2,7 @@
 
 use self::Step::{Drawn, Next};
 use crate::elements::{Plain, label, name};
-use oas_form::FormJudge;
+use oas_judge::oas_form::FormJudge;
 use oas_layout::Turns;
 use std::alloc::Global;
 
@@ -15,77 +15,77 @@ enum Step {
     Next(Plain),
 }
 
-/// A placement, and second ones with whether a judge holds after the first and then them.
-const PLACEMENT: Plain = Plain::Placement(b"\x02BB", (5, 5), Turns::T1, false);
+/// A placement, and second ones with whether a judge holds after both.
+const PLACEMENT: Plain = Plain::Placement(b"BB", (5, 5), Turns::T1, false);
 
 const SECOND_PLACEMENTS: [(Plain, bool); 16] = [
-    (Plain::Placement(b"\x02BB", (5, 5), Turns::T1, false), true),
-    (Plain::Placement(b"\x02BB", (5, 5), Turns::T1, true), true),
-    (Plain::Placement(b"\x02BB", (5, 5), Turns::T3, false), true),
-    (Plain::Placement(b"\x02BB", (5, 6), Turns::T0, false), true),
-    (Plain::Placement(b"\x02BB", (6, -7), Turns::T0, false), true),
-    (Plain::Placement(b"\x02BB", (5, 5), Turns::T0, true), false),
-    (Plain::Placement(b"\x02BB", (5, 4), Turns::T3, true), false),
-    (Plain::Placement(b"\x02BB", (4, 9), Turns::T3, true), false),
+    (Plain::Placement(b"BB", (5, 5), Turns::T1, false), true),
+    (Plain::Placement(b"BB", (5, 5), Turns::T1, true), true),
+    (Plain::Placement(b"BB", (5, 5), Turns::T3, false), true),
+    (Plain::Placement(b"BB", (5, 6), Turns::T0, false), true),
+    (Plain::Placement(b"BB", (6, -7), Turns::T0, false), true),
+    (Plain::Placement(b"BB", (5, 5), Turns::T0, true), false),
+    (Plain::Placement(b"BB", (5, 4), Turns::T3, true), false),
+    (Plain::Placement(b"BB", (4, 9), Turns::T3, true), false),
     (
-        Plain::Placement(b"\x02BB", (i64::MIN, i64::MAX), Turns::T1, false),
+        Plain::Placement(b"BB", (i64::MIN, i64::MAX), Turns::T1, false),
         false,
     ),
-    (Plain::Placement(b"\x01C", (4, 4), Turns::T0, false), true),
-    (Plain::Placement(b"\x02BC", (4, 4), Turns::T0, false), true),
-    (Plain::Placement(b"\x03BBA", (4, 4), Turns::T0, false), true),
-    (Plain::Placement(b"\x01B", (6, 6), Turns::T3, true), false),
-    (Plain::Placement(b"\x02BA", (6, 6), Turns::T3, true), false),
-    (Plain::Placement(b"\x03BAZ", (6, 6), Turns::T3, true), false),
+    (Plain::Placement(b"C", (4, 4), Turns::T0, false), true),
+    (Plain::Placement(b"BC", (4, 4), Turns::T0, false), true),
+    (Plain::Placement(b"BBA", (4, 4), Turns::T0, false), true),
+    (Plain::Placement(b"B", (6, 6), Turns::T3, true), false),
+    (Plain::Placement(b"BA", (6, 6), Turns::T3, true), false),
+    (Plain::Placement(b"BAZ", (6, 6), Turns::T3, true), false),
     (
-        Plain::Placement(b"\x09AZZZZZZZZ", (6, 6), Turns::T3, true),
+        Plain::Placement(b"AZZZZZZZZ", (6, 6), Turns::T3, true),
         false,
     ),
 ];
 
-/// A text, and second ones with whether a judge holds after the first and then them.
-const TEXT: Plain = Plain::Text(b"\x02Hi", (3, 2), (5, 5));
+/// A text, and second ones with whether a judge holds after both.
+const TEXT: Plain = Plain::Text(b"Hi", (3, 2), (5, 5));
 
 const SECOND_TEXTS: [(Plain, bool); 15] = [
-    (Plain::Text(b"\x02Hi", (3, 2), (5, 5)), true),
-    (Plain::Text(b"\x02Hi", (3, 2), (5, 6)), true),
-    (Plain::Text(b"\x02Hi", (3, 2), (6, -7)), true),
-    (Plain::Text(b"\x02Hi", (3, 3), (-7, -7)), true),
-    (Plain::Text(b"\x02Hi", (4, 0), (-7, -7)), true),
-    (Plain::Text(b"\x02Hi", (3, 2), (5, 4)), false),
-    (Plain::Text(b"\x02Hi", (3, 1), (9, 9)), false),
-    (Plain::Text(b"\x02Hi", (2, 9), (9, 9)), false),
-    (Plain::Text(b"\x01I", (0, 0), (4, 4)), true),
-    (Plain::Text(b"\x02Hj", (0, 0), (4, 4)), true),
-    (Plain::Text(b"\x03Hi ", (0, 0), (4, 4)), true),
-    (Plain::Text(b"\x00", (9, 9), (9, 9)), false),
-    (Plain::Text(b"\x01H", (9, 9), (9, 9)), false),
-    (Plain::Text(b"\x02Hh", (9, 9), (9, 9)), false),
-    (Plain::Text(b"\x03Hhi", (9, 9), (9, 9)), false),
+    (Plain::Text(b"Hi", (3, 2), (5, 5)), true),
+    (Plain::Text(b"Hi", (3, 2), (5, 6)), true),
+    (Plain::Text(b"Hi", (3, 2), (6, -7)), true),
+    (Plain::Text(b"Hi", (3, 3), (-7, -7)), true),
+    (Plain::Text(b"Hi", (4, 0), (-7, -7)), true),
+    (Plain::Text(b"Hi", (3, 2), (5, 4)), false),
+    (Plain::Text(b"Hi", (3, 1), (9, 9)), false),
+    (Plain::Text(b"Hi", (2, 9), (9, 9)), false),
+    (Plain::Text(b"I", (0, 0), (4, 4)), true),
+    (Plain::Text(b"Hj", (0, 0), (4, 4)), true),
+    (Plain::Text(b"Hi ", (0, 0), (4, 4)), true),
+    (Plain::Text(b"", (9, 9), (9, 9)), false),
+    (Plain::Text(b"H", (9, 9), (9, 9)), false),
+    (Plain::Text(b"Hh", (9, 9), (9, 9)), false),
+    (Plain::Text(b"Hhi", (9, 9), (9, 9)), false),
 ];
 
 /// A placement and a text that come late.
-const LATE_PLACEMENT: Plain = Plain::Placement(b"\x02BB", (9, 9), Turns::T3, true);
+const LATE_PLACEMENT: Plain = Plain::Placement(b"BB", (9, 9), Turns::T3, true);
 
-const LATE_TEXT: Plain = Plain::Text(b"\x02Hi", (9, 9), (9, 9));
+const LATE_TEXT: Plain = Plain::Text(b"Hi", (9, 9), (9, 9));
 
 /// Placements at 0, 0.
-const OF_BB: Plain = Plain::Placement(b"\x02BB", (0, 0), Turns::T0, false);
+const OF_BB: Plain = Plain::Placement(b"BB", (0, 0), Turns::T0, false);
 
-const OF_MANY_BS: Plain = Plain::Placement(b"\x09BBBBBBBBB", (0, 0), Turns::T0, false);
+const OF_MANY_BS: Plain = Plain::Placement(b"BBBBBBBBB", (0, 0), Turns::T0, false);
 
-const OF_C: Plain = Plain::Placement(b"\x01C", (0, 0), Turns::T0, false);
+const OF_C: Plain = Plain::Placement(b"C", (0, 0), Turns::T0, false);
 
-const OF_HI: Plain = Plain::Placement(b"\x02Hi", (0, 0), Turns::T0, false);
+const OF_HI: Plain = Plain::Placement(b"Hi", (0, 0), Turns::T0, false);
 
 /// Texts at 0, 0.
-const SAYS_BB: Plain = Plain::Text(b"\x02BB", (0, 0), (0, 0));
+const SAYS_BB: Plain = Plain::Text(b"BB", (0, 0), (0, 0));
 
-const SAYS_HI: Plain = Plain::Text(b"\x02Hi", (0, 0), (0, 0));
+const SAYS_HI: Plain = Plain::Text(b"Hi", (0, 0), (0, 0));
 
-const SAYS_MORE: Plain = Plain::Text(b"\x09Hiiiiiiii", (0, 0), (0, 0));
+const SAYS_MORE: Plain = Plain::Text(b"Hiiiiiiii", (0, 0), (0, 0));
 
-const SAYS_I: Plain = Plain::Text(b"\x01I", (0, 0), (0, 0));
+const SAYS_I: Plain = Plain::Text(b"I", (0, 0), (0, 0));
 
 /// Steps, each with whether it is judged and whether the judge then holds.
 const ROWS: [(&str, &[(Step, bool, bool)]); 6] = [
@@ -115,7 +115,7 @@ const ROWS: [(&str, &[(Step, bool, bool)]); 6] = [
             (Next(OF_BB), false, true),
             (Next(SAYS_HI), false, true),
             (
-                Drawn(Plain::Placement(b"\x02BB", (-9, 0), Turns::T0, false)),
+                Drawn(Plain::Placement(b"BB", (-9, 0), Turns::T0, false)),
                 true,
                 true,
             ),
@@ -129,7 +129,7 @@ const ROWS: [(&str, &[(Step, bool, bool)]); 6] = [
             (Drawn(PLACEMENT), true, true),
             (Next(SAYS_BB), false, true),
             (
-                Drawn(Plain::Placement(b"\x02BB", (5, 4), Turns::T1, false)),
+                Drawn(Plain::Placement(b"BB", (5, 4), Turns::T1, false)),
                 true,
                 false,
             ),
@@ -142,7 +142,7 @@ const ROWS: [(&str, &[(Step, bool, bool)]); 6] = [
             (Next(OF_HI), false, true),
             (Drawn(TEXT), true, true),
             (Next(OF_HI), false, true),
-            (Drawn(Plain::Text(b"\x02Hi", (3, 2), (5, 4))), true, false),
+            (Drawn(Plain::Text(b"Hi", (3, 2), (5, 4))), true, false),
         ],
     ),
     (
@@ -156,28 +156,28 @@ const ROWS: [(&str, &[(Step, bool, bool)]); 6] = [
     ),
 ];
 
-/// Judges a placement or a text by its fields, and answers whether it was judged.
+/// Judges a placement or a text by its fields, and returns whether it was judged.
 fn follow(alloc: Global, judge: &mut FormJudge, next: Plain) -> Option<bool> {
     match next {
-        Plain::Placement(spelled, at, turns, flip) => {
-            let name = name(alloc, spelled)?;
+        Plain::Placement(bytes, at, turns, flip) => {
+            let name = name(alloc, bytes)?;
             Some(judge.place_next(name.as_bytes(), at, turns, flip))
         }
-        Plain::Text(spelled, layers, at) => {
-            let label = label(alloc, spelled)?;
+        Plain::Text(bytes, layers, at) => {
+            let label = label(alloc, bytes)?;
             Some(judge.write_next(label.as_bytes(), layers, at))
         }
         _ => None,
     }
 }
 
-/// Judges an element, and answers whether there is such a one.
+/// Judges an element, and returns whether there is one.
 fn draw(alloc: Global, judge: &mut FormJudge, element: Plain) -> Option<bool> {
     judge.draw_spelled(element.element(alloc)?);
     Some(true)
 }
 
-/// Takes a step, and answers whether it was judged and whether the judge then holds.
+/// Takes a step, and returns whether it was judged and whether the judge then holds.
 fn take(alloc: Global, judge: &mut FormJudge, step: Step) -> (Option<bool>, bool) {
     let is_judged = match step {
         Drawn(element) => draw(alloc, judge, element),
@@ -186,7 +186,7 @@ fn take(alloc: Global, judge: &mut FormJudge, step: Step) -> (Option<bool>, bool
     (is_judged, judge.holds())
 }
 
-/// How many of the steps, taken one after another, are answered as they are given.
+/// How many of the steps, made one after another, have the given results.
 fn steps_right(alloc: Global, steps: &[(Step, bool, bool)]) -> usize {
     let mut judge = FormJudge::new();
     let mut right = 0usize;
@@ -198,7 +198,7 @@ fn steps_right(alloc: Global, steps: &[(Step, bool, bool)]) -> usize {
     right
 }
 
-/// The first row of which not all steps are answered as they are given, and how many are.
+/// The first row where not all steps have the given results, and how many have.
 fn wrong_row<'a>(
     alloc: Global,
     rows: &[(&'a str, &[(Step, bool, bool)])],
@@ -217,7 +217,7 @@ fn each_row(rt: HostRuntime) {
     assert_eq!(rt; wrong_row(rt.alloc(), &ROWS), None);
 }
 
-/// How many of two elements are judged as they are given, the second by its fields, and the second as an element.
+/// How many of two elements are judged as given, the second by its fields, and the second as an element.
 fn pair_right(alloc: Global, first: Plain, second: Plain, holds: bool) -> [usize; 2] {
     let first = (Drawn(first), true, true);
     [
@@ -226,7 +226,7 @@ fn pair_right(alloc: Global, first: Plain, second: Plain, holds: bool) -> [usize
     ]
 }
 
-/// The place of the first of these that isn't judged as it is given after the other element, and how many of the two are.
+/// The place of the first of these that isn't judged as given after the other element, and how many of the two are.
 fn wrong_second(
     alloc: Global,
     first: Plain,

@@ -1,7 +1,7 @@
 //! Records whose canonical bytes are known from outside, and records that no canonical file has there.
 
 use crate::elements::{Plain, name};
-use oas_form::FormJudge;
+use oas_judge::oas_form::FormJudge;
 use oas_layout::Turns;
 use std::alloc::Global;
 
@@ -43,15 +43,15 @@ const ROWS: [(&str, bool); 11] = [
     ("A second first", false),
     ("A second B first", true),
     ("A second B first circle first", false),
-    // The name of the cell is spelled longer than it need be.
+    // The name of the cell is spelled in more bytes than needed.
     ("long-A", false),
-    // What was refused stays so.
+    // What has failed stays failed.
     ("refused A first", false),
 ];
 
-/// Judges the CELL of the name that is spelled so, of which these bytes were read. Whether there is such a one.
-fn open(alloc: Global, judge: &mut FormJudge, spelled: &[u8], bytes: &[u8]) -> bool {
-    let Some(name) = name(alloc, spelled) else {
+/// Judges the CELL with the name of these letters; these bytes were read. Whether there is one.
+fn open(alloc: Global, judge: &mut FormJudge, letters: &[u8], bytes: &[u8]) -> bool {
+    let Some(name) = name(alloc, letters) else {
         return false;
     };
     if name.as_bytes().len() > 1 << 30 {
@@ -61,7 +61,7 @@ fn open(alloc: Global, judge: &mut FormJudge, spelled: &[u8], bytes: &[u8]) -> b
     true
 }
 
-/// Judges an element of which these bytes were read. Whether there is such a one.
+/// Judges an element; these bytes were read. Whether there is one.
 fn draw(alloc: Global, judge: &mut FormJudge, element: Plain, bytes: &[u8]) -> bool {
     let Some(element) = element.element(alloc) else {
         return false;
@@ -73,14 +73,14 @@ fn draw(alloc: Global, judge: &mut FormJudge, element: Plain, bytes: &[u8]) -> b
     true
 }
 
-/// Judges the record of this word, where `other` is the rectangle of layer 1 with those bytes. Whether there is such a one.
+/// Judges the record of this word, where `other` is the rectangle of layer 1 with those bytes. Whether there is one.
 fn judge_word(alloc: Global, judge: &mut FormJudge, word: &str, other: &[u8]) -> bool {
     match word {
-        "A" => open(alloc, judge, b"\x01A", b"\x0E\x01A"),
-        "AB" => open(alloc, judge, b"\x02AB", b"\x0E\x02AB"),
-        "B" => open(alloc, judge, b"\x01B", b"\x0E\x01B"),
-        "C" => open(alloc, judge, b"\x01C", b"\x0E\x01C"),
-        "long-A" => open(alloc, judge, b"\x01A", b"\x0E\x81\x00A"),
+        "A" => open(alloc, judge, b"A", b"\x0E\x01A"),
+        "AB" => open(alloc, judge, b"AB", b"\x0E\x02AB"),
+        "B" => open(alloc, judge, b"B", b"\x0E\x01B"),
+        "C" => open(alloc, judge, b"C", b"\x0E\x01C"),
+        "long-A" => open(alloc, judge, b"A", b"\x0E\x81\x00A"),
         "refused" => {
             judge.refuse();
             true
@@ -90,16 +90,13 @@ fn judge_word(alloc: Global, judge: &mut FormJudge, word: &str, other: &[u8]) ->
     }
 }
 
-/// Judges the element of this word as it is spelled. Whether there is such a one.
+/// Judges the element of this word with its own spelling. Whether there is one.
 fn draw_word(alloc: Global, judge: &mut FormJudge, word: &str) -> bool {
     let (element, bytes) = match word {
         "first" => (Plain::Rectangle(1), FIRST),
         "second" => (Plain::Rectangle(2), SECOND),
-        "placement" => (
-            Plain::Placement(b"\x01B", (0, 0), Turns::T1, false),
-            PLACEMENT,
-        ),
-        "text" => (Plain::Text(b"\x02Hi", (3, 0), (0, 0)), TEXT),
+        "placement" => (Plain::Placement(b"B", (0, 0), Turns::T1, false), PLACEMENT),
+        "text" => (Plain::Text(b"Hi", (3, 0), (0, 0)), TEXT),
         "polygon" => (
             Plain::Polygon(&[(0, 0), (0, 20), (10, 20), (10, 0)]),
             POLYGON,
@@ -111,7 +108,7 @@ fn draw_word(alloc: Global, judge: &mut FormJudge, word: &str) -> bool {
     draw(alloc, judge, element, bytes)
 }
 
-/// Whether a judge holds after these records; `None` where one of them is none.
+/// Whether a judge holds after these records; `None` where one of them does not exist.
 fn holds(alloc: Global, records: &str, other: &[u8]) -> Option<bool> {
     let mut judge = FormJudge::new();
     let mut are_judged = true;
@@ -121,7 +118,7 @@ fn holds(alloc: Global, records: &str, other: &[u8]) -> Option<bool> {
     are_judged.then_some(judge.holds())
 }
 
-/// The first row that isn't answered as it is given, and what is answered.
+/// The first row that doesn't have the given result, and its result.
 fn wrong_row<'a>(alloc: Global, rows: &[(&'a str, bool)]) -> Option<(&'a str, Option<bool>)> {
     for (records, wanted) in rows {
         let found = holds(alloc, *records, b"");

@@ -1,6 +1,6 @@
-//! What no clause of oas_form and oas_judge says, by their public calls alone: the bytes of layouts and the answers of both judges
-//! that are known from outside, and what comes of failing devices and refused memory. It stands here so that both are proved
-//! without their tests.
+//! What no contract of oas_form and oas_judge says, tested by their public calls alone: the bytes of layouts and the results
+//! of both judges that are known from outside, and the results where devices or allocations fail. The tests are in a crate of
+//! their own so that both are proved without them.
 #![tactic(auto)]
 
 #[cfg(test)]

@@ -2,14 +2,14 @@
 
 use crate::elements::{Plain, add_cell};
 use file_pieces::put_pieces;
-use oas_form::{has_canonical_bytes, put_canonical, write_canonical};
+use oas_judge::oas_form::{has_canonical_bytes, put_canonical, write_canonical};
 use oas_layout::{Draft, Layout, Limits, Profile, Turns};
 use oas_num::{Counter, Fraction, Refusal, Why};
 use std::alloc::Global;
 use std::io;
 use std::io::Write;
 
-/// A writer that takes at most `most` bytes a call and `room` in all, and then answers an error, or 0.
+/// A writer that takes at most `most` bytes a call and `room` in all, and then returns an error, or 0.
 #[derive(Drop)]
 struct Narrow {
     took: Vec<u8>,
@@ -48,7 +48,7 @@ struct Row {
     elements: Option<&'static [(Plain, u64)]>,
     /// The unit, as START has it, in hex.
     start: &'static str,
-    /// What stands between START and END, in hex.
+    /// What is between START and END, in hex.
     body: &'static str,
     length: u64,
 }
@@ -113,9 +113,9 @@ const ROWS: [Row; 7] = [
             (Plain::Path(5, &[(0, 0), (10, 0)]), 1),
             (Plain::Polygon(&[(10, 20), (10, 0), (0, 0), (0, 20)]), 1),
             (Plain::Rectangle(1), 1),
-            (Plain::Text(b"\x02Hi", (3, 0), (0, 0)), 1),
-            (Plain::Placement(b"\x01B", (0, 0), Turns::T3, true), 1),
-            (Plain::Placement(b"\x01B", (0, 0), Turns::T1, false), 1),
+            (Plain::Text(b"Hi", (3, 0), (0, 0)), 1),
+            (Plain::Placement(b"B", (0, 0), Turns::T3, true), 1),
+            (Plain::Placement(b"B", (0, 0), Turns::T1, false), 1),
             (Plain::Rectangle(1), 1),
         ]),
         start: "00E807",
@@ -169,7 +169,7 @@ impl Row {
     }
 }
 
-/// Whether the layout's bytes are the front of these.
+/// Whether the layout's bytes are a prefix of these.
 fn is_front_of(layout: &Layout, wanted: &[u8]) -> bool {
     match wanted.split_last() {
         Some((_, front)) => has_canonical_bytes(layout, front),
@@ -177,11 +177,11 @@ fn is_front_of(layout: &Layout, wanted: &[u8]) -> bool {
     }
 }
 
-/// How many of a layout's bytes are put, counted and written; whether they are those known, as they are told and as they
-/// are written; and whether those without the last are its bytes too.
+/// How many of a layout's bytes are put, counted and written; whether they are the expected ones, as compared and as written;
+/// and whether the expected ones without the last are its bytes too.
 type Answers = ([u64; 3], [bool; 3]);
 
-/// What is answered of a layout and the bytes that are known.
+/// The result for a layout and the expected bytes.
 fn answers(alloc: Global, layout: &Layout, wanted: &[u8]) -> Answers {
     let mut counter = Counter::new();
     let put = put_canonical(layout, &mut counter).unwrap_or(0);
@@ -195,14 +195,14 @@ fn answers(alloc: Global, layout: &Layout, wanted: &[u8]) -> Answers {
     )
 }
 
-/// What is answered of a row's layout and bytes.
+/// The result for a row's layout and bytes.
 fn found(alloc: Global, row: &Row) -> Option<Answers> {
     let wanted = row.bytes(alloc)?;
     let layout = row.layout(alloc)?;
     Some(answers(alloc, &layout, wanted.as_slice()))
 }
 
-/// The first row that isn't answered as it is given, and what is answered.
+/// The first row that doesn't have the given result, and its result.
 fn wrong_row(alloc: Global, rows: &[Row]) -> Option<(&'static str, Option<Answers>)> {
     for row in rows {
         let found = found(alloc, row);
@@ -218,7 +218,7 @@ fn each_layout_has_its_bytes(rt: HostRuntime) {
     assert_eq!(rt; wrong_row(rt.alloc(), &ROWS), None);
 }
 
-/// Writes the layout of one rectangle, and answers where and why that failed.
+/// Writes the layout of one rectangle, and returns where and why that failed.
 fn refusal(alloc: Global, writer: &mut Narrow) -> Option<Refusal> {
     let layout = ONE.layout(alloc)?;
     write_canonical(&layout, writer).err()
@@ -232,7 +232,7 @@ fn are_first(alloc: Global, bytes: &[u8]) -> bool {
     }
 }
 
-/// What comes of a writer of this kind that is to take the layout of one rectangle: where and why it fails, how many bytes
+/// The result for a writer of this kind that should take the layout of one rectangle: where and why it fails, how many bytes
 /// it took, and whether they are the first ones.
 fn fault(
     alloc: Global,
@@ -253,7 +253,7 @@ fn fault(
     (refusal, writer.took.len(), is_front)
 }
 
-/// What comes of a writer that fails behind so many bytes.
+/// The result for a writer that fails after this many bytes.
 fn fault_behind(room: usize) -> (Option<Refusal>, usize, bool) {
     let refusal = Refusal {
         at: room as u64,

@@ -1,7 +1,8 @@
-//! Keys an OASIS file through a reader of its own, which counts what it hands on, and prints the key and the count.
+//! Keys an OASIS file through a reader of its own, which counts the bytes that it passes on, and prints the key and the
+//! count.
 #![tactic(auto)]
 
-use oas_canon::{Limits, ReaderSource, Refusal, Why, key};
+use oas_canon::{Limits, ReaderSource, Refusal, key};
 use std::io;
 use std::io::{Read, Stdin};
 use std::process::ExitCode;
@@ -21,21 +22,12 @@ impl Read for Counting<'_> {
     }
 }
 
-/// The key of what standard input gives. How many bytes that are is counted in `given`.
+/// The key of what standard input gives. `given` counts its bytes.
 fn keyed(rt: &HostRuntime, given: &mut u64) -> Result<[u8; 32], Refusal> {
-    let alloc = rt.alloc();
     let limits = Limits::standard();
-    let reader = Counting {
-        input: rt.stdin(),
-        given,
-    };
-    let Ok(mut source) = ReaderSource::new(alloc, reader, limits.input()) else {
-        return Err(Refusal {
-            at: 0,
-            why: Why::Memory,
-        });
-    };
-    key(alloc, &mut source, limits)
+    let input = rt.stdin();
+    let mut source = ReaderSource::new(rt.alloc(), Counting { input, given }, limits.input())?;
+    key(rt.alloc(), &mut source, limits)
 }
 
 fn main(rt: HostRuntime) -> ExitCode {
@@ -49,7 +41,7 @@ fn main(rt: HostRuntime) -> ExitCode {
             ExitCode::SUCCESS
         }
         Err(refusal) => {
-            let _ = eprintln!(rt; "refused {} at {}", refusal.why.number(), refusal.at);
+            let _ = eprintln!(rt; "{refusal}: {}", refusal.why.meaning());
             ExitCode::FAILURE
         }
     }

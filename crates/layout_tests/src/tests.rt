@@ -1,4 +1,4 @@
-//! Drafts and layouts whose answers are known from outside. Elements are written as in a listing, and rows as one text.
+//! Drafts and layouts with results that are known from outside. Elements are written as in a listing, and rows as one text.
 
 mod cells;
 mod drafts;
@@ -11,16 +11,14 @@ mod seals;
 mod want;
 
 use self::elements::{element, name};
-use oas_layout::{Draft, Element, Elements, Layout, Limits, Profile};
+use oas_layout::{Draft, Element, Elements, Layout, Limits, Profile, Refused};
 use oas_num::{Fraction, Why};
-use std::alloc::{AllocError, Global};
+use std::alloc::Global;
 
 /// Adds a cell of this name.
 fn add_cell(draft: &mut Draft, alloc: Global, text: &str) -> Result<usize, Why> {
-    match draft.add_cell(name(alloc, text)?) {
-        Ok(cell) => Ok(cell),
-        Err((why, _back)) => Err(why),
-    }
+    let cell = draft.add_cell(name(alloc, text)?)?;
+    Ok(cell)
 }
 
 /// Adds cells of these names.
@@ -31,12 +29,12 @@ fn add_cells(draft: &mut Draft, alloc: Global, names: &str) -> Result<(), Why> {
     Ok(())
 }
 
-/// These limits, which there are.
+/// These limits, which are valid.
 fn limits_of(elements: u64, weight: u64, input: u64) -> Result<Limits, Why> {
     Limits::new(elements, weight, input).ok_or(Why::TooHeavy)
 }
 
-/// A draft of this unit and of no cells.
+/// A draft with this unit and without cells.
 fn draft_of(
     alloc: Global,
     (num, den): (u64, u64),
@@ -44,13 +42,11 @@ fn draft_of(
     profile: Profile,
 ) -> Result<Draft, Why> {
     let unit = Fraction::reduced(num, den).ok_or(Why::Unit)?;
-    match Draft::new(alloc, unit, limits, profile) {
-        Ok(draft) => Ok(draft),
-        Err(AllocError) => Err(Why::Memory),
-    }
+    let draft = Draft::new(alloc, unit, limits, profile)?;
+    Ok(draft)
 }
 
-/// Drops a value in a step of its own, since that is dear to prove beside other values.
+/// Drops a value in a step of its own, since that is expensive to prove beside other values.
 fn discard<T: Drop>(_value: T) {}
 
 /// The draft, if all was added to it.
@@ -61,33 +57,31 @@ fn whole(draft: Draft, added: Result<(), Why>) -> Result<Draft, Why> {
     }
 }
 
-/// A draft of unit 1000/1 with one cell, A.
+/// A draft with unit 1000/1 and one cell, A.
 fn draft_of_a(alloc: Global, limits: Limits, profile: Profile) -> Result<Draft, Why> {
     let mut draft = draft_of(alloc, (1000, 1), limits, profile)?;
     let added = add_cells(&mut draft, alloc, "A");
     whole(draft, added)
 }
 
-/// Adds the element so many times, if there is such a cell, or hands it back.
+/// Adds the element this many times, if there is such a cell, or hands it back.
 fn put_many(
     draft: &mut Draft,
     cell: usize,
     element: Element,
     times: u64,
-) -> Result<(), (Why, Element)> {
-    if cell < draft.cells() && times > 0 {
+) -> Result<(), Refused<Element>> {
+    if cell < draft.cell_count() && times > 0 {
         draft.add_many(cell, element, times)
     } else {
         Ok(())
     }
 }
 
-/// Adds the element so many times, or answers why not.
+/// Adds the element this many times, or returns why not.
 fn add(draft: &mut Draft, cell: usize, element: Element, times: u64) -> Result<(), Why> {
-    match put_many(draft, cell, element, times) {
-        Ok(()) => Ok(()),
-        Err((why, _back)) => Err(why),
-    }
+    put_many(draft, cell, element, times)?;
+    Ok(())
 }
 
 /// How many of an element a line gives, and the line of the element.
@@ -112,10 +106,8 @@ fn put_all(draft: &mut Draft, alloc: Global, cell: usize, lines: &str) -> Result
 
 /// The layout of the draft, if all was added to it.
 fn sealed(draft: Draft, added: Result<(), Why>) -> Result<Layout, Why> {
-    match whole(draft, added)?.seal() {
-        Ok(layout) => Ok(layout),
-        Err(AllocError) => Err(Why::Memory),
-    }
+    let layout = whole(draft, added)?.seal()?;
+    Ok(layout)
 }
 
 /// The layout of one cell, A, with the elements of the lines.
@@ -153,5 +145,5 @@ fn give_all(alloc: Global, pairs: &mut Elements<'_>, lines: &str) -> bool {
 
 /// Whether the cell has exactly the pairs of the lines, in their order.
 fn holds(alloc: Global, layout: &Layout, cell: usize, lines: &str) -> bool {
-    cell < layout.cells() && give_all(alloc, &mut layout.elements(cell), lines)
+    cell < layout.cell_count() && give_all(alloc, &mut layout.elements(cell), lines)
 }

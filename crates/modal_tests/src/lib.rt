@@ -1,5 +1,6 @@
-//! What no clause of oas_modal says, by its public calls alone: that they succeed where memory is there, and what records
-//! come to whose layouts are known from outside. It stands here so that oas_modal is proved without its tests.
+//! What no contract of oas_modal says, tested by its public calls alone: calls succeed where memory is there; and the results
+//! of records whose layouts are known from outside. The tests are in a crate of their own so that oas_modal is proved without
+//! them.
 #![tactic(auto)]
 
 #[cfg(test)]

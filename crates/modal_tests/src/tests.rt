@@ -1,4 +1,4 @@
-//! What a reader makes of records, with answers from outside.
+//! What a reader makes of records, with results from outside.
 
 mod ends;
 mod held;
@@ -25,15 +25,15 @@ fn unit() -> Result<Fraction, Why> {
     Fraction::reduced(1000, 1).ok_or(Why::Unit)
 }
 
-/// These limits, which there are.
+/// These limits, which are valid.
 fn limits_of(elements: u64, weight: u64, input: u64) -> Result<Limits, Why> {
     Limits::new(elements, weight, input).ok_or(Why::TooHeavy)
 }
 
-/// Whether the heap can be filled, and how often a call is then refused before it succeeds; none where it never does.
+/// Whether the heap can be filled, and how often a call then fails before it succeeds; none where it never does.
 type Refused = Result<(bool, Option<u32>), Why>;
 
-/// Whether a call was refused before it succeeded, if the heap could be filled.
+/// Whether a call failed before it succeeded, if the heap could be filled.
 fn is_met(refused: Refused) -> bool {
     match refused {
         Ok((is_full, Some(times))) => times > 0 || !is_full,
@@ -41,10 +41,10 @@ fn is_met(refused: Refused) -> bool {
     }
 }
 
-/// Drops a value in a step of its own, since that is dear to prove beside other values.
+/// Drops a value in a step of its own, since that is expensive to prove beside other values.
 fn discard<T: Drop>(_value: T) {}
 
-/// Has the reader take the records of these bytes.
+/// Gives the reader the records of these bytes.
 fn take_all(alloc: Global, bytes: &[u8], reader: &mut Reader) -> Result<(), Refusal> {
     let mut source = SliceSource::new(bytes, INPUT_MAX);
     for _ in 0..bytes.len() {
@@ -58,7 +58,7 @@ fn take_all(alloc: Global, bytes: &[u8], reader: &mut Reader) -> Result<(), Refu
     Ok(())
 }
 
-/// Has the reader finish there, unless it was refused before.
+/// Finishes the reader there, unless it was refused before.
 fn finish(reader: Reader, taken: Result<(), Refusal>, end: u64) -> Result<Layout, Refusal> {
     match taken {
         Ok(()) => reader.finish(end),
@@ -69,13 +69,13 @@ fn finish(reader: Reader, taken: Result<(), Refusal>, end: u64) -> Result<Layout
     }
 }
 
-/// Has the reader take the records of these bytes, and finish where they end.
+/// Gives the reader the records of these bytes, and finishes it where they end.
 fn read(alloc: Global, bytes: &[u8], mut reader: Reader) -> Result<Layout, Refusal> {
     let taken = take_all(alloc, bytes, &mut reader);
     finish(reader, taken, bytes.len() as u64)
 }
 
-/// Puts the lines of elements, each behind its count.
+/// Puts the lines of elements, each after its count.
 fn put_counted<K: Sink>(sink: &mut K, elements: Elements<'_>) -> Result<(), SinkFault> {
     for (element, count) in elements {
         sink.put_all(Buffer::new().format(count).as_bytes())?;
@@ -85,17 +85,17 @@ fn put_counted<K: Sink>(sink: &mut K, elements: Elements<'_>) -> Result<(), Sink
     Ok(())
 }
 
-/// Puts the listing of a layout, but each distinct element once.
+/// Puts the listing of a layout, except that each distinct element comes once.
 fn put_layout<K: Sink>(sink: &mut K, layout: &Layout) -> Result<(), SinkFault> {
     put_unit(sink, layout.unit())?;
-    for cell in 0..layout.cells() {
+    for cell in 0..layout.cell_count() {
         put_name(sink, layout.cell_name(cell).as_bytes())?;
         put_counted(sink, layout.elements(cell))?;
     }
     Ok(())
 }
 
-/// Writes it behind the bytes that are there.
+/// Writes it after the bytes that are there.
 fn write_layout(bytes: &mut Vec<u8>, layout: &Layout) -> Result<(), SinkFault> {
     let mut out = Outlet::new(bytes);
     let put = put_layout(&mut out, layout);
@@ -103,7 +103,7 @@ fn write_layout(bytes: &mut Vec<u8>, layout: &Layout) -> Result<(), SinkFault> {
     put
 }
 
-/// The listing of a layout, but each distinct element once, behind its count, and with `;` at the end of each line.
+/// The listing of a layout, except that each distinct element comes once, after its count, and each line ends with `;`.
 fn lines_of(alloc: Global, layout: &Layout) -> Option<String> {
     let mut bytes: Vec<u8> = Vec::new(alloc);
     write_layout(&mut bytes, layout).ok()?;
@@ -128,7 +128,7 @@ fn listed(alloc: Global, answer: Result<Layout, Refusal>) -> Option<String> {
     }
 }
 
-/// What comes of records in hex by a reader of these limits and this profile.
+/// The result for records in hex, with a reader for these limits and this profile.
 fn answer(
     alloc: Global,
     text: &str,
@@ -141,7 +141,7 @@ fn answer(
     listed(alloc, read(alloc, &bytes, reader))
 }
 
-/// The three parts of a row; those that it lacks are empty, which is no answer.
+/// The three parts of a row; missing ones are empty, which is no result.
 fn parts(row: &str) -> [&str; 3] {
     let (first, rest) = row.split_once(" | ").unwrap_or((row, ""));
     let (second, third) = rest.split_once(" | ").unwrap_or((rest, ""));
@@ -161,7 +161,7 @@ fn refuses_on(reader: &mut Reader, at: u64, refusal: Refusal) -> bool {
     reader.take(at, Record::Pad) == Err(refusal)
 }
 
-/// What the reader answers to a cell, to END in it, and to two records more.
+/// What the reader returns for a cell, for END in it, and for two more records.
 fn take_behind_end(reader: &mut Reader) -> [Result<(), Refusal>; 4] {
     [
         reader.take(3, Record::Cell(CellRef::Number(7))),
@@ -171,7 +171,7 @@ fn take_behind_end(reader: &mut Reader) -> [Result<(), Refusal>; 4] {
     ]
 }
 
-/// The same of a new reader, and what it refuses at its end.
+/// The same for a new reader, and what it refuses at its end.
 fn answers_behind_end(alloc: Global) -> Result<([Result<(), Refusal>; 4], Option<Refusal>), Why> {
     let mut reader: Reader = Reader::new(alloc, unit()?, Limits::standard(), Profile::One);
     let taken = take_behind_end(&mut reader);
@@ -189,8 +189,8 @@ fn refused_again(rt: HostRuntime) {
     );
 }
 
-/// Limits and a profile, records in hex, and what comes of them: a cell with four equal rectangles, one whose number is named
-/// behind it, and a ring round a rectangle.
+/// Limits and a profile, records in hex, and the result: a cell with four equal rectangles, one whose number is named after
+/// it, and a ring round a rectangle.
 const WITHIN: &[([u64; 3], Profile, &str, &str)] = &[
     (
         [3, 100, 6720],

@@ -3,7 +3,7 @@
 use oas_num::{Delta1, Delta2, Delta3, GDelta, SliceSource, Spelled, Why};
 use std::alloc::Global;
 
-/// The bytes of a 3-delta and of a g-delta in each of the eight directions, and the step of five that they stand for.
+/// The bytes of a 3-delta and of a g-delta in each of the eight directions, and their step of length five.
 const FIVE: [(u8, u8, i64, i64); 8] = [
     (40, 80, 5, 0),
     (41, 82, 0, 5),
@@ -15,10 +15,10 @@ const FIVE: [(u8, u8, i64, i64); 8] = [
     (47, 94, 5, -5),
 ];
 
-/// The byte of a 2-delta in each direction along an axis, and the step of five that it stands for.
+/// The byte of a 2-delta in each direction along an axis, and its step of length five.
 const FIVE_ALONG_AN_AXIS: [(u8, i64, i64); 4] = [(20, 5, 0), (21, 0, 5), (22, -5, 0), (23, 0, -5)];
 
-/// What a byte is read as.
+/// The value that a byte is read as.
 fn read_byte<T: Spelled>(alloc: Global, byte: u8) -> Result<T, Why> {
     T::read(alloc, &mut SliceSource::new(&[byte], 1))
 }

@@ -21,7 +21,7 @@ const LOWEST: [((u64, u64), (u64, u64)); 10] = [
     ((0, 5), (0, 0)),
     ((5, 0), (0, 0)),
     ((0, 0), (0, 0)),
-    // Two Fibonacci numbers, by which Euclid's algorithm takes longest.
+    // Two Fibonacci numbers, for which Euclid's algorithm takes longest.
     (
         (12200160415121876738, 7540113804746346429),
         (12200160415121876738, 7540113804746346429),

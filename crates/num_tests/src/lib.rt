@@ -1,6 +1,6 @@
-//! What no clause of oas_bytes or oas_num says, by their public calls alone: readers that give few bytes a call, writers that
-//! take few, and what each that fails comes to; that reads succeed where memory is there, and the values of spellings that are
-//! known from outside. It stands here so that both are proved without their tests.
+//! What no contract of oas_bytes or oas_num says, tested by their public calls alone: readers that give few bytes a call,
+//! writers that take few, and the result where they fail; reads that succeed where memory is there, and the values of
+//! spellings that are known from outside. The tests are in a crate of their own so that both are proved without them.
 #![tactic(auto)]
 
 #[cfg(test)]
@@ -13,6 +13,8 @@ mod outlets;
 mod readers;
 #[cfg(test)]
 mod reading;
+#[cfg(test)]
+mod refusals;
 #[cfg(test)]
 mod sinks;
 #[cfg(test)]

@@ -1,14 +1,14 @@
-//! Writers that take a few bytes a call, or fail, below an outlet.
+//! Writers below an outlet that take a few bytes a call, or fail.
 ghost use Rattle.std.specs.Prelude.{OnOk, IfErr};
 ghost use Rattle.std.specs.Io.KnownBytes.{Appends};
-ghost use Rattle.oas_bytes.specs.Outlets.{TakesFront};
+ghost use Rattle.oas_bytes.specs.Outlets.{ConsumesPrefix};
 
 use oas_bytes::{Outlet, Sink, SinkFault};
 use std::io;
 use std::io::Write;
 
-/// A writer that takes at most `most` bytes a call and `room` in all. Then it answers an error, or that it took none.
-/// `waiting` is how many bytes it took since it was flushed.
+/// A writer that takes at most `most` bytes a call and `room` in all. After that it returns an error, or 0. `waiting` is how
+/// many bytes it took since it was flushed.
 #[derive(Drop)]
 struct Narrow {
     took: Vec<u8>,
@@ -62,7 +62,7 @@ fn byte_at(place: usize) -> u8 {
     (place % 251) as u8
 }
 
-/// Puts so many bytes, and answers how many were put before a fault.
+/// Puts this many bytes, and returns how many were put before a fault.
 fn put_bytes<K: Sink>(sink: &mut K, count: usize) -> usize {
     for place in 0..count {
         if sink.put(byte_at(place)).is_err() {
@@ -82,7 +82,7 @@ fn are_first(bytes: &[u8]) -> bool {
     true
 }
 
-/// What comes of 20000 bytes that are put, where the outlet is closed after them: how many were put, how many the outlet
+/// What results from 20000 bytes that are put, where the outlet is closed after them: how many were put, how many the outlet
 /// says were taken, how many the writer took, how many of those it did not flush and how often it was called; whether the
 /// outlet closed, and whether the bytes came in order.
 fn ends_of(rt: &HostRuntime, most: usize) -> ([u64; 5], [bool; 2]) {
@@ -100,7 +100,7 @@ fn ends_of(rt: &HostRuntime, most: usize) -> ([u64; 5], [bool; 2]) {
     )
 }
 
-/// Bytes are gathered: a writer that takes all that it is given is called for three writes and a flush.
+/// Bytes are buffered: a writer that takes all that it is given is called for three writes and a flush.
 #[test]
 fn a_writer_gets_all_in_order_however_it_takes_it(rt: HostRuntime) {
     for (most, calls) in [
@@ -118,7 +118,7 @@ fn a_writer_gets_all_in_order_however_it_takes_it(rt: HostRuntime) {
     }
 }
 
-/// Whether a byte, a piece and the end are each refused.
+/// Whether a byte, a piece and the end each fail.
 fn refuses_each<W: Write>(outlet: &mut Outlet<W>, byte: u8) -> bool {
     let puts = outlet.put(byte).is_ok();
     let puts_all = outlet.put_all(&[byte]).is_ok();
@@ -126,7 +126,7 @@ fn refuses_each<W: Write>(outlet: &mut Outlet<W>, byte: u8) -> bool {
     [puts, puts_all, closes] == [false; 3]
 }
 
-/// How many of nine bytes are refused, and so is a piece after each, and the end.
+/// How many of nine bytes fail; also a piece after each, and the end.
 fn refusals_of<W: Write>(outlet: &mut Outlet<W>) -> u64 {
     let mut refusals = 0u64;
     for byte in 0..9u8 {
@@ -137,9 +137,8 @@ fn refusals_of<W: Write>(outlet: &mut Outlet<W>) -> u64 {
     refusals
 }
 
-/// What an outlet over a writer with too little room comes to: how many bytes it says were taken, how many the writer took,
-/// and how many of nine later bytes are refused; whether all was put and the outlet closed, and whether the bytes came in
-/// order.
+/// The results of an outlet over a writer with too little room: how many bytes it says were taken, how many the writer took,
+/// and how many of nine later bytes fail; whether all was put and the outlet closed, and whether the bytes came in order.
 fn ends_within(rt: &HostRuntime, room: usize, most: usize, refuses: bool) -> ([u64; 3], [bool; 2]) {
     let mut writer = Narrow::new(rt, most, room);
     writer.refuses = refuses;
@@ -165,8 +164,8 @@ fn a_fault_ends_the_writing(rt: HostRuntime) {
     }
 }
 
-/// What an outlet over a writer that cannot flush comes to: how many bytes are put, how many it says were taken before and
-/// after it is closed, and how often the writer is called; what it answers to an end, a byte and an end.
+/// The results of an outlet over a writer that cannot flush: how many bytes are put, how many it says were taken before and
+/// after it is closed, and how often the writer is called; what it returns for an end, a byte and an end.
 fn ends_unflushed(rt: &HostRuntime) -> ([u64; 4], [Result<(), SinkFault>; 3]) {
     let mut writer = Narrow::new(rt, usize::MAX, usize::MAX);
     writer.flushes = false;
@@ -186,7 +185,7 @@ fn a_failed_flush_is_a_fault(rt: HostRuntime) {
     assert!(rt; found == ends, "one write and one flush");
 }
 
-/// What an outlet to which nothing is put answers to two ends, and how often its writer is called.
+/// What an outlet to which nothing is put returns for two ends, and how often its writer is called.
 fn ends_empty(rt: &HostRuntime) -> ([Result<(), SinkFault>; 2], u64) {
     let mut writer = Narrow::new(rt, 1, 0);
     let mut outlet = Outlet::new(&mut writer);
@@ -200,10 +199,10 @@ fn an_empty_outlet_flushes(rt: HostRuntime) {
     assert!(rt; found == ([Ok(()); 2], 2), "two flushes");
 }
 
-/// The form of a writer over an outlet: what the caller's own writer took, whether it succeeds or fails.
+/// A writer over an outlet: what the caller's own writer took, whether it succeeds or fails.
 fn write_bytes<W: Write>(writer: &mut W, bytes: &[u8]) -> Result<u64, u64>
     ensures ok { OnOk result (Appends (W.contents writer.old) (W.contents writer.new) bytes.now) }
-    ensures err { IfErr result (λ taken. TakesFront W.contents writer.old writer.new bytes.now taken) }
+    ensures err { IfErr result (λ taken. ConsumesPrefix W.contents writer.old writer.new bytes.now taken) }
 {
     let mut outlet = Outlet::new(writer);
     let Ok(()) = outlet.put_all(bytes) else {
@@ -215,7 +214,7 @@ fn write_bytes<W: Write>(writer: &mut W, bytes: &[u8]) -> Result<u64, u64>
     Ok(outlet.taken())
 }
 
-/// What a list that grows answers to two pieces, and whether it holds both.
+/// What a list that grows returns for two pieces, and whether it holds both.
 fn appended(rt: &HostRuntime) -> ([Result<u64, u64>; 2], bool) {
     let mut bytes = Vec::new(rt.alloc());
     let answers = [
@@ -225,7 +224,7 @@ fn appended(rt: &HostRuntime) -> ([Result<u64, u64>; 2], bool) {
     (answers, bytes.as_slice() == [7, 8, 9].as_slice())
 }
 
-/// What a writer with room for one byte answers to two, and whether it took the first alone.
+/// What a writer with room for one byte returns for two, and whether it took only the first.
 fn appended_within(rt: &HostRuntime) -> (Result<u64, u64>, bool) {
     let mut writer = Narrow::new(rt, 1, 1);
     let answer = write_bytes(&mut writer, &[7, 8]);

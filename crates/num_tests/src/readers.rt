@@ -1,4 +1,4 @@
-//! Readers that give a few bytes a call, or fail, below a source.
+//! Readers below a source that give a few bytes a call, or fail.
 
 use oas_bytes::{ReaderSource, SliceSource, Source, SourceFault};
 use std::alloc::AllocError;
@@ -13,7 +13,7 @@ enum Then {
     GivesSevens,
 }
 
-/// A reader that gives at most so many bytes a call.
+/// A reader that gives at most this many bytes a call.
 #[derive(Drop)]
 struct Cut<'a> {
     bytes: &'a [u8],
@@ -40,10 +40,10 @@ impl<'a> Read for Cut<'a> {
     }
 }
 
-/// The answer of a source after its bytes.
+/// What a source returns after its bytes.
 type End = Result<Option<u8>, SourceFault>;
 
-/// Whether a source gives these bytes, and then this answer at each call.
+/// Whether a source gives these bytes, and then returns this at each call.
 fn gives<S: Source>(source: &mut S, bytes: &[u8], last: End) -> bool {
     for byte in bytes {
         if source.next() != Ok(Some(*byte)) {
@@ -84,14 +84,14 @@ const LIMITS: [(u64, usize, End); 3] = [
     (10, 10, Err(SourceFault::TooLong)),
 ];
 
-/// Whether a source of a slice gives these bytes, and then this answer, one by one and at once.
+/// Whether a source of a slice gives these bytes and then returns this, one by one and at once.
 fn slice_gives(limit: u64, given: &[u8], last: End) -> bool {
     let by_one = gives(&mut SliceSource::new(&BYTES, limit), given, last);
     let at_once = gives_at_once(&mut SliceSource::new(&BYTES, limit), given);
     [by_one, at_once] == [true; 2]
 }
 
-/// Whether a source of a reader gives these bytes, and then this answer.
+/// Whether a source of a reader gives these bytes, and then returns this.
 fn reader_gives(
     rt: &HostRuntime,
     reader: Cut,
@@ -114,7 +114,7 @@ fn reader_gives_at_once(
     Ok(gives_at_once(&mut source, given))
 }
 
-/// Whether a source of a reader that gives at most so many bytes a call gives these bytes, and then this answer, one by one
+/// Whether a source of a reader that gives at most this many bytes a call gives these bytes and then returns this, one by one
 /// and at once.
 fn cut_gives(rt: &HostRuntime, most: usize, limit: u64, given: &[u8], last: End) -> bool {
     let bytes = &BYTES;

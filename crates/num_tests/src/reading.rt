@@ -31,7 +31,7 @@ fn integers(rt: HostRuntime) {
 /// The largest number.
 const MAX: [u8; 10] = [255, 255, 255, 255, 255, 255, 255, 255, 255, 1];
 
-/// A number past it.
+/// A number that is too large.
 const PAST: [u8; 10] = [255, 255, 255, 255, 255, 255, 255, 255, 255, 2];
 
 #[test]
@@ -175,7 +175,7 @@ fn lists(rt: HostRuntime) {
     assert!(rt; found == (Ok(true), Some(Why::Truncated)));
 }
 
-/// Whether no name is read where none is there.
+/// Whether no name is read where there is none.
 fn is_none<S: Source>(alloc: Global, source: &mut S) -> Result<bool, Why> {
     Ok(read_if::<Name, _>(alloc, false, source)?.is_none())
 }

@@ -1,9 +1,9 @@
-//! What numbers are put as.
+//! The bytes of numbers.
 
 use oas_num::{Counter, Outlet, Sink, put_gdelta, put_signed, put_unsigned, unsigned_len};
 use std::alloc::Global;
 
-/// What a number, a number with a sign, or a step is put as.
+/// A number, a signed number, or a step that is put.
 #[derive(Clone, Copy)]
 enum Put {
     Unsigned(u64),
@@ -11,7 +11,7 @@ enum Put {
     Step(i64, i64),
 }
 
-/// Puts it, and answers whether that succeeds, with so many bytes where the length is known before.
+/// Puts it, and returns whether that succeeds, with the expected number of bytes where it is known before.
 fn is_put<K: Sink>(sink: &mut K, what: Put, count: u64) -> bool {
     match what {
         Put::Unsigned(value) => unsigned_len(value) == count && put_unsigned(sink, value).is_ok(),
@@ -32,7 +32,7 @@ fn is_put_as(alloc: Global, what: Put, bytes: &[u8]) -> [bool; 3] {
     [put, closes, written.as_slice() == bytes]
 }
 
-/// Numbers, numbers with a sign and steps, and what each is put as.
+/// Numbers, signed numbers and steps, and the bytes of each.
 const PUT: [(Put, &[u8]); 19] = [
     (Put::Unsigned(0), &[0]),
     (Put::Unsigned(127), &[127]),

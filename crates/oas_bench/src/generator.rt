@@ -1,6 +1,6 @@
 //! Numbers to measure with, the same at each run.
 
-/// Numbers in no order.
+/// Numbers in random order.
 #[derive(Drop)]
 pub(crate) struct Numbers {
     state: u64,

@@ -1,17 +1,17 @@
 //! Inflating packets. `tests/inflate` and `bench/inflate` do the same by zlib.
 
+use oas_inflate::oas_inflated::{Inflated, InflatedSource};
 use oas_inflate::{Bits, Fault, inflate};
-use oas_inflated::{Inflated, InflatedSource};
 use oas_num::{SliceSource, Source};
 use std::alloc::Global;
 use std::io::{self, Read};
 use std::time::{Duration, Instant};
 
-/// How many bytes a packet may stand for: 2^28.
+/// How many bytes a packet may encode: 2^28.
 const LIMIT: usize = 268_435_456;
 
-/// Inflates the packets of standard input, each behind its length in four bytes, the lowest first, and says how long all of
-/// it took.
+/// Inflates the packets of standard input, each after its length in four bytes, the lowest first, and says how long all of it
+/// took.
 pub(crate) fn measure(rt: &HostRuntime, times: u64) -> io::Result<()> {
     let mut input = Vec::new(rt.alloc());
     rt.stdin().read_to_end(&mut input)?;
@@ -35,7 +35,7 @@ fn time_packets(rt: &HostRuntime, bytes: &[u8], times: u64) -> io::Result<Durati
     Ok(taken)
 }
 
-/// How long one packet takes. A line says how many bytes it stands for, and a digest of them, or why it is refused.
+/// How long one packet takes. A line says how many bytes it encodes, and a digest of them, or why it is refused.
 fn time_packet(rt: &HostRuntime, packet: &[u8], times: u64) -> io::Result<Duration> {
     let start = Instant::now(rt)?;
     let mut found = inflate_packet(rt.alloc(), packet);
@@ -54,7 +54,7 @@ fn time_packet(rt: &HostRuntime, packet: &[u8], times: u64) -> io::Result<Durati
     Ok(taken)
 }
 
-/// What a packet stands for.
+/// The bytes that a packet encodes.
 fn inflate_packet(alloc: Global, packet: &[u8]) -> Result<Inflated, Fault> {
     let mut bits = Bits::new(SliceSource::new(packet, u64::MAX));
     inflate(alloc, &mut bits, LIMIT).map_err(|stopped| stopped.fault)
@@ -81,7 +81,7 @@ fn length_of(first: u8, second: u8, third: u8, fourth: u8) -> usize {
     low + 65_536 * high
 }
 
-/// A packet of this length, or of as many bytes as there are, and what comes behind it.
+/// A packet of this length, or of as many bytes as there are, and what follows it.
 fn packet_of(bytes: &[u8], length: usize) -> (&[u8], &[u8]) {
     bytes.split_at(length.min(bytes.len()))
 }

@@ -3,7 +3,7 @@
 use crate::generator::Numbers;
 use crate::shapes::{polygon, rectangle};
 use oas_layout::{Draft, Element, Layout, Limits, Profile};
-use oas_num::{Fraction, Name, SliceSource, Spelled};
+use oas_num::{Fraction, Name};
 use std::alloc::{AllocError, Global};
 use std::io;
 use std::time::Instant;
@@ -43,7 +43,7 @@ pub(crate) fn measure_few(rt: &HostRuntime) -> io::Result<()> {
     Ok(())
 }
 
-/// What the layout has that was begun at this time.
+/// The layout that was begun at this time.
 fn report(rt: &HostRuntime, layout: &Layout, start: Instant) -> io::Result<()> {
     let built = start.elapsed(rt)?;
     let distinct = distinct(layout);
@@ -60,27 +60,25 @@ fn report(rt: &HostRuntime, layout: &Layout, start: Instant) -> io::Result<()> {
 fn draft(alloc: Global) -> Option<Draft> {
     let unit = Fraction::reduced(1000, 1)?;
     let mut draft = Draft::new(alloc, unit, Limits::large(), Profile::Two).ok()?;
-    let mut bytes = SliceSource::new(b"\x01A", 2);
-    let name = Name::read(alloc, &mut bytes).ok()?;
-    draft.add_cell(name).ok()?;
+    draft.add_cell(Name::new(alloc, b"A").ok()?).ok()?;
     Some(draft)
 }
 
-/// The layout of so many elements of one shape.
+/// The layout of this many elements of one shape.
 fn layout(alloc: Global, row: Row) -> Option<Layout> {
     let mut draft = draft(alloc)?;
     let mut numbers = Numbers::new();
     for k in 0..row.count {
         let place = if row.random { numbers.next() } else { k };
         let element = element(alloc, row.polygons, place).ok()?;
-        if draft.cells() > 0 {
+        if draft.cell_count() > 0 {
             draft.add(0, element).ok()?;
         }
     }
     draft.seal().ok()
 }
 
-/// The element at a place, of which the lowest 40 bits count.
+/// The element at a place, of which only the lowest 40 bits count.
 fn element(alloc: Global, is_polygon: bool, place: u64) -> Result<Element, AllocError> {
     let x = (place % (1 << 40)) as i64;
     if is_polygon {
@@ -93,7 +91,7 @@ fn element(alloc: Global, is_polygon: bool, place: u64) -> Result<Element, Alloc
 /// How many distinct elements the first cell has.
 fn distinct(layout: &Layout) -> u64 {
     let mut found = 0;
-    if layout.cells() > 0 {
+    if layout.cell_count() > 0 {
         for _element in layout.elements(0) {
             found = u64::min(found, 1 << 40) + 1;
         }

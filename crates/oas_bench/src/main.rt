@@ -1,12 +1,12 @@
 //! The speed of parts of the library. The scripts of `bench/` run each beside another program.
 //!
-//! - `oas_bench numbers TIMES` puts and reads 65,536 integers so many times.
-//! - `oas_bench layouts SHAPE ORDER COUNT` adds so many elements to a draft: `rectangles` or `polygons`, in the order
+//! - `oas_bench numbers TIMES` puts and reads 65,536 integers this many times.
+//! - `oas_bench layouts SHAPE ORDER COUNT` adds this many elements to a draft: `rectangles` or `polygons`, in the order
 //!   `random` or `ascending`.
-//! - `oas_bench inflate TIMES` inflates each packet of standard input so many times.
+//! - `oas_bench inflate TIMES` inflates each packet of standard input this many times.
 //! - `oas_bench` alone does a little of each, and so shows that all of it runs.
 //!
-//! What came out goes to standard output, the same at each run. The times go to standard error, in microseconds.
+//! The results go to standard output, the same at each run. The times go to standard error, in microseconds.
 #![tactic(auto)]
 
 mod generator;
@@ -53,7 +53,7 @@ fn number(rt: &HostRuntime, place: usize) -> io::Result<u64> {
     }
 }
 
-/// The elements that the command line asks for.
+/// The elements that the command line requests.
 fn row(rt: &HostRuntime) -> io::Result<Row> {
     Ok(Row {
         polygons: says(rt, 2, "polygons")?,

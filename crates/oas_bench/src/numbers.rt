@@ -12,7 +12,7 @@ use std::time::{Duration, Instant};
 /// How many numbers are made.
 const MADE: u64 = 65536;
 
-/// Puts and reads the numbers so many times, and says how long each part took.
+/// Puts and reads the numbers this many times, and says how long each part took.
 pub(crate) fn measure(rt: &HostRuntime, times: u64) -> io::Result<()> {
     let numbers = made(rt.alloc())?;
     let mut bytes = Vec::new(rt.alloc());
@@ -20,7 +20,7 @@ pub(crate) fn measure(rt: &HostRuntime, times: u64) -> io::Result<()> {
     measure_over(rt, numbers.as_slice(), bytes.as_slice(), times)
 }
 
-/// The same over numbers that were made, and the bytes that spell them so many times.
+/// The same over numbers that were made, and over the bytes that spell them, this many times.
 fn measure_over(rt: &HostRuntime, numbers: &[u64], bytes: &[u8], times: u64) -> io::Result<()> {
     let count = MADE.saturating_mul(times);
     time_writing(rt, numbers, times)?;
@@ -51,7 +51,7 @@ fn time_writing(rt: &HostRuntime, numbers: &[u64], times: u64) -> io::Result<()>
     tell(rt, "put", tally.count, tally.digest, start.elapsed(rt)?)
 }
 
-/// Reads so many numbers from bytes in memory.
+/// Reads this many numbers from bytes in memory.
 fn time_slice(rt: &HostRuntime, bytes: &[u8], count: u64) -> io::Result<()> {
     let start = Instant::now(rt)?;
     let mut source = SliceSource::new(bytes, u64::MAX);
@@ -59,14 +59,14 @@ fn time_slice(rt: &HostRuntime, bytes: &[u8], count: u64) -> io::Result<()> {
     tell(rt, "slice", count, total, start.elapsed(rt)?)
 }
 
-/// Reads so many numbers through a reader's window.
+/// Reads this many numbers through a reader's window.
 fn time_reader(rt: &HostRuntime, bytes: &[u8], count: u64) -> io::Result<()> {
     let start = Instant::now(rt)?;
     let total = sum_by_reader(rt.alloc(), bytes, count)?;
     tell(rt, "reader", count, total, start.elapsed(rt)?)
 }
 
-/// The sum of so many numbers that are read so.
+/// The sum of this many numbers.
 fn sum_by_reader(alloc: Global, bytes: &[u8], count: u64) -> Result<u64, AllocError> {
     let mut source = ReaderSource::new(alloc, bytes, u64::MAX)?;
     Ok(sum(&mut source, count).unwrap_or(0))
@@ -120,7 +120,7 @@ fn put_numbers<K: Sink>(numbers: &[u64], times: u64, sink: &mut K) -> Result<(),
     Ok(())
 }
 
-/// Reads so many numbers, and adds them up.
+/// Reads this many numbers, and adds them up.
 #[inline(never)]
 fn sum<S: Source>(source: &mut S, count: u64) -> Result<u64, Why> {
     let mut total = 0u64;

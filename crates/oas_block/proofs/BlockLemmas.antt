@@ -1,4 +1,4 @@
--- What was inflated of a source of a block's bytes is what the block stands for.
+-- What was inflated from a source of a block's bytes is what the block encodes.
 use Rattle.std.proofs.Common.{◌≡◌, ◌≢◌, ℕ, zero, suc, min, ◌-◌, ◌<◌, ◌≤◌, Bool, true, false, List, [], ◌∷◌, ◌++◌, length, Result, Ok, Err, inl, inr, refl, sym, ap, subst, ◌∙◌, append-nil, arith}
 use Rattle.std.specs.Prelude.{◌⊎◌}
 use Rattle.std.proofs.lemmas.List.{length-append}
@@ -6,7 +6,7 @@ use base.Fml.{GName}
 use Rattle.oas_num.specs.declared.refusals.Why.{Why}
 use Rattle.oas_num.specs.declared.refusals.Why.TheVariants as why
 use Rattle.oas_num.specs.SourceFault.TheVariants.{Device, TooLong}
-use Rattle.oas_num.specs.Script.{Script, Takes, IsAtEnd, HasFailed, IsTooLong}
+use Rattle.oas_num.specs.Script.{Script, Consumed, IsAtEnd, HasFailed, IsTooLong}
 use Rattle.oas_inflate.specs.declared.faults.Fault.{Fault}
 use Rattle.oas_inflate.specs.declared.faults.Fault.TheVariants as faults
 use Rattle.oas_inflate.specs.Bits.{bits_of}
@@ -15,14 +15,14 @@ use Rattle.oas_inflate.specs.Deflate.{IsBlock, IsDeflated}
 use Rattle.oas_inflate.specs.Cut.{IsCutOff}
 use Rattle.oas_inflate.specs.Reading.{Found, Nothing, Longer, Spot, Through, CutShort, FoundOn, FailsWithin}
 use Rattle.oas_inflate.proofs.BitLemmas.{bits_of-whole}
-use Rattle.oas_inflate.proofs.ThroughLemmas.{Takes-none, Takes-then}
+use Rattle.oas_inflate.proofs.ThroughLemmas.{Consumed-none, Consumed-then}
 use Rattle.oas_wide.specs.declared.blocks.BlockHead.{BlockHead}
 use Rattle.oas_block.specs.declared.block.BlockEnd.{BlockEnd}
 use Rattle.oas_block.specs.declared.block.BlockEnd.TheVariants as ends
 use Rattle.oas_block.specs.declared.faults.BlockFault.{BlockFault}
 use Rattle.oas_block.specs.declared.faults.BlockFault.TheVariants as blocks
-use Rattle.oas_block.specs.Fronts.{front_script, IsFront}
-use Rattle.oas_block.specs.Reading.{IsRead, Tells, TakesAll, Stops, IsUnfinished, IsOther, EndsBlock, FailsBlock, ReadsBlock}
+use Rattle.oas_block.specs.Fronts.{prefix_script, IsFront}
+use Rattle.oas_block.specs.Reading.{IsRead, Tells, ConsumesAll, Stops, IsUnfinished, IsOther, EndsBlock, FailsBlock, ReadsBlock}
 use Rattle.oas_block.specs.Inflating.{Passed, PassesByte, Passes, Finishes, IsWhole, IsJudged, FaultOf, EndOf}
 use Rattle.oas_block.proofs.FrontLemmas.{front_count, front_back, front_some, ended_back, failed_back, too_long_back}
 
@@ -36,19 +36,19 @@ less_of zero (suc m) le ne = omega arith
 less_of (suc n) zero le ne = absurd (omega arith)
 less_of (suc n) (suc m) le ne = let r = less_of n m (omega arith) (λ e. ne (ap suc e)) in omega arith
 
--- a source's bytes were inflated, and stand for these
+-- a source's bytes were inflated, and encode these
 module _ (head : BlockHead) {start m now : Script} {name same same2 : GName} {unread left : ℕ} (old mid : Spot) (plain : List ℕ)
-    (kind : head.kind ≡ 0) (before : old.script ≡ front_script start head.deflated) (none : old.pending ≡ []) (after : front_script m unread ≡ mid.script)
+    (kind : head.kind ≡ 0) (before : old.script ≡ prefix_script start head.deflated) (none : old.pending ≡ []) (after : prefix_script m unread ≡ mid.script)
     (f : IsFront start name head.deflated same m unread) (g : IsFront start name head.deflated same2 now left) (t : FoundOn IsDeflated plain old mid) where
-  first : Takes (front_script start head.deflated) t.bytes (front_script m unread)
-  first = subst (λ (s : Script). Takes (front_script start head.deflated) t.bytes s) (sym after) (subst (λ (s : Script). Takes s t.bytes mid.script) before t.takes)
+  first : Consumed (prefix_script start head.deflated) t.bytes (prefix_script m unread)
+  first = subst (λ (s : Script). Consumed (prefix_script start head.deflated) t.bytes s) (sym after) (subst (λ (s : Script). Consumed s t.bytes mid.script) before t.takes)
 
   stands : (more : List ℕ) → Found IsDeflated plain (bits_of (t.bytes ++ more)) (mid.pending ++ bits_of more)
   stands more = subst (λ (p : List ℕ). Found IsDeflated plain (p ++ bits_of (t.bytes ++ more)) (mid.pending ++ bits_of more)) none (t.all more)
 
-  module _ (p : Passed (front_script m unread) (front_script now left)) where
-    both : Takes (front_script start head.deflated) (t.bytes ++ p.bytes) (front_script now left)
-    both = Takes-then _ _ _ t.bytes p.bytes first p.takes
+  module _ (p : Passed (prefix_script m unread) (prefix_script now left)) where
+    both : Consumed (prefix_script start head.deflated) (t.bytes ++ p.bytes) (prefix_script now left)
+    both = Consumed-then _ _ _ t.bytes p.bytes first p.takes
 
     whole_read : (limit idle : ℕ) → length plain ≤ limit → idle ≡ length mid.pending → IsWhole plain head.inflated unread idle → IsRead head limit start plain now
     whole_read limit idle le is w =
@@ -63,7 +63,7 @@ module _ (head : BlockHead) {start m now : Script} {name same same2 : GName} {un
         let few = w.few in
         record {
           bytes = t.bytes;
-          takes = subst (λ (x : List ℕ). Takes start x now) joined (front_back g both);
+          takes = subst (λ (x : List ℕ). Consumed start x now) joined (front_back g both);
           block = record {
             kind = kind;
             inflated = w.long;
@@ -74,7 +74,7 @@ module _ (head : BlockHead) {start m now : Script} {name same same2 : GName} {un
         }
 
     other_read : (idle : ℕ) → length plain ≤ head.inflated → idle ≡ length mid.pending → left ≡ 0 → ((length plain ≢ head.inflated) ⊎ ((0 < unread) ⊎ (8 ≤ idle)))
-        → TakesAll head (λ bytes. IsOther head plain bytes) start now
+        → ConsumesAll head (λ bytes. IsOther head plain bytes) start now
     other_read idle le is z wrong =
         let n = front_count f first in
         let l = front_count g both in
@@ -124,12 +124,12 @@ module _ (head : BlockHead) {start m now : Script} {name same same2 : GName} {un
 
 -- a source's bytes weren't inflated
 module _ (head : BlockHead) {start m : Script} {name same : GName} {unread : ℕ} (old mid : Spot)
-    (kind : head.kind ≡ 0) (before : old.script ≡ front_script start head.deflated) (none : old.pending ≡ []) (after : front_script m unread ≡ mid.script)
+    (kind : head.kind ≡ 0) (before : old.script ≡ prefix_script start head.deflated) (none : old.pending ≡ []) (after : prefix_script m unread ≡ mid.script)
     (f : IsFront start name head.deflated same m unread) where
-  fronts : {bytes : List ℕ} → Takes old.script bytes mid.script → Takes (front_script start head.deflated) bytes (front_script m unread)
-  fronts {bytes} k = subst (λ (s : Script). Takes (front_script start head.deflated) bytes s) (sym after) (subst (λ (s : Script). Takes s bytes mid.script) before k)
+  fronts : {bytes : List ℕ} → Consumed old.script bytes mid.script → Consumed (prefix_script start head.deflated) bytes (prefix_script m unread)
+  fronts {bytes} k = subst (λ (s : Script). Consumed (prefix_script start head.deflated) bytes s) (sym after) (subst (λ (s : Script). Consumed s bytes mid.script) before k)
 
-  -- what is so whatever comes behind what was taken
+  -- what holds whatever follows what was taken
   tells : (P : List ℕ → Type 0) → Through old mid (λ a b. P a) → Tells head (λ bytes. P (bits_of bytes)) start m
   tells P t = let l = front_count f (fronts t.takes) in record {
     bytes = t.bytes;
@@ -139,7 +139,7 @@ module _ (head : BlockHead) {start m : Script} {name same : GName} {unread : ℕ
     all = λ more e. subst (λ (p : List ℕ). P (p ++ bits_of (t.bytes ++ more))) none (t.all more);
   }
 
-  unfinished : (put : List ℕ) → CutShort old mid (λ a. Nothing IsDeflated a × IsCutOff put a) → unread ≡ 0 → TakesAll head (λ bytes. IsUnfinished put bytes) start m
+  unfinished : (put : List ℕ) → CutShort old mid (λ a. Nothing IsDeflated a × IsCutOff put a) → unread ≡ 0 → ConsumesAll head (λ bytes. IsUnfinished put bytes) start m
   unfinished put t z = let l = front_count f (fronts t.takes) in record {
     bytes = t.bytes;
     takes = front_back f (fronts t.takes);
@@ -173,16 +173,16 @@ module _ (head : BlockHead) {start m : Script} {name same : GName} {unread : ℕ
   cut given end limit stop why put (Ok x) is h t =
       let c : CutShort old mid (λ a. Nothing IsDeflated a × IsCutOff put a) = subst (λ (w : Fault). FailsWithin stop IsDeflated IsCutOff old w put mid) h.1 t in
       subst (λ (e : BlockEnd). EndsBlock head limit start (given x) e m) (sym h.2)
-      (subst (λ (d : List ℕ). TakesAll head (λ bytes. IsUnfinished d bytes) start m) (sym h.3) (unfinished put c h.0))
+      (subst (λ (d : List ℕ). ConsumesAll head (λ bytes. IsUnfinished d bytes) start m) (sym h.3) (unfinished put c h.0))
   cut given end limit stop why put (Err fault) is h t = refused limit stop why put fault is h.0 h.1 t
 
--- ---- bytes that are passed over
+-- ---- bytes that are skipped
 
 pub passed_none : (s : Script) → Passed s s
-passed_none s = record { bytes = []; takes = Takes-none s }
+passed_none s = record { bytes = []; takes = Consumed-none s }
 
-passed_then : {old mid new : Script} {bytes : List ℕ} → Passed old mid → Takes mid bytes new → Passed old new
-passed_then {bytes = bytes} p k = record { bytes = p.bytes ++ bytes; takes = Takes-then _ _ _ p.bytes bytes p.takes k }
+passed_then : {old mid new : Script} {bytes : List ℕ} → Passed old mid → Consumed mid bytes new → Passed old new
+passed_then {bytes = bytes} p k = record { bytes = p.bytes ++ bytes; takes = Consumed-then _ _ _ p.bytes bytes p.takes k }
 
 pub passed_on : {old mid new : Script} (more : Bool) → more ≡ true → Passed old mid → PassesByte mid (Ok more) new → Passed old new
 passed_on true e p k = passed_then p k.1
@@ -210,10 +210,10 @@ no_blocks : (via : List (List ℕ)) (before after end : List ℕ) → Chain (IsB
 no_blocks [] before after end h = no_block 1 before after end h
 no_blocks (next ∷ via) before after end h = no_block 0 before next h.0 h.1
 
-pub no_bytes : (head : BlockHead) (s : Script) (put : List ℕ) → head.kind ≡ 0 → head.deflated ≡ 0 → put ≡ [] → TakesAll head (λ bytes. IsUnfinished put bytes) s s
+pub no_bytes : (head : BlockHead) (s : Script) (put : List ℕ) → head.kind ≡ 0 → head.deflated ≡ 0 → put ≡ [] → ConsumesAll head (λ bytes. IsUnfinished put bytes) s s
 no_bytes head s put kind none empty = record {
   bytes = [];
-  takes = Takes-none s;
+  takes = Consumed-none s;
   kind = kind;
   whole = omega arith;
   is = record {

@@ -1,4 +1,4 @@
--- A list of bits begins with one deflated stream at most.
+-- A list of bits begins with at most one deflated stream.
 use Rattle.std.proofs.Common.{◌≡◌, ℕ, zero, suc, ◌+◌, ◌-◌, ◌*◌, ◌<◌, ◌≤◌, List, [], ◌∷◌, ◌++◌, get_or, take, drop, inl, inr, sym, ap, subst, ◌∙◌, arith}
 use Rattle.std.specs.Prelude.{◌⊎◌}
 use Rattle.oas_inflate.specs.Bits.{IsBit, IsNumber, IsWord, whole_bytes}
@@ -7,13 +7,13 @@ use Rattle.oas_inflate.specs.Grammar.{Then, When, Either, Only, Chain, Steps}
 use Rattle.oas_inflate.specs.Deflate.{IsNumbers, IsStored, length_extra, length_base, distance_extra, distance_base, IsCopy, IsFar, IsMatch, IsToken, IsBlockEnd, IsCoded, in_order, IsAgain, last_of, IsRun, IsLengthStep, IsLengthEnd, IsLengths, IsWithCodes, IsDynamic, IsBody, IsBlock, IsDeflated, fixed_literals, fixed_distances}
 use Rattle.oas_inflate.proofs.CodeLemmas.{only_here}
 use Rattle.oas_wide.specs.declared.blocks.BlockHead.{BlockHead}
-use Rattle.oas_block.specs.Blocks.{StandsFor}
+use Rattle.oas_block.specs.Blocks.{Represents}
 
--- one value stands there at most, and it ends in one place
+-- at most one value is encoded there, and it ends in one place
 pub record One {V : Type 0} (G : V → List ℕ → List ℕ → Type 0) : Type 0 where
   pub one : (v w : V) (old a b : List ℕ) → G v old a → G w old b → (v ≡ w) × (a ≡ b)
 
--- nothing stands there by both
+-- nothing is encoded there by both
 pub record Apart {V : Type 0} (G H : V → List ℕ → List ℕ → Type 0) : Type 0 where
   pub apart : (v w : V) (old a b : List ℕ) → G v old a → H w old b → ⊥
 
@@ -78,7 +78,7 @@ numbers_one (suc width) v w old a b h k =
 number_one : (width : ℕ) → One (IsNumber width)
 number_one width = record { one = λ v w old a b h k. numbers_one width v w old a b h k }
 
--- a longer word goes on behind a shorter one
+-- a longer word goes on after a shorter one
 word_goes_on : (short long more high v w : ℕ) (old a b : List ℕ) → long ≡ short + more → IsWord short high v old a → IsWord long high w old b → IsWord more v w a b
 word_goes_on zero long more high v w old a b e h k =
     let l : long ≡ more = omega arith in
@@ -220,6 +220,6 @@ block_apart before = record {
 pub deflated_one : One IsDeflated
 deflated_one = steps_one (IsBlock 0) (IsBlock 1) [] (block_one 0) (block_one 1) block_apart
 
--- one head with its bytes stands for one list of bytes
-pub one_block : (head : BlockHead) (bytes plain other : List ℕ) → StandsFor head bytes plain → StandsFor head bytes other → plain ≡ other
+-- a head with its bytes has only one list of bytes
+pub one_block : (head : BlockHead) (bytes plain other : List ℕ) → Represents head bytes plain → Represents head bytes other → plain ≡ other
 one_block head bytes plain other h k = (deflated_one.one plain other _ _ _ h.packed.stands k.packed.stands).0

@@ -5,16 +5,16 @@ ghost use Rattle.oas_block.specs.Inflating.{PassesByte, Passes, Finishes, Judges
 
 use crate::block::{Block, BlockEnd};
 use crate::faults::BlockFault;
-use crate::fronts::{FrontSource, Start};
+use crate::fronts::{PrefixSource, Start};
+use oas_inflate::oas_inflated::Inflated;
 use oas_inflate::{Bits, Fault, Stopped, inflate};
-use oas_inflated::Inflated;
 use oas_num::{Source, SourceFault, Why};
 use oas_wide::BlockHead;
 use std::alloc::Global;
 use std::marker::{Brand, PhantomData};
 
-/// The data that a block's bytes stand for, at most as many bytes as a limit (SEMI P39, CBLOCK record), or those that its
-/// stream gives where it doesn't end as it should. The bytes begin where the source stands, behind the head.
+/// The data of a block's bytes, at most as many bytes as a limit (SEMI P39, CBLOCK record), or those that its stream gives
+/// where it doesn't end as it should. The bytes are the source's next ones, after the head.
 pub fn read_block<S: Source>(
     alloc: Global,
     source: &mut S,
@@ -36,7 +36,7 @@ pub fn read_block<S: Source>(
     read
 }
 
-/// The same, of the source that is named. It hands the borrow back, so that its lender knows it for its own.
+/// The same, for the source that is named. It hands the borrow back, so that its lender knows it as its own.
 fn read_named<'a, S: Source, K: Start>(
     alloc: Global,
     source: &'a mut S,
@@ -51,7 +51,7 @@ fn read_named<'a, S: Source, K: Start>(
     ensures same { result.1.ghost_name ≡ source.entry.ghost_name }
     ensures reads { ReadsBlock (λ block. block.«data».items) (λ block. block.end) head limit (S.script source.old) result.0 (S.script result.1.now) }
 {
-    let front: FrontSource<'a, S, K> = FrontSource {
+    let front: PrefixSource<'a, S, K> = PrefixSource {
         source,
         left: head.deflated,
         start: PhantomData,
@@ -64,7 +64,7 @@ fn read_named<'a, S: Source, K: Start>(
         Ok(plain) => finish(&mut front, plain, head, idle),
         Err(stopped) => cut_off(stopped, head, limit, front.left),
     };
-    let FrontSource {
+    let PrefixSource {
         source,
         left: _,
         start: _,
@@ -72,9 +72,9 @@ fn read_named<'a, S: Source, K: Start>(
     (read, source)
 }
 
-/// Takes what is left of a block behind its stream, and gives what that stands for.
+/// Takes what is left of a block after its stream, and returns the stream's data.
 fn finish<'a, S: Source, K: Start>(
-    front: &mut FrontSource<'a, S, K>,
+    front: &mut PrefixSource<'a, S, K>,
     plain: Inflated,
     head: BlockHead,
     idle: u8,
@@ -113,7 +113,7 @@ fn pass_byte<S: Source>(source: &mut S) -> Result<bool, Why>
     }
 }
 
-/// Takes all bytes that the source still gives.
+/// Takes all bytes that the source will still give.
 fn pass<S: Source>(source: &mut S) -> Result<(), Why>
     ensures { Passes (S.script source.old) result (S.script source.new) }
 {
@@ -121,7 +121,7 @@ fn pass<S: Source>(source: &mut S) -> Result<(), Why>
     Ok(())
 }
 
-/// What a block is whose stream isn't finished: what was given, where all its bytes were taken, or why it isn't read.
+/// The block of a stream that isn't finished: what was given, where all its bytes were taken, or why it isn't read.
 fn cut_off(stopped: Stopped, head: BlockHead, limit: usize, left: u64) -> Result<Block, BlockFault>
     ensures { EndOf (λ block. block.«data».items) (λ block. block.end) head limit left stopped.fault stopped.bytes.items result }
 {
@@ -149,8 +149,8 @@ fn fault_of(fault: Fault, head: BlockHead, limit: usize) -> BlockFault
     }
 }
 
-/// The bytes that a stream stands for, and whether they are what a head says: as many as that, with no byte unread behind the
-/// stream, and fewer bits than eight.
+/// The bytes that a stream encodes, and whether they are what a head says: as many as that, with no byte unread after the
+/// stream, and fewer than eight bits.
 fn judged(plain: Inflated, head: BlockHead, unread: u64, idle: u8) -> Block
     ensures { Judges result.«data».items result.end plain.items head.inflated unread idle }
 {

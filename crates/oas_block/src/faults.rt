@@ -7,12 +7,12 @@ use oas_num::Why;
 pub enum BlockFault {
     /// The kind of compression isn't 0.
     Kind,
-    /// The stream stands for more bytes than the head says.
+    /// The stream encodes more bytes than the head says.
     Length,
     /// No deflated stream begins like the bytes.
     Deflate,
-    /// The input ended or stopped within the block, or there was no memory.
+    /// The input ended or stopped within the block, or out of memory.
     Why(Why),
-    /// The data are more than the limit that was handed in.
+    /// The data exceed the limit that was handed in.
     Full,
 }

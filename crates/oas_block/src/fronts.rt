@@ -1,11 +1,10 @@
-//! A source of so many of another's next bytes.
+//! A source of a fixed number of another source's next bytes.
 ghost use Rattle.oas_block.specs.Fronts.{IsFront, IsFront-prop};
 
 use oas_num::{Source, SourceFault};
 use std::marker::{Brand, PhantomData};
 
-/// Which source it is whose bytes are given, where it stood before the first of them, and how many they are. Each use picks
-/// it.
+/// Which source's bytes are given, where it was before the first of them, and how many they are. Each use chooses it.
 pub(crate) trait Start {
     ghost use Rattle.std.specs.Prelude.{ℕ};
     ghost use Rattle.oas_num.specs.Script.{Script};
@@ -29,20 +28,20 @@ impl Start for Brand {
     ghost count = { 0 };
 }
 
-/// So many of the next bytes of a borrowed source. Behind them its bytes have ended.
+/// A fixed number of the next bytes of a borrowed source. It ends after them.
 #[derive(Drop)]
-pub(crate) struct FrontSource<'a, S: Source, K: Start> {
+pub(crate) struct PrefixSource<'a, S: Source, K: Start> {
     pub(crate) source: &'a mut S,
     pub(crate) left: u64,
     pub(crate) start: PhantomData<K>,
     ghost front: { IsFront K.script K.name K.count source.ghost_name (S.script source.now) left } by { IsFront-prop K.script K.name K.count source.ghost_name (S.script source.now) left },
 }
 
-impl<'a, S: Source, K: Start> Source for FrontSource<'a, S, K> {
+impl<'a, S: Source, K: Start> Source for PrefixSource<'a, S, K> {
     ghost use Rattle.std.specs.Prelude.{[]};
-    ghost use Rattle.oas_block.specs.Fronts.{front_script};
+    ghost use Rattle.oas_block.specs.Fronts.{prefix_script};
 
-    ghost script = { λ f. front_script (S.script f.source.now) f.left };
+    ghost script = { λ f. prefix_script (S.script f.source.now) f.left };
 
     // None, although the source may have some: they are taken one by one.
     ghost at_hand = { λ _. [] };

@@ -1,9 +1,9 @@
-//! The law of blocks: the function's contract is it, and its body is empty.
+//! The law of blocks: it is the function's contract, and the body is empty.
 ghost use Rattle.std.specs.Prelude.{◌≡◌, ℕ, List};
 ghost use Rattle.oas_wide.specs.declared.blocks.BlockHead.{BlockHead};
-ghost use Rattle.oas_block.specs.Blocks.{StandsFor};
+ghost use Rattle.oas_block.specs.Blocks.{Represents};
 
-/// One head with its bytes stands for one data.
+/// A head with its bytes has only one data.
 pub fn one_data()
-    ensures { (head : BlockHead) (bytes plain other : List ℕ) → StandsFor head bytes plain → StandsFor head bytes other → plain ≡ other }
+    ensures { (head : BlockHead) (bytes plain other : List ℕ) → Represents head bytes plain → Represents head bytes other → plain ≡ other }
 {}

@@ -5,12 +5,12 @@ use Rattle.std.proofs.lemmas.List.{length-take-le}
 use Rattle.std.specs.Io.KnownBytes.{Appends, Keeps}
 use Rattle.oas_bytes.specs.declared.outlets.Outlet.{Outlet}
 use Rattle.oas_bytes.specs.declared.sinks.SinkFault.{SinkFault}
-use Rattle.oas_bytes.specs.Writing.{Puts, PutsFront, Writes}
+use Rattle.oas_bytes.specs.Writing.{Puts, PutsPrefix, Writes}
 use Rattle.oas_bytes.specs.Outlets.{unsent, failures_of, IsGiven}
 use Rattle.oas_bytes.specs.Laws.OutletLaws.{Appends-then, Appends-kept}
 use Rattle.oas_bytes.proofs.WritingLemmas.{Puts-then}
 
--- a full window is the only one of an outlet that has failed
+-- the window of an outlet that has failed is always full
 pub works_below : (n : ℕ) (failed : Bool) → (failed ≡ true → n ≡ 8192) → n < 8192 → failed ≡ false
 works_below n true full lt = absurd (omega (arith, full refl))
 works_below n false full lt = refl
@@ -69,7 +69,7 @@ module _ {W : Type 0} where
     -- the writer took a part of the window, and failed
     pub window_lost : (count : ℕ) → p.failed ≡ true → count < length o.window
         → Appends (contents o.writer.now) (contents p.writer.now) (take count o.window) → p.taken ≡ min (o.taken + count) (2 ^ 64 - 1)
-        → PutsFront (IsGiven contents) failures_of o [] p
+        → PutsPrefix (IsGiven contents) failures_of o [] p
     window_lost count failed lt took taken = record {
       front = [];
       back = [];
@@ -94,7 +94,7 @@ module _ {W : Type 0} where
       failed = omega (arith, one_fault p failed);
     }
 
-    -- the window was taken, and what the writer then kept is what it had
+    -- the window was taken, and the writer kept what it had before
     kept_still : Keeps (contents o.writer.now) (contents p.writer.now) → unsent o ≡ [] → p.taken ≡ o.taken → (p.failed ≡ false → unsent p ≡ [])
         → (start : Outlet W) (before : List ℕ) → IsGiven contents start before o → IsGiven contents start (before ++ []) p
     kept_still keeps none taken still start before h = record {
@@ -114,7 +114,7 @@ module _ {W : Type 0} where
       no_fewer = omega (arith, no_fault o works);
     }
 
-    pub flush_failed : Keeps (contents o.writer.now) (contents p.writer.now) → unsent o ≡ [] → p.taken ≡ o.taken → p.failed ≡ true → PutsFront (IsGiven contents) failures_of o [] p
+    pub flush_failed : Keeps (contents o.writer.now) (contents p.writer.now) → unsent o ≡ [] → p.taken ≡ o.taken → p.failed ≡ true → PutsPrefix (IsGiven contents) failures_of o [] p
     flush_failed keeps none taken failed = record {
       front = [];
       back = [];
@@ -126,9 +126,9 @@ module _ {W : Type 0} where
       failed = omega (arith, one_fault p failed);
     }
 
-  -- a call that fails after one that did not
+  -- a call that fails after one that succeeded
   pub fails_after : (contents : W → Option (List ℕ)) (o m p : Outlet W) → Puts (IsGiven contents) failures_of o [] m
-      → PutsFront (IsGiven contents) failures_of m [] p → PutsFront (IsGiven contents) failures_of o [] p
+      → PutsPrefix (IsGiven contents) failures_of m [] p → PutsPrefix (IsGiven contents) failures_of o [] p
   fails_after contents o m p a b = record {
     front = b.front;
     back = b.back;

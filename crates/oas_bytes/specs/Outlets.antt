@@ -7,18 +7,18 @@ use Rattle.oas_bytes.specs.declared.sinks.SinkFault.{SinkFault}
 use Rattle.oas_bytes.specs.declared.sinks.SinkFault.TheVariants.{Device}
 
 module _ {W : Type 0} where
-  -- it has met a fault
+  -- it has had a fault
   abbrev pub HasFailed : Outlet W → Type 0
   HasFailed o = o.failed ≡ true
 
-  -- the bytes that the writer is still to take: after a fault none
+  -- the bytes that the writer will still take: after a fault none
   abbrev pub unsent : Outlet W → List ℕ
   unsent o = if o.failed then [] else o.window
 
   abbrev pub failures_of : Outlet W → ℕ
   failures_of o = if o.failed then 1 else 0
 
-  -- it stands before this writer, and was given nothing yet
+  -- it is over this writer, and was given nothing yet
   pub record Opens (writer : MutBor W) (o : Outlet W) : Type 0 where
     pub same_writer : o.writer.ghost_name ≡ writer.ghost_name
     pub same : o.writer.now ≡ writer.now
@@ -26,8 +26,8 @@ module _ {W : Type 0} where
     pub none_unsent : unsent o ≡ []
     pub works : o.failed ≡ false
 
-  -- Between two of its states it was given these bytes. Of those and what was unsent before the writer took `sent`; `kept`
-  -- is what is unsent now, or after a fault what was lost.
+  -- Between two of its states it was given these bytes. Of what was unsent and these bytes, the writer has taken `sent`.
+  -- `kept` is what is unsent now, or what was lost after a fault.
   pub record IsGiven (contents : W → Option (List ℕ)) (start : Outlet W) (bytes : List ℕ) (now : Outlet W) : Type 0 where
     pub same_writer : now.writer.ghost_name ≡ start.writer.ghost_name
     pub sent : List ℕ
@@ -42,19 +42,19 @@ module _ {W : Type 0} where
     pub works : o.failed ≡ false
     pub none : unsent o ≡ []
 
-  -- and a flush after the last byte of it is on record
+  -- and a flush after the last byte is on record
   pub record IsSent (o : Outlet W) : Type 0 where
     pub works : o.failed ≡ false
     pub none : unsent o ≡ []
     pub flushed : o.flush_record.flushed ≡ true
 
-  -- a call after a fault answers it and changes nothing, and a call that meets one keeps it
+  -- a call after a fault returns it and changes nothing, and a call that has a fault keeps it
   pub record Answers (old : Outlet W) (answer : Result Unit SinkFault) (new : Outlet W) : Type 0 where
     pub again : HasFailed old → (answer ≡ Err Device) × (new ≡ old)
     pub fault : answer ≡ Err Device → HasFailed new
 
--- Of these bytes a writer took the front, so many of them; the count stays at u64::MAX.
-pub record TakesFront {W : Type 0} (contents : W → Option (List ℕ)) (old new : W) (bytes : List ℕ) (taken : ℕ) : Type 0 where
+-- A writer took a prefix of these bytes, and `taken` is its length; the count stops at u64::MAX.
+pub record ConsumesPrefix {W : Type 0} (contents : W → Option (List ℕ)) (old new : W) (bytes : List ℕ) (taken : ℕ) : Type 0 where
   pub front : List ℕ
   pub back : List ℕ
   pub joined : bytes ≡ front ++ back

@@ -1,5 +1,6 @@
 -- What a source gave, and what it is still to give.
 use Rattle.std.specs.Prelude.{◌≡◌, ℕ, ◌+◌, ◌<◌, ◌≤◌, min, Bool, true, false, List, [], ◌∷◌, ◌++◌, length, take, drop, Option, Some, None, Result, Ok, Err, IfSome, if◌then◌else◌, nat_lt, ◌==◌}
+use Rattle.std.proofs.Props.{props}
 use Rattle.oas_bytes.specs.declared.sources.SourceFault.{SourceFault}
 use Rattle.oas_bytes.specs.declared.sources.SourceFault.TheVariants.{Device, TooLong}
 
@@ -8,8 +9,9 @@ pub record Rest : Type 0 where
   pub bytes : List ℕ
   pub goes_on : Bool
 
--- how many bytes were given, of how many at most; whether the device cannot fail; how often it failed; what is still to be given, where that is known; and the answer that every call has from now on, once there is one
+-- the bytes that were given, how many they are, of how many at most; whether the device cannot fail; how often it failed; what is still to be given, where that is known; and the answer that every call has from now on, once there is one
 pub record Script : Type 0 where
+  pub history : List ℕ
   pub given : ℕ
   pub limit : ℕ
   pub reliable : Bool
@@ -28,8 +30,13 @@ abbrev pub left_of : Option Rest → List ℕ
 left_of None = []
 left_of (Some rest) = rest.bytes
 
+-- the bytes that were given from old to new
+abbrev pub since : Script → Script → List ℕ
+since old new = drop (length old.history) new.history
+
 -- from old to new these bytes were given
-pub record Takes (old : Script) (bytes : List ℕ) (new : Script) : Type 0 where
+pub record Consumed (old : Script) (bytes : List ℕ) (new : Script) : Type 0 where
+  pub history : new.history ≡ old.history ++ bytes
   pub given : new.given ≡ old.given + length bytes
   pub limit : new.limit ≡ old.limit
   pub reliable : new.reliable ≡ old.reliable
@@ -60,10 +67,10 @@ pub record IsTooLong (s : Script) : Type 0 where
 
 -- what a call answers, and what it leaves
 abbrev pub Answers : Script → Result (Option ℕ) SourceFault → Script → Type 0
-Answers old (Ok (Some byte)) new = (byte < 256) × Takes old (byte ∷ []) new
-Answers old (Ok None) new = Takes old [] new × IsAtEnd new
-Answers old (Err Device) new = Takes old [] new × HasFailed new
-Answers old (Err TooLong) new = Takes old [] new × IsTooLong new
+Answers old (Ok (Some byte)) new = (byte < 256) × Consumed old (byte ∷ []) new
+Answers old (Ok None) new = Consumed old [] new × IsAtEnd new
+Answers old (Err Device) new = Consumed old [] new × HasFailed new
+Answers old (Err TooLong) new = Consumed old [] new × IsTooLong new
 
 -- one call of `next`
 pub record Next (old : Script) (answer : Result (Option ℕ) SourceFault) (new : Script) : Type 0 where
@@ -78,6 +85,7 @@ last_at bytes limit = min limit (length bytes)
 -- a slice's source, after it gave some bytes: no device stands behind it
 abbrev pub slice_script : List ℕ → ℕ → ℕ → Script
 slice_script bytes limit at = record {
+  history = take at (take limit bytes);
   given = at;
   limit = limit;
   reliable = true;
@@ -85,3 +93,26 @@ slice_script bytes limit at = record {
   rest = Some (record { bytes = drop at (take limit bytes); goes_on = nat_lt limit (length bytes) });
   settled = if at == last_at bytes limit then Some (if nat_lt limit (length bytes) then Err TooLong else Ok None) else None;
 }
+
+-- ---- each of these has at most one proof
+
+Gave-prop : (old : Option Rest) (bytes : List ℕ) (new : Option Rest) → IsProp (Gave old bytes new)
+Gave-prop None bytes new = Prim.hlevel props
+Gave-prop (Some old) bytes None = Prim.hlevel props
+Gave-prop (Some old) bytes (Some new) = Prim.hlevel props
+
+pub Consumed-prop : (old : Script) (bytes : List ℕ) (new : Script) → IsProp (Consumed old bytes new)
+Consumed-prop old bytes new = Prim.hlevel (Gave-prop, props)
+
+NoneLeft-prop : (rest : Option Rest) (goes_on : Bool) → IsProp (NoneLeft rest goes_on)
+NoneLeft-prop None goes_on = Prim.hlevel props
+NoneLeft-prop (Some rest) goes_on = Prim.hlevel props
+
+pub IsAtEnd-prop : (s : Script) → IsProp (IsAtEnd s)
+IsAtEnd-prop s = Prim.hlevel (NoneLeft-prop, props)
+
+pub HasFailed-prop : (s : Script) → IsProp (HasFailed s)
+HasFailed-prop s = Prim.hlevel props
+
+pub IsTooLong-prop : (s : Script) → IsProp (IsTooLong s)
+IsTooLong-prop s = Prim.hlevel (NoneLeft-prop, props)

@@ -6,22 +6,23 @@ use std::io::{self, Write};
 
 /// A record of whether a writer was flushed after the last byte that it took.
 ///
-/// The field is private to this file, so `flush` alone makes the record, and `send` takes it away. It stands beside the
-/// writer and not round it: of a `&mut` in a struct in a struct its lender would learn nothing afterwards.
+/// The field is private to this file, so only `flush` makes the record, and `send` takes it away. It is kept beside the
+/// writer, not around it: the lender of a `&mut` in a struct in a struct would learn nothing afterwards.
 #[derive(Drop)]
 pub(crate) struct FlushRecord {
     flushed: bool,
 }
 
 impl FlushRecord {
-    /// No flush is known of.
+    /// No flush is known.
     pub(crate) fn new() -> FlushRecord
         ensures { result.flushed ≡ false }
     {
         FlushRecord { flushed: false }
     }
 
-    /// Has a writer take all of the bytes, by as many calls as it wants. Where it fails the answer is how many it took.
+    /// Sends all of the bytes to a writer, by as many calls as needed. Where it fails it returns how many bytes the writer
+    /// took.
     pub(crate) fn send<W: Write>(&mut self, writer: &mut W, bytes: &[u8]) -> Result<(), usize>
         ensures ok { OnOk result (Appends (W.contents writer.old) (W.contents writer.new) bytes.now) }
         ensures err { IfErr result (λ count. (count < length bytes.now)
@@ -42,8 +43,8 @@ impl FlushRecord {
 
     /// Flushes a writer.
     ///
-    /// That the writer's own `flush` is called is to be read here. No clause can demand it: all that `Write::flush`
-    /// promises, that the writer keeps its bytes, holds without the call too.
+    /// Read here that the writer's own `flush` is called. No clause can require it: all that `Write::flush` promises is that
+    /// the writer keeps its bytes, and that holds without the call too.
     pub(crate) fn flush<W: Write>(&mut self, writer: &mut W) -> io::Result<()>
         ensures keeps { Keeps (W.contents writer.old) (W.contents writer.new) }
         ensures flushed { OnOk result (self.new.flushed ≡ true) }

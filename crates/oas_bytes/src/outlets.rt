@@ -6,13 +6,13 @@ use crate::sinks::{Sink, SinkFault};
 use crate::windows::Window;
 use std::io::Write;
 
-/// A sink over a borrowed writer. It gathers bytes in a window of its own and takes no memory, so a byte at a time costs
-/// no call of the writer each.
+/// A sink over a borrowed writer. It buffers bytes in a window of its own and allocates nothing, so single bytes don't each
+/// cost a call of the writer.
 ///
-/// What the writer took is always a front of what was put, and after `close` answered Ok it is all of it. An error of the
-/// writer is a fault, an interrupted write too, and so are an answer of 0 to some bytes and a failed flush. After a fault
-/// each call answers it, and the writer is not called again. What stands in the window when an outlet is let go without
-/// `close` is lost.
+/// What the writer took is always a prefix of what was put, and once `close` has returned Ok it is all of it. Each of these
+/// is a fault: an error of the writer, also an interrupted write; a write that takes 0 of some bytes; a failed flush. After a
+/// fault each call returns it, and the writer is not called again. If an outlet is dropped without `close`, the bytes in its
+/// window are lost.
 #[derive(Drop)]
 pub struct Outlet<'a, W> {
     writer: &'a mut W,
@@ -20,7 +20,7 @@ pub struct Outlet<'a, W> {
     taken: u64,
     ghost within: { taken ≤ 2 ^ 64 - 1 },
     flush_record: FlushRecord,
-    // After a fault the window is full, so that `put` has one test to make.
+    // After a fault the window is full, so `put` needs one test only.
     failed: bool,
     ghost full: { failed ≡ true → length window ≡ 8192 },
 }
@@ -29,7 +29,7 @@ impl<'a, W: Write> Outlet<'a, W> {
     ghost use Rattle.oas_bytes.specs.Outlets.{Opens, IsGiven, NoneWaits, IsSent, Answers, failures_of};
     ghost use Rattle.oas_bytes.specs.Writing.{Writes};
 
-    /// One that was given nothing.
+    /// An outlet that was given nothing.
     pub fn new(writer: &'a mut W) -> Outlet<'a, W>
         ensures { Opens writer.entry result }
     {
@@ -42,14 +42,14 @@ impl<'a, W: Write> Outlet<'a, W> {
         }
     }
 
-    /// How many bytes the writer took. At `u64::MAX` it stays there.
+    /// How many bytes the writer took. The count stops at `u64::MAX`.
     pub fn taken(&self) -> u64
         ensures { result ≡ self.now.taken }
     {
         self.taken
     }
 
-    /// Has the writer take the rest, and flushes it.
+    /// Sends the rest to the writer, and flushes it.
     #[tactic(auto, using(crate::proofs::OutletLemmas::writes_after))]
     pub fn close(&mut self) -> Result<(), SinkFault>
         ensures writes { Writes (IsGiven W.contents) failures_of self.old [] result self.new }
@@ -60,7 +60,7 @@ impl<'a, W: Write> Outlet<'a, W> {
         self.flush()
     }
 
-    /// Has the writer take what the window holds.
+    /// Sends the bytes of the window to the writer.
     fn spill(&mut self) -> Result<(), SinkFault>
         ensures writes { Writes (IsGiven W.contents) failures_of self.old [] result self.new }
         ensures all { OnOk result (NoneWaits self.new) }
@@ -101,7 +101,7 @@ impl<'a, W: Write> Outlet<'a, W> {
         }
     }
 
-    /// Takes a byte where the window is full.
+    /// Puts a byte where the window is full.
     #[cold]
     #[inline(never)]
     fn put_after_spill(&mut self, byte: u8) -> Result<(), SinkFault>

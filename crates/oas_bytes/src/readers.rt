@@ -3,6 +3,7 @@ ghost use Rattle.std.specs.Prelude.{◌≡◌, IfOk, [], None};
 ghost use Rattle.oas_bytes.specs.Readers.{reader_script};
 ghost use Rattle.oas_bytes.specs.Script.{Next};
 
+use crate::noted::NotedReader;
 use crate::sources::{Source, SourceFault};
 use std::alloc::{AllocError, Global};
 use std::io::Read;
@@ -13,22 +14,22 @@ use std::marker::Model;
 pub enum Ending {
     /// They have not ended.
     Open,
-    /// The reader had no byte more.
+    /// The reader had no more bytes.
     Ended,
     /// The reader failed.
     Failed,
-    /// A byte stands after the limit.
+    /// There is a byte after the limit.
     TooLong,
 }
 
 /// The bytes of a reader, through a window of 65,536 bytes that `new` reserves.
 #[derive(Drop)]
 pub struct ReaderSource<R: Read> {
-    reader: R,
+    reader: NotedReader<R>,
     window: Vec<u8>,
     // The next byte's place in the window.
     start: usize,
-    // Where those bytes end that may be given under the limit.
+    // Where the bytes that may be given under the limit end.
     end: usize,
     // Where the reader's bytes end.
     filled: usize,
@@ -47,22 +48,24 @@ impl<R: Read> Model for ReaderSource<R> {
     ghost use Rattle.oas_bytes.specs.Readers.{reader_script, IsSoundReader};
 
     ghost view = { λ s. record {
-      script = reader_script (R.remaining s.reader) s.window.items s.start s.filled (s.before + s.start) s.limit s.ending;
+      script = reader_script (R.remaining s.reader.reader) s.reader.returned.bytes s.window.items s.start s.filled (s.before + s.start) s.limit s.ending;
       at_hand = slice_range s.window.items s.start s.end;
+      returned = s.reader.returned.bytes;
     } };
 
-    ghost invariant = { λ s. IsSoundReader (R.remaining s.reader) s.window.items s.start s.end s.filled s.before s.limit s.ending };
+    ghost invariant = { λ s. IsSoundReader (R.remaining s.reader.reader) s.reader.returned.bytes s.window.items s.start s.end s.filled s.before s.limit s.ending };
 }
 
 impl<R: Read + Drop> ReaderSource<R> {
-    /// The reader's bytes, of which at most `limit` are given.
+    /// A source of the reader's bytes, which gives at most `limit` of them.
     pub fn new(alloc: Global, reader: R, limit: u64) -> Result<Self, AllocError>
-        ensures all { IfOk result (λ s. s.script ≡ reader_script (R.remaining reader) [] 0 0 0 limit Ending.Open) }
+        ensures all { IfOk result (λ s. s.script ≡ reader_script (R.remaining reader) [] [] 0 0 0 limit Ending.Open) }
         ensures none { IfOk result (λ s. s.at_hand ≡ []) }
+        ensures uncalled { IfOk result (λ s. s.returned ≡ []) }
     {
         let window = vec![in alloc; 0; 65536]?;
         Ok(ReaderSource {
-            reader,
+            reader: NotedReader::new(reader),
             window,
             start: 0,
             end: 0,
@@ -73,7 +76,7 @@ impl<R: Read + Drop> ReaderSource<R> {
         })
     }
 
-    /// What comes where no byte of the window may be given any more, or none stands there.
+    /// The next byte or the end, where no byte of the window may be given any more.
     #[cold]
     #[inline(never)]
     fn next_window(&mut self) -> Result<Option<u8>, SourceFault>
@@ -131,7 +134,7 @@ impl<R: Read + Drop> Source for ReaderSource<R> {
     }
 
     fn at(&self) -> u64 {
-        // The sum is at most the limit, which the proof knows to fit once it is read.
+        // The sum is at most the limit, so it fits; the proof knows this once the sum is read.
         let _limit = self.limit;
         self.before + self.start as u64
     }

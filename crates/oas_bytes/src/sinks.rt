@@ -1,4 +1,4 @@
-//! What bytes are put to, and a sink that counts them.
+//! Sinks, and a sink that counts its bytes.
 ghost use Rattle.std.specs.Prelude.{◌≡◌, List, ℕ, [], ◌∷◌, ◌+◌, ◌≤◌, min, ◌-◌, ◌^◌, length};
 ghost use Rattle.std.proofs.Common.{arith};
 ghost use Rattle.oas_bytes.specs.Writing.{Writes};
@@ -8,7 +8,7 @@ use thiserror::Error;
 /// Why a byte was not taken.
 #[derive(Clone, Copy, Debug, Drop, PartialEq, Eq, Error)]
 pub enum SinkFault {
-    /// The device failed: it answered an error, or took no byte of some.
+    /// The device failed: it returned an error, or took none of some bytes.
     #[error("the output device failed")]
     Device,
 }
@@ -35,11 +35,11 @@ pub trait Sink {
         Ok(())
     }
 
-    /// What nothing was put to was given nothing.
+    /// A sink to which nothing was put was given nothing.
     ghost none_given: { (s : Self) → given s [] s };
 }
 
-/// Counts the bytes that it is given. At `u64::MAX` it stays there.
+/// Counts the bytes that it is given. The count stops at `u64::MAX`.
 #[derive(Clone, Copy, Debug)]
 pub struct Counter {
     count: u64,
@@ -47,7 +47,7 @@ pub struct Counter {
 }
 
 impl Counter {
-    /// One that was given nothing.
+    /// A counter that was given nothing.
     pub fn new() -> Counter
         ensures { result.count ≡ 0 }
     {

@@ -28,7 +28,7 @@ impl<'a> Model for SliceSource<'a> {
 impl<'a> SliceSource<'a> {
     ghost use Rattle.oas_bytes.specs.Script.{slice_script};
 
-    /// The bytes, of which at most `limit` are given.
+    /// A source of these bytes, which gives at most `limit` of them.
     pub fn new(bytes: &'a [u8], limit: u64) -> Self
         ensures { result ≡ slice_script bytes.now limit 0 }
     {

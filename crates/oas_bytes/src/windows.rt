@@ -1,4 +1,4 @@
-//! Bytes that are gathered for a writer.
+//! Bytes that are buffered for a writer.
 ghost use Rattle.std.specs.Prelude.{◌≡◌, ◌≤◌, ◌<◌, true, false, length, take, [], ◌∷◌, ◌++◌, IfOk, IfErr};
 ghost use Rattle.std.specs.Io.KnownBytes.{Appends};
 
@@ -6,7 +6,7 @@ use crate::flushing::FlushRecord;
 use std::io::Write;
 use std::marker::Model;
 
-/// How many bytes are gathered before the writer is called.
+/// How many bytes are buffered before the writer is called.
 const SIZE: usize = 8192;
 
 /// Bytes that wait for a writer, at most `SIZE` of them. Contracts see it as their list.
@@ -37,7 +37,7 @@ impl Window {
         }
     }
 
-    /// Whether no byte more has room.
+    /// Whether the window is full.
     #[inline]
     pub(crate) fn is_full(&self) -> bool
         ensures full { result ≡ true → length self.now ≡ 8192 }
@@ -71,15 +71,15 @@ impl Window {
         self.held = 0;
     }
 
-    /// Takes up all of its room, by whatever stands there.
+    /// Fills the window, with any bytes.
     pub(crate) fn fill(&mut self)
         ensures { length self.new ≡ 8192 }
     {
         self.held = SIZE;
     }
 
-    /// Has a writer take the bytes, and then drops them. Where the writer fails the answer is how many it took, and the
-    /// bytes stay.
+    /// Sends the bytes to a writer, and then drops them. Where the writer fails it returns how many were taken, and the bytes
+    /// stay.
     pub(crate) fn send_to<W: Write>(
         &mut self,
         writer: &mut W,

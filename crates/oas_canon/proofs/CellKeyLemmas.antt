@@ -4,16 +4,16 @@ use Rattle.hex.proofs.HexLemmas.{length-encode_with}
 use Rattle.hex.specs.Hex.{lower_digits, encode_lower}
 use Rattle.sha2.proofs.Facts256.{length-sha256}
 use Rattle.oas_num.specs.Ratio.{Ratio}
-use Rattle.oas_num.specs.Writing.{Puts, PutsFront}
+use Rattle.oas_num.specs.Writing.{Puts, PutsPrefix}
 use Rattle.oas_num.proofs.PuttingLemmas.{PutSoFar, item_put, item_fails, items_put}
 use Rattle.oas_layout.specs.declared.element.Element.{Element}
 use Rattle.oas_layout.specs.Meaning.{cells_weight}
 use Rattle.oas_layout.specs.Contents.{Cell, Contents, names, expanded, meaning_of, IsLayout}
-use Rattle.oas_form.specs.Alone.{alone, cell_at}
-use Rattle.oas_form.specs.Bytes.{canonical_bytes}
+use Rattle.oas_judge.specs.oas_form.Alone.{alone, cell_at}
+use Rattle.oas_judge.specs.oas_form.Bytes.{canonical_bytes}
 use Rattle.oas_canon.specs.CellKeys.{cell_key, named_key, cell_key_line, cell_key_lines}
 
--- the name of the cell that stands at i
+-- the name of cell i
 pub name_at : (cs : List Cell) (i : ℕ) (name : List ℕ) → slice_get (names cs) i ≡ Some name → (get_or (expanded cs) i ([], [])).0 ≡ name
 name_at [] i name p = let no : ⊥ = cc in absurd no
 name_at (c ∷ cs) zero name p = cc
@@ -23,7 +23,7 @@ length-expanded : (cs : List Cell) → length (expanded cs) ≡ length cs
 length-expanded [] = refl
 length-expanded (c ∷ cs) = ap suc (length-expanded cs)
 
--- the line, of its parts as they are put
+-- the line, as its parts are put
 pub line_is : (key text name : List ℕ) → text ≡ encode_lower key → named_key key name ≡ text ++ ((32 ∷ 32 ∷ []) ++ (name ++ (10 ∷ [])))
 line_is key text name t = ap (λ (xs : List ℕ). xs ++ ((32 ∷ 32 ∷ []) ++ (name ++ (10 ∷ [])))) (sym t)
 
@@ -41,7 +41,7 @@ module _ {K : Type 0} {given : K → List ℕ → K → Type 0} {failures : K �
         PutSoFar given failures whole (flat_map (cell_key_line l.unit) (drop (i + 1) (expanded l.cells))) old new
     line_put {new} q = item_put (cell_key_line l.unit) (expanded l.cells) i ([], []) below p q
 
-    pub line_fails : {new : K} → PutsFront given failures mid (cell_key_line l.unit (cell_at l i)) new → PutsFront given failures old whole new
+    pub line_fails : {new : K} → PutsPrefix given failures mid (cell_key_line l.unit (cell_at l i)) new → PutsPrefix given failures old whole new
     line_fails {new} q = item_fails (cell_key_line l.unit) (expanded l.cells) i ([], []) below p q
 
   pub lines_put : length l.cells ≤ i → PutSoFar given failures whole (flat_map (cell_key_line l.unit) (drop i (expanded l.cells))) old mid → Puts given failures old whole mid

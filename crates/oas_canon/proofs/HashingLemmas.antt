@@ -1,9 +1,9 @@
--- A sink that hashes: one byte more, and all of a layout's bytes.
+-- A sink that hashes: one more byte, and all of a layout's bytes.
 use Rattle.std.proofs.Common.{◌≡◌, ℕ, List, [], ◌∷◌, ◌++◌, Result, Ok, Err, sym, append_assoc, append-nil, arith}
 use Rattle.sha2.specs.Hashers.{Holds256}
 use Rattle.oas_num.specs.SinkFault.{SinkFault}
 use Rattle.oas_num.specs.Writing.{Puts}
-use Rattle.oas_form.specs.Putting.{Counts}
+use Rattle.oas_judge.specs.oas_form.Putting.{Counts}
 use Rattle.oas_canon.specs.declared.hashing.Hasher.{Hasher}
 use Rattle.oas_canon.specs.Hashing.{HasTaken, Hashes}
 use Rattle.oas_canon.specs.Laws.HashingLaws.{Hashes-none}
@@ -12,7 +12,7 @@ use Rattle.oas_canon.specs.Laws.HashingLaws.{Hashes-none}
 pub emptied : (old mid : Hasher) → mid.held ≡ 0 → ((m : List ℕ) → HasTaken old m → Holds256 mid.hasher m) → (m : List ℕ) → HasTaken old m → HasTaken mid m
 emptied old mid none hashed m h = record { front = m; hashed = hashed m h; joined = rw none (sym (append-nil m)) }
 
--- a byte more, after what was taken so far
+-- one more byte, after what was taken so far
 pub put_more : (old mid new : Hasher) (byte : ℕ) → ((m : List ℕ) → HasTaken old m → HasTaken mid m) → Hashes mid (byte ∷ []) new → Puts Hashes (λ _. 0) old (byte ∷ []) new
 put_more old mid new byte keeps held = record {
   after = λ start before h m t. rw (← append_assoc) (held (m ++ before) (keeps (m ++ before) (h m t)));

@@ -3,3 +3,5 @@ mod HashingLemmas
 mod CellKeyLemmas
 mod RunKeyLemmas
 pub mod Whole
+pub use Rattle.oas_judge.proofs.oas_file_proofs
+pub use Rattle.oas_judge.proofs.oas_form_proofs

@@ -6,39 +6,38 @@ use Rattle.oas_num.specs.Script.{Script, Rest, Gave}
 use Rattle.oas_num.specs.Written.{IsWritten, IsCutOff}
 use Rattle.oas_layout.specs.declared.limits.Limits.{Limits}
 use Rattle.oas_layout.specs.declared.profile.Profile.TheVariants.{One, Two}
-use Rattle.oas_layout.specs.Contents.{meaning_of}
-use Rattle.oas_form.specs.Bytes.{canonical_bytes}
-use Rattle.oas_form.specs.Canonical.{CanonicalForm, IsCanonicalOf}
-use Rattle.oas_form.proofs.Forms.{canonical_again}
-use Rattle.oas_form.proofs.Rekeying.{within}
-use Rattle.oas_runs.specs.declared.layout.CompactLayout.{CompactLayout}
+use Rattle.oas_layout.specs.Contents.{Contents, meaning_of}
+use Rattle.oas_judge.specs.oas_form.Bytes.{canonical_bytes}
+use Rattle.oas_judge.specs.oas_form.Canonical.{CanonicalForm, IsCanonicalOf}
+use Rattle.oas_judge.proofs.oas_form_proofs.Forms.{canonical_again}
+use Rattle.oas_judge.proofs.oas_form_proofs.Rekeying.{within}
 use Rattle.oas_judge.specs.Judged.{IsReadAndJudged}
 use Rattle.oas_canon.specs.declared.rekeying.Rekeyed.{Rekeyed}
 use Rattle.oas_canon.specs.declared.rekeying.Rekeyed.TheVariants.{Done, NotProfile1}
 use Rattle.oas_canon.specs.Rekeying.{IsRekeyed, IsRekeyedInPart, IsOther, Rekeys, StaysSo}
 use Rattle.oas_canon.proofs.Whole.{taken, is_form, all_given}
 
-module _ {limits : Limits} {old new : Script} {k : CompactLayout} {own : Bool} (r : IsReadAndJudged limits One Two old k own new) where
+module _ {limits : Limits} {old new : Script} {l : Contents} {own : Bool} (r : IsReadAndJudged limits One Two old l own new) where
   -- it isn't canonical by profile one
   pub other : own ≡ false → IsOther limits old new
   other e = record { bytes = r.read.bytes; taken = taken r.read; other = λ form. let no = sym (r.answer.1 form) ∙ e in cc }
 
-  -- what is written of its layout is its canonical form by profile two
+  -- what is written for its layout is its canonical form by profile two
   module _ (told : own ≡ true) {W : Type 0} (contents : W → Option (List ℕ)) (before after : W) where
-    pub rekeyed : (n : ℕ) → IsWritten contents before (canonical_bytes (meaning_of r.layout)) after n → IsRekeyed limits old new (contents before) (contents after) n
+    pub rekeyed : (n : ℕ) → IsWritten contents before (canonical_bytes (meaning_of l)) after n → IsRekeyed limits old new (contents before) (contents after) n
     rekeyed n w = record {
-      done = record { bytes = r.read.bytes; taken = taken r.read; canonical = canonical_bytes (meaning_of r.layout); is = is_form r.read r.keyed.layout; count = w.count_is; written = w.took };
+      done = record { bytes = r.read.bytes; taken = taken r.read; canonical = canonical_bytes (meaning_of l); is = is_form r.read r.read.layout; count = w.count_is; written = w.took };
       own = r.answer.0 told;
     }
 
-    pub in_part : (refusal : Refusal) → IsCutOff contents before (canonical_bytes (meaning_of r.layout)) after refusal →
+    pub in_part : (refusal : Refusal) → IsCutOff contents before (canonical_bytes (meaning_of l)) after refusal →
         IsRekeyedInPart limits old new (contents before) (contents after) refusal.at
     in_part refusal w = record {
       cut = record {
         bytes = r.read.bytes;
         taken = taken r.read;
-        canonical = canonical_bytes (meaning_of r.layout);
-        is = is_form r.read r.keyed.layout;
+        canonical = canonical_bytes (meaning_of l);
+        is = is_form r.read r.read.layout;
         front = w.front;
         back = w.back;
         joined = w.joined;
@@ -48,7 +47,7 @@ module _ {limits : Limits} {old new : Script} {k : CompactLayout} {own : Bool} (
       own = r.answer.0 told;
     }
 
--- what is canonical by profile two stays as it is
+-- what is canonical by profile two is unchanged
 pub stays : (limits : Limits) (old new : Script) (before after : Option (List ℕ)) (rekeyed : Rekeyed) → Rekeys limits old new before after rekeyed → StaysSo limits old.rest before after rekeyed
 stays limits old new before after (Done n) r = by_rest old.rest r.done.taken.takes.rest where
   by_rest : (rest : Option Rest) → Gave rest r.done.bytes new.rest → StaysSo limits rest before after (Done n)

@@ -11,12 +11,12 @@ use Rattle.oas_layout.specs.declared.profile.Profile.{Profile}
 use Rattle.oas_layout.specs.Meaning.{SameLayout}
 use Rattle.oas_layout.specs.Contents.{Contents, IsLayout, meaning_of}
 use Rattle.oas_layout.proofs.LawProofs.{symmetric, transitive}
-use Rattle.oas_file.specs.Acceptance.{Accepted}
-use Rattle.oas_file.specs.Reading.{decides, IsRead, IsRefused}
-use Rattle.oas_form.specs.Bytes.{canonical_bytes}
-use Rattle.oas_form.specs.Canonical.{CanonicalForm, IsCanonicalOf}
+use Rattle.oas_judge.specs.oas_file.Acceptance.{Accepted}
+use Rattle.oas_judge.specs.oas_file.Reading.{decides, IsRead, IsRefused}
+use Rattle.oas_judge.specs.oas_form.Bytes.{canonical_bytes}
+use Rattle.oas_judge.specs.oas_form.Canonical.{CanonicalForm, IsCanonicalOf}
 use Rattle.oas_num.specs.Written.{IsWritten, IsCutOff}
-use Rattle.oas_form.proofs.Written.{canonical_form}
+use Rattle.oas_judge.proofs.oas_form_proofs.Written.{canonical_form}
 use Rattle.oas_judge.specs.Judged.{IsJudged as IsJudgedBy}
 use Rattle.oas_judge.specs.Kept.{RefusesKept}
 use Rattle.oas_canon.specs.Run.{IsTaken, IsDone, IsCut, IsKeyed, IsJudged, IsCompared, IsDecided, IsWithinSource, Exactly}
@@ -25,7 +25,7 @@ module _ {limits : Limits} {profile : Profile} {old new : Script} {l : Contents}
   pub taken : IsTaken limits old read.bytes new
   taken = record { takes = read.takes; ended = read.ended; accepted = read.accepted }
 
-  -- what is written of it, under the limits and the profile that were handed in
+  -- what is written for it, under the limits and the profile that were handed in
   pub form : IsLayout l → CanonicalForm limits profile (canonical_bytes (meaning_of l))
   form held = subst (λ (p : Limits × Profile). CanonicalForm p.0 p.1 (canonical_bytes (meaning_of l))) (λ i. (read.within i, read.by i)) (canonical_form l held).0
 
@@ -77,7 +77,7 @@ judged j = record { bytes = j.bytes; taken = record { takes = j.takes; ended = j
 
 -- ---- two files
 
--- the answer of the layouts is that of the meanings
+-- the result for the layouts is that for the meanings
 pub compared : {limits : Limits} {profile : Profile} {old new mid last : Script} {l k : Contents} {same : Bool} → IsRead limits profile old l new →
     IsRead limits profile mid k last → (IsTrue same ↔ SameLayout l.profile (meaning_of l) (meaning_of k)) → IsCompared limits profile old new mid last same
 compared {profile = profile} {l = l} {k = k} first second h =
@@ -103,14 +103,14 @@ compared {profile = profile} {l = l} {k = k} first second h =
       );
     }
 
--- ---- of known bytes
+-- ---- for known bytes
 
 -- what was taken to the end is all of it
 pub all_given : (bytes : List ℕ) (rest : Rest) (new : Option Rest) → Gave (Some rest) bytes new → NoneLeft new false → bytes ≡ rest.bytes
 all_given bytes rest None g n = absurd g
 all_given bytes rest (Some r) g n = sym (append-nil bytes) ∙ ap (λ (bs : List ℕ). bytes ++ bs) (sym n.0) ∙ sym g.0
 
--- the reasons that are not the bytes'
+-- the reasons that are not about the bytes
 pub data Cause (why : Why) : Type 0 where
   Bytes : IsTrue (decides why) → Cause why
   End : why ≡ Truncated → Cause why
@@ -167,7 +167,7 @@ pub exactly_written : {limits : Limits} {profile : Profile} {old new : Script} {
 exactly_written contents before after (Ok n) read h = exactly_taken n (taken read)
 exactly_written {limits = limits} {old = old} {new = new} contents before after (Err refusal) read h = exactly_unwritten ℕ limits old new refusal h.reason
 
--- ---- what a judge answers
+-- ---- what a judge returns
 
 module _ (limits : Limits) (profile : Profile) (old new : Script) where
   pub answers_judged : (answer : Result Bool Refusal) → IfOk answer (λ yes. IsJudgedBy limits profile old yes new) → IfOk answer (λ yes. IsJudged limits profile old new yes)

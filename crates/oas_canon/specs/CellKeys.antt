@@ -5,10 +5,10 @@ use Rattle.sha2.specs.Sha256.{sha256}
 use Rattle.oas_num.specs.Ratio.{Ratio}
 use Rattle.oas_layout.specs.declared.element.Element.{Element}
 use Rattle.oas_layout.specs.Meaning.{Meaning}
-use Rattle.oas_form.specs.Alone.{alone}
-use Rattle.oas_form.specs.Bytes.{canonical_bytes}
+use Rattle.oas_judge.specs.oas_form.Alone.{alone}
+use Rattle.oas_judge.specs.oas_form.Bytes.{canonical_bytes}
 
--- the SHA-256 of the canonical file that has this unit, and this cell alone
+-- the SHA-256 of the canonical file that has this unit and this cell alone
 abbrev pub cell_key : Ratio → List ℕ × List Element → List ℕ
 cell_key unit c = sha256 (canonical_bytes (alone unit c))
 

@@ -4,17 +4,17 @@ use Rattle.std.specs.Io.KnownBytes.{Appends}
 use Rattle.oas_num.specs.Script.{Script, Rest}
 use Rattle.oas_layout.specs.declared.limits.Limits.{Limits}
 use Rattle.oas_layout.specs.declared.profile.Profile.TheVariants.{One, Two}
-use Rattle.oas_form.specs.Canonical.{CanonicalForm}
+use Rattle.oas_judge.specs.oas_form.Canonical.{CanonicalForm}
 use Rattle.oas_canon.specs.declared.rekeying.Rekeyed.{Rekeyed}
 use Rattle.oas_canon.specs.declared.rekeying.Rekeyed.TheVariants.{Done, NotProfile1}
 use Rattle.oas_canon.specs.Run.{IsTaken, IsDone, IsCut}
 
--- a canonical file by profile one was taken, and its canonical form by profile two was written, of so many bytes
+-- a canonical file by profile one was taken, and its canonical form by profile two was written, with this many bytes
 pub record IsRekeyed (limits : Limits) (old new : Script) (before after : Option (List ℕ)) (n : ℕ) : Type 0 where
   pub done : IsDone limits Two old new before after n
   pub own : CanonicalForm limits One done.bytes
 
--- the same, and the writer failed after it took so many bytes
+-- the same, and the writer failed after it took this many bytes
 pub record IsRekeyedInPart (limits : Limits) (old new : Script) (before after : Option (List ℕ)) (at : ℕ) : Type 0 where
   pub cut : IsCut limits Two old new before after at
   pub own : CanonicalForm limits One cut.bytes
@@ -29,7 +29,7 @@ abbrev pub Rekeys : Limits → Script → Script → Option (List ℕ) → Optio
 Rekeys limits old new before after (Done n) = IsRekeyed limits old new before after n
 Rekeys limits old new before after NotProfile1 = IsOther limits old new
 
--- of known bytes: a canonical form by profile two is written as it stands
+-- for known bytes: a canonical form by profile two is written unchanged
 abbrev pub StaysSo : Limits → Option Rest → Option (List ℕ) → Option (List ℕ) → Rekeyed → Type 0
 StaysSo limits None before after rekeyed = Unit {0}
 StaysSo limits (Some rest) before after rekeyed = CanonicalForm limits Two rest.bytes → (rekeyed ≡ Done (length rest.bytes)) × Appends before after rest.bytes

@@ -1,24 +1,24 @@
 //! From a source to a writer: the canonical file of what was read.
 ghost use Rattle.std.specs.Prelude.{◌≡◌, ◌⊎◌, IfOk, IfErr};
 ghost use Rattle.oas_num.specs.declared.refusals.Why.TheVariants.{Write as NotWritten};
-ghost use Rattle.oas_file.specs.Deciding.{IsReasoned};
-ghost use Rattle.oas_file.specs.Reading.{IsRefused, IsPlaced};
+ghost use Rattle.oas_judge.specs.oas_file.Deciding.{IsReasoned};
+ghost use Rattle.oas_judge.specs.oas_file.Reading.{IsRefused, IsPlaced};
 ghost use Rattle.oas_canon.specs.Run.{IsDone, IsCut, Exactly};
 
 use crate::profile::{ByProfile, PROFILE};
+use oas_judge::oas_runs::read_compact;
 use oas_layout::Limits;
 use oas_num::{Refusal, Source};
 use oas_run_form::write_compact;
-use oas_runs::read_compact;
 use std::alloc::Global;
 use std::io::Write;
 
-/// Writes the canonical file of what a source gives, and answers how many bytes it has.
+/// Writes the canonical file of what a source gives, and returns how many bytes it has.
 ///
 /// `canonicalize` refuses exactly the files that the profile doesn't accept; two accepted files mean the same layout exactly if their canonical bytes are equal; the canonical file is accepted and means what its source means, and canonicalising it again changes no byte.
 ///
-/// Nothing is written before the whole file was accepted. After `Why::Write` the writer took the first bytes of the
-/// canonical file, as many as the refusal's place says.
+/// Nothing is written before the whole file was accepted. After `Why::Write` the writer took the first bytes of the canonical
+/// file, as many as the refusal's place says.
 pub fn canonicalize<S: Source, W: Write>(
     alloc: Global,
     from: &mut S,

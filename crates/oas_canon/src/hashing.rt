@@ -6,11 +6,11 @@ ghost use Rattle.sha2.specs.Hashers.{Holds256};
 use oas_num::{Sink, SinkFault};
 use sha2::{Digest, Sha256};
 
-/// How many bytes are gathered before they are hashed.
+/// How many bytes are buffered before they are hashed.
 const SIZE: usize = 4096;
 
-/// Hashes the bytes that it is given, by SHA-256. It gathers them in a window, so that a byte at a time costs no call of
-/// the hash function each.
+/// Hashes the bytes that it is given, with SHA-256. It buffers them in a window, so single bytes don't each cost a call of
+/// the hash function.
 #[derive(Drop)]
 pub(crate) struct Hasher {
     hasher: Sha256,
@@ -22,7 +22,7 @@ pub(crate) struct Hasher {
 impl Hasher {
     ghost use Rattle.oas_canon.specs.Hashing.{HasTaken, Hashes};
 
-    /// One that was given nothing.
+    /// A sink that was given nothing.
     pub(crate) fn new() -> Hasher
         ensures { HasTaken result [] }
     {

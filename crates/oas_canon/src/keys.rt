@@ -1,24 +1,23 @@
 //! The key of a file.
 ghost use Rattle.std.specs.Prelude.{◌≡◌, IfOk, IfErr};
 ghost use Rattle.sha2.specs.Sha256.{sha256};
-ghost use Rattle.oas_layout.specs.Contents.{Contents, meaning_of};
-ghost use Rattle.oas_file.specs.Deciding.{IsReasoned};
-ghost use Rattle.oas_file.specs.Reading.{IsRefused, IsPlaced};
-ghost use Rattle.oas_form.specs.Bytes.{canonical_bytes};
-ghost use Rattle.oas_runs.specs.Keyed.{IsKeyed as IsHeld};
+ghost use Rattle.oas_layout.specs.Contents.{meaning_of};
+ghost use Rattle.oas_judge.specs.oas_file.Deciding.{IsReasoned};
+ghost use Rattle.oas_judge.specs.oas_file.Reading.{IsRefused, IsPlaced};
+ghost use Rattle.oas_judge.specs.oas_form.Bytes.{canonical_bytes};
 ghost use Rattle.oas_canon.specs.Run.{IsKeyed, Exactly};
 
 use crate::hashing::Hasher;
 use crate::profile::{ByProfile, PROFILE};
+use oas_judge::oas_runs::{CompactLayout, read_compact};
 use oas_layout::Limits;
 use oas_num::{Refusal, Source};
 use oas_run_form::put_compact;
-use oas_runs::{CompactLayout, read_compact};
 use std::alloc::Global;
 
 /// The key of what a source gives: the SHA-256 of its canonical file, which isn't held or written anywhere.
 ///
-/// A file is refused as by [`canonicalize`](crate::canonicalize), but that there is no writer.
+/// A file is refused as by [`canonicalize`](crate::canonicalize), except that there is no writer.
 pub fn key<S: Source>(alloc: Global, from: &mut S, limits: Limits) -> Result<[u8; 32], Refusal>
     ensures keyed { IfOk result (λ digest. IsKeyed limits PROFILE (S.script from.old) (S.script from.new) digest) }
     ensures refused { IfErr result (λ refusal. IsRefused limits (S.script from.old) refusal.why (S.script from.new)) }
@@ -32,8 +31,7 @@ pub fn key<S: Source>(alloc: Global, from: &mut S, limits: Limits) -> Result<[u8
 
 /// The SHA-256 of a layout's canonical bytes.
 fn digest(layout: &CompactLayout) -> [u8; 32]
-    requires { (l : Contents) × IsHeld layout.now l }
-    ensures { (l : Contents) → IsHeld layout.now l → result ≡ sha256 (canonical_bytes (meaning_of l)) }
+    ensures { result ≡ sha256 (canonical_bytes (meaning_of layout.now)) }
 {
     let mut hasher = Hasher::new();
     let _ = put_compact(layout, &mut hasher);

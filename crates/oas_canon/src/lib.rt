@@ -1,37 +1,76 @@
-//! From a file to its one canonical spelling, and what depends on it alone: whether a file is canonical as it stands,
-//! whether two mean the same layout, and a file's key. And from the canonical spelling by profile one to that by profile
-//! two.
+//! From a file to its one canonical spelling, and what depends on it alone: whether a file is canonical, whether two mean the
+//! same layout, and a file's key. Also from the canonical spelling by profile one to that by profile two.
 //!
 //! What this crate promises to the one above it, in the words of its contracts (specs/Run.antt):
 //!
 //! - [`canonicalize`] writes the canonical file of what a source gives (`IsDone`), exactly where that file is accepted, and
-//!   writes nothing else: a refusal but `Why::Write` leaves the writer as it was, and after `Why::Write` the writer took the
-//!   first bytes of the canonical file, as many as the refusal's place says (`IsCut`).
-//! - [`is_canonical`] answers whether the bytes of an accepted file are its canonical form (`IsJudged`), and keeps no element;
-//!   [`same_files`] whether two accepted files mean the same layout (`IsCompared`); [`key`] the SHA-256 of an accepted file's
-//!   canonical form (`IsKeyed`).
-//! - [`write_cell_keys`] writes the key of each cell of a layout: the SHA-256 of the canonical file that has the layout's
-//!   unit and that cell alone, and the cell's name (`cell_key_lines`, specs/CellKeys.antt). [`write_compact_cell_keys`] writes the
-//!   same of a layout that is held as keys of elements.
+//!   writes nothing else. A refusal other than `Why::Write` leaves the writer unchanged. After `Why::Write` the writer took
+//!   the first bytes of the canonical file, as many as the refusal's place says (`IsCut`).
+//! - [`is_canonical`] returns whether the bytes of an accepted file are its canonical form (`IsJudged`), and keeps no
+//!   element. [`same_files`] returns whether two accepted files mean the same layout (`IsCompared`), and [`key`] the SHA-256
+//!   of an accepted file's canonical form (`IsKeyed`).
+//! - [`layout_key`] returns the key of a layout. [`write_cell_keys`] writes the key of each of its cells, with the cell's
+//!   name: the SHA-256 of the canonical file that has the layout's unit and that cell alone (`cell_key_lines`,
+//!   specs/CellKeys.antt). [`write_compact_cell_keys`] writes the same for a layout that is held as keys of elements.
 //! - [`rekey`] writes the canonical file by profile two of a file that is canonical by profile one (`IsRekeyed`,
-//!   specs/Rekeying.antt), and answers [`Rekeyed::NotProfile1`], with the writer as it was, of an accepted file that isn't
-//!   (`IsOther`).
-//! - Each of them refuses as [`read_layout`] of `oas_file` does, whose words stand in the contracts: no accepted file goes
-//!   on from what was taken (`IsRefused`), the place (`IsPlaced`), and which bytes decide it, for which reason
-//!   (`IsReasoned`). A refusal of [`same_files`] names its file, and of the second nothing is read where the first is
-//!   refused. [`is_canonical`] and [`rekey`] may want memory at any byte.
-//! - Each of them says besides, of known bytes under the source's limit and over a device that has not failed, that it
-//!   answers exactly where the files are accepted, if not for the writer or the memory (`Exactly`, `ExactlyBoth`).
-//! - Limits are handed in; the profile, which says what is taken for the same element, is [`PROFILE`], but for re-keying.
-//! - The laws of files and of canonical forms, over the definitions alone, are [`laws`].
+//!   specs/Rekeying.antt). For an accepted file that isn't, it returns [`Rekeyed::NotProfile1`] and leaves the writer
+//!   unchanged (`IsOther`).
+//! - Each of them refuses as [`read_layout`] of `oas_file` does, whose words are in the contracts: no accepted file goes on
+//!   from what was taken (`IsRefused`), the place (`IsPlaced`), and which bytes decide it, for which reason (`IsReasoned`). A
+//!   refusal of [`same_files`] names its file; nothing of the second is read where the first is refused. [`is_canonical`] and
+//!   [`rekey`] may run out of memory at any byte, at the offset of the current part (`HasNoMemory`).
+//! - For known bytes under the source's limit and over a device that has not failed, each of them also promises that it
+//!   succeeds exactly where the files are accepted, unless the writer or the memory fails (`Exactly`, `ExactlyBoth`).
+//! - Limits are handed in. The profile, which says which elements are the same, is [`PROFILE`], except for re-keying.
+//! - The laws of files and of canonical forms, from the definitions alone, are in [`laws`].
 //!
-//! A caller needs this crate alone: it hands on the sources and sinks, refusals, limits, layouts and drafts of those below,
+//! [`open_source`] makes the source of a reader for a call under limits: it gives no more bytes than they allow (`IsOpened`,
+//! specs/Opening.antt). Its script's `history` is what the calls of the reader's `read` returned, as far as it was given. So
+//! these are the bytes of which a contract says that they were taken from it.
+//!
+//! A caller needs this crate alone: it re-exports the sources and sinks, refusals, limits, layouts and drafts of those below,
 //! and the writer of the listing (docs/LIBRARY.md).
 //!
-//! What a file is, means and is refused for stands in `oas_file`, what a canonical form is and how it is put in `oas_form`.
-//! This crate has no definition of its own but of what a run does.
+//! `oas_file` defines what a file is, means and is refused for, and `oas_form` what a canonical form is and how it is put.
+//! This crate only defines what a run does.
 //!
-//! Whether memory is there is outside every contract: what allocates may answer `Why::Memory`.
+//! Whether an allocation succeeds is outside every contract: what allocates may return `Why::Memory`.
+//!
+//! # How it is built
+//!
+//! It combines oas_file, oas_form, oas_runs, oas_run_form and oas_judge, and promises for whole runs what they promise for
+//! their parts. It has no reader and no writer of its own. `canonicalize` is `read_compact` of oas_runs and then
+//! `write_compact` of oas_run_form. `same_files` compares two layouts held as keys with `CompactLayout::same`. `key` is
+//! `put_compact` of what `read_compact` returned, into a sink that hashes. `is_canonical` is that of oas_judge. `rekey` is
+//! `read_judged` of oas_judge, which judges by profile one and keeps the layout, as runs of keys, by profile two, and then
+//! `write_compact`.
+//!
+//! - src/canonical.rt, checking.rt, sameness.rt, keys.rt, rekeying.rt: one call each. src/cell_keys.rt, specs/CellKeys.antt:
+//!   the keys of a layout and of its cells, by `put_canonical` and `put_cell_alone` into a sink that hashes.
+//!   src/run_keys.rt: the same for a layout as runs of keys, by `put_elements_alone` of oas_run_form, which the command calls. src/named_keys.rt: the line of either.
+//!   src/profile.rt: the profile of the first four (`PROFILE`, which is profile two). It is said nowhere else: their
+//!   contracts, and those of the command, refer to it. Re-keying names both profiles itself.
+//! - src/hashing.rt: a sink that hashes, a window of bytes at a time.
+//! - specs/Run.antt: what a run does, over two scripts and what the writer holds: `IsTaken` (an accepted file was taken to
+//!   its end), `IsDone`, `IsCut`, `IsKeyed`, `IsJudged`, `IsCompared`; `Exactly` and `ExactlyBoth` are about bytes that are
+//!   known. specs/Rekeying.antt: `IsRekeyed`, `IsRekeyedInPart`, `IsOther`, and `StaysSo`, for a file that is re-keyed
+//!   already.
+//!
+//! How the proof goes:
+//!
+//! 1. *A layout that was read, and its canonical bytes* (proofs/Whole.antt). `IsRead` of oas_file has the file's meaning,
+//!    which is the same as the layout's. By `canonical_form` of oas_form the layout's canonical bytes are a canonical form
+//!    under the limits and the profile that were handed in, and mean the layout. So they are the canonical form of the file
+//!    (`is_form`), and `done`, `cut` and `keyed` are records of what is there. The clause `layout` says that the writer was
+//!    given a `Layout`, and not just any contents.
+//! 2. *Whether it is canonical* (`judged`): what oas_judge promises, in the words of this crate.
+//! 3. *Whether two are the same* (`compared`): `Layout::same` says it for the layouts, and being the same is symmetric and
+//!    transitive.
+//! 4. *Exactly* is by cases on why a file was refused: what the bytes decided holds whatever follows; at the end of the input
+//!    nothing follows; a device that has not failed and a limit that isn't exceeded leave only the writer and the memory.
+//! 5. *Re-keying* (proofs/RekeyLemmas.antt). The layout that was read in the judge's pass, and is held as keys, is that of
+//!    the bytes taken, so by 1 its canonical bytes by profile two are their canonical form (`rekeyed`). By oas_form's law
+//!    what is re-keyed is unchanged by re-keying (`stays`).
 #![tactic(auto)]
 
 mod canonical;
@@ -41,24 +80,32 @@ mod hashing;
 mod keys;
 pub mod laws;
 mod named_keys;
+mod opening;
 mod profile;
 mod rekeying;
 mod run_keys;
 mod sameness;
 
+// The crates below, for those above.
 pub use canonical::canonicalize;
-pub use cell_keys::{cell_key, write_cell_keys};
+pub use cell_keys::{cell_key, layout_key, write_cell_keys};
 pub use checking::is_canonical;
 pub use keys::key;
-pub use oas_file::read_layout;
-pub use oas_form::{put_canonical, write_canonical};
-pub use oas_layout::{Draft, Element, Elements, Layout, Limits, Profile, Turns};
+pub use oas_judge::oas_file::read_layout;
+pub use oas_judge::oas_form::{put_canonical, write_canonical};
+pub use oas_judge::oas_runs::{CompactLayout, read_compact};
+pub use oas_judge::{oas_file, oas_form};
+pub use oas_layout::{
+    Cell, Cells, Draft, Element, Elements, Extensions, Layer, Layout, Limits, Profile, Refused,
+    Turns,
+};
 pub use oas_listing::write_listing;
 pub use oas_num::{
-    Counter, Fraction, INPUT_MAX, Label, Name, Outlet, ReaderSource, Refusal, Sink, SinkFault,
-    SliceSource, Source, SourceFault, Spelled, Why,
+    Counter, Fraction, INPUT_MAX, Label, Name, Outlet, ReaderSource, Reason, Refusal, Sink,
+    SinkFault, SliceSource, Source, SourceFault, Why, profile_reasons,
 };
 pub use oas_ring::{Point, Points};
+pub use opening::open_source;
 pub use profile::{ByProfile, PROFILE};
 pub use rekeying::{Rekeyed, rekey};
 pub use run_keys::write_compact_cell_keys;

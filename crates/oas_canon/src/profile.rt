@@ -1,11 +1,11 @@
-//! The profile by which the calls of this crate answer.
+//! The profile of the calls of this crate.
 
-use oas_compact::ByProfileTwo;
+use oas_judge::oas_compact::ByProfileTwo;
 use oas_layout::Profile;
 
-/// What this crate takes for the same element (own rule): a polygon that goes round a rectangle is that rectangle.
+/// Which elements this crate treats as the same (own rule): a polygon that goes round a rectangle is that rectangle.
 ///
-/// Each call answers by it but [`rekey`](crate::rekey), which goes from profile one to profile two.
+/// Each call uses it, except [`rekey`](crate::rekey), which goes from profile one to profile two.
 pub const PROFILE: Profile = Profile::Two;
 
 /// The same profile, as a type.

@@ -1,13 +1,13 @@
 //! From a file's canonical bytes by profile one to those by profile two.
 ghost use Rattle.std.specs.Prelude.{◌≡◌, ◌⊎◌, IfOk, IfErr};
-ghost use Rattle.oas_num.specs.declared.refusals.Why.TheVariants.{Write as NotWritten, Memory as NoMemory};
-ghost use Rattle.oas_file.specs.Deciding.{IsReasoned};
-ghost use Rattle.oas_file.specs.Reading.{IsRefused, IsPlaced};
+ghost use Rattle.oas_num.specs.declared.refusals.Why.TheVariants.{Write as NotWritten};
+ghost use Rattle.oas_judge.specs.oas_file.Deciding.{HasNoMemory, IsReasoned};
+ghost use Rattle.oas_judge.specs.oas_file.Reading.{IsRefused, IsPlaced};
 ghost use Rattle.oas_canon.specs.declared.rekeying.Rekeyed.TheVariants.{NotProfile1 as IsNotProfile1};
 ghost use Rattle.oas_canon.specs.Rekeying.{Rekeys, IsRekeyedInPart, StaysSo};
 ghost use Rattle.oas_canon.specs.Run.{Exactly};
 
-use oas_compact::ByProfileTwo;
+use oas_judge::oas_compact::ByProfileTwo;
 use oas_judge::read_judged;
 use oas_layout::{Limits, Profile};
 use oas_num::{Refusal, Source};
@@ -15,10 +15,10 @@ use oas_run_form::write_compact;
 use std::alloc::Global;
 use std::io::Write;
 
-/// What became of an accepted file that was to be re-keyed.
+/// The result for an accepted file that should be re-keyed.
 #[derive(Clone, Copy, Debug, PartialEq, Eq)]
 pub enum Rekeyed {
-    /// It was canonical by profile one, and its canonical file by profile two was written, of so many bytes.
+    /// It was canonical by profile one, and its canonical file by profile two was written, with this many bytes.
     Done(u64),
     /// It isn't canonical by profile one, and nothing was written.
     NotProfile1,
@@ -26,10 +26,10 @@ pub enum Rekeyed {
 
 /// Writes the canonical file by profile two of a file that is canonical by profile one.
 ///
-/// It is the canonical file by profile two of each file that this one was made of, by
-/// [`laws::rekeying`](crate::laws::rekeying). A file that was re-keyed before is written as it stands.
+/// It is the canonical file by profile two of each file that this one was made from, by
+/// [`laws::rekeying`](crate::laws::rekeying). A file that was re-keyed before is written unchanged.
 ///
-/// A file is refused as by [`canonicalize`](crate::canonicalize), but that memory may be wanted at any byte. Each record is
+/// A file is refused as by [`canonicalize`](crate::canonicalize), except that memory may run out at any byte. Each record is
 /// judged as it is read, and nothing is written before the whole file was found to be canonical.
 pub fn rekey<S: Source, W: Write>(
     alloc: Global,
@@ -42,7 +42,7 @@ pub fn rekey<S: Source, W: Write>(
     ensures unwritten { IfOk result (λ rekeyed. rekeyed ≡ IsNotProfile1 → to.new ≡ to.old) }
     ensures refused { IfErr result (λ refusal. (refusal.why ≡ NotWritten) ⊎ IsRefused limits (S.script from.old) refusal.why (S.script from.new)) }
     ensures placed { IfErr result (λ refusal. (refusal.why ≡ NotWritten) ⊎ IsPlaced limits (S.script from.old) refusal (S.script from.new)) }
-    ensures decided { IfErr result (λ refusal. (refusal.why ≡ NotWritten) ⊎ ((refusal.why ≡ NoMemory) ⊎ IsReasoned limits (S.script from.old) refusal (S.script from.new))) }
+    ensures decided { IfErr result (λ refusal. (refusal.why ≡ NotWritten) ⊎ (HasNoMemory limits (S.script from.old) refusal (S.script from.new) ⊎ IsReasoned limits (S.script from.old) refusal (S.script from.new))) }
     ensures nothing { IfErr result (λ refusal. (refusal.why ≡ NotWritten) ⊎ (to.new ≡ to.old)) }
     ensures cut { IfErr result (λ refusal. refusal.why ≡ NotWritten → IsRekeyedInPart limits (S.script from.old) (S.script from.new) (W.contents to.old) (W.contents to.new) refusal.at) }
     ensures exactly { Exactly limits (S.script from.old) result (S.script from.new) }

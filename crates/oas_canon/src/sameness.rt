@@ -1,13 +1,13 @@
 //! Whether two files mean the same layout.
 ghost use Rattle.std.specs.Prelude.{◌≡◌, IfOk, IfErr, List, ℕ};
-ghost use Rattle.oas_file.specs.Reading.{Refuses};
+ghost use Rattle.oas_judge.specs.oas_file.Reading.{Refuses};
 ghost use Rattle.oas_canon.specs.declared.sameness.Which.TheVariants.{First as OfFirst, Second as OfSecond};
 ghost use Rattle.oas_canon.specs.Run.{IsTaken, IsCompared, ExactlyBoth};
 
 use crate::profile::{ByProfile, PROFILE};
+use oas_judge::oas_runs::read_compact;
 use oas_layout::Limits;
 use oas_num::{Refusal, Source};
-use oas_runs::read_compact;
 use std::alloc::Global;
 
 /// One of two files.
@@ -20,7 +20,7 @@ pub enum Which {
 }
 
 /// Whether two files mean the same layout. The first is read whole before the second is begun, and where it is refused
-/// nothing is read of the second. A refusal is that of the file that it names.
+/// nothing of the second is read. A refusal is that of the file that it names.
 pub fn same_files<S: Source, T: Source>(
     alloc: Global,
     a: &mut S,

@@ -1,4 +1,4 @@
--- The division of a byte is one look into the table.
+-- The division of a byte is one look-up in the table.
 use Rattle.std.proofs.Common.{◌≡◌, ℕ, zero, suc, ◌+◌, ◌*◌, ◌/◌, ◌%◌, ◌^◌, ◌<◌, map, get_or, refl, sym, ap, ◌∙◌, arith}
 use Rattle.std.specs.Prelude.{bit_xor, if◌then◌else◌, ◌==◌}
 use Rattle.std.specs.Int.{bit_at}
@@ -21,7 +21,7 @@ xor_assoc a b c = same_from_bits (bit_xor (bit_xor a b) c) (bit_xor a (bit_xor b
     bit_at_xor (bit_xor a b) c i ∙ ap (λ x. (x + bit_at c i) % 2) (bit_at_xor a b i) ∙ sums (bit_at a i) (bit_at b i) (bit_at c i)
     ∙ sym (bit_at_xor a (bit_xor b c) i ∙ ap (λ x. (bit_at a i + x) % 2) (bit_at_xor b c i)))
 
--- the sum of two sums, its second and third part exchanged
+-- the sum of two sums, with the second and third parts exchanged
 pub xor_exchange : (a b c d : ℕ) → bit_xor (bit_xor a b) (bit_xor c d) ≡ bit_xor (bit_xor a c) (bit_xor b d)
 xor_exchange a b c d =
     xor_assoc a b (bit_xor c d) ∙ ap (bit_xor a) (sym (xor_assoc b c d) ∙ ap (λ x. bit_xor x d) (xor_comm b c) ∙ xor_assoc c b d)
@@ -29,7 +29,7 @@ xor_exchange a b c d =
 
 -- ---- one bit
 
--- the divisor, taken away where the bit is 1
+-- the divisor, subtracted where the bit is 1
 abbrev pub taken : ℕ → ℕ → ℕ
 taken bit rest = if bit == 1 then bit_xor rest divisor else rest
 
@@ -86,7 +86,7 @@ split x =
     sym (ap (λ z. bit_xor z (256 * (x / 256))) (sym a) ∙ ap (bit_xor (0 * 2 ^ 8 + x % 256)) (sym b) ∙ both
     ∙ ap (λ z. z * 2 ^ 8 + bit_xor (x % 256) 0) high ∙ ap (λ z. x / 256 * 2 ^ 8 + z) low ∙ (omega arith))
 
--- what leaves the register is all that the division looks at
+-- the division looks only at what leaves the register
 pub after_eight : (x : ℕ) → after_bits 8 x ≡ bit_xor (x / 256) (after_bits 8 (x % 256))
 after_eight x =
     ap (after_bits 8) (split x) ∙ after_bits-xor 8 (x % 256) (256 * (x / 256))

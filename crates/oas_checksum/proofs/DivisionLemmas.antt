@@ -51,11 +51,11 @@ divided_then m n x y z a b = record {
       ∙ ap (λ t. bit_xor t (2 ^ (m + n) * z)) (sym (times-append a.quotient (map (λ s. m + s) b.quotient)));
 }
 
--- what no place of a quotient was looked for in
+-- where no place of a quotient was looked for
 divided_none : (x : ℕ) → IsDivided 0 x x
 divided_none x = record { quotient = []; short = All-nil (λ s. s < 0); divided = omega arith }
 
--- what is not looked at goes along
+-- what is not looked at is kept
 divided_beside : (n x y z : ℕ) → IsDivided n x y → IsDivided n (bit_xor x (2 ^ n * z)) (bit_xor y z)
 divided_beside n x y z h = record {
   quotient = h.quotient;

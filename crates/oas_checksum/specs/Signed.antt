@@ -1,6 +1,6 @@
--- What a signature is of (SEMI P39, END record, validation-scheme).
+-- What a signature covers (SEMI P39, END record, validation-scheme).
 use Rattle.std.specs.Prelude.{ℕ, ◌-◌, List, length, take}
 
--- of a file: all its bytes before the signature, whose own four are the last
+-- all bytes of a file before the signature, which is the last four bytes
 abbrev pub signed : List ℕ → List ℕ
 signed bytes = take (length bytes - 4) bytes

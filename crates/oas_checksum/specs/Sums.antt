@@ -1,4 +1,4 @@
--- CHECKSUM32 (SEMI P39, END record): the sum of the bytes, as far as 32 bits hold it.
+-- CHECKSUM32 (SEMI P39, END record): the sum of the bytes, modulo 2^32.
 use Rattle.std.specs.Prelude.{ℕ, ◌%◌, ◌^◌, List, sum}
 
 abbrev pub checksum32 : List ℕ → ℕ

@@ -5,7 +5,7 @@ ghost use Rattle.oas_checksum.specs.Crc.{IsRegister, after_byte, crc32};
 use crate::table::TABLE;
 use std::marker::Model;
 
-/// The CRC-32 of bytes that are put one after another (ISO 3309): `new`, an `update` for each piece, and `value`.
+/// The CRC-32 of bytes put one after another (ISO 3309): `new`, an `update` for each piece, and `value`.
 ///
 /// Contracts see it as the register of the division.
 #[derive(Drop)]
@@ -19,7 +19,7 @@ impl Model for Crc32 {
     ghost view = { λ c. c.register };
 }
 
-/// The register after one byte more.
+/// The register after one more byte.
 fn after_byte(register: u32, byte: u8) -> u32
     ensures { result ≡ after_byte register byte }
 {
@@ -27,7 +27,7 @@ fn after_byte(register: u32, byte: u8) -> u32
 }
 
 impl Crc32 {
-    /// That of no bytes.
+    /// The CRC-32 of no bytes.
     pub fn new() -> Crc32
         ensures { IsRegister result [] }
     {
@@ -36,14 +36,14 @@ impl Crc32 {
         }
     }
 
-    /// One byte more.
+    /// Puts one more byte.
     pub fn push(&mut self, byte: u8)
         ensures { (bytes : List ℕ) → IsRegister self.old bytes → IsRegister self.new (bytes ++ byte ∷ []) }
     {
         self.register = after_byte(self.register, byte);
     }
 
-    /// More bytes.
+    /// Puts more bytes.
     pub fn update(&mut self, more: &[u8])
         ensures { (bytes : List ℕ) → IsRegister self.old bytes → IsRegister self.new (bytes ++ more.now) }
     {

@@ -4,7 +4,7 @@ ghost use Rattle.oas_checksum.specs.Sums.{checksum32};
 
 use std::marker::Model;
 
-/// The sum of bytes that are put one after another, modulo 2^32 (SEMI P39, END record, CHECKSUM32).
+/// The sum of bytes put one after another, modulo 2^32 (SEMI P39, END record, CHECKSUM32).
 ///
 /// Contracts see it as that sum.
 #[derive(Drop)]
@@ -19,21 +19,21 @@ impl Model for Sum32 {
 }
 
 impl Sum32 {
-    /// That of no bytes.
+    /// The sum of no bytes.
     pub fn new() -> Sum32
         ensures { result ≡ checksum32 [] }
     {
         Sum32 { sum: 0 }
     }
 
-    /// One byte more.
+    /// Puts one more byte.
     pub fn push(&mut self, byte: u8)
         ensures { (bytes : List ℕ) → self.old ≡ checksum32 bytes → self.new ≡ checksum32 (bytes ++ byte ∷ []) }
     {
         self.sum = self.sum.wrapping_add(u32::from(byte));
     }
 
-    /// More bytes.
+    /// Puts more bytes.
     pub fn update(&mut self, more: &[u8])
         ensures { (bytes : List ℕ) → self.old ≡ checksum32 bytes → self.new ≡ checksum32 (bytes ++ more.now) }
     {

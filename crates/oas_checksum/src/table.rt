@@ -1,4 +1,4 @@
-//! The table by which CRC-32 divides a byte at a time.
+//! The table with which CRC-32 divides a byte at a time.
 
 /// What division makes of each byte: entry `i` is the register after the eight bits of `i`, from a register of 0.
 pub(crate) const TABLE: &[u32; 256] = &[

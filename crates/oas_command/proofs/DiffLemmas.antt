@@ -4,10 +4,10 @@ use Rattle.std.proofs.Common.{◌≡◌, ℕ, zero, suc, List, [], ◌∷◌, le
 use Rattle.oas_num.specs.declared.refusals.Refusal.{Refusal}
 use Rattle.oas_num.specs.Written.{IsWritten}
 use Rattle.oas_layout.specs.Contents.{Contents}
-use Rattle.oas_difference.specs.declared.options.Options.{Options}
+use Rattle.oas_markers.specs.oas_difference.declared.options.Options.{Options}
 use Rattle.oas_command.specs.Runs.{status_after}
 use Rattle.oas_command.specs.Diff.{diff_text, text_status, length_status, diff_status}
-use Rattle.oas_command.proofs.RunLemmas.{answer_after}
+use Rattle.oas_command.proofs.RunLemmas.{result_after}
 
 pub length_says : (text : List ℕ) → length_status (length text) ≡ text_status text
 length_says [] = refl
@@ -16,6 +16,6 @@ length_says (b ∷ bs) = refl
 -- its status
 pub differs : (options : Options) {W : Type 0} (contents : W → Option (List ℕ)) (before after : W) (found : Contents × Contents) (written : Result ℕ Refusal)
     (status r : ℕ) → IfOk written (IsWritten contents before (diff_text options found) after) → IfOk written (λ n. status ≡ length_status n) → r
-    ≡ status_after status written → r ≡ diff_status options (answer_after found written)
+    ≡ status_after status written → r ≡ diff_status options (result_after found written)
 differs options contents before after found (Ok n) status r whole says ends = ends ∙ says ∙ ap length_status whole.count_is ∙ length_says (diff_text options found)
 differs options contents before after found (Err refusal) status r whole says ends = ends

@@ -1,27 +1,27 @@
--- A run that wrote a difference, and then was to write its markers.
+-- A run that wrote a difference, and then had to write its markers.
 use Rattle.std.specs.Prelude.{IfOk, IfErr}
 use Rattle.std.proofs.Common.{◌≡◌, ℕ, List, Option, Result, Ok, Err, refl, ap, ◌∙◌}
 use Rattle.oas_num.specs.declared.refusals.Refusal.{Refusal}
 use Rattle.oas_num.specs.Written.{IsWritten}
 use Rattle.oas_layout.specs.Contents.{Contents}
-use Rattle.oas_difference.specs.declared.options.Options.{Options}
+use Rattle.oas_markers.specs.oas_difference.declared.options.Options.{Options}
 use Rattle.oas_markers.specs.Written.{IsMarked, IsMarkedUpTo}
 use Rattle.oas_command.specs.Runs.{status_after}
 use Rattle.oas_command.specs.Diff.{diff_text, length_status, diff_status}
 use Rattle.oas_command.specs.Marking.{marks, Marks}
 use Rattle.oas_command.proofs.DiffLemmas.{length_says}
-use Rattle.oas_command.proofs.RunLemmas.{answer_after}
+use Rattle.oas_command.proofs.RunLemmas.{result_after}
 
 module _ (found : Contents × Contents) where
   -- its status is that of the lines, where the markers were written
   pub marks_differ : (options : Options) {W : Type 0} (contents : W → Option (List ℕ)) (before after : W) (n : ℕ) (marked : Result ℕ Refusal) (status r : ℕ)
-      → IsWritten contents before (diff_text options found) after n → status ≡ length_status n → r ≡ status_after status marked → r ≡ diff_status options (answer_after found marked)
+      → IsWritten contents before (diff_text options found) after n → status ≡ length_status n → r ≡ status_after status marked → r ≡ diff_status options (result_after found marked)
   marks_differ options contents before after n (Ok m) status r whole says ends = ends ∙ says ∙ ap length_status whole.count_is ∙ length_says (diff_text options found)
   marks_differ options contents before after n (Err refusal) status r whole says ends = ends
 
   -- what the markers' writer took
   pub marks_follow : {W : Type 0} (contents : W → Option (List ℕ)) (marked : Result ℕ Refusal) (before after : W)
       → IfOk marked (IsMarked contents before (marks found) after)
-      → IfErr marked (IsMarkedUpTo contents before (marks found) after) → Marks contents before (Ok found) (answer_after found marked) after
+      → IfErr marked (IsMarkedUpTo contents before (marks found) after) → Marks contents before (Ok found) (result_after found marked) after
   marks_follow contents (Ok count) before after whole cut = (refl, whole.took)
   marks_follow contents (Err refusal) before after whole cut = cut

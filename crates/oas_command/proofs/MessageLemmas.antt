@@ -1,4 +1,4 @@
--- What the error output has once an outlet before it was told a line, and closed.
+-- What the error output has once an outlet before it was given a line, and closed.
 use Rattle.std.proofs.Common.{◌≡◌, ℕ, List, [], ◌∷◌, ◌++◌, length, Option, Result, Ok, Err, inl, inr, refl, sym, ap, ◌∙◌, append_assoc, append-nil, arith, MutBor}
 use Rattle.oas_num.specs.Outlet.{Outlet}
 use Rattle.oas_num.specs.declared.refusals.Refusal.{Refusal}
@@ -12,41 +12,41 @@ use Rattle.oas_canon.specs.declared.rekeying.Rekeyed.{Rekeyed}
 use Rattle.oas_canon.specs.declared.rekeying.Rekeyed.TheVariants.{Done, NotProfile1}
 use Rattle.oas_command.specs.Lines.{refusal_line, not_profile_1_line}
 use Rattle.oas_command.specs.Rekeying.{rekey_said, EndsRekeying}
-use Rattle.oas_command.specs.Runs.{said, Tells, Ends, AppendsFront}
+use Rattle.oas_command.specs.Runs.{said, Tells, Ends, AppendsPrefix}
 
 none_front : (a b : List ℕ) → [] ≡ a ++ b → a ≡ []
 none_front [] b e = refl
 none_front (x ∷ a) b e = absurd (omega (arith, ap length e))
 
 module _ {W : Type 0} (contents : W → Option (List ℕ)) (writer : MutBor W) where
-  -- an outlet was given a front of a line
-  pub record GivenFront (o : Outlet W) (line : List ℕ) (now : Outlet W) : Type 0 where
+  -- an outlet was given a prefix of a line
+  pub record GivenPrefix (o : Outlet W) (line : List ℕ) (now : Outlet W) : Type 0 where
     pub front : List ℕ
     pub back : List ℕ
     pub joined : line ≡ front ++ back
     pub given : IsGiven contents o front now
 
-  -- a line was told
-  pub told : (o now : Outlet W) (line : List ℕ) → Opens writer o → Tells (IsGiven contents) failures_of o line now → GivenFront o line now
+  -- a line was put
+  pub told : (o now : Outlet W) (line : List ℕ) → Opens writer o → Tells (IsGiven contents) failures_of o line now → GivenPrefix o line now
   told o now line opens (inl all) =
       record { front = line; back = []; joined = sym (append-nil line); given = given_since contents writer o now line opens all }
   told o now line opens (inr some) =
       record { front = some.front; back = some.back; joined = some.joined; given = given_since contents writer o now some.front opens some.puts }
 
-  -- what a run said was told
-  pub ended : {T : Type 0} (o now : Outlet W) (name : List ℕ) (answer : Result T Refusal) → Opens writer o → Ends (IsGiven contents) failures_of name o answer now → GivenFront o (said name answer) now
+  -- what a run said was put
+  pub ended : {T : Type 0} (o now : Outlet W) (name : List ℕ) (answer : Result T Refusal) → Opens writer o → Ends (IsGiven contents) failures_of name o answer now → GivenPrefix o (said name answer) now
   ended o now name (Ok value) opens same = rw same (told o o [] opens (inl (Puts-none (IsGiven contents) failures_of o)))
   ended o now name (Err refusal) opens tells = told o now (refusal_line name (number_of refusal.why) refusal.at) opens tells
 
-  -- the same of a run that was to re-key
+  -- the same for a run that should re-key
   pub rekey_ended : (o now : Outlet W) (name : List ℕ) (answer : Result Rekeyed Refusal) → Opens writer o →
-      EndsRekeying (IsGiven contents) failures_of name o answer now → GivenFront o (rekey_said name answer) now
+      EndsRekeying (IsGiven contents) failures_of name o answer now → GivenPrefix o (rekey_said name answer) now
   rekey_ended o now name (Ok (Done n)) opens same = ended o now name (Ok n) opens same
   rekey_ended o now name (Ok NotProfile1) opens tells = told o now (not_profile_1_line name) opens tells
   rekey_ended o now name (Err refusal) opens tells = told o now (refusal_line name (number_of refusal.why) refusal.at) opens tells
 
   -- and then it was closed
-  pub closed : (o mid now : Outlet W) (line : List ℕ) (r : Result Unit SinkFault) → GivenFront o line mid → Writes (IsGiven contents) failures_of mid [] r now → GivenFront o line now
+  pub closed : (o mid now : Outlet W) (line : List ℕ) (r : Result Unit SinkFault) → GivenPrefix o line mid → Writes (IsGiven contents) failures_of mid [] r now → GivenPrefix o line now
   closed o mid now line (Ok done) p q =
       let g : IsGiven contents o (p.front ++ []) now = q.after o p.front p.given in
       record { front = p.front; back = p.back; joined = p.joined; given = rw (append-nil) at g }
@@ -56,12 +56,12 @@ module _ {W : Type 0} (contents : W → Option (List ℕ)) (writer : MutBor W) w
       let h : IsGiven contents o (p.front ++ []) now = rw none at g in
       record { front = p.front; back = p.back; joined = p.joined; given = rw (append-nil) at h }
 
-  -- it stands before the same writer still
-  pub same_name : (o now : Outlet W) (line : List ℕ) → Opens writer o → GivenFront o line now → now.writer.ghost_name ≡ writer.ghost_name
+  -- it is still over the same writer
+  pub same_name : (o now : Outlet W) (line : List ℕ) → Opens writer o → GivenPrefix o line now → now.writer.ghost_name ≡ writer.ghost_name
   same_name o now line opens p = stays contents writer o now p.front opens p.given
 
   -- what the writer has when the outlet is gone
-  pub appended : (o now : Outlet W) (last : W) (line : List ℕ) → Opens writer o → GivenFront o line now → now.writer.now ≡ last → AppendsFront (contents writer.now) (contents last) line
+  pub appended : (o now : Outlet W) (last : W) (line : List ℕ) → Opens writer o → GivenPrefix o line now → now.writer.now ≡ last → AppendsPrefix (contents writer.now) (contents last) line
   appended o now last line opens p e =
       let t = takes_front contents writer o now p.front opens p.given in
       rw (← e) (record {

@@ -1,4 +1,4 @@
--- A run that found something, whose text was to be written.
+-- A run with a result whose text has to be written.
 use Rattle.std.specs.Prelude.{IfOk, IfErr}
 use Rattle.std.proofs.Common.{◌≡◌, ℕ, Bool, List, Option, Result, Ok, Err, refl, ◌∙◌}
 use Rattle.oas_num.specs.declared.refusals.Refusal.{Refusal}
@@ -6,27 +6,27 @@ use Rattle.oas_num.specs.Written.{IsWritten, IsCutOff}
 use Rattle.oas_command.specs.Runs.{status_after, status_of, verdict_status, Delivers, Ends}
 
 module _ {T : Type 0} (value : T) where
-  -- its answer: what was found, or why that was not written
-  abbrev pub answer_after : Result ℕ Refusal → Result T Refusal
-  answer_after (Ok count) = Ok value
-  answer_after (Err refusal) = Err refusal
+  -- its result, or why that was not written
+  abbrev pub result_after : Result ℕ Refusal → Result T Refusal
+  result_after (Ok count) = Ok value
+  result_after (Err refusal) = Err refusal
 
-  pub done : (written : Result ℕ Refusal) (r : ℕ) → r ≡ status_after 0 written → r ≡ status_of (answer_after written)
+  pub done : (written : Result ℕ Refusal) (r : ℕ) → r ≡ status_after 0 written → r ≡ status_of (result_after written)
   done (Ok count) r same = same
   done (Err refusal) r same = same
 
   pub delivers : {W : Type 0} (contents : W → Option (List ℕ)) (text : T → List ℕ) (written : Result ℕ Refusal) (before after : W) →
       IfOk written (IsWritten contents before (text value) after) → IfErr written (IsCutOff contents before (text value) after) →
-      Delivers contents text before (Ok value) (answer_after written) after
+      Delivers contents text before (Ok value) (result_after written) after
   delivers contents text (Ok count) before after whole cut = (refl, whole.took)
   delivers contents text (Err refusal) before after whole cut = cut
 
   pub tells : {K : Type 0} (given : K → List ℕ → K → Type 0) (failures : K → ℕ) (name : List ℕ) (old : K) (written : Result ℕ Refusal) (new : K) →
-      Ends given failures name old written new → Ends given failures name old (answer_after written) new
+      Ends given failures name old written new → Ends given failures name old (result_after written) new
   tells given failures name old (Ok count) new ends = ends
   tells given failures name old (Err refusal) new ends = ends
 
--- its status, where the answer is yes or no
-pub judged : (verdict : Bool) (written : Result ℕ Refusal) (n r : ℕ) → n ≡ verdict_status (Ok verdict) → r ≡ status_after n written → r ≡ verdict_status (answer_after verdict written)
+-- its status, where the result is yes or no
+pub judged : (verdict : Bool) (written : Result ℕ Refusal) (n r : ℕ) → n ≡ verdict_status (Ok verdict) → r ≡ status_after n written → r ≡ verdict_status (result_after verdict written)
 judged verdict (Ok count) n r is same = same ∙ is
 judged verdict (Err refusal) n r is same = same

@@ -1,17 +1,17 @@
--- What the command `diff` reads, writes and answers.
+-- What the command `diff` reads, writes and returns.
 use Rattle.std.specs.Prelude.{◌≡◌, ℕ, zero, suc, List, [], ◌∷◌, Result, Ok, Err}
 use Rattle.oas_num.specs.declared.refusals.Refusal.{Refusal}
 use Rattle.oas_num.specs.Script.{Script}
 use Rattle.oas_layout.specs.declared.limits.Limits.{Limits}
 use Rattle.oas_layout.specs.Contents.{Contents, meaning_of}
-use Rattle.oas_file.specs.Reading.{ReadsLayout}
+use Rattle.oas_canon.specs.oas_file.Reading.{ReadsLayout}
 use Rattle.oas_canon.specs.declared.profile.TheConstants.{PROFILE}
 use Rattle.oas_canon.specs.declared.sameness.Which.{Which}
 use Rattle.oas_canon.specs.declared.sameness.Which.TheVariants.{First, Second}
-use Rattle.oas_difference.specs.declared.options.Options.{Options}
-use Rattle.oas_difference.specs.Options.{difference_by}
+use Rattle.oas_markers.specs.oas_difference.declared.options.Options.{Options}
+use Rattle.oas_markers.specs.oas_difference.Options.{difference_by}
 
--- Both were read, the second after the first; or the first is refused, and nothing is read of the second; or the first was
+-- Both were read, the second after the first; or the first is refused, and nothing of the second is read; or the first was
 -- read, and the second is refused.
 abbrev pub ReadsBoth : {T : Type 0} → (T → Script) → Limits → Script → Script → T → T → Result (Contents × Contents) (Which × Refusal) → Type 0
 ReadsBoth script limits old new before after (Ok found) = ReadsLayout limits PROFILE old (Ok found.0) new × ReadsLayout limits PROFILE (script before) (Ok found.1) (script after)
@@ -23,12 +23,12 @@ ReadsBoth script limits old new before after (Err (Second, refusal)) =
 abbrev pub diff_text : Options → Contents × Contents → List ℕ
 diff_text options found = difference_by options PROFILE (meaning_of found.0) (meaning_of found.1)
 
--- 0 where there is no line, and else 3
+-- 0 where there is no line, or else 3
 abbrev pub text_status : List ℕ → ℕ
 text_status [] = 0
 text_status (b ∷ bs) = 3
 
--- the same of its length
+-- the same for its length
 abbrev pub length_status : ℕ → ℕ
 length_status zero = 0
 length_status (suc n) = 3

@@ -1,4 +1,4 @@
--- What the command `diff` writes beside its lines where markers are asked for.
+-- What the command `diff` writes in addition to its lines where markers are requested.
 use Rattle.std.specs.Prelude.{◌≡◌, ℕ, List, Option, Result, Ok, Err}
 use Rattle.std.specs.Io.KnownBytes.{Appends}
 use Rattle.oas_num.specs.declared.refusals.Refusal.{Refusal}
@@ -13,8 +13,8 @@ use Rattle.oas_command.specs.Runs.{blamed}
 abbrev pub marks : Contents × Contents → List ℕ
 marks found = markers PROFILE (meaning_of found.0) (meaning_of found.1)
 
--- After the lines the markers were written, and that is the last answer; or the writer failed and took a front of them, as long
--- as the place of the last answer's refusal says, as far as 64 bits count. Without the lines no marker was written.
+-- After the lines the markers were written, and that is the last result; or the writer failed and took a prefix of them, as
+-- long as the place of the last result's refusal says, capped to 64 bits. Without the lines no marker was written.
 abbrev pub Marks : {W : Type 0} → (W → Option (List ℕ)) → W → Result (Contents × Contents) Refusal → Result (Contents × Contents) Refusal → W → Type 0
 Marks contents before (Ok found) (Ok last) after = (last ≡ found) × Appends (contents before) (contents after) (marks found)
 Marks contents before (Ok found) (Err refusal) after = IsMarkedUpTo contents before (marks found) after refusal

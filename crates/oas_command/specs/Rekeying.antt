@@ -1,4 +1,4 @@
--- How a run that re-keys ends: its status, and what it says on its error output.
+-- How a run that re-keys ends: its status, and what it puts on its error output.
 use Rattle.std.specs.Prelude.{◌≡◌, ℕ, List, [], Result, Ok, Err}
 use Rattle.oas_num.specs.declared.refusals.Refusal.{Refusal}
 use Rattle.oas_num.specs.Refusals.{number_of}
@@ -13,13 +13,13 @@ rekey_status (Ok (Done n)) = 0
 rekey_status (Ok NotProfile1) = 3
 rekey_status (Err refusal) = 1
 
--- nothing where it was re-keyed, and else the line of what it was not re-keyed for
+-- nothing where it was re-keyed, or else the line that says why not
 abbrev pub rekey_said : List ℕ → Result Rekeyed Refusal → List ℕ
 rekey_said name (Ok (Done n)) = []
 rekey_said name (Ok NotProfile1) = not_profile_1_line name
 rekey_said name (Err refusal) = refusal_line name (number_of refusal.why) refusal.at
 
--- where it was re-keyed the sink stays as it was, and else that line was told
+-- where it was re-keyed the sink is unchanged, or else that line was put
 abbrev pub EndsRekeying : {K : Type 0} → (K → List ℕ → K → Type 0) → (K → ℕ) → List ℕ → K → Result Rekeyed Refusal → K → Type 0
 EndsRekeying given failures name old (Ok (Done n)) new = new ≡ old
 EndsRekeying given failures name old (Ok NotProfile1) new = Tells given failures old (not_profile_1_line name) new

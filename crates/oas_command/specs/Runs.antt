@@ -1,9 +1,9 @@
--- How a run ends: its status, what it writes, and what it says on its error output.
+-- How a run ends: its status, what it writes, and what it puts on its error output.
 use Rattle.std.specs.Prelude.{◌≡◌, ℕ, Bool, true, false, List, [], ◌++◌, Option, Result, Ok, Err, ◌⊎◌}
 use Rattle.std.specs.Io.KnownBytes.{Appends}
 use Rattle.oas_num.specs.declared.refusals.Refusal.{Refusal}
 use Rattle.oas_num.specs.Refusals.{number_of}
-use Rattle.oas_num.specs.Writing.{Puts, PutsFront}
+use Rattle.oas_num.specs.Writing.{Puts, PutsPrefix}
 use Rattle.oas_num.specs.Written.{IsCutOff}
 use Rattle.oas_canon.specs.declared.sameness.Which.{Which}
 use Rattle.oas_canon.specs.declared.sameness.Which.TheVariants.{First, Second}
@@ -11,12 +11,12 @@ use Rattle.oas_command.specs.Lines.{refusal_line}
 
 -- ---- its status
 
--- this one after an answer, 1 after a refusal
+-- this one after a result, 1 after a refusal
 abbrev pub status_after : {T : Type 0} → ℕ → Result T Refusal → ℕ
 status_after status (Ok value) = status
 status_after status (Err refusal) = 1
 
--- 0 after an answer, 1 after a refusal
+-- 0 after a result, 1 after a refusal
 abbrev pub status_of : {T : Type 0} → Result T Refusal → ℕ
 status_of answer = status_after 0 answer
 
@@ -28,8 +28,8 @@ verdict_status (Err refusal) = 1
 
 -- ---- its output
 
--- Of what was found the text was written, or the writer failed and took a front of it, as long as the place of the answer's
--- refusal says. Where nothing was found nothing was written.
+-- The text of the result was written, or the writer failed and took a prefix of it, as long as the place of the refusal says.
+-- Without a result nothing was written.
 abbrev pub Delivers : {T W : Type 0} → (W → Option (List ℕ)) → (T → List ℕ) → W → Result T Refusal → Result T Refusal → W → Type 0
 Delivers contents text before (Ok value) (Ok answer) after = (answer ≡ value) × Appends (contents before) (contents after) (text value)
 Delivers contents text before (Ok value) (Err refusal) after = IsCutOff contents before (text value) after refusal
@@ -37,30 +37,30 @@ Delivers contents text before (Err refusal) answer after = (answer ≡ Err refus
 
 -- ---- its error output
 
--- nothing after an answer, and the line of a refusal
+-- nothing after a result, and the line of a refusal
 abbrev pub said : {T : Type 0} → List ℕ → Result T Refusal → List ℕ
 said name (Ok value) = []
 said name (Err refusal) = refusal_line name (number_of refusal.why) refusal.at
 
--- the line was put, or a front of it, and the sink has failed
+-- the line was put, or a prefix of it, and the sink has failed
 abbrev pub Tells : {K : Type 0} → (K → List ℕ → K → Type 0) → (K → ℕ) → K → List ℕ → K → Type 0
-Tells given failures old line new = Puts given failures old line new ⊎ PutsFront given failures old line new
+Tells given failures old line new = Puts given failures old line new ⊎ PutsPrefix given failures old line new
 
--- after an answer the sink stays as it was, and after a refusal its line was told
+-- after a result the sink is unchanged, and after a refusal its line was put
 abbrev pub Ends : {K T : Type 0} → (K → List ℕ → K → Type 0) → (K → ℕ) → List ℕ → K → Result T Refusal → K → Type 0
 Ends given failures name old (Ok value) new = new ≡ old
 Ends given failures name old (Err refusal) new = Tells given failures old (refusal_line name (number_of refusal.why) refusal.at) new
 
--- known bytes grow by a front of these
-pub record AppendsFront (old new : Option (List ℕ)) (bytes : List ℕ) : Type 0 where
+-- known bytes grow by a prefix of these
+pub record AppendsPrefix (old new : Option (List ℕ)) (bytes : List ℕ) : Type 0 where
   pub front : List ℕ
   pub back : List ℕ
   pub joined : bytes ≡ front ++ back
   pub appends : Appends old new front
 
--- ---- of two files
+-- ---- for two files
 
--- what was found, or the refusal of the file that is refused
+-- the result, or the refusal of the file that is refused
 abbrev pub found_in : {T : Type 0} → Result T (Which × Refusal) → Result T Refusal
 found_in (Ok value) = Ok value
 found_in (Err e) = Err e.1
@@ -70,7 +70,7 @@ abbrev pub name_of : Which → List ℕ → List ℕ → List ℕ
 name_of First a b = a
 name_of Second a b = b
 
--- the name of the file that is refused, and the first one where none is
+-- the name of the file that is refused, or the first one where none is
 abbrev pub blamed : {T : Type 0} → List ℕ → List ℕ → Result T (Which × Refusal) → List ℕ
 blamed a b (Ok value) = a
 blamed a b (Err e) = name_of e.0 a b

@@ -1,4 +1,4 @@
--- How an input is named, and what is said of one that can't be opened.
+-- How an input is named, and the message for one that can't be opened.
 use Rattle.std.specs.Prelude.{ℕ, List, ◌++◌, Option, Some, None, codes}
 use Rattle.std.specs.Borrow.{Bor}
 

@@ -1,8 +1,8 @@
-//! How an input is named, and what is said of one that can't be opened.
+//! How an input is named, and the message for one that can't be opened.
 ghost use Rattle.std.specs.Prelude.{◌≡◌};
 ghost use Rattle.oas_num.specs.Writing.{Writes};
 ghost use Rattle.oas_command.specs.Unopened.{input_name, unopened_line};
-ghost use Rattle.oas_command.specs.Runs.{Tells, AppendsFront};
+ghost use Rattle.oas_command.specs.Runs.{Tells, AppendsPrefix};
 
 use oas_num::{Outlet, Sink, SinkFault};
 use std::io::Write;
@@ -20,10 +20,10 @@ pub fn name_of<'a>(path: Option<&'a str>) -> &'a str
     path.unwrap_or(STANDARD_INPUT)
 }
 
-/// Ends a run whose input can't be opened: says so on `err`, and answers its status.
+/// Ends a run whose input can't be opened: says so on `err`, and returns its status.
 pub fn run_unopened<E: Write>(name: &str, err: &mut E) -> u8
     ensures status { result ≡ 1 }
-    ensures tells { AppendsFront (E.contents err.old) (E.contents err.new) (unopened_line name.now) }
+    ensures tells { AppendsPrefix (E.contents err.old) (E.contents err.new) (unopened_line name.now) }
 {
     let mut told = Outlet::new(err);
     let status = unopened(name, &mut told);
@@ -31,7 +31,7 @@ pub fn run_unopened<E: Write>(name: &str, err: &mut E) -> u8
     status
 }
 
-/// As `run_unopened`, with a sink for the line.
+/// Like `run_unopened`, with a sink for the line.
 pub fn unopened<K: Sink>(name: &str, told: &mut K) -> u8
     ensures status { result ≡ 1 }
     ensures tells { Tells K.given K.failures told.old (unopened_line name.now) told.new }

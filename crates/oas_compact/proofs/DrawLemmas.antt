@@ -22,15 +22,15 @@ use Rattle.oas_layout.specs.Sound.{IsSound}
 use Rattle.oas_layout.specs.Weight.{weight_of}
 use Rattle.oas_keys.specs.Keys.{key_of}
 use Rattle.oas_entries.specs.Entries.{Entry}
-use Rattle.oas_drawing.specs.declared.drawn.Drawn.{Drawn}
-use Rattle.oas_drawing.specs.declared.drawn.Drawn.TheVariants.{Named, PlacementBy, TextBy}
-use Rattle.oas_drawing.specs.Drawn.{drawn_cmp, weight_so_far}
-use Rattle.oas_drawing.specs.Laws.DrawnLaws.{exact_drawn}
-use Rattle.oas_names.specs.Weights.{capped}
+use Rattle.oas_modal.specs.oas_drawing.declared.drawn.Drawn.{Drawn}
+use Rattle.oas_modal.specs.oas_drawing.declared.drawn.Drawn.TheVariants.{Named, PlacementBy, TextBy}
+use Rattle.oas_modal.specs.oas_drawing.Drawn.{drawn_cmp, weight_so_far}
+use Rattle.oas_modal.specs.oas_drawing.Laws.DrawnLaws.{exact_drawn}
+use Rattle.oas_modal.specs.oas_names.Weights.{capped}
 use Rattle.oas_modal.specs.Finish.{IsFit}
 use Rattle.oas_modal.specs.Stores.{Draws, IsBegun}
 use Rattle.oas_modal.proofs.StoreLemmas.{draws_none}
-use Rattle.oas_names.proofs.WeightLemmas.{capped_more}
+use Rattle.oas_modal.proofs.oas_names_proofs.WeightLemmas.{capped_more}
 use Rattle.oas_compact.specs.Compact.{Compact, is_named, by_key, by_number, IsKey, WaitsMore, compact_store}
 use Rattle.oas_compact.proofs.KeptLemmas.{normal_sound}
 
@@ -50,7 +50,7 @@ module _ {K : Type 0} where
   pub few_is : (R : K → K → Ordering) (ps : List (K × ℕ)) (k : K) (n : ℕ) → total (λ _. 1) (put_more R ps k n) ≡ total (λ _. 1) ps + n
   few_is R ps k n = omega (arith, total-put_more R (λ _. 1) ps k n (λ x e. refl))
 
-  -- what holds of what is there, and of what is added, holds of all
+  -- what holds for what is there, and for what is added, holds for all
   pub all-put_more : (P : K × ℕ → Type 0) (R : K → K → Ordering) (ps : List (K × ℕ)) (k : K) (n : ℕ) → ((p : K × ℕ) → P p → P (p.0, p.1 + n)) → P (k, n) → AllByRecursion P ps
       → AllByRecursion P (put_more R ps k n)
   all-put_more P R [] k n more one a = (one, tt)
@@ -148,7 +148,7 @@ module _ (profile : Profile) (n : ℕ) where
       exact : (k : ℕ) → k < 2 ^ 64 → capped k ≡ k
       exact k h = grind arith
 
--- the same of a cell whose parts are known
+-- the same for a cell whose parts are known
 module _ (profile : Profile) (n : ℕ) (old : Compact) (a : CellRef) (k v w : ℕ) (ks : List Entry) (ws : List (Drawn × ℕ))
     (view : ◌≡◌ {A = Compact} (record { cell = a; count = k; weight = v; keys = ks; waiting = ws }) old) where
   pub kept_up : (e : Element) (qs : List Entry) → IsSound e → w ≡ capped (v + capped (weight_of e * n)) → qs ≡ put_more (slice_cmp nat_cmp) ks (key_of (normal profile e)) n

@@ -13,9 +13,9 @@ use Rattle.oas_layout.specs.Same.{normal}
 use Rattle.oas_layout.specs.Sound.{IsSound}
 use Rattle.oas_keys.specs.Keys.{key_of}
 use Rattle.oas_entries.specs.Entries.{Entry}
-use Rattle.oas_drawing.specs.declared.drawn.Drawn.{Drawn}
-use Rattle.oas_drawing.specs.declared.drawn.Drawn.TheVariants.{Named, PlacementBy, TextBy}
-use Rattle.oas_names.specs.Meaning.{element_by, elements_meant}
+use Rattle.oas_modal.specs.oas_drawing.declared.drawn.Drawn.{Drawn}
+use Rattle.oas_modal.specs.oas_drawing.declared.drawn.Drawn.TheVariants.{Named, PlacementBy, TextBy}
+use Rattle.oas_modal.specs.oas_names.Meaning.{element_by, elements_by_name}
 use Rattle.oas_modal.proofs.Alike.{weighed, sum-meant}
 use Rattle.oas_modal.proofs.WeighLemmas.{sum_two}
 use Rattle.oas_compact.specs.Compact.{Compact, by_key, by_number, Keeps, IsKey, AreKeys, Waits}
@@ -79,10 +79,10 @@ module _ (profile : Profile) (names strings : List (ℕ × List ℕ)) where
   by_both g (TextBy number textlayer texttype x y) = omega arith
 
   -- all that is meant
-  pub means : (c : Compact) (ds : List Drawn) (ks : List Entry) → Keeps profile c ds → ks ≡ placed profile names strings c.waiting c.keys → MeansElements profile ks (elements_meant names strings ds)
+  pub means : (c : Compact) (ds : List Drawn) (ks : List Entry) → Keeps profile c ds → ks ≡ placed profile names strings c.waiting c.keys → MeansElements profile ks (elements_by_name names strings ds)
   means c ds ks h is = record { sums = all }
     where
-      all : (g : List ℕ → ℕ) → total g ks ≡ sum_by (kept_key g) (elements_meant names strings ds)
+      all : (g : List ℕ → ℕ) → total g ks ≡ sum_by (kept_key g) (elements_by_name names strings ds)
       all g =
           let split = sum_two (by_key profile g) (by_number (meant_key g)) ds in
           let same : sum_by (λ d. by_key profile g d + by_number (meant_key g) d) ds ≡ sum_by (meant_key g) ds = λ i. sum_by (λ d. by_both g d i) ds in

@@ -1,11 +1,11 @@
--- What waits in chunks and beside them, and more of it.
+-- What waits in chunks and in the map, and more of it.
 use Rattle.std.proofs.Common.{◌≡◌, ℕ, ◌+◌, ◌<◌, List, [], ◌∷◌, ◌++◌, refl, sym, ◌∙◌, ap, subst, arith, append-nil}
 use Rattle.std.specs.List.{AllByRecursion}
 use Rattle.oas_layout.specs.Laws.BagLaws.{total}
 use Rattle.oas_entries.specs.Blocks.{joined}
 use Rattle.oas_entries.proofs.BlockLemmas.{joined-more}
-use Rattle.oas_drawing.specs.declared.drawn.Drawn.{Drawn}
-use Rattle.oas_drawing.specs.Drawn.{drawn_cmp}
+use Rattle.oas_modal.specs.oas_drawing.declared.drawn.Drawn.{Drawn}
+use Rattle.oas_modal.specs.oas_drawing.Drawn.{drawn_cmp}
 use Rattle.oas_modal.specs.Held.{with_drawn}
 use Rattle.oas_compact.specs.declared.short.Short.{Short}
 use Rattle.oas_compact.specs.Short.{drawn_of, drawn_once}
@@ -68,7 +68,7 @@ module _ (cs os ws : List (Drawn × ℕ)) (view : cs ++ os ≡ ws) where
         (all-put_more Waits drawn_cmp os d n (λ p h. record { fit = h.fit; numbered = h.numbered; some = more_some p.1 n h.some }) one (all_back cs os a));
   }
 
-  -- beside them
+  -- in the map
   pub others_more : (news : List (Drawn × ℕ)) (d : Drawn) (n : ℕ) → news ≡ with_drawn os d n → WaitsMore ws d n (cs ++ news)
   others_more news d n is =
       subst (λ (xs : List (Drawn × ℕ)). WaitsMore xs d n (cs ++ news)) view

@@ -9,15 +9,15 @@ use Rattle.oas_layout.specs.Same.{normal, IsNormal}
 use Rattle.oas_layout.specs.Sound.{IsSound}
 use Rattle.oas_keys.specs.Keys.{key_of}
 use Rattle.oas_entries.specs.Entries.{Entry}
-use Rattle.oas_drawing.specs.declared.drawn.Drawn.{Drawn}
-use Rattle.oas_drawing.specs.declared.drawn.Drawn.TheVariants.{Named, PlacementBy, TextBy}
-use Rattle.oas_drawing.specs.Drawn.{weight_so_far}
+use Rattle.oas_modal.specs.oas_drawing.declared.drawn.Drawn.{Drawn}
+use Rattle.oas_modal.specs.oas_drawing.declared.drawn.Drawn.TheVariants.{Named, PlacementBy, TextBy}
+use Rattle.oas_modal.specs.oas_drawing.Drawn.{weight_so_far}
 use Rattle.oas_modal.specs.Finish.{IsFit}
-use Rattle.oas_names.specs.Weights.{capped}
+use Rattle.oas_modal.specs.oas_names.Weights.{capped}
 use Rattle.oas_modal.specs.Stores.{Store}
 
--- its reference, how many elements its records draw, what they weigh as long as numbers have no names, the keys of those that
--- have their names, ascending, and those that wait for names, each beside its count
+-- its reference, how many elements its records draw, their weight as long as numbers have no names, the keys of those that
+-- have their names, ascending, and those that wait for names, each with its count
 pub record Compact : Type 0 where
   pub cell : CellRef
   pub count : ℕ
@@ -66,12 +66,12 @@ pub record Waits (p : Drawn × ℕ) : Type 0 where
   pub numbered : is_named p.0 ≡ false
   pub some : 0 < p.1
 
--- something more waits, so many times: whatever each counts for, the sum is so much more
+-- something more waits, this many times: whatever each counts for, the sum is that much more
 pub record WaitsMore (old : List (Drawn × ℕ)) (d : Drawn) (n : ℕ) (new : List (Drawn × ℕ)) : Type 0 where
   pub sums : (g : Drawn → ℕ) → total g new ≡ total g old + n * g d
   pub waits : AllByRecursion Waits old → Waits (d, n) → AllByRecursion Waits new
 
--- the keys are those of elements, and what waits does so by numbers
+-- the keys are those of elements, and what waits is drawn by numbers
 pub record IsCompact (profile : Profile) (c : Compact) : Type 0 where
   pub keys : AreKeys profile c.keys
   pub waiting : AllByRecursion Waits c.waiting

@@ -9,8 +9,8 @@ use Rattle.oas_layout.specs.Laws.BagLaws.{total}
 use Rattle.oas_layout.specs.Same.{normal}
 use Rattle.oas_keys.specs.Keys.{key_of}
 use Rattle.oas_entries.specs.Entries.{Entry}
-use Rattle.oas_drawing.specs.declared.drawn.Drawn.{Drawn}
-use Rattle.oas_names.specs.Meaning.{element_by}
+use Rattle.oas_modal.specs.oas_drawing.declared.drawn.Drawn.{Drawn}
+use Rattle.oas_modal.specs.oas_names.Meaning.{element_by}
 
 -- n more of an element, if it is one
 abbrev pub with_placed : Profile → Option Element → ℕ → List Entry → List Entry

@@ -1,7 +1,7 @@
 -- What waits in few bytes.
 use Rattle.std.specs.Prelude.{ℕ, ℤ, List, [], ◌∷◌}
-use Rattle.oas_drawing.specs.declared.drawn.Drawn.{Drawn}
-use Rattle.oas_drawing.specs.declared.drawn.Drawn.TheVariants.{PlacementBy, TextBy}
+use Rattle.oas_modal.specs.oas_drawing.declared.drawn.Drawn.{Drawn}
+use Rattle.oas_modal.specs.oas_drawing.declared.drawn.Drawn.TheVariants.{PlacementBy, TextBy}
 use Rattle.oas_compact.specs.declared.short.Kind.{Kind}
 use Rattle.oas_compact.specs.declared.short.Kind.TheVariants.{Placement, Text}
 use Rattle.oas_compact.specs.declared.short.Short.{Short}

@@ -1,28 +1,28 @@
--- What cells that are held as keys weigh with all names; None where a number has no name.
+-- The weight of cells that are held as keys, with all names; None where a number has no name.
 use Rattle.std.specs.Prelude.{ℕ, ◌*◌, List, [], ◌∷◌, length, Option, None, Some}
 use Rattle.std.specs.Option.{option_map}
-use Rattle.oas_drawing.specs.declared.drawn.Drawn.{Drawn}
-use Rattle.oas_drawing.specs.declared.drawn.Drawn.TheVariants.{Named, PlacementBy, TextBy}
-use Rattle.oas_names.specs.Names.{name_of}
-use Rattle.oas_names.specs.References.{cell_by}
-use Rattle.oas_names.specs.Weights.{capped, joined, head_weight}
+use Rattle.oas_modal.specs.oas_drawing.declared.drawn.Drawn.{Drawn}
+use Rattle.oas_modal.specs.oas_drawing.declared.drawn.Drawn.TheVariants.{Named, PlacementBy, TextBy}
+use Rattle.oas_modal.specs.oas_names.Names.{name_of}
+use Rattle.oas_modal.specs.oas_names.References.{cell_by}
+use Rattle.oas_modal.specs.oas_names.Weights.{capped, joined, head_weight}
 use Rattle.oas_compact.specs.Compact.{Compact}
 
--- the bytes of the name behind a number
+-- the bytes of the name of a number
 abbrev pub behind : List (ℕ × List ℕ) → List (ℕ × List ℕ) → Drawn → Option ℕ
 behind names strings (Named e) = Some 0
 behind names strings (PlacementBy number x y turns flip) = option_map length (name_of names number)
 behind names strings (TextBy number textlayer texttype x y) = option_map length (name_of strings number)
 
--- so many times
-abbrev pub behind_times : Option ℕ → ℕ → Option ℕ
-behind_times None n = None
-behind_times (Some len) n = Some (capped (n * len))
+-- this many times
+abbrev pub name_bytes_times : Option ℕ → ℕ → Option ℕ
+name_bytes_times None n = None
+name_bytes_times (Some len) n = Some (capped (n * len))
 
 -- all that waits
 abbrev pub waiting_weight : List (ℕ × List ℕ) → List (ℕ × List ℕ) → List (Drawn × ℕ) → Option ℕ
 waiting_weight names strings [] = Some 0
-waiting_weight names strings (p ∷ ps) = joined (behind_times (behind names strings p.0) p.1) (waiting_weight names strings ps)
+waiting_weight names strings (p ∷ ps) = joined (name_bytes_times (behind names strings p.0) p.1) (waiting_weight names strings ps)
 
 -- all that waits in full chunks, one after another
 abbrev pub full_weight : List (ℕ × List ℕ) → List (ℕ × List ℕ) → List (List (Drawn × ℕ)) → Option ℕ

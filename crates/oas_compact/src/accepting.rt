@@ -1,9 +1,9 @@
-//! What END refuses of cells that are held as keys.
+//! What END refuses where cells are held as keys.
 
 ghost use Rattle.std.specs.Prelude.{◌≡◌, ◌⊎◌, List, None, Some, OnOk, IfErr};
 ghost use Rattle.std.specs.List.{AllByRecursion};
 ghost use Rattle.oas_num.specs.declared.refusals.Why.TheVariants.{Memory};
-ghost use Rattle.oas_names.specs.Meaning.{DrawnCell, end_reason};
+ghost use Rattle.oas_modal.specs.oas_names.Meaning.{DrawnCell, end_reason};
 ghost use Rattle.oas_modal.specs.Stores.{HoldCells};
 ghost use Rattle.oas_compact.specs.Compact.{IsCompact, compact_store};
 ghost use Rattle.oas_compact.specs.Weighing.{all_weight};
@@ -12,11 +12,11 @@ use crate::cells::CompactCell;
 use crate::profiles::KeptBy;
 use oas_layout::Limits;
 use oas_modal::names_twice;
-use oas_names::NameTable;
+use oas_modal::oas_names::NameTable;
 use oas_num::{Label, Name, Why};
 use std::alloc::Global;
 
-/// What all cells weigh with all names, as far as 64 bits tell it; None where a number has no name.
+/// The weight of all cells with all names, capped to 64 bits; None where a number has no name.
 fn all_weight<P: KeptBy>(
     cells: &[CompactCell<P>],
     names: &NameTable<Name>,
@@ -31,9 +31,9 @@ fn all_weight<P: KeptBy>(
     Some(weight)
 }
 
-/// Accepts cells by the tables of the whole file, or refuses them as END does (`end_reason` of oas_names): by `UnknownReference`
-/// where a number has no name, else by `DuplicateCell` where two cells have one name, else by `TooHeavy` where they weigh more
-/// with all names than the limits allow; or for want of memory.
+/// Accepts cells by the tables of the whole file, or refuses them as END does (`end_reason` of oas_names): with
+/// `UnknownReference` where a number has no name, else with `DuplicateCell` where two cells have one name, else with
+/// `TooHeavy` where they weigh more with all names than the limits allow; or it fails out of memory.
 pub fn accept_cells<P: KeptBy>(
     alloc: Global,
     limits: Limits,

@@ -5,11 +5,11 @@ ghost use Rattle.std.specs.Cmp.Lexicographic.{slice_cmp};
 ghost use Rattle.std.specs.Ordering.{nat_cmp};
 ghost use Rattle.oas_num.specs.declared.refusals.Why.TheVariants.{Memory};
 ghost use Rattle.oas_entries.specs.Runs.{IsRun};
-ghost use Rattle.oas_drawing.specs.declared.drawn.Drawn.{Drawn as SomeDrawn};
-ghost use Rattle.oas_drawing.specs.declared.drawn.Drawn.TheVariants.{Named as OneNamed};
-ghost use Rattle.oas_drawing.specs.declared.once.DrawnOnce.TheVariants.{Placement as OnePlacement, Text as OneText};
-ghost use Rattle.oas_drawing.specs.Named.{drawn_once};
-ghost use Rattle.oas_names.specs.Meaning.{elements_meant};
+ghost use Rattle.oas_modal.specs.oas_drawing.declared.drawn.Drawn.{Drawn as SomeDrawn};
+ghost use Rattle.oas_modal.specs.oas_drawing.declared.drawn.Drawn.TheVariants.{Named as OneNamed};
+ghost use Rattle.oas_modal.specs.oas_drawing.declared.once.DrawnOnce.TheVariants.{Placement as OnePlacement, Text as OneText};
+ghost use Rattle.oas_modal.specs.oas_drawing.Named.{drawn_once};
+ghost use Rattle.oas_modal.specs.oas_names.Meaning.{elements_by_name};
 ghost use Rattle.oas_modal.specs.Finish.{IsFit};
 ghost use Rattle.oas_modal.specs.Stores.{Draws};
 ghost use Rattle.oas_compact.specs.Compact.{compact_store, is_named, AreKeys, IsCompact, Keeps};
@@ -22,24 +22,24 @@ use crate::placing::place_all;
 use crate::profiles::KeptBy;
 use crate::waiting::Waiting;
 use crate::weighing::head_weight;
-use oas_drawing::{Drawn, DrawnOnce};
 use oas_entries::Run;
 use oas_layout::{Element, Turns};
 use oas_modal::CellStore;
-use oas_names::NameTable;
+use oas_modal::oas_drawing::{Drawn, DrawnOnce};
+use oas_modal::oas_names::NameTable;
 use oas_num::{Label, Name, Why};
 use oas_record::{CellRef, TextRef};
 use std::alloc::{AllocError, Global};
 use std::marker::{Model, PhantomData};
 
-/// A CELL, by its name or a number, and what its records draw: elements in the form in which the profile keeps them, as keys with
-/// counts, and apart from them what is drawn by numbers.
+/// A CELL, by its name or a number, and what its records draw: elements in their kept forms, as keys with counts, and apart
+/// from them what is drawn by numbers.
 #[derive(Drop)]
 pub struct CompactCell<P: KeptBy> {
     cell: CellRef,
     /// How many elements were drawn.
     count: u64,
-    /// What was drawn weighs this as long as numbers have no names; at most what 64 bits hold, which is more than any limits allow.
+    /// The weight of what was drawn as long as numbers have no names; at most what 64 bits hold, which exceeds all limits.
     weight: u64,
     kept: KeptElements,
     waiting: Waiting,
@@ -59,7 +59,7 @@ impl<P: KeptBy> Model for CompactCell<P> {
 }
 
 impl<P: KeptBy> CompactCell<P> {
-    /// What it weighs with all names, as far as 64 bits tell it; None where a number has no name.
+    /// Its weight with all names, capped to 64 bits; None where a number has no name.
     pub(crate) fn weight_by(
         &self,
         names: &NameTable<Name>,
@@ -72,13 +72,13 @@ impl<P: KeptBy> CompactCell<P> {
         Some(head.saturating_add(self.weight.saturating_add(waiting)))
     }
 
-    /// The run of the keys of all elements that are meant by the tables of the whole file, in the forms in which the profile keeps
-    /// them; or want of memory. What is drawn by a number that has no name isn't among them.
+    /// The run of the keys of all elements by the tables of the whole file, in their kept forms; or out of memory. What is
+    /// drawn by a number that has no name isn't among them.
     pub fn into_run(self, names: &NameTable<Name>, strings: &NameTable<Label>) -> Result<Run, Why>
         requires { IsCompact P.profile self }
         ensures run { IfOk result (λ run. IsRun (slice_cmp nat_cmp) run) }
         ensures keys { IfOk result (λ run. AreKeys P.profile run) }
-        ensures means { (ds : List SomeDrawn) → Keeps P.profile self ds → IfOk result (λ run. MeansElements P.profile run (elements_meant names.now.named strings.now.named ds)) }
+        ensures means { (ds : List SomeDrawn) → Keeps P.profile self ds → IfOk result (λ run. MeansElements P.profile run (elements_by_name names.now.named strings.now.named ds)) }
         ensures err { IfErr result (λ why. why ≡ Memory) }
     {
         let CompactCell {
@@ -93,7 +93,7 @@ impl<P: KeptBy> CompactCell<P> {
         }
     }
 
-    /// Draws an element so many times more, in the form in which the profile keeps it.
+    /// Draws an element this many more times, in its kept form.
     fn keep(&mut self, element: Element, times: u64) -> Result<(), AllocError>
         requires some { 0 < times }
         requires fit { IsFit (OneNamed element) }
@@ -108,7 +108,7 @@ impl<P: KeptBy> CompactCell<P> {
         Ok(())
     }
 
-    /// Draws a placement once more, by no copy of its cell's name.
+    /// Draws a placement once more, without copying its cell's name.
     fn draw_placement(
         &mut self,
         cell: &CellRef,
@@ -143,7 +143,7 @@ impl<P: KeptBy> CompactCell<P> {
         }
     }
 
-    /// Draws a text once more, by no copy of its string.
+    /// Draws a text once more, without copying its string.
     fn draw_text(
         &mut self,
         string: &TextRef,
@@ -178,7 +178,7 @@ impl<P: KeptBy> CompactCell<P> {
         }
     }
 
-    /// Draws something by a number so many times more.
+    /// Draws something by a number this many more times.
     fn wait(&mut self, drawn: Drawn, times: u64) -> Result<(), AllocError>
         requires some { 0 < times }
         requires fit { IsFit drawn }

@@ -12,13 +12,13 @@ use std::mem;
 /// How many wait in a chunk, at most.
 const CHUNK: usize = 4096;
 
-/// How many more a chunk takes room for at once, at least.
+/// How many more a chunk reserves room for at once, at least.
 const LEAST: usize = 4;
 
-/// Which part of what is there it takes room for at once: a quarter, so that little of it is idle.
+/// How much of the present size it reserves at once: a quarter, so that little of it is idle.
 const PART: usize = 4;
 
-/// So many of what waits, seen as the list of it, each drawn once.
+/// Some of what waits; contracts see the list of it, each drawn once.
 #[derive(Drop)]
 pub(crate) struct Chunk {
     pub(crate) shorts: Vec<Short>,
@@ -26,7 +26,7 @@ pub(crate) struct Chunk {
 
 impl Model for Chunk {
     ghost use Rattle.std.specs.Prelude.{List, ℕ};
-    ghost use Rattle.oas_drawing.specs.declared.drawn.Drawn.{Drawn};
+    ghost use Rattle.oas_modal.specs.oas_drawing.declared.drawn.Drawn.{Drawn};
     ghost use Rattle.oas_compact.specs.Short.{drawn_once};
 
     ghost Value = { List (Drawn × ℕ) };
@@ -44,7 +44,7 @@ impl Chunk {
         }
     }
 
-    /// Whether what comes belongs into another chunk.
+    /// Whether what comes belongs in another chunk.
     fn is_full(&self) -> bool {
         self.shorts.len() >= CHUNK
     }
@@ -56,7 +56,7 @@ impl Chunk {
         self.shorts.shrink_to_fit();
     }
 
-    /// Puts one more at the end; or, for want of memory, nothing.
+    /// Puts one more at the end. If out of memory it puts nothing.
     fn push(&mut self, short: Short) -> Result<(), AllocError>
         ensures ok { OnOk result (self.new ≡ self.old ++ (drawn_of short, 1) ∷ []) }
         ensures err { OnErr result (self.new ≡ self.old) }
@@ -67,7 +67,7 @@ impl Chunk {
     }
 }
 
-/// Sees that there is room for one more.
+/// Ensures that there is room for one more.
 fn make_room(shorts: &mut Vec<Short>) -> Result<(), AllocError>
     ensures items { shorts.new.items ≡ shorts.old.items }
     ensures ok { OnOk result (vec_len shorts.new < vec_capacity shorts.new) }
@@ -79,7 +79,7 @@ fn make_room(shorts: &mut Vec<Short>) -> Result<(), AllocError>
     shorts.reserve_exact(part.max(LEAST))
 }
 
-/// What waits in few bytes, as it came, seen as the list of it. It stands in chunks, each of which can be given back by itself.
+/// What waits in few bytes, as it came; contracts see the list of it. It is in chunks, each of which can be freed by itself.
 #[derive(Drop)]
 pub(crate) struct Chunks {
     alloc: Global,
@@ -89,7 +89,7 @@ pub(crate) struct Chunks {
 
 impl Model for Chunks {
     ghost use Rattle.std.specs.Prelude.{List, ℕ, ◌++◌};
-    ghost use Rattle.oas_drawing.specs.declared.drawn.Drawn.{Drawn};
+    ghost use Rattle.oas_modal.specs.oas_drawing.declared.drawn.Drawn.{Drawn};
     ghost use Rattle.oas_entries.specs.Blocks.{joined};
 
     ghost Value = { List (Drawn × ℕ) };
@@ -109,7 +109,7 @@ impl Chunks {
         }
     }
 
-    /// Puts one more at the end; or, for want of memory, nothing.
+    /// Puts one more at the end. If out of memory it puts nothing.
     pub(crate) fn push(&mut self, short: Short) -> Result<(), AllocError>
         ensures ok { OnOk result (self.new ≡ self.old ++ (drawn_of short, 1) ∷ []) }
         ensures err { OnErr result (self.new ≡ self.old) }
@@ -137,7 +137,7 @@ impl Chunks {
     }
 }
 
-/// Puts the last chunk to the full ones, where it is full; or leaves all.
+/// Adds the last chunk to the full ones, where it is full; or changes nothing.
 fn set_aside(alloc: Global, full: &mut Vec<Chunk>, last: &mut Chunk) -> Result<(), AllocError>
     ensures { joined full.new.items ++ last.new ≡ joined full.old.items ++ last.old }
 {

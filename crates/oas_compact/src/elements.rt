@@ -1,4 +1,4 @@
-//! Elements as their keys, each once beside its count.
+//! Elements as their keys, each once with its count.
 
 ghost use Rattle.std.specs.Prelude.{◌≡◌, ◌+◌, ◌<◌, ◌^◌, [], false, true, OnOk, OnErr, IfOk};
 ghost use Rattle.std.specs.Ordering.{nat_cmp};
@@ -21,12 +21,12 @@ use oas_store::KeyStore;
 use std::alloc::{AllocError, Global};
 use std::marker::Model;
 
-/// Elements in their kept forms, seen as the ascending list of their keys with counts.
+/// Elements in their kept forms; contracts see the ascending list of their keys with counts.
 #[derive(Drop)]
 pub(crate) struct KeptElements {
     alloc: Global,
     keys: KeyStore,
-    /// The key that is being added, so that none takes memory of its own.
+    /// The key that is being added, so that none needs memory of its own.
     key: Vec<u8>,
 }
 
@@ -51,7 +51,7 @@ impl KeptElements {
         }
     }
 
-    /// Adds an element in the form in which the profile keeps it, so many times; or, for want of memory, nothing.
+    /// Adds an element in its kept form, this many times. If out of memory it adds nothing.
     pub(crate) fn add(
         &mut self,
         profile: Profile,
@@ -85,7 +85,7 @@ impl KeptElements {
         }
     }
 
-    /// Adds an element of which the profile may keep another form, so many times; or, for want of memory, nothing.
+    /// Adds an element that the profile may keep in another form, this many times. If out of memory it adds nothing.
     fn add_geometry(
         &mut self,
         profile: Profile,
@@ -106,7 +106,8 @@ impl KeptElements {
         Ok(())
     }
 
-    /// Adds a placement with these fields, which every profile keeps as it is, so many times; or, for want of memory, nothing.
+    /// Adds a placement with these fields, which every profile keeps unchanged, this many times. If out of memory it adds
+    /// nothing.
     pub(crate) fn add_placement(
         &mut self,
         cell: &Name,
@@ -130,7 +131,7 @@ impl KeptElements {
         Ok(())
     }
 
-    /// Adds a text with these fields, which every profile keeps as it is, so many times; or, for want of memory, nothing.
+    /// Adds a text with these fields, which every profile keeps unchanged, this many times. If out of memory it adds nothing.
     pub(crate) fn add_text(
         &mut self,
         string: &Label,
@@ -174,7 +175,7 @@ impl KeptElements {
     }
 }
 
-/// Puts the key of an element in the form in which the profile keeps it in place of what was there.
+/// Puts the key of an element in its kept form in place of what was there.
 fn put_kept(
     alloc: Global,
     profile: Profile,

@@ -1,18 +1,37 @@
-//! What the records of a CELL draw, held as keys: each element in the form in which a profile keeps it, in about the bytes that
-//! its fields take.
+//! What the records of a CELL draw, held as keys: each element in its kept form, in little more memory than its fields take.
 //!
 //! What this crate promises to the crates above it:
 //!
-//! - A [`CompactCell`] is a `CellStore`. What is drawn by its name is kept as its key (oas_keys) beside how often it is drawn, in
-//!   ascending runs (oas_store). What is drawn by a number waits as it was drawn. A refused growth changes nothing. The key of
-//!   a placement or a text that stands once is made of the modal name itself, and takes no copy of it.
-//! - It may stand for the lists of which each key is drawn as often, each thing by a number as often, and that weigh as much
-//!   (`Keeps`, specs/Compact.antt). Each of its keys is that of a sound element in the form that the profile keeps (`IsKey`).
-//! - [`accept_cells`] refuses such cells at END exactly where, and by the first reason that, `end_reason` of oas_names says, or
-//!   else for want of memory.
-//! - [`CompactCell::into_run`] places what waits by the names of the whole file, and answers the run of the keys of all that is
-//!   meant: of each kept form there are as many as there are elements (`MeansElements`, specs/Placing.antt).
-//! - By which profile elements are kept is a type ([`KeptBy`]): [`ByProfileOne`], [`ByProfileTwo`].
+//! - A [`CompactCell`] is a `CellStore`. What is drawn by its name is kept as its key (oas_keys) with how often it is drawn,
+//!   in ascending runs (oas_store). What is drawn by a number waits as it was drawn. A failed allocation changes nothing. The
+//!   key of a placement or a text without a repetition is made from the modal name itself, without a copy.
+//! - It may represent the lists with this weight in which each key, and each thing by a number, is drawn as often (`Keeps`,
+//!   specs/Compact.antt). Each of its keys is that of a sound element in the form that the profile keeps (`IsKey`).
+//! - [`accept_cells`] refuses such cells at END exactly where `end_reason` of oas_names says so, with the first reason that
+//!   it gives, or else fails out of memory.
+//! - [`CompactCell::into_run`] places what waits by the names of the whole file, and returns the run of the keys of all
+//!   elements: of each kept form there are as many as there are elements (`MeansElements`, specs/Placing.antt).
+//! - A type ([`KeptBy`]) says by which profile elements are kept: [`ByProfileOne`], [`ByProfileTwo`].
+//!
+//! # How it is built
+//!
+//! - specs/Compact.antt: `compact_store` says which lists it may represent (`Keeps`): whatever each key counts for, and each
+//!   thing by a number, the sums over what is held and over what was drawn are equal. So the order of drawing, of keys or of
+//!   runs doesn't matter, and a draw is one equation of sums (proofs/DrawLemmas.antt). The profile by which elements are kept
+//!   is a type (src/profiles.rt), since a store is begun with its CELL alone.
+//! - src/elements.rt puts a key into the store's own buffer, so that an element needs no memory of its own. Placements and
+//!   texts are the same in every profile, so theirs are put from their fields alone (`add_placement`, `add_text`), whether
+//!   they came with a name or waited for it. src/waiting.rt: what is drawn by numbers, as it was drawn. What is drawn once
+//!   and fits into 16 bytes (src/short.rt) is in chunks in the order in which it came (src/chunks.rt), and each is freed once
+//!   it is placed; all else is counted in a map. Once a cell ends, its keys and what waits give back the memory that they
+//!   don't fill, in place (`rest`). proofs/WaitLemmas.antt says that the sums are those with one more (`WaitsMore`,
+//!   specs/Compact.antt).
+//! - src/accepting.rt judges all cells at END by what waits, their names and weights, as oas_modal judges counted ones:
+//!   proofs/WeighLemmas.antt is the same argument over what waits (`all_known`), and uses oas_names's lemmas about weights
+//!   capped to 64 bits.
+//! - src/placing.rt places what waits among the elements, with no element and no copy of a name in between: the key is put
+//!   from the name that the table lends for the number. So a cell becomes one run (`CompactCell::into_run`):
+//!   proofs/PlaceLemmas.antt, again one equation of sums (`means`).
 #![tactic(auto)]
 
 mod accepting;
@@ -25,6 +44,8 @@ mod short;
 mod waiting;
 mod weighing;
 
+// The crates below, for those above.
 pub use accepting::accept_cells;
 pub use cells::CompactCell;
+pub use oas_keys;
 pub use profiles::{ByProfileOne, ByProfileTwo, KeptBy};

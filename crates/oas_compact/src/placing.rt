@@ -6,7 +6,7 @@ ghost use Rattle.oas_num.specs.declared.refusals.Why.TheVariants.{Memory};
 ghost use Rattle.oas_layout.specs.Laws.BagLaws.{total};
 ghost use Rattle.oas_entries.specs.Blocks.{joined};
 ghost use Rattle.oas_modal.specs.Finish.{IsFit};
-ghost use Rattle.oas_names.specs.Meaning.{element_by};
+ghost use Rattle.oas_modal.specs.oas_names.Meaning.{element_by};
 ghost use Rattle.oas_compact.specs.Compact.{AreKeys, Waits};
 ghost use Rattle.oas_compact.specs.Short.{drawn_once};
 ghost use Rattle.oas_compact.specs.Placing.{with_placed, placed};
@@ -15,14 +15,14 @@ use crate::chunks::Chunk;
 use crate::elements::KeptElements;
 use crate::short::Short;
 use crate::waiting::Waiting;
-use oas_drawing::Drawn;
 use oas_layout::Profile;
-use oas_names::NameTable;
+use oas_modal::oas_drawing::Drawn;
+use oas_modal::oas_names::NameTable;
 use oas_num::{Label, Name, Why};
 use std::alloc::AllocError;
 use std::collections::BTreeMap;
 
-/// Adds the element that is meant so many times, if its number has a name: the bytes of that go into the key from where they are.
+/// Adds the element this many times, if its number has a name, whose bytes go into the key directly.
 fn add_meant(
     profile: Profile,
     kept: &mut KeptElements,
@@ -63,7 +63,7 @@ fn add_meant(
     }
 }
 
-/// Places what was drawn so many times, if its number has a name.
+/// Places what was drawn this many times, if its number has a name.
 fn place_one(
     profile: Profile,
     kept: &mut KeptElements,
@@ -125,7 +125,7 @@ fn place_chunk(
     place_shorts(profile, kept, chunk.shorts, names, strings)
 }
 
-/// Places what waits in chunks, each of which is given back once it is placed.
+/// Places what waits in chunks, each of which is freed once it is placed.
 fn place_chunks(
     profile: Profile,
     kept: &mut KeptElements,

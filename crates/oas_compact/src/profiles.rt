@@ -1,4 +1,4 @@
-//! By which profile elements are kept, as types.
+//! The profile by which elements are kept, as a type.
 
 ghost use Rattle.std.specs.Prelude.{◌≡◌};
 

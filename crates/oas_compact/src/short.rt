@@ -3,10 +3,10 @@
 ghost use Rattle.std.specs.Prelude.{◌≡◌, IfSome};
 ghost use Rattle.oas_compact.specs.Short.{drawn_as, drawn_of};
 
-use oas_drawing::Drawn;
 use oas_layout::Turns;
+use oas_modal::oas_drawing::Drawn;
 
-/// Something drawn once by a number, in 16 bytes: most that waits fits.
+/// Something drawn once by a number, in 16 bytes: most of what waits fits.
 #[derive(Clone, Copy)]
 pub(crate) struct Short {
     number: u32,

@@ -3,7 +3,7 @@
 ghost use Rattle.std.specs.Prelude.{◌≡◌, ◌+◌, ◌<◌, ◌^◌, [], unwrap_or, OnOk, OnErr, IfSome};
 ghost use Rattle.std.specs.BTreeMap.{get, insert_entry, IsOrdered, IsUnchanged};
 ghost use Rattle.oas_layout.specs.Laws.BagLaws.{total};
-ghost use Rattle.oas_drawing.specs.Laws.DrawnLaws.{derived_cmp};
+ghost use Rattle.oas_modal.specs.oas_drawing.Laws.DrawnLaws.{derived_cmp};
 ghost use Rattle.oas_compact.specs.Compact.{WaitsMore};
 ghost use Rattle.oas_compact.specs.Short.{drawn_of};
 ghost use Rattle.oas_compact.specs.Weighing.{waiting_weight};
@@ -11,15 +11,15 @@ ghost use Rattle.oas_compact.specs.Weighing.{waiting_weight};
 use crate::chunks::Chunks;
 use crate::short::Short;
 use crate::weighing::both_weights;
-use oas_drawing::Drawn;
-use oas_names::NameTable;
+use oas_modal::oas_drawing::Drawn;
+use oas_modal::oas_names::NameTable;
 use oas_num::{Label, Name};
 use std::alloc::{AllocError, Global};
 use std::collections::BTreeMap;
 use std::marker::Model;
 
-/// What waits for names, seen as the list of it with counts. Most of it stands in chunks, as it came. The map has what is drawn
-/// often, or doesn't fit there; it is ordered, so that no choice of numbers makes it slow.
+/// What waits for names; contracts see the list of it with counts. Most of it is in chunks, as it came. The map has what is
+/// drawn often, or doesn't fit there; it is ordered, so that no choice of numbers makes it slow.
 #[derive(Drop)]
 pub(crate) struct Waiting {
     pub(crate) chunks: Chunks,
@@ -28,7 +28,7 @@ pub(crate) struct Waiting {
 
 impl Model for Waiting {
     ghost use Rattle.std.specs.Prelude.{List, ℕ, ◌++◌};
-    ghost use Rattle.oas_drawing.specs.declared.drawn.Drawn.{Drawn};
+    ghost use Rattle.oas_modal.specs.oas_drawing.declared.drawn.Drawn.{Drawn};
     ghost use Rattle.oas_modal.specs.Held.{IsHeld};
 
     ghost Value = { List (Drawn × ℕ) };
@@ -49,7 +49,7 @@ impl Waiting {
         }
     }
 
-    /// The bytes of the names behind all that waits, as far as 64 bits tell it; None where a number has no name.
+    /// The bytes of the names of all that waits, capped to 64 bits; None where a number has no name.
     pub(crate) fn weight_by(
         &self,
         names: &NameTable<Name>,
@@ -67,7 +67,7 @@ impl Waiting {
         self.chunks.rest();
     }
 
-    /// Has something wait so many times more; or, for want of memory, nothing.
+    /// Adds something that waits, this many more times. If out of memory it adds nothing.
     pub(crate) fn add(&mut self, drawn: Drawn, times: u64) -> Result<(), AllocError>
         requires some { 0 < times }
         requires room { total (λ _. 1) self.old + times < 2 ^ 64 }
@@ -94,7 +94,7 @@ fn short_once(drawn: &Drawn, times: u64) -> Option<Short>
     None
 }
 
-/// Counts something up, in one search for its place, or leaves all.
+/// Adds to the count of something, in one search for its place, or changes nothing.
 fn count_up(held: &mut BTreeMap<Drawn, u64>, drawn: Drawn, times: u64) -> Result<(), AllocError>
     requires { unwrap_or (get derived_cmp held.old drawn) 0 + times < 2 ^ 64 }
     ensures entries { OnOk result (held.new.entries ≡ insert_entry derived_cmp held.old.entries drawn (unwrap_or (get derived_cmp held.old drawn) 0 + times)) }

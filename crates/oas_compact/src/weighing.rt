@@ -1,20 +1,20 @@
-//! What cells weigh with the names of the whole file.
+//! The weight of cells with the names of the whole file.
 
 ghost use Rattle.std.specs.Prelude.{◌≡◌};
-ghost use Rattle.oas_names.specs.Weights.{head_weight, joined};
-ghost use Rattle.oas_names.specs.References.{cell_by};
+ghost use Rattle.oas_modal.specs.oas_names.Weights.{head_weight, joined};
+ghost use Rattle.oas_modal.specs.oas_names.References.{cell_by};
 ghost use Rattle.oas_compact.specs.Short.{drawn_of, drawn_once};
-ghost use Rattle.oas_compact.specs.Weighing.{behind, behind_times, waiting_weight, full_weight};
+ghost use Rattle.oas_compact.specs.Weighing.{behind, name_bytes_times, waiting_weight, full_weight};
 
 use crate::chunks::{Chunk, Chunks};
 use crate::short::Short;
-use oas_drawing::Drawn;
-use oas_names::{NameTable, cell_meant};
+use oas_modal::oas_drawing::Drawn;
+use oas_modal::oas_names::{NameTable, cell_meant};
 use oas_num::{Label, Name};
 use oas_record::CellRef;
 use std::collections::BTreeMap;
 
-/// How many bytes the name behind a number has: none, where something isn't drawn by a number; None where its number has no name.
+/// How many bytes the name of a number has: none, where something isn't drawn by a number; None where its number has no name.
 fn name_len(drawn: &Drawn, names: &NameTable<Name>, strings: &NameTable<Label>) -> Option<u64>
     ensures { result ≡ behind names.now.named strings.now.named drawn.now }
 {
@@ -25,27 +25,27 @@ fn name_len(drawn: &Drawn, names: &NameTable<Name>, strings: &NameTable<Label>) 
     }
 }
 
-/// So many times the bytes of the name behind a number, as far as 64 bits tell it; None where it has no name.
+/// This many times the bytes of the name of a number, capped to 64 bits; None where it has no name.
 fn name_weight(
     drawn: &Drawn,
     times: u64,
     names: &NameTable<Name>,
     strings: &NameTable<Label>,
 ) -> Option<u64>
-    ensures { result ≡ behind_times (behind names.now.named strings.now.named drawn.now) times }
+    ensures { result ≡ name_bytes_times (behind names.now.named strings.now.named drawn.now) times }
 {
     let bytes = name_len(drawn, names, strings)?;
     Some(times.saturating_mul(bytes))
 }
 
-/// The same of something in few bytes.
+/// The same for something in few bytes.
 fn short_weight(short: Short, names: &NameTable<Name>, strings: &NameTable<Label>) -> Option<u64>
-    ensures { result ≡ behind_times (behind names.now.named strings.now.named (drawn_of short)) 1 }
+    ensures { result ≡ name_bytes_times (behind names.now.named strings.now.named (drawn_of short)) 1 }
 {
     name_weight(&short.drawn(), 1, names, strings)
 }
 
-/// The same of all that waits in few bytes.
+/// The same for all that waits in few bytes.
 fn shorts_weight(
     shorts: &[Short],
     names: &NameTable<Name>,
@@ -60,14 +60,14 @@ fn shorts_weight(
     Some(weight)
 }
 
-/// The same of what waits in a chunk.
+/// The same for what waits in a chunk.
 fn chunk_weight(chunk: &Chunk, names: &NameTable<Name>, strings: &NameTable<Label>) -> Option<u64>
     ensures { result ≡ waiting_weight names.now.named strings.now.named chunk.now }
 {
     shorts_weight(&chunk.shorts, names, strings)
 }
 
-/// The same of what waits in full chunks.
+/// The same for what waits in full chunks.
 fn full_weight(chunks: &[Chunk], names: &NameTable<Name>, strings: &NameTable<Label>) -> Option<u64>
     ensures { result ≡ full_weight names.now.named strings.now.named chunks.now }
 {
@@ -78,7 +78,7 @@ fn full_weight(chunks: &[Chunk], names: &NameTable<Name>, strings: &NameTable<La
     Some(weight)
 }
 
-/// The same of what waits in full chunks and the last one.
+/// The same for what waits in full chunks and the last one.
 fn row_weight(
     full: &[Chunk],
     last: &Chunk,
@@ -92,7 +92,7 @@ fn row_weight(
     Some(others.saturating_add(weight))
 }
 
-/// The same of all that waits in chunks.
+/// The same for all that waits in chunks.
 fn chunks_weight(
     chunks: &Chunks,
     names: &NameTable<Name>,
@@ -103,7 +103,7 @@ fn chunks_weight(
     row_weight(&chunks.full, &chunks.last, names, strings)
 }
 
-/// The same of all that waits with counts.
+/// The same for all that waits with counts.
 fn counted_weight(
     waiting: &BTreeMap<Drawn, u64>,
     names: &NameTable<Name>,
@@ -118,7 +118,7 @@ fn counted_weight(
     Some(weight)
 }
 
-/// The same of what waits in chunks and of what waits with counts.
+/// The same for what waits in chunks and what waits with counts.
 pub(crate) fn both_weights(
     chunks: &Chunks,
     others: &BTreeMap<Drawn, u64>,
@@ -132,7 +132,7 @@ pub(crate) fn both_weights(
     Some(short.saturating_add(counted))
 }
 
-/// What a cell weighs without its elements: one and the bytes of its name.
+/// The weight of a cell without its elements: one and the bytes of its name.
 pub(crate) fn head_weight(cell: &CellRef, names: &NameTable<Name>) -> Option<u64>
     ensures { result ≡ head_weight (cell_by names.now.named cell.now) }
 {

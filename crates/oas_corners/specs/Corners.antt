@@ -16,7 +16,7 @@ listed (Quadrangle corners) = corners
 abbrev pub is_same : Corner → Corner → Bool
 is_same c d = (c.x == d.x) && (c.y == d.y)
 
--- of four corners, two that follow each other and lie in one place are one
+-- of four corners, two successive ones at the same place are one
 abbrev pub merged : List Corner → List Corner
 merged (a ∷ b ∷ c ∷ d ∷ []) =
     if is_same a b then b ∷ c ∷ d ∷ []
@@ -30,7 +30,7 @@ merged corners = corners
 abbrev pub drawn : Bool → List Corner → Option (List Corner)
 drawn is_drawn corners = if is_drawn then Some (merged corners) else None
 
--- how far a side leans that has no delta, one above 0, or one below
+-- how far a side leans: without a delta, with one above 0, or with one below
 abbrev pub straight : Lean
 straight = record { plus = 0; minus = 0 }
 
@@ -40,7 +40,7 @@ plus n = record { plus = n; minus = 0 }
 abbrev pub minus : ℕ → Lean
 minus n = record { plus = 0; minus = n }
 
--- of two parallel sides along a box neither ends before it begins, and one has a length
+-- two parallel sides along a box: neither ends before it begins, and at least one has a length
 abbrev pub are_bases : ℕ → Lean → Lean → Bool
 are_bases along a b =
     (nat_le (a.plus + b.minus) along && nat_le (a.minus + b.plus) along)
@@ -57,7 +57,7 @@ level_of w h a b = corner a.minus 0 ∷ corner a.plus h ∷ corner (w - b.minus)
 abbrev pub upright_of : ℕ → ℕ → Lean → Lean → List Corner
 upright_of w h a b = corner 0 a.plus ∷ corner 0 (h - b.minus) ∷ corner w (h - b.plus) ∷ corner w a.minus ∷ []
 
--- what they enclose, if they lie apart
+-- what they enclose, if they are apart
 abbrev pub level_drawn : ℕ → ℕ → Lean → Lean → Option (List Corner)
 level_drawn w h a b = drawn (nat_lt 0 h && are_bases w a b) (level_of w h a b)
 

@@ -1,5 +1,5 @@
--- What each of the 26 kinds of a CTRAPEZOID draws (SEMI P39, CTRAPEZOID record, ctrapezoid-type) in a box w wide and h high, with
--- what is implied of them.
+-- What each of the 26 kinds of a CTRAPEZOID draws (SEMI P39, CTRAPEZOID record, ctrapezoid-type) in a box w wide and h high,
+-- including the implied sides.
 use Rattle.std.specs.Prelude.{ℕ, ◌*◌, ◌-◌, Bool, ◌&&◌, ◌==◌, nat_lt, nat_le, Option, List, [], ◌∷◌, if◌then◌else◌}
 use Rattle.oas_corners.specs.declared.corners.Corner.{Corner}
 use Rattle.oas_corners.specs.Corners.{corner, drawn}
@@ -45,7 +45,7 @@ fits kind w h =
     else if nat_lt kind 16 then nat_lt w h
     else nat_lt kind 26
 
--- whether a kind encloses something
+-- whether a kind encloses an area
 abbrev pub encloses : ℕ → ℕ → ℕ → Bool
 encloses kind w h = fits kind w h && (nat_lt 0 w && nat_lt 0 h)
 

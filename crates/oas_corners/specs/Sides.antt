@@ -17,7 +17,7 @@ is_wide kind = nat_le 20 kind && nat_lt kind 22
 abbrev pub sides : ℕ → ℕ → Sides
 sides w h = record { width = w; height = h }
 
--- a box one side of which is a multiple of the other
+-- a box with one side that is a multiple of the other
 abbrev pub by_width : ℕ → Option ℕ → Option Sides
 by_width times None = None
 by_width times (Some w) = Some (sides w (times * w))
@@ -30,7 +30,7 @@ abbrev pub by_both : Option ℕ → Option ℕ → Option Sides
 by_both (Some w) (Some h) = Some (sides w h)
 by_both _ _ = None
 
--- the box of a kind; none where a side that it is given by is undefined
+-- the box of a kind; none where a side that it needs is undefined
 abbrev pub box_of : ℕ → Option ℕ → Option ℕ → Option Sides
 box_of kind w h =
     if is_square kind then by_width 1 w
@@ -47,6 +47,6 @@ IsSides kind w h (Ok s) = box_of kind w h ≡ Some s
 IsSides kind w h (Err Undefined) = box_of kind w h ≡ None
 IsSides kind w h (Err TooLong) = IsSomeAnd (box_of kind w h) (λ s. IsTooLong s)
 
--- a side that is given is that of the box
+-- a given side is that of the box
 abbrev pub Agree : Sides → Option ℕ → Option ℕ → Type 0
 Agree s w h = IfSome w (λ w. w ≡ s.width) × IfSome h (λ h. h ≡ s.height)

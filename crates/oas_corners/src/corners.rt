@@ -1,4 +1,4 @@
-//! Corners, and those of what two parallel sides enclose.
+//! Corners, and the corners of the area between two parallel sides.
 ghost use Rattle.std.specs.Prelude.{◌≡◌, length, option_map, Some, None, if◌then◌else◌};
 ghost use Rattle.oas_corners.specs.Corners.{corner, listed, merged, are_bases, bases, level_drawn, upright_drawn};
 
@@ -35,7 +35,7 @@ pub(crate) fn at(x: u64, y: u64) -> Corner
     Corner { x, y }
 }
 
-/// Of four corners, of which two that follow each other may be one.
+/// The corners out of four, of which two successive ones may be one.
 fn merged(corners: [Corner; 4]) -> Corners
     requires { length corners ≡ 4 }
     ensures { listed result ≡ merged corners }
@@ -61,14 +61,14 @@ pub(crate) struct Lean {
     pub minus: u64,
 }
 
-/// The two parallel sides, each from where to where.
+/// The two parallel sides, with the start and end of each.
 #[derive(Clone, Copy)]
 struct Bases {
     near: (u64, u64),
     far: (u64, u64),
 }
 
-/// The parallel sides of a box that is so long, where neither ends before it begins, and one has a length.
+/// The parallel sides of a box of this length, where neither ends before it begins, and at least one has a length.
 fn bases_of(along: u64, a: Lean, b: Lean) -> Option<Bases>
     ensures { result ≡ (if are_bases along a b then Some (bases along a b) else None) }
 {

@@ -25,7 +25,7 @@ fn lean_of(delta: i64) -> Lean
 /// What a TRAPEZOID draws in a box of that width and height (SEMI P39, TRAPEZOID records), by its deltas: between a lower and an
 /// upper side or, where it is upright, between a left and a right one. All are in grid steps.
 ///
-/// None where a side ends before it begins, so that the others cross, or where nothing is enclosed (own rule).
+/// None where a side ends before it begins, so that the others cross, or where no area is enclosed (own rule).
 pub fn trapezoid_corners(
     is_upright: bool,
     width: u64,

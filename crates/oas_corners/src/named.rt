@@ -5,14 +5,14 @@ ghost use Rattle.oas_corners.specs.Named.{named};
 
 use crate::corners::{Corner, Corners, Lean, at, level, upright};
 
-/// Of a side that stands upright on its base.
+/// For a side that is perpendicular to its base.
 fn straight() -> Lean
     ensures { result ≡ straight }
 {
     Lean { plus: 0, minus: 0 }
 }
 
-/// Of a side that leans by so much, as a delta above 0 has it.
+/// For a side that leans by this much, as with a delta above 0.
 fn plus(steps: u64) -> Lean
     ensures { result ≡ plus steps }
 {
@@ -22,7 +22,7 @@ fn plus(steps: u64) -> Lean
     }
 }
 
-/// Of a side that leans by so much, as a delta below 0 has it.
+/// For a side that leans by this much, as with a delta below 0.
 fn minus(steps: u64) -> Lean
     ensures { result ≡ minus steps }
 {
@@ -32,7 +32,7 @@ fn minus(steps: u64) -> Lean
     }
 }
 
-/// What three corners of a box draw, if it has sides.
+/// What three corners of a box draw, if the box has sides.
 fn half(width: u64, height: u64, a: Corner, b: Corner, c: Corner) -> Option<Corners>
     ensures { option_map listed result ≡ drawn (nat_lt 0 width && nat_lt 0 height) (a ∷ b ∷ c ∷ []) }
 {
@@ -40,10 +40,10 @@ fn half(width: u64, height: u64, a: Corner, b: Corner, c: Corner) -> Option<Corn
 }
 
 /// What a CTRAPEZOID of a kind draws in its box (SEMI P39, CTRAPEZOID record, ctrapezoid-type), whose width and height are
-/// those that [`crate::sides_of`] answers, in grid steps.
+/// those that [`crate::sides_of`] returns, in grid steps.
 ///
-/// None where a side ends before it begins, so that the others cross, or where nothing is enclosed (own rule), and where there
-/// is no such kind: they are 0 to 25.
+/// None where a side ends before it begins, so that the others cross; where no area is enclosed (own rule); and where there
+/// is no such kind: the kinds are 0 to 25.
 pub fn named_corners(kind: u64, width: u64, height: u64) -> Option<Corners>
     ensures { option_map listed result ≡ named kind width height }
 {

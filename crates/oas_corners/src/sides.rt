@@ -2,7 +2,7 @@
 ghost use Rattle.std.specs.Prelude.{◌↔◌, IsTrue};
 ghost use Rattle.oas_corners.specs.Sides.{IsSides, Agree};
 
-/// The box in which a shape stands, in grid steps.
+/// The box of a shape, in grid steps.
 #[derive(Clone, Copy, Debug, PartialEq, Eq)]
 pub struct Sides {
     pub width: u64,
@@ -12,15 +12,15 @@ pub struct Sides {
 /// Why there is no box.
 #[derive(Clone, Copy, Debug, PartialEq, Eq)]
 pub enum Unsided {
-    /// A side that the kind is given by is undefined.
+    /// A side that the kind needs is undefined.
     Undefined,
-    /// A side that is implied is 2^64 or more.
+    /// An implied side is 2^64 or more.
     TooLong,
 }
 
-/// The box of a CTRAPEZOID of a kind (SEMI P39, CTRAPEZOID record), by its width and height as far as they are defined. The
-/// kinds 16 to 19 and 25 imply that the height is the width, 22 and 23 that it is twice that, and 20 and 21 that the width is
-/// twice the height. What is implied needn't be defined, and isn't looked at.
+/// The box of a CTRAPEZOID of a kind (SEMI P39, CTRAPEZOID record), from its width and height as far as they are defined.
+/// Kinds 16 to 19 and 25 imply that the height is the width, 22 and 23 that it is twice the width, and 20 and 21 that the
+/// width is twice the height. An implied side needn't be defined, and is ignored.
 pub fn sides_of(kind: u64, width: Option<u64>, height: Option<u64>) -> Result<Sides, Unsided>
     ensures { IsSides kind width height result }
 {
@@ -51,8 +51,8 @@ pub fn sides_of(kind: u64, width: Option<u64>, height: Option<u64>) -> Result<Si
 }
 
 impl Sides {
-    /// Whether the sides that a record gives, as far as it gives any, are those of its box. Where they aren't, it gives a side
-    /// that is implied, and another (own rule: it is refused).
+    /// Whether the sides that a record gives are those of its box. Where they aren't, the record gives a side that is
+    /// implied, with another value (own rule: it is refused).
     pub fn agree(self, width: Option<u64>, height: Option<u64>) -> bool
         ensures { IsTrue result ↔ Agree self width height }
     {

@@ -10,7 +10,7 @@ use Rattle.std.specs.BTreeSet.{insert_key}
 use Rattle.oas_layout.specs.Bag.{items}
 use Rattle.oas_difference.specs.Ascending.{ascending}
 
--- ---- what holds of each key
+-- ---- what holds for each key
 
 module _ {K : Type 0} (P : K → Type 0) where
   pub all_append : (xs ys : List K) → AllByRecursion P xs → AllByRecursion P ys → AllByRecursion P (xs ++ ys)
@@ -68,11 +68,11 @@ module _ {K : Type 0} {R : K → K → Ordering} (o : IsTotalOrder R) where
   pub first_ascending : (k : K) (ks : List K) → Below k ks → ascending R (k ∷ ks) ≡ k ∷ ascending R ks
   first_ascending k ks b = insert_below (ascending R ks) k (all_ascending (λ y. R k y ≡ Less) R ks b)
 
-  -- the first key of the one is below the other
+  -- the first key of the first list is below that of the second
   pub first_before : (k : K) (ks ls : List K) → Below k ks → Below k ls → ascending R ((k ∷ ks) ++ ls) ≡ k ∷ ascending R (ks ++ ls)
   first_before k ks ls b c = first_ascending k (ks ++ ls) (all_append (λ y. R k y ≡ Less) ks ls b c)
 
-  -- the first key of the other is below the one
+  -- the first key of the second list is below that of the first
   pub first_after : (k : K) (ks ls : List K) → Below k ks → Below k ls → ascending R (ks ++ k ∷ ls) ≡ k ∷ ascending R (ks ++ ls)
   first_after k [] ls b c = first_ascending k ls c
   first_after k (x ∷ xs) ls b c =

@@ -47,7 +47,7 @@ second_more e n m rest = sum_change (λ c. c.1.1 - c.1.0) e n m rest (λ q. omeg
 
 -- ---- they are not more than there are
 
--- how many stand beside a key
+-- how many are beside a key
 abbrev beside : Element → Option ℕ → ℕ
 beside = weight_if element_cmp element_total exact_elements (λ e n. n)
 

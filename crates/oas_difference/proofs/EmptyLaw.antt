@@ -111,7 +111,7 @@ module _ (profile : Profile) where
       let alike : normal profile e ≡ normal profile x = normal-alike profile e x ((same_element-Decides profile e x).0 h) in
       λ i q. (same_element-is profile e q ∙ ap (λ k. eq_by_cmp element_cmp k (normal profile q)) alike ∙ sym (same_element-is profile x q)) i
 
-  -- none of the elements is the same as e, or one is, of which P holds
+  -- none of the elements is the same as e, or one is, for which P holds
   Seen : (Element → Type 0) → Element → List Element → Type 0
   Seen P e xs = (count_of profile e xs ≡ 0) ⊎ ((x : Element) × (same_element profile e x ≡ true) × P x)
 
@@ -124,7 +124,7 @@ module _ (profile : Profile) where
     by_cases false q (inl none) = inl (sum_by-cons (λ y. cond (same_element profile e y) 1 0) x xs ∙ rw q (omega (arith, none)))
     by_cases false q (inr some) = inr some
 
-  -- elements of which no count has changed
+  -- elements without a changed count
   module _ (xs ys : List Element) where
     AreAlike : Element → Type 0
     AreAlike e = count_of profile e xs ≡ count_of profile e ys
@@ -182,7 +182,7 @@ module _ (profile : Profile) where
       ap (below_name (is_some o) (is_some p) name) (same_elements (unwrap_or o []) (unwrap_or p []) one.counts)
       ∙ ap (λ b. below_name (is_some o) b name []) (sym one.both) ∙ nothing_below (is_some o) name
 
-  -- a name stands in the list, and P holds of it, or has no elements there
+  -- a name is in the list, and P holds for it, or it has no elements there
   named : (P : List ℕ → Type 0) (name : List ℕ) (cs : List (List ℕ × List Element)) → AllByRecursion P (keys_of cs) → P name ⊎ (elements_of name cs ≡ None)
   named P name [] h = inr refl
   named P name (c ∷ cs) h = by_cases (pointwise ◌==◌ name c.0) refl (named P name cs h.1) where
@@ -217,7 +217,7 @@ module _ (profile : Profile) where
     lines_of : List ℕ → List ℕ
     lines_of name = cell_changes profile name (elements_of name a.cells) (elements_of name b.cells)
 
-    -- no line makes them the same
+    -- if there is no line, they are the same
     same_from_none : difference profile a b ≡ [] → SameLayout profile a b
     unfolding OneOf lines_of
     same_from_none h =
@@ -225,7 +225,7 @@ module _ (profile : Profile) where
         let one = of_all (of_each (keys_of a.cells ++ keys_of b.cells) (none_of_each lines_of (slice_cmp nat_cmp) exact_bytes (keys_of a.cells ++ keys_of b.cells) parts.1)) in
         record { unit = units_alike a.unit b.unit parts.0; cells = λ name. (one name).both; counts = λ name. (one name).counts }
 
-    -- and the same have no line
+    -- and if they are the same, there is no line
     none_from_same : SameLayout profile a b → difference profile a b ≡ []
     unfolding lines_of
     none_from_same s =

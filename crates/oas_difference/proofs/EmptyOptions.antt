@@ -1,4 +1,4 @@
--- By all options nothing is written exactly if the layouts are the same.
+-- With all options nothing is written exactly if the layouts are the same.
 use Rattle.std.proofs.Common.{◌≡◌, ℕ, zero, suc, List, [], ◌∷◌, ◌++◌, flat_map, Bool, true, false, Option, None, Some, refl, ◌∙◌, ap, arith}
 use Rattle.std.specs.Prelude.{◌==◌, ◌&&◌, ◌↔◌, if◌then◌else◌}
 use Rattle.std.specs.Ordering.{nat_cmp}

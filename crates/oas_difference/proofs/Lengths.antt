@@ -80,7 +80,7 @@ length-changes es fs =
       sum_by-append line_most (keys_of es) (keys_of fs),
     )
 
--- what a cell gives at most
+-- at most what a cell gives
 cell_most : List ℕ → List (Element × ℕ) → ℕ
 cell_most name es = 300 + length name + sum_by line_most (keys_of es)
 

@@ -1,11 +1,11 @@
--- The first lines of a text, and of one text behind another.
+-- The first lines of a text, and of one text after another.
 use Rattle.std.proofs.Common.{◌≡◌, ◌≢◌, ℕ, zero, suc, ◌<◌, ◌≤◌, ◌^◌, List, [], ◌∷◌, ◌++◌, length, Bool, true, false, Option, None, Some, unwrap_or, inl, inr, refl, sym, ◌∙◌, ap}
 use Rattle.std.proofs.Common.{subst, append_assoc, append-nil, length-append, arith, MutBor}
 use Rattle.std.specs.Prelude.{◌-◌, ◌==◌, ◌||◌, if◌then◌else◌}
 use Rattle.std.proofs.lemmas.Bool.{eqb-true, eq-eqb}
 use Rattle.oas_num.specs.Outlet.{Outlet}
 use Rattle.oas_num.specs.Outlets.{Opens}
-use Rattle.oas_num.specs.Writing.{Puts, PutsFront}
+use Rattle.oas_num.specs.Writing.{Puts, PutsPrefix}
 use Rattle.oas_num.proofs.WritingLemmas.{Puts-none, Puts-then}
 use Rattle.oas_num.proofs.PuttingLemmas.{PutSoFar}
 use Rattle.oas_difference.specs.declared.limiting.Limited.{Limited}
@@ -13,7 +13,7 @@ use Rattle.oas_difference.specs.Limited.{first_lines, is_longer, more_line, limi
 use Rattle.oas_difference.specs.Limiting.{lines_left, Passes}
 use Rattle.oas_difference.specs.Laws.LimitingLaws.{Passes-none, none_first, none_left, none_longer, or_false}
 
--- ---- one text behind another
+-- ---- one text after another
 
 first-append : (n : ℕ) (xs ys : List ℕ) → first_lines n (xs ++ ys) ≡ first_lines n xs ++ first_lines (lines_left n xs) ys
 first-append zero xs ys = refl
@@ -68,7 +68,7 @@ limited_is None text h =
     sym ((λ i. first i ++ more_line (none i)) ∙ append-nil text)
 limited_is (Some n) text h = refl
 
--- and of so many lines as the limit says
+-- and of this many lines, as the limit says
 pub limited_by : (o : Option ℕ) (n : ℕ) (text : List ℕ) → n ≡ unwrap_or o (2 ^ 64 - 1) → length text < 2 ^ 63 → limited o text ≡ first_lines n text ++ more_line (is_longer n text)
 limited_by o n text is h = limited_is o text h ∙ ap (λ (k : ℕ). first_lines k text ++ more_line (is_longer k text)) (sym is)
 
@@ -82,7 +82,7 @@ limited_short (Some n) text h = omega (arith, h, length-append (first_lines n te
 
 -- ---- the sink
 
--- the sink below stands before the writer that it was made for
+-- the sink below is over the writer that it was made for
 pub opens_below : {W : Type 0} {writer : MutBor W} {o : Outlet W} {lines : Limited W} {n : ℕ} {cut failed : Bool} → lines
     ≡ record { sink = o; left = n; is_cut = cut; failed = failed } → Opens writer o → Opens writer lines.sink
 opens_below {W = W} {writer = writer} is h = subst (λ (l : Limited W). Opens writer l.sink) (sym is) h
@@ -172,8 +172,8 @@ module _ {W : Type 0} (given : Outlet W → List ℕ → Outlet W → Type 0) (f
   front_first n b (x ∷ y ∷ front) back some e = absurd (omega (arith, ap length e))
 
   -- one on which the sink below fails
-  pub broke : (old new : Limited W) (b : ℕ) → old.left ≢ 0 → old.failed ≡ false → PutsFront given failures old.sink (b ∷ []) new.sink → new.failed ≡ true →
-      PutsFront (Passes given failures) faults old (b ∷ []) new
+  pub broke : (old new : Limited W) (b : ℕ) → old.left ≢ 0 → old.failed ≡ false → PutsPrefix given failures old.sink (b ∷ []) new.sink → new.failed ≡ true →
+      PutsPrefix (Passes given failures) faults old (b ∷ []) new
   broke old new b some works p fails =
       let step : Passes given failures old p.front new = record {
         puts = subst (λ (bs : List ℕ). Puts given failures old.sink bs new.sink) (sym (front_first old.left b p.front p.back some p.joined)) p.puts;
@@ -185,7 +185,7 @@ module _ {W : Type 0} (given : Outlet W → List ℕ → Outlet W → Type 0) (f
       record { front = p.front; back = p.back; joined = p.joined; puts = passed old new p.front works step; failed = omega (arith, one) }
 
   -- one that has failed takes none
-  pub stays_failed : (s : Limited W) (bytes : List ℕ) → s.failed ≡ true → PutsFront (Passes given failures) faults s bytes s
+  pub stays_failed : (s : Limited W) (bytes : List ℕ) → s.failed ≡ true → PutsPrefix (Passes given failures) faults s bytes s
   stays_failed s bytes fails =
       let one : faults s ≡ 1 = ap (λ t. if t then 1 else 0) fails in
       record { front = []; back = bytes; joined = refl; puts = Puts-none (Passes given failures) faults s; failed = omega (arith, one) }
@@ -206,11 +206,11 @@ module _ {W : Type 0} (given : Outlet W → List ℕ → Outlet W → Type 0) (f
     pub lines_put : Puts (Passes given failures) faults old text mid → Puts given failures old.sink (first_lines old.left text) mid.sink
     lines_put p = (has_passed text p).puts
 
-    -- and what is behind the lines is known to be dropped
+    -- and what follows the lines is known to be dropped
     pub cut_is : Puts (Passes given failures) faults old text mid → old.is_cut ≡ false → mid.failed ≡ false → mid.is_cut ≡ is_longer old.left text
     cut_is p whole fine = (has_passed text p).cut fine ∙ ap (λ (b : Bool). b || is_longer old.left text) whole
 
-    -- of the whole the last line is left
+    -- the last line of the whole is left
     pub lines_so_far : {whole : List ℕ} → whole ≡ first_lines old.left text ++ more_line (is_longer old.left text) →
         Puts (Passes given failures) faults old text mid → old.is_cut ≡ false → mid.failed ≡ false
         → PutSoFar given failures whole (more_line mid.is_cut ++ []) old.sink mid.sink
@@ -222,7 +222,7 @@ module _ {W : Type 0} (given : Outlet W → List ℕ → Outlet W → Type 0) (f
     }
 
     -- it was put, but the sink below had failed
-    pub lines_lost : (more : List ℕ) → Puts (Passes given failures) faults old text mid → mid.failed ≡ true → PutsFront given failures old.sink (first_lines old.left text ++ more) mid.sink
+    pub lines_lost : (more : List ℕ) → Puts (Passes given failures) faults old text mid → mid.failed ≡ true → PutsPrefix given failures old.sink (first_lines old.left text ++ more) mid.sink
     lines_lost more p fails = record {
       front = first_lines old.left text;
       back = more;
@@ -231,8 +231,8 @@ module _ {W : Type 0} (given : Outlet W → List ℕ → Outlet W → Type 0) (f
       failed = has_failed text (has_passed text p) fails;
     }
 
-    -- a front of it was put
-    pub lines_fail : (more : List ℕ) → PutsFront (Passes given failures) faults old text mid → PutsFront given failures old.sink (first_lines old.left text ++ more) mid.sink
+    -- a prefix of it was put
+    pub lines_fail : (more : List ℕ) → PutsPrefix (Passes given failures) faults old text mid → PutsPrefix given failures old.sink (first_lines old.left text ++ more) mid.sink
     lines_fail more p =
         let step = has_passed p.front p.puts in
         let fails : mid.failed ≡ true = by_test mid.failed refl p.failed in

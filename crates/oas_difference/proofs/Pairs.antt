@@ -22,16 +22,16 @@ all_from P Q [] f h = tt
 all_from P Q (x ∷ xs) f h = (f x h.0, all_from P Q xs f h.1)
 
 module _ {K V : Type 0} {R : K → K → Ordering} (o : IsTotalOrder R) where
-  -- what stands beside the first key
+  -- the number beside the first key
   found_first : (k : K) (v : V) (es : List (K × V)) → found R ((k, v) ∷ es) k ≡ Some v
   found_first k v es = ap (λ r. cond (is_eq r) (Some v) (found R es k)) (tied_itself o k)
 
-  -- below the first key nothing stands
+  -- below the first key there is nothing
   found_below : (k : K) (es : List (K × V)) → Below o k (keys_of es) → found R es k ≡ None
   found_below k [] b = refl
   found_below k (e ∷ es) b = ap (λ r. cond (is_eq r) (Some e.1) (found R es k)) b.0 ∙ found_below k es b.1
 
-  -- and what stands above it stands in the rest
+  -- and what is above it is in the rest
   found_above : (k j : K) (v : V) (es : List (K × V)) → R k j ≡ Less → found R ((k, v) ∷ es) j ≡ found R es j
   found_above k j v es h = ap (λ r. cond (is_eq r) (Some v) (found R es j)) (above o k j h)
 
@@ -39,7 +39,7 @@ module _ {K V : Type 0} {R : K → K → Ordering} (o : IsTotalOrder R) where
     rest_above : Below o k (ascending R (keys_of es ++ keys_of fs))
     rest_above = all_ascending (λ y. R k y ≡ Less) R (keys_of es ++ keys_of fs) (all_append (λ y. R k y ≡ Less) (keys_of es) (keys_of fs) b c)
 
-    -- only the one has the first key
+    -- only the first list has the key
     pub only_before : (v : V) → side_by_side R ((k, v) ∷ es) fs ≡ (k, (Some v, None)) ∷ side_by_side R es fs
     only_before v =
         ap (map (λ j. (j, (found R ((k, v) ∷ es) j, found R fs j)))) (first_before o k (keys_of es) (keys_of fs) b c)
@@ -47,7 +47,7 @@ module _ {K V : Type 0} {R : K → K → Ordering} (o : IsTotalOrder R) where
         ∷ map_alike (λ j. (j, (found R ((k, v) ∷ es) j, found R fs j))) (λ j. (j, (found R es j, found R fs j))) (ascending R (keys_of es ++ keys_of fs))
         (all_from _ _ _ (λ j h. (λ i. (j, (found_above k j v es h i, found R fs j)))) rest_above) i)
 
-    -- only the other has it
+    -- only the second list has it
     pub only_after : (v : V) → side_by_side R es ((k, v) ∷ fs) ≡ (k, (None, Some v)) ∷ side_by_side R es fs
     only_after v =
         ap (map (λ j. (j, (found R es j, found R ((k, v) ∷ fs) j)))) (first_after o k (keys_of es) (keys_of fs) b c)

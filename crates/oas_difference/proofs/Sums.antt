@@ -1,4 +1,4 @@
--- Sums over keys that ascend, and over what stands beside them.
+-- Sums over keys that ascend, and over the numbers beside them.
 use Rattle.std.proofs.Common.{◌≡◌, ℕ, ◌+◌, ◌≤◌, List, [], ◌∷◌, length, flat_map, sum_by, cond, Bool, true, false, Option, None, Some}
 use Rattle.std.proofs.Common.{length-append, refl, ◌∙◌, ap, subst, arith}
 use Rattle.std.specs.Prelude.{◌-◌}
@@ -27,7 +27,7 @@ module _ {K : Type 0} (R : K → K → Ordering) where
         | Greater ↦ omega (arith, sum_by-cons g x (insert_key R xs k), sum_by-cons g x xs, sum_insert g xs k)
       ]
 
-  -- once each is no more than each as often as it is there
+  -- each once is no more than each as often as it is there
   pub sum_ascending : (g : K → ℕ) (xs : List K) → sum_by g (ascending R xs) ≤ sum_by g xs
   sum_ascending g [] = omega arith
   sum_ascending g (x ∷ xs) = omega (arith, sum_insert g (ascending R xs) x, sum_ascending g xs, sum_by-cons g x xs)
@@ -92,10 +92,10 @@ module _ {A : Type 0} where
   length-texts f [] = refl
   length-texts f (x ∷ xs) = omega (arith, length-append (f x) (flat_map f xs), sum_by-cons (λ x. length (f x)) x xs, length-texts f xs)
 
--- ---- sums over what stands beside keys
+-- ---- sums over the numbers beside keys
 
 module _ {K V : Type 0} (R : K → K → Ordering) (o : IsTotalOrder R) (exact : CmpEqualImpliesEq R) (w : K → V → ℕ) where
-  -- what an entry weighs, if there is one
+  -- the weight of an entry, if there is one
   unfoldable pub weight_if : K → Option V → ℕ
   weight_if k None = 0
   weight_if k (Some v) = w k v

@@ -16,7 +16,7 @@ use Rattle.oas_difference.specs.Difference.{unit_changes}
 abbrev pub change_at : Element → ℕ → ℕ → List (Element × (ℕ × ℕ))
 change_at e n m = if n == m then [] else (e, (n, m)) ∷ []
 
--- each element that is not as often in both lists, beside how often it is in either
+-- each element that is not as often in both lists, with how often it is in either
 abbrev pub changed : Profile → List Element → List Element → List (Element × (ℕ × ℕ))
 changed profile xs ys = flat_map (λ e. change_at e (count_of profile e xs) (count_of profile e ys)) (ascending element_cmp (xs ++ ys))
 
@@ -34,7 +34,7 @@ only_second cs = sum_by (λ c. c.1.1 - c.1.0) cs
 abbrev pub brief_line : ℕ → List ℕ → ℕ → ℕ → List ℕ
 brief_line sign name n m = sign ∷ (codes " cell " ++ (name ++ ((codes " - " ++ decimal n) ++ ((codes " + " ++ decimal m) ++ 10 ∷ []))))
 
--- - for a cell that is there before alone, + for one that is there after alone, @ for one in which something has changed
+-- - for a cell that is only there before, + for one that is only there after, @ for one in which something has changed
 abbrev pub brief_sign : Bool → Bool → ℕ → ℕ → Option ℕ
 brief_sign true true n m = if (n == 0) && (m == 0) then None else Some 64
 brief_sign true false n m = Some 45
@@ -48,7 +48,7 @@ signed_brief (Some sign) name n m = brief_line sign name n m
 abbrev pub brief_of : Bool → Bool → List ℕ → ℕ → ℕ → List ℕ
 brief_of before after name n m = signed_brief (brief_sign before after n m) name n m
 
--- the line of a cell, of which the elements are given where it is there
+-- the line of a cell; its elements are given where it is there
 abbrev pub cell_brief : Profile → List ℕ → Option (List Element) → Option (List Element) → List ℕ
 cell_brief profile name before after =
     brief_of (is_some before) (is_some after) name

@@ -12,12 +12,12 @@ use Rattle.oas_listing.specs.Lines.{line}
 use Rattle.oas_listing.specs.Listing.{fraction, element_line}
 use Rattle.oas_difference.specs.Ascending.{ascending}
 
--- SIGN COUNT LINE, of a thing that is there so many times more
+-- SIGN COUNT LINE, for a thing that is there this many more times
 abbrev pub signed : ℕ → ℕ → List ℕ → List ℕ
 signed sign count text = sign ∷ 32 ∷ (decimal count ++ 32 ∷ text)
 
--- the line of a thing that is there n times before and m times after: - where that is fewer, + where it is more, and
--- none where it is as often there
+-- the line of a thing that is there n times before and m times after: - where that is fewer, + where it is more, and none
+-- where it is as often there
 abbrev pub change : ℕ → ℕ → List ℕ → List ℕ
 change n m text =
     if nat_lt m n then signed 45 (n - m) text
@@ -32,7 +32,7 @@ unit_line unit = line (codes "unit" ∷ fraction unit ∷ [])
 abbrev pub same_ratio : Ratio → Ratio → Bool
 same_ratio u v = (u.num == v.num) && (u.den == v.den)
 
--- where the units differ, the one that was there before is gone, and the other is new
+-- where the units differ, the old one is gone, and the other is new
 abbrev pub unit_changes : Ratio → Ratio → List ℕ
 unit_changes u v = if same_ratio u v then [] else change 1 0 (unit_line u) ++ change 0 1 (unit_line v)
 
@@ -52,8 +52,8 @@ cell_line name = line (codes "cell" ∷ name ∷ [])
 abbrev pub place_line : List ℕ → List ℕ
 place_line name = line (codes "@" ∷ codes "cell" ∷ name ∷ [])
 
--- The changes of a cell below its line, of which is said whether it is there before and after. Where it is there in both,
--- and nothing has changed in it, it has no line.
+-- The changes of a cell below its line, given whether it is there before and after. Where it is there in both, and nothing
+-- has changed in it, it has no line.
 abbrev pub below_name : Bool → Bool → List ℕ → List ℕ → List ℕ
 below_name true true name [] = []
 below_name true true name (b ∷ bs) = place_line name ++ b ∷ bs
@@ -61,7 +61,7 @@ below_name true false name changes = change 1 0 (cell_line name) ++ changes
 below_name false true name changes = change 0 1 (cell_line name) ++ changes
 below_name false false name changes = []
 
--- the changes of a cell, of which the elements are given where it is there
+-- the changes of a cell; its elements are given where it is there
 abbrev pub cell_changes : Profile → List ℕ → Option (List Element) → Option (List Element) → List ℕ
 cell_changes profile name before after =
     below_name (is_some before) (is_some after) name (element_changes profile (unwrap_or before []) (unwrap_or after []))

@@ -1,4 +1,4 @@
--- The difference of what two layouts hold: cells and elements beside their counts.
+-- The difference of what two layouts hold: cells and elements with their counts.
 use Rattle.std.specs.Prelude.{ℕ, ◌-◌, ◌^◌, min, List, [], ◌∷◌, flat_map, Option, None, Some, is_some, unwrap_or}
 use Rattle.std.specs.Borrow.{Bor}
 use Rattle.std.specs.Ordering.{nat_cmp}
@@ -39,7 +39,7 @@ pair_changed p = change_at p.0 (unwrap_or p.1.0 0) (unwrap_or p.1.1 0)
 abbrev pub held_changed : List (Element × ℕ) → List (Element × ℕ) → List (Element × (ℕ × ℕ))
 held_changed es fs = flat_map pair_changed (side_by_side element_cmp es fs)
 
--- as far as 64 bits count
+-- capped to 64 bits
 abbrev pub counted_to : ℕ → ℕ
 counted_to n = min n (2 ^ 64 - 1)
 

@@ -1,4 +1,4 @@
--- What follows of the definitions. Nothing here has to be believed.
+-- What follows from the definitions. Nothing here has to be trusted.
 pub mod DifferenceLaws
 pub mod LimitingLaws
 pub mod OptionLaws

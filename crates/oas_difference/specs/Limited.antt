@@ -7,7 +7,7 @@ first_lines zero text = []
 first_lines (suc n) [] = []
 first_lines (suc n) (b ∷ bs) = b ∷ first_lines (if b == 10 then n else suc n) bs
 
--- whether something stands after them
+-- whether something follows them
 abbrev pub is_longer : ℕ → List ℕ → Bool
 is_longer zero [] = false
 is_longer zero (b ∷ bs) = true
@@ -19,7 +19,7 @@ abbrev pub more_line : Bool → List ℕ
 more_line true = codes "...\n"
 more_line false = []
 
--- The text; or its first lines, so many, and the line `...` behind them where it has more.
+-- The text; or this many of its first lines, followed by the line `...` where it has more.
 abbrev pub limited : Option ℕ → List ℕ → List ℕ
 limited None text = text
 limited (Some n) text = first_lines n text ++ more_line (is_longer n text)

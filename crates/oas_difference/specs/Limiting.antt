@@ -1,18 +1,18 @@
--- A sink that hands the first lines on.
+-- A sink that passes on the first lines.
 use Rattle.std.specs.Prelude.{◌≡◌, ℕ, zero, suc, ◌<◌, ◌==◌, ◌||◌, ◌⊎◌, true, false, List, [], ◌∷◌, if◌then◌else◌}
 use Rattle.oas_num.specs.Outlet.{Outlet}
 use Rattle.oas_num.specs.Writing.{Puts}
 use Rattle.oas_difference.specs.declared.limiting.Limited.{Limited}
 use Rattle.oas_difference.specs.Limited.{first_lines, is_longer}
 
--- of n lines those that are left after these bytes
+-- how many of n lines are left after these bytes
 abbrev pub lines_left : ℕ → List ℕ → ℕ
 lines_left zero bs = zero
 lines_left (suc n) [] = suc n
 lines_left (suc n) (b ∷ bs) = lines_left (if b == 10 then n else suc n) bs
 
 -- Between two of its states it was given these bytes: the sink below got the first lines of them. As long as that has not
--- failed, so many lines are left, and it knows whether something was dropped.
+-- failed, this many lines are left, and it knows whether something was dropped.
 pub record Passes {W : Type 0} (given : Outlet W → List ℕ → Outlet W → Type 0) (failures : Outlet W → ℕ) (old : Limited W) (bytes : List ℕ) (new : Limited W) : Type 0 where
   pub puts : Puts given failures old.sink (first_lines old.left bytes) new.sink
   pub left : new.failed ≡ false → new.left ≡ lines_left old.left bytes

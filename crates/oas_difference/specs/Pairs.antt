@@ -6,11 +6,11 @@ use Rattle.std.specs.Map.{keys_of, lookup}
 use Rattle.std.specs.BTreeMap.{is_at}
 use Rattle.oas_difference.specs.Ascending.{ascending}
 
--- what stands beside a key
+-- the number beside a key
 abbrev pub found : {K V : Type 0} → (K → K → Ordering) → List (K × V) → K → Option V
 found R es k = lookup (is_at (R k)) es
 
--- for each key of either list, ascending, what stands beside it in both
+-- for each key of either list, ascending, the numbers beside it in both
 abbrev pub side_by_side : {K V : Type 0} → (K → K → Ordering) → List (K × V) → List (K × V) → List (K × (Option V × Option V))
 side_by_side R es fs = map (λ k. (k, (found R es k, found R fs k))) (ascending R (keys_of es ++ keys_of fs))
 
@@ -26,7 +26,7 @@ least R None o = o
 least R (Some k) None = Some k
 least R (Some k) (Some j) = match_ordering (R k j) (Some k) (Some k) (Some j)
 
--- what stands beside the key where it is the first, and the entries that are left without it
+-- the number beside the key where it is the first, and the entries that are left without it
 abbrev pub taken : {K V : Type 0} → (K → K → Ordering) → K → List (K × V) → Option V × List (K × V)
 taken R k [] = (None, [])
 taken R k (e ∷ es) = cond (eq_by_cmp R k e.0) (Some e.1, es) (None, e ∷ es)

@@ -80,7 +80,7 @@ fn put_brief<K: Sink>(sink: &mut K, sign: u8, name: &Name, excess: Excess) -> Re
     sink.put(b'\n')
 }
 
-/// Puts the line of a cell, of which the elements are given where it is there, if it has one.
+/// Puts the line of a cell, if it has one; its elements are given where it is there.
 pub(crate) fn put_brief_cell<'a, K: Sink>(
     sink: &mut K,
     name: &Name,

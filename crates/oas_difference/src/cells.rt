@@ -24,7 +24,7 @@ use oas_num::{Name, Sink, SinkFault};
 use std::cmp::Ordering;
 use std::marker::Model;
 
-/// The cells of a layout from one on, seen as the list of them.
+/// The cells of a layout from one on; contracts see the list of them.
 #[derive(Drop)]
 pub struct Cells<'a> {
     layout: &'a Layout,
@@ -49,7 +49,7 @@ impl<'a> Cells<'a> {
         ensures cells { result ≡ layout.now.cells }
         ensures layout { IsLayout layout.now }
     {
-        let count = layout.cells();
+        let count = layout.cell_count();
         Cells {
             layout,
             count,
@@ -68,7 +68,7 @@ impl<'a> Cells<'a> {
         }
     }
 
-    /// The elements of the cell of that name, where it is the first, and leaves it.
+    /// Returns the elements of the cell with that name, where it is the first, and removes it.
     fn take(&mut self, name: &Name) -> Option<Elements<'a>>
         ensures elements { result ≡ (taken (slice_cmp nat_cmp) name.now self.old).0 }
         ensures rest { self.new ≡ (taken (slice_cmp nat_cmp) name.now self.old).1 }
@@ -102,7 +102,7 @@ fn first_name<'a>(left: Option<&'a Name>, right: Option<&'a Name>) -> Option<&'a
     }
 }
 
-/// A cell that one of two layouts has, or both: its name, and its elements where it is there.
+/// A cell of one of two layouts, or of both: its name, and its elements where it is there.
 #[derive(Drop)]
 pub struct CellPair<'a> {
     pub name: &'a Name,
@@ -110,7 +110,7 @@ pub struct CellPair<'a> {
     pub after: Option<Elements<'a>>,
 }
 
-/// Takes the cell away on both sides whose name is the first, if there is one.
+/// Removes the cell with the first name from both sides, if there is one.
 pub fn next_cell<'a>(before: &mut Cells<'a>, after: &mut Cells<'a>) -> Option<CellPair<'a>>
     requires before { IsStrictlySortedBy (slice_cmp nat_cmp) (keys_of before.old) }
     requires after { IsStrictlySortedBy (slice_cmp nat_cmp) (keys_of after.old) }
@@ -164,7 +164,7 @@ fn put_both<'a, K: Sink>(
     put_changes(sink, before, after)
 }
 
-/// Puts what has changed in a cell, of which the elements are given where it is there.
+/// Puts what has changed in a cell; its elements are given where it is there.
 fn put_cell<'a, K: Sink>(
     sink: &mut K,
     name: &Name,

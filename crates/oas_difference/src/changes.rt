@@ -24,7 +24,7 @@ pub struct Change<'a> {
     pub after: u64,
 }
 
-/// Takes elements away on both sides until one is not there as often on both.
+/// Removes elements on both sides until one is not there as often on both.
 pub fn next_change<'a>(before: &mut Side<'a>, after: &mut Side<'a>) -> Option<Change<'a>>
     requires before { IsStrictlySortedBy element_cmp (keys_of before.old) }
     requires after { IsStrictlySortedBy element_cmp (keys_of after.old) }
@@ -50,7 +50,7 @@ pub fn next_change<'a>(before: &mut Side<'a>, after: &mut Side<'a>) -> Option<Ch
     None
 }
 
-/// Puts a sign and a count, and a space behind each.
+/// Puts a sign and a count, with a space after each.
 pub(crate) fn put_sign<K: Sink>(sink: &mut K, sign: u8, count: u64) -> Result<(), SinkFault>
     ensures { Writes K.given K.failures sink.old (sign ∷ 32 ∷ (decimal count ++ 32 ∷ [])) result sink.new }
 {
@@ -60,7 +60,7 @@ pub(crate) fn put_sign<K: Sink>(sink: &mut K, sign: u8, count: u64) -> Result<()
     sink.put(b' ')
 }
 
-/// Puts the line of an element that is there so many times more.
+/// Puts the line of an element that is there this many more times.
 fn put_signed<K: Sink>(
     sink: &mut K,
     sign: u8,

@@ -1,4 +1,4 @@
-//! The elements of a cell, from which those of another are taken away.
+//! The elements of a cell, from which those of another are removed.
 
 ghost use Rattle.std.specs.Prelude.{◌≡◌, [], unwrap_or, option_map};
 ghost use Rattle.std.specs.Map.Iter.{TakesFirst, deref};
@@ -10,7 +10,7 @@ use oas_layout::{Element, Elements};
 use std::cmp::Ordering;
 use std::marker::Model;
 
-/// The elements of a cell, if there is one, with the first of them in hand; seen as the list of them.
+/// The elements of a cell, if there is one, with the first of them at hand; contracts see the list of them.
 #[derive(Drop)]
 pub struct Side<'a> {
     first: Option<(&'a Element, u64)>,
@@ -51,7 +51,7 @@ impl<'a> Side<'a> {
         }
     }
 
-    /// How often the element is there, which is none of them but the first, and leaves it.
+    /// How often the element is there, which is none of them except the first, and removes it.
     pub(crate) fn take(&mut self, element: &Element) -> u64
         ensures count { result ≡ unwrap_or (taken element_cmp element.now self.old).0 0 }
         ensures rest { self.new ≡ (taken element_cmp element.now self.old).1 }

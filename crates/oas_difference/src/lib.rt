@@ -9,18 +9,44 @@
 //! + 1 circle 5 6 7 -8 9
 //! ```
 //!
-//! Each line is SIGN COUNT and a line of the listing: `-` for what the first layout has so many times more, and `+` for
-//! what the second one has. The lines stand in the order of the listing. Above the elements of a cell that both layouts
-//! have, and that differs, stands `@ cell NAME`; a cell that only one of them has is a line, with its elements below.
+//! Each line is SIGN COUNT and a line of the listing: `-` for what the first layout has more often, and `+` for what the
+//! second one has more often. The lines are in the order of the listing. The line `@ cell NAME` is above the elements of a
+//! cell that both layouts have, and that differs; a cell that only one of them has is a line, with its elements below.
 //!
-//! What this crate promises to the crates above it: a writer takes exactly the bytes of `difference`
-//! (specs/Difference.antt) of what the layouts mean, and [`write_difference`] answers how many they are (`IsWritten`,
-//! oas_num's specs/Written.antt); or it fails, by [`oas_num::Why::Write`], and then it took as many of the first of them as
-//! the refusal's place says (`IsCutOff`). No memory is taken. There is no line exactly if the layouts are the same
-//! ([`laws`]).
+//! What this crate promises to the crates above it: a writer takes exactly the bytes of `difference` (specs/Difference.antt)
+//! of the layouts' meanings, and [`write_difference`] returns how many they are (`IsWritten`, oas_num's specs/Written.antt).
+//! Or it fails with [`oas_num::Why::Write`], and then the writer took as many of the first bytes as the refusal's place says
+//! (`IsCutOff`). It allocates nothing. There is no line exactly if the layouts are the same ([`laws`]).
 //!
 //! For other texts of a difference [`next_cell`] goes over the cells of two layouts, and [`next_change`] over the elements
 //! that are not as often in both.
+//!
+//! # How it is built
+//!
+//! oas_difference stands on oas_listing, oas_layout, oas_num, oas_ring and `itoa`. Promise upwards: `write_difference`,
+//! whose clauses speak of `difference_by`, a function of options and of what two layouts mean, and the law that by any
+//! options it is empty exactly if they are the same, which holds of all meanings, in whatever order and form their elements
+//! are.
+//!
+//! - specs/Ascending.antt: what is in a list, ascending, each once. specs/Difference.antt: for each element of either list
+//!   how often it is in both (`count_of`, which also defines sameness), and one line where that differs; for each name of
+//!   either layout the same for its cells. No loop is in it.
+//! - src/elements.rt: the elements of a cell with the first at hand (`Side`); the lesser of two firsts is taken from both
+//!   sides (`take`). changes.rt: goes on to the next element that is not as often on both sides, so a cell without a change
+//!   gets no line. cells.rt: the same over names. writing.rt: the outlet.
+//! - specs/Brief.antt: the same entries, summed for each cell; brief.rt walks as changes.rt does. specs/Limited.antt: the
+//!   first lines of a text, and a line that says that there are more; limiting.rt is a sink over the outlet that passes on
+//!   that many lines and forgets the rest.
+//! - specs/Pairs.antt and specs/Held.antt connect the two: two lists of entries side by side, by the keys of either, and the
+//!   difference of what two layouts hold with its counts.
+//!
+//! How the proof goes. The keys of two ascending lists in order begin with the lesser of their first keys
+//! (proofs/Ascending.antt), so the entries side by side do (`take_least`, proofs/Pairs.antt); each loop is that step, under
+//! `PutSoFar` as in oas_listing. What is held means what is listed by proofs/Held.antt: in a layout each element is in its
+//! kept form, and the number beside it is its count (`held` of oas_layout). proofs/Lengths.antt bounds the length, for
+//! which no element may be weighed twice (`sum_once`). The law (proofs/EmptyLaw.antt) needs no order: no line for any
+//! element of either list says that all counts are equal, since one that is the same as none of them counts 0 on both
+//! sides.
 #![tactic(auto)]
 
 mod brief;

@@ -1,4 +1,4 @@
-//! A sink that hands the first lines on.
+//! A sink that passes on the first lines.
 
 ghost use Rattle.std.specs.Prelude.{◌≡◌, false};
 ghost use Rattle.oas_num.specs.Writing.{Writes};
@@ -8,7 +8,7 @@ ghost use Rattle.oas_difference.specs.Limited.{more_line};
 use oas_num::{Outlet, Sink, SinkFault};
 use std::io::Write;
 
-/// Hands the first lines that it is given on to a sink, and drops what stands after them.
+/// Passes on the first lines that it is given to a sink, and drops what follows them.
 #[derive(Drop)]
 pub(crate) struct Limited<'a, W> {
     pub(crate) sink: Outlet<'a, W>,
@@ -18,7 +18,7 @@ pub(crate) struct Limited<'a, W> {
 }
 
 impl<'a, W: Write> Limited<'a, W> {
-    /// One that is to hand on so many lines.
+    /// A sink that passes on this many lines.
     pub(crate) fn new(sink: Outlet<'a, W>, lines: u64) -> Limited<'a, W>
         ensures { result ≡ record { sink = sink.entry; left = lines; is_cut = false; failed = false } }
     {

@@ -13,6 +13,6 @@ pub enum Detail {
 #[derive(Clone, Copy, Debug, PartialEq, Eq)]
 pub struct Options {
     pub detail: Detail,
-    /// So many lines at most, and where there are more a last line `...`; without it all of them.
+    /// At most this many lines, and where there are more a last line `...`; without it all of them.
     pub limit: Option<u64>,
 }

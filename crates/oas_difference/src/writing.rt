@@ -47,7 +47,7 @@ fn put_difference<'a, K: Sink>(
     put_cells(sink, left, right, detail)
 }
 
-/// Puts the first lines of the difference of two layouts into an outlet, and has its writer take all of it.
+/// Puts the first lines of the difference of two layouts into an outlet, and sends all of it to the writer.
 fn put_and_close<W: Write>(
     before: &Layout,
     after: &Layout,
@@ -70,11 +70,11 @@ fn put_and_close<W: Write>(
     lines.sink.close()
 }
 
-/// Writes the difference of two layouts of one profile as the options say, and answers how many bytes that is: none
-/// exactly if the layouts are the same (`laws`). It takes no memory.
+/// Writes the difference of two layouts of one profile as the options say, and returns how many bytes that is: none exactly
+/// if the layouts are the same (`laws`). It allocates nothing.
 ///
-/// A fault of the writer is `Why::Write`, and its place is the number of bytes that the writer took: those are the first
-/// of the difference. Where it is the number of all of them, the flush failed.
+/// A fault of the writer is `Why::Write`. Its place is the number of bytes that the writer took: the first ones of the
+/// difference. Where it is the number of all of them, the flush failed.
 pub fn write_difference<W: Write>(
     before: &Layout,
     after: &Layout,

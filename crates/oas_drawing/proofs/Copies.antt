@@ -1,5 +1,5 @@
 -- the copies of a record, one after another
-use Rattle.std.proofs.Common.{◌≡◌, ℕ, zero, suc, ◌+◌, ◌<◌, ◌≤◌, List, [], ◌∷◌, ◌++◌, append_assoc, map, refl, sym, ap, ◌∙◌, subst, arith, Bool, true, false}
+use Rattle.std.proofs.Common.{◌≡◌, ℕ, zero, suc, ◌+◌, ◌<◌, ◌≤◌, List, ◌∷◌, ◌++◌, append_assoc, map, refl, sym, ap, ◌∙◌, subst, arith, Bool, true, false, []}
 use Rattle.std.proofs.lemmas.List.FromFn.{length-map-range_with_len, get_or-map-range_with_len, map-range_with_len_more}
 use Rattle.std.proofs.lemmas.List.Folds.{list_all_at}
 use Rattle.std.specs.Prelude.{Option, None, Some, cond, not, is_none, ◌&&◌}
@@ -8,83 +8,20 @@ use Rattle.std.specs.List.{list_all, range_with_len}
 use Rattle.oas_num.specs.declared.refusals.Why.{Why}
 use Rattle.oas_num.specs.declared.refusals.Why.TheVariants.{CoordinateRange, ModalUndefined}
 use Rattle.oas_num.specs.declared.deltas.GDelta.{GDelta}
-use Rattle.oas_ring.specs.declared.point.Point.{Point}
-use Rattle.oas_shape.specs.Polylines.{Polyline}
 use Rattle.oas_shape.specs.Steps.{still}
 use Rattle.oas_shape.specs.declared.repetitions.Repetition.{Repetition}
 use Rattle.oas_shape.specs.Places.{ArePlaces}
 use Rattle.oas_shape.specs.Laws.PlaceLaws.{apart, places}
-use Rattle.oas_record.specs.declared.references.CellRef.{CellRef}
-use Rattle.oas_record.specs.declared.references.CellRef.TheVariants as cell
-use Rattle.oas_record.specs.declared.references.TextRef.{TextRef}
-use Rattle.oas_record.specs.declared.references.TextRef.TheVariants as text
 use Rattle.oas_record.specs.declared.records.Record.{Record}
-use Rattle.oas_layout.specs.declared.element.Turns.{Turns}
 use Rattle.oas_layout.specs.declared.limits.Limits.{Limits}
 use Rattle.oas_drawing.specs.declared.drawn.Drawn.{Drawn}
 use Rattle.oas_drawing.specs.declared.kinds.Kind.{Kind}
-use Rattle.oas_drawing.specs.declared.kinds.Kind.TheVariants.{Placement, Text, Rectangle, Polygon, Path, Circle}
 use Rattle.oas_drawing.specs.Modal.{ModalState}
-use Rattle.oas_drawing.specs.Turns.{turned}
 use Rattle.oas_drawing.specs.Drawn.{drawn_fits}
-use Rattle.oas_drawing.specs.Drawing.{kind_of, repeats, placement_at, text_at, rectangle_at, polygon_at, path_at, circle_at, kind_at, place_of, point_from, drawn_by, offset_if}
+use Rattle.oas_drawing.specs.Drawing.{kind_of, repeats, drawn_by, offset_if}
 use Rattle.oas_drawing.specs.Drawing.{number_if, places_if, drawn_at, copies_at, first_offsets}
+use Rattle.oas_drawing.proofs.AllKinds.{drawn_defined}
 use Rattle.oas_drawing.specs.Reasons.{first_of, fits_if, fault_of, kind_reason, all_fit, reason_if, draw_reason}
-use Rattle.std.specs.Prelude.{ℤ}
-
--- an element is defined at each point or at none
-placement_defined : (c : Option CellRef) (turns : Turns) (flip : Bool) (p q : Point) → is_none (placement_at c turns flip p) ≡ is_none (placement_at c turns flip q)
-placement_defined None turns flip p q = refl
-placement_defined (Some (cell.Number n)) turns flip p q = refl
-placement_defined (Some (cell.Name n)) turns flip p q = refl
-
-text_defined : (s : Option TextRef) (layer kind : Option ℕ) (p q : Point) → is_none (text_at s layer kind p) ≡ is_none (text_at s layer kind q)
-text_defined None layer kind p q = refl
-text_defined (Some (text.Number n)) None kind p q = refl
-text_defined (Some (text.Number n)) (Some layer) None p q = refl
-text_defined (Some (text.Number n)) (Some layer) (Some kind) p q = refl
-text_defined (Some (text.Label l)) None kind p q = refl
-text_defined (Some (text.Label l)) (Some layer) None p q = refl
-text_defined (Some (text.Label l)) (Some layer) (Some kind) p q = refl
-
-rectangle_defined : (a b c d : Option ℕ) (p q : Point) → is_none (rectangle_at a b c d p) ≡ is_none (rectangle_at a b c d q)
-rectangle_defined None b c d p q = refl
-rectangle_defined (Some a) None c d p q = refl
-rectangle_defined (Some a) (Some b) None d p q = refl
-rectangle_defined (Some a) (Some b) (Some c) None p q = refl
-rectangle_defined (Some a) (Some b) (Some c) (Some d) p q = refl
-
-polygon_defined : (a b : Option ℕ) (line : Option Polyline) (p q : Point) → is_none (polygon_at a b line p) ≡ is_none (polygon_at a b line q)
-polygon_defined None b line p q = refl
-polygon_defined (Some a) None line p q = refl
-polygon_defined (Some a) (Some b) None p q = refl
-polygon_defined (Some a) (Some b) (Some line) p q = refl
-
-path_defined : (a b c : Option ℕ) (d e : Option ℤ) (line : Option Polyline) (p q : Point) → is_none (path_at a b c d e line p) ≡ is_none (path_at a b c d e line q)
-path_defined None b c d e line p q = refl
-path_defined (Some a) None c d e line p q = refl
-path_defined (Some a) (Some b) None d e line p q = refl
-path_defined (Some a) (Some b) (Some c) None e line p q = refl
-path_defined (Some a) (Some b) (Some c) (Some d) None line p q = refl
-path_defined (Some a) (Some b) (Some c) (Some d) (Some e) None p q = refl
-path_defined (Some a) (Some b) (Some c) (Some d) (Some e) (Some line) p q = refl
-
-circle_defined : (a b c : Option ℕ) (p q : Point) → is_none (circle_at a b c p) ≡ is_none (circle_at a b c q)
-circle_defined None b c p q = refl
-circle_defined (Some a) None c p q = refl
-circle_defined (Some a) (Some b) None p q = refl
-circle_defined (Some a) (Some b) (Some c) p q = refl
-
-defined : (m : ModalState) (kind : Kind) (p q : Point) → is_none (kind_at m kind p) ≡ is_none (kind_at m kind q)
-defined m (Placement turn flip) p q = placement_defined m.cell (turned turn) flip p q
-defined m Text p q = text_defined m.string m.textlayer m.texttype p q
-defined m Rectangle p q = rectangle_defined m.layer m.datatype m.width m.height p q
-defined m Polygon p q = polygon_defined m.layer m.datatype m.polygon_points p q
-defined m Path p q = path_defined m.layer m.datatype m.half_width m.start m.end m.path_points p q
-defined m Circle p q = circle_defined m.layer m.datatype m.radius p q
-
-pub drawn_defined : (m : ModalState) (kind : Kind) (d e : GDelta) → is_none (drawn_by m kind d) ≡ is_none (drawn_by m kind e)
-drawn_defined m kind d e = defined m kind (point_from (place_of m kind) d) (point_from (place_of m kind) e)
 
 -- the first condition doesn't hold
 first_false : (b : Bool) (w : Why) (o : Option Why) → cond b (Some w) o ≡ None → b ≡ false
@@ -174,7 +111,7 @@ one_more m r n =
     (copies-append m r (first_offsets m r n) (offset_if (repeats r) m.repetition n ∷ []) ∙
     ap (λ (rest : List Drawn). copies_at m r (first_offsets m r n) ++ rest) (one_copy (drawn_at m r (offset_if (repeats r) m.repetition n))))
 
--- the copies of a record stand on its places, as many on each
+-- the copies of a record are on its places, equally many on each
 pub on_places : (repeated : Bool) (modal : Option Repetition) → ArePlaces (number_if repeated modal) (offset_if repeated modal) (places_if repeated modal)
 on_places false modal = apart (offset_if false modal) 1
 on_places true None = apart (offset_if true None) 0

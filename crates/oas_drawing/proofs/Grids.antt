@@ -1,4 +1,4 @@
--- where vertices lie
+-- where vertices are
 use Rattle.std.proofs.Common.{◌≡◌, List, [], ◌∷◌, refl, ap, ◌∙◌, arith, Bool, true, false, ◌⊎◌, inl, inr}
 use Rattle.std.proofs.lemmas.Int.{ints}
 use Rattle.std.specs.Prelude.{ℤ, pos, ◌+ℤ◌, ◌^◌, ◌&&◌, not, Option, None, Some}
@@ -33,7 +33,7 @@ not_true : (b : Bool) → ¬ (b ≡ true) → b ≡ false
 not_true true n = absurd (n refl)
 not_true false n = refl
 
--- vertices of which one is past the limits
+-- vertices one of which exceeds the limits
 far_vertices : (ps : List Point) → ¬ AllByRecursion IsInRange ps → list_all is_grid_point ps ≡ false
 far_vertices ps n = not_true (list_all is_grid_point ps) (λ h. n (all_in_range ps h))
 
@@ -64,7 +64,7 @@ on_grid at h =
     let y = near at.y b.1 in
     record { x = record { low = x.0; high = x.1 }; y = record { low = y.0; high = y.1 } }
 
--- an element is never at fault for want of memory
+-- an element at fault is never out of memory
 pub never_memory : (o : Option Drawn) → fault_of o ≡ Some Memory → ⊥
 never_memory None h = cc
 never_memory (Some d) h = by (drawn_fits d) h where

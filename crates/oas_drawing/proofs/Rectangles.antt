@@ -1,4 +1,4 @@
--- a rectangle that stands once
+-- a rectangle without a repetition
 use Rattle.std.proofs.Common.{◌≡◌, ℕ, ap, ◌∙◌, Bool, true, false}
 use Rattle.std.specs.Prelude.{Option, None, Some, [], ◌∷◌, ◌&&◌, not}
 use Rattle.oas_num.specs.declared.refusals.Why.TheVariants.{CoordinateRange}

@@ -15,7 +15,6 @@ use Rattle.oas_record.specs.declared.references.CellRef.TheVariants as cell
 use Rattle.oas_record.specs.declared.references.TextRef.{TextRef}
 use Rattle.oas_record.specs.declared.references.TextRef.TheVariants as text
 use Rattle.oas_record.specs.declared.records.Record.{Record}
-use Rattle.oas_record.specs.declared.records.Record.TheVariants as record_of
 use Rattle.oas_layout.specs.declared.element.Turns.{Turns}
 use Rattle.oas_layout.specs.declared.element.Element.TheVariants as element
 use Rattle.oas_drawing.specs.declared.drawn.Drawn.{Drawn}
@@ -23,28 +22,17 @@ use Rattle.oas_drawing.specs.declared.drawn.Drawn.TheVariants.{Named, PlacementB
 use Rattle.oas_drawing.specs.declared.kinds.Kind.{Kind}
 use Rattle.oas_drawing.specs.declared.kinds.Kind.TheVariants.{Placement, Text, Rectangle, Polygon, Path, Circle}
 use Rattle.oas_drawing.specs.declared.positions.Position.{Position}
+use Rattle.oas_drawing.specs.GivenFields.{given_fields}
 use Rattle.oas_drawing.specs.Modal.{ModalState, modal_of}
 use Rattle.oas_drawing.specs.Turns.{turned}
 
--- the kind of an element record, with what of it no variable keeps
+-- the kind of an element record, with its fields that no variable keeps
 abbrev pub kind_of : Record → Option Kind
-kind_of (record_of.Placement p) = Some (Placement p.turn p.flip)
-kind_of (record_of.Text t) = Some Text
-kind_of (record_of.Rectangle r) = Some Rectangle
-kind_of (record_of.Polygon p) = Some Polygon
-kind_of (record_of.Path p) = Some Path
-kind_of (record_of.Circle c) = Some Circle
-kind_of _ = None
+kind_of r = (given_fields r).kind
 
 -- whether a record gives a repetition
 abbrev pub repeats : Record → Bool
-repeats (record_of.Placement p) = is_some p.spot.repetition
-repeats (record_of.Text t) = is_some t.spot.repetition
-repeats (record_of.Rectangle r) = is_some r.spot.repetition
-repeats (record_of.Polygon p) = is_some p.spot.repetition
-repeats (record_of.Path p) = is_some p.spot.repetition
-repeats (record_of.Circle c) = is_some c.spot.repetition
-repeats _ = false
+repeats r = is_some (given_fields r).repetition
 
 -- an element at a point, where each value of it is defined
 abbrev pub placement_at : Option CellRef → Turns → Bool → Point → Option Drawn
@@ -89,7 +77,17 @@ place_of m (Placement turn flip) = m.placement
 place_of m Text = m.text
 place_of m _ = m.geometry
 
--- the point that lies so far from a position
+-- whether a record is geometry: an element, but neither a placement nor a text
+abbrev pub of_geometry : Option Kind → Bool
+of_geometry None = false
+of_geometry (Some (Placement turn flip)) = false
+of_geometry (Some Text) = false
+of_geometry (Some kind) = true
+
+abbrev pub is_geometry : Record → Bool
+is_geometry r = of_geometry (kind_of r)
+
+-- the point at this distance from a position
 abbrev pub point_from : Position → GDelta → Point
 point_from at d = record { x = at.x +ℤ d.dx; y = at.y +ℤ d.dy }
 
@@ -105,7 +103,7 @@ drawn_if m (Some kind) d = drawn_by m kind d
 abbrev pub drawn_at : ModalState → Record → GDelta → Option Drawn
 drawn_at m r d = drawn_if m (kind_of r) d
 
--- where copy i stands: of the modal repetition, or of a record that stands once
+-- the offset of copy i: of the modal repetition, or of a record without one
 abbrev pub offset_if : Bool → Option Repetition → ℕ → GDelta
 offset_if true (Some repetition) i = offset_of repetition i
 offset_if _ _ i = still
@@ -116,13 +114,13 @@ number_if false modal = 1
 number_if true None = 0
 number_if true (Some repetition) = count_of repetition
 
--- the places on which they stand: those of the modal repetition, or the one of a record that stands once
+-- their places: those of the modal repetition, or the one of a record without one
 abbrev pub places_if : Bool → Option Repetition → Places
 places_if false modal = places_one_way 1 false
 places_if true None = places_one_way 0 false
 places_if true (Some repetition) = places_of repetition
 
--- whether a repetition is to be taken from its variable, which is undefined
+-- whether a repetition has to be taken from its variable, which is undefined
 abbrev pub lacks_repetition : Bool → Option Repetition → Bool
 lacks_repetition true None = true
 lacks_repetition _ _ = false

@@ -1,4 +1,4 @@
--- Elements as records give them: their order, what they weigh, and whether they lie within the grid.
+-- Elements as records give them: their order, their weight, and whether they are within the grid.
 use Rattle.std.specs.Prelude.{ℕ, ◌&&◌, Bool, false}
 use Rattle.std.specs.Ordering.{nat_cmp, int_cmp, bool_cmp}
 use Rattle.std.specs.declared.cmp.Ordering.{Ordering}
@@ -8,7 +8,7 @@ use Rattle.oas_layout.specs.Grid.{is_coordinate, fits_grid}
 use Rattle.oas_drawing.specs.declared.drawn.Drawn.{Drawn}
 use Rattle.oas_drawing.specs.declared.drawn.Drawn.TheVariants.{Named, PlacementBy, TextBy}
 
--- where a kind stands
+-- the rank of a kind
 abbrev pub drawn_kind : Drawn → ℕ
 drawn_kind (Named e) = 0
 drawn_kind (PlacementBy number x y turns flip) = 1
@@ -23,13 +23,13 @@ drawn_cmp (TextBy number textlayer texttype x y) (TextBy number' textlayer' text
     nat_cmp number number' then nat_cmp textlayer textlayer' then nat_cmp texttype texttype' then int_cmp x x' then int_cmp y y'
 drawn_cmp a b = nat_cmp (drawn_kind a) (drawn_kind b)
 
--- what it weighs as long as numbers have no names: one, its points, and the bytes of a string that stands there
+-- its weight as long as numbers have no names: one, its points, and the bytes of an inline string
 abbrev pub weight_so_far : Drawn → ℕ
 weight_so_far (Named e) = weight_of e
 weight_so_far (PlacementBy number x y turns flip) = 1
 weight_so_far (TextBy number textlayer texttype x y) = 1
 
--- whether it lies within the grid, whatever its number means
+-- whether it is within the grid, whatever its number means
 abbrev pub drawn_fits : Drawn → Bool
 drawn_fits (Named e) = fits_grid e
 drawn_fits (PlacementBy number x y turns flip) = is_coordinate x && is_coordinate y

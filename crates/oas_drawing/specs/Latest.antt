@@ -3,7 +3,7 @@ use Rattle.std.specs.Prelude.{◌≡◌, List, [], ◌∷◌, ◌++◌, Option, 
 use Rattle.oas_record.specs.declared.records.Record.{Record}
 use Rattle.oas_drawing.specs.Looking.{is_cell, latest}
 
--- no record of these, after those, is a CELL, and none gives anything
+-- none of these records, after those, is a CELL, and none gives anything
 abbrev pub Silent : {A : Type 0} → (Record → List Record → Option A) → List Record → List Record → Type 0
 Silent gives [] those = Unit {0}
 Silent gives (r ∷ rs) those = (is_cell r ≡ false) × (gives r (rs ++ those) ≡ None) × Silent gives rs those

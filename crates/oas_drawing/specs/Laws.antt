@@ -1,2 +1,2 @@
--- What follows of the definitions. Nothing here has to be believed.
+-- What follows from the definitions. Nothing here has to be trusted.
 pub mod DrawnLaws

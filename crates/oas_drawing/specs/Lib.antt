@@ -1,4 +1,5 @@
 pub mod Looking
+pub mod GivenFields
 pub mod Values
 pub mod Positions
 pub mod Modal

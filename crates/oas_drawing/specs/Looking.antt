@@ -18,7 +18,7 @@ abbrev pub plus_given : ℤ → Option ℤ → ℤ
 plus_given z None = z
 plus_given z (Some d) = z +ℤ d
 
--- the sum of what the records give that stand after the latest one that sets, looking back to the CELL
+-- the sum of what the records after the latest one that sets give, looking back to the CELL
 abbrev pub sum_since : (Record → List Record → Option ℤ) → (Record → List Record → Option ℤ) → List Record → ℤ
 sum_since sets gives [] = pos 0
 sum_since sets gives (r ∷ before) =

@@ -1,4 +1,4 @@
--- A placement or a text that stands once and is at hand, by the modal variables.
+-- A placement or a text without a repetition at hand, by the modal variables.
 use Rattle.std.specs.Prelude.{ℕ, ◌+◌, length, Option, None, Some}
 use Rattle.std.specs.Option.{option_or}
 use Rattle.oas_record.specs.declared.references.CellRef.{CellRef}
@@ -7,9 +7,9 @@ use Rattle.oas_record.specs.declared.references.TextRef.{TextRef}
 use Rattle.oas_record.specs.declared.references.TextRef.TheVariants as text
 use Rattle.oas_record.specs.declared.placements.Turn.TheVariants.{Quarters}
 use Rattle.oas_layout.specs.declared.element.Element.TheVariants as element
-use Rattle.oas_ahead.specs.Named.{cell_given, string_given}
-use Rattle.oas_ahead.specs.declared.named.NamedOnce.{NamedOnce}
-use Rattle.oas_ahead.specs.declared.named.NamedOnce.TheVariants as once
+use Rattle.oas_peek.specs.Named.{cell_given, string_given}
+use Rattle.oas_peek.specs.declared.named.NamedOnce.{NamedOnce}
+use Rattle.oas_peek.specs.declared.named.NamedOnce.TheVariants as once
 use Rattle.oas_drawing.specs.declared.drawn.Drawn.{Drawn}
 use Rattle.oas_drawing.specs.declared.drawn.Drawn.TheVariants.{Named, PlacementBy, TextBy}
 use Rattle.oas_drawing.specs.declared.once.DrawnOnce.{DrawnOnce}
@@ -18,12 +18,12 @@ use Rattle.oas_drawing.specs.declared.kinds.Kind.{Kind}
 use Rattle.oas_drawing.specs.declared.kinds.Kind.TheVariants.{Placement, Text}
 use Rattle.oas_drawing.specs.Modal.{ModalState}
 
--- the modal variables once the name that is given, by its bytes or its number, is the modal one
+-- the modal variables once the given name, by its bytes or its number, is the modal one
 abbrev pub named_by : ModalState → NamedOnce → ModalState
 named_by m (once.Placement c quarters flip x y) = record m { cell = option_or (cell_given c) m.cell }
 named_by m (once.Text s textlayer texttype x y) = record m { string = option_or (string_given s) m.string }
 
--- what an element with a name weighs as long as its number has none
+-- the weight of an element with a name, as long as its number has none
 abbrev pub cell_weight : Option CellRef → Option ℕ
 cell_weight None = None
 cell_weight (Some (cell.Number number)) = Some 1

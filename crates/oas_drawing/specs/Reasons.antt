@@ -7,13 +7,14 @@ use Rattle.oas_num.specs.declared.refusals.Why.TheVariants.{ModalUndefined, Magn
 use Rattle.oas_shape.specs.Steps.{still}
 use Rattle.oas_record.specs.declared.placements.Turn.TheVariants.{Degrees}
 use Rattle.oas_record.specs.declared.records.Record.{Record}
+use Rattle.oas_layout.specs.declared.element.Element.TheVariants as element
 use Rattle.oas_layout.specs.declared.limits.Limits.{Limits}
 use Rattle.oas_layout.specs.Weight.{lacks_points}
 use Rattle.oas_layout.specs.Grid.{is_coordinate}
 use Rattle.oas_drawing.specs.declared.drawn.Drawn.{Drawn}
 use Rattle.oas_drawing.specs.declared.drawn.Drawn.TheVariants.{Named}
 use Rattle.oas_drawing.specs.declared.kinds.Kind.{Kind}
-use Rattle.oas_drawing.specs.declared.kinds.Kind.TheVariants.{Placement, Text, Polygon, Path}
+use Rattle.oas_drawing.specs.declared.kinds.Kind.TheVariants.{Placement}
 use Rattle.oas_drawing.specs.declared.positions.Position.{Position}
 use Rattle.oas_drawing.specs.Modal.{ModalState}
 use Rattle.oas_drawing.specs.Turns.{is_one, is_quarters}
@@ -35,21 +36,21 @@ abbrev pub is_askew : Kind → Bool
 is_askew (Placement (Degrees magnification angle) flip) = not (is_quarters angle)
 is_askew _ = false
 
--- what each copy weighs
+-- the weight of each copy
 abbrev pub weight_if : Option Drawn → ℕ
 weight_if None = 0
 weight_if (Some d) = weight_so_far d
 
--- a polygon of fewer than three points (own rule)
+-- a polygon with fewer than three points (own rule)
 abbrev pub lacks_if : Option Drawn → Bool
 lacks_if (Some (Named e)) = lacks_points e
 lacks_if _ = false
 
--- a position lies within the grid, as copy 0 does, which stands there
+-- a position is within the grid, like copy 0, which is there
 abbrev pub is_on_grid : Position → Bool
 is_on_grid at = is_coordinate at.x && is_coordinate at.y
 
--- an element lies within the grid, whatever its number means
+-- an element is within the grid, whatever its number means
 abbrev pub fits_if : Option Drawn → Bool
 fits_if None = true
 fits_if (Some d) = drawn_fits d
@@ -58,16 +59,16 @@ fits_if (Some d) = drawn_fits d
 abbrev pub fault_of : Option Drawn → Option Why
 fault_of o = first_of ((is_none o, ModalUndefined) ∷ (not (fits_if o), CoordinateRange) ∷ [])
 
--- Where memory may be wanted for an element: only where each variable that it needs is defined, for a placement or a text
--- only where it lies within the grid, and for a rectangle or a circle never.
-abbrev pub MayWant : Kind → Option Drawn → Type 0
-MayWant (Placement turn flip) o = fault_of o ≡ None
-MayWant Text o = fault_of o ≡ None
-MayWant Polygon o = is_none o ≡ false
-MayWant Path o = is_none o ≡ false
-MayWant _ o = ⊥
+-- Where memory may run out for an element: only where each variable that it needs is defined; for a placement or a text only
+-- where it is within the grid; and for a rectangle or a circle never.
+abbrev pub MayRunOut : Option Drawn → Type 0
+MayRunOut (Some (Named (element.Rectangle layer datatype width height x y))) = ⊥
+MayRunOut (Some (Named (element.Circle layer datatype radius x y))) = ⊥
+MayRunOut (Some (Named (element.Polygon layer datatype points))) = Unit {0}
+MayRunOut (Some (Named (element.Path layer datatype half_width start end points))) = Unit {0}
+MayRunOut o = fault_of o ≡ None
 
--- why a record is refused whatever its offsets, where so many elements stand before it and weigh so much
+-- why a record is refused whatever its offsets, where this many elements with this weight come before it
 abbrev pub kind_reason : Limits → ℕ → ℕ → ModalState → Kind → Bool → Option Why
 kind_reason limits count weight m kind repeated =
     first_of (
@@ -80,7 +81,7 @@ kind_reason limits count weight m kind repeated =
     (lacks_if (drawn_by m kind still), PointCount) ∷
     (not (is_on_grid (place_of m kind)), CoordinateRange) ∷ [])
 
--- whether each copy lies within the grid
+-- whether each copy is within the grid
 abbrev pub all_fit : ModalState → Kind → Bool → Bool
 all_fit m kind repeated = list_all (λ d. fits_if (drawn_by m kind d)) (offsets_if repeated m.repetition)
 

@@ -16,7 +16,7 @@ abbrev pub is_quarters : Option Real → Bool
 is_quarters None = true
 is_quarters (Some a) = nat_lt 0 a.den && (a.num % (90 * a.den) == 0)
 
--- so many quarter turns, counterclockwise or clockwise
+-- this many quarter turns, counterclockwise or clockwise
 abbrev pub turns_by : Bool → ℕ → Turns
 turns_by clockwise n =
     if n % 4 == 0 then T0

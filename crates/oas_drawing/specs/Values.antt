@@ -1,70 +1,29 @@
 -- What a record gives to each modal variable, by the records before it (SEMI P39, Modal variables). They are listed newest first.
-use Rattle.std.specs.Prelude.{ℕ, ℤ, pos, List, ◌∷◌, Option, None, Some, Bool, true, false, cond, unwrap_or}
+use Rattle.std.specs.Prelude.{ℕ, ℤ, pos, List, ◌∷◌, Option, None, Some, Bool, false, cond, unwrap_or}
 use Rattle.std.specs.Option.{option_map}
 use Rattle.oas_shape.specs.declared.repetitions.Repetition.{Repetition}
 use Rattle.oas_shape.specs.declared.repetitions.RepField.{RepField}
 use Rattle.oas_shape.specs.declared.repetitions.RepField.TheVariants.{New}
-use Rattle.oas_shape.specs.Polylines.{Polyline}
-use Rattle.oas_record.specs.declared.references.CellRef.{CellRef}
-use Rattle.oas_record.specs.declared.references.TextRef.{TextRef}
 use Rattle.oas_record.specs.declared.paths.Extension.{Extension}
 use Rattle.oas_record.specs.declared.paths.Extension.TheVariants as extension
 use Rattle.oas_record.specs.declared.paths.Extensions.{Extensions}
 use Rattle.oas_record.specs.declared.records.Record.{Record}
-use Rattle.oas_record.specs.declared.records.Record.TheVariants.{XyAbsolute, XyRelative, Placement, Text, Rectangle, Polygon, Path, Circle}
 use Rattle.oas_drawing.specs.Looking.{latest}
+use Rattle.oas_drawing.specs.GivenFields.{GivenFields, given_fields}
 
-abbrev pub gives_layer : Record → List Record → Option ℕ
-gives_layer (Rectangle r) before = r.layer
-gives_layer (Polygon p) before = p.layer
-gives_layer (Path p) before = p.layer
-gives_layer (Circle c) before = c.layer
-gives_layer _ before = None
+-- a field of the record, as it is given
+abbrev pub field : {A : Type 0} → (GivenFields → Option A) → Record → List Record → Option A
+field of r before = of (given_fields r)
 
-abbrev pub gives_datatype : Record → List Record → Option ℕ
-gives_datatype (Rectangle r) before = r.datatype
-gives_datatype (Polygon p) before = p.datatype
-gives_datatype (Path p) before = p.datatype
-gives_datatype (Circle c) before = c.datatype
-gives_datatype _ before = None
-
-abbrev pub gives_textlayer : Record → List Record → Option ℕ
-gives_textlayer (Text t) before = t.textlayer
-gives_textlayer _ before = None
-
-abbrev pub gives_texttype : Record → List Record → Option ℕ
-gives_texttype (Text t) before = t.texttype
-gives_texttype _ before = None
-
--- a name, or a number as such
-abbrev pub gives_cell : Record → List Record → Option CellRef
-gives_cell (Placement p) before = p.cell
-gives_cell _ before = None
-
-abbrev pub gives_string : Record → List Record → Option TextRef
-gives_string (Text t) before = t.string
-gives_string _ before = None
-
-abbrev pub gives_width : Record → List Record → Option ℕ
-gives_width (Rectangle r) before = r.width
-gives_width _ before = None
+abbrev pub given_width : Record → List Record → Option ℕ
+given_width = field (λ g. g.width)
 
 -- a square gives its width, which may be an earlier record's
-abbrev pub gives_height : Record → List Record → Option ℕ
-gives_height (Rectangle r) before = cond r.square (latest gives_width (Rectangle r ∷ before)) r.height
-gives_height _ before = None
+abbrev pub given_height : Record → List Record → Option ℕ
+given_height r before = cond (given_fields r).square (latest given_width (r ∷ before)) (given_fields r).height
 
-abbrev pub gives_polygon_points : Record → List Record → Option Polyline
-gives_polygon_points (Polygon p) before = p.points
-gives_polygon_points _ before = None
-
-abbrev pub gives_path_points : Record → List Record → Option Polyline
-gives_path_points (Path p) before = p.points
-gives_path_points _ before = None
-
-abbrev pub gives_half_width : Record → List Record → Option ℕ
-gives_half_width (Path p) before = p.half_width
-gives_half_width _ before = None
+abbrev pub given_half_width : Record → List Record → Option ℕ
+given_half_width = field (λ g. g.half_width)
 
 -- an extension as a number, by the half-width of its path; the modal one gives none
 abbrev pub extension_number : Option ℕ → Extension → Option ℤ
@@ -82,38 +41,17 @@ end_number half_width None = None
 end_number half_width (Some e) = extension_number half_width e.end
 
 -- the number that results, by a half-width that may be an earlier record's
-abbrev pub gives_start : Record → List Record → Option ℤ
-gives_start (Path p) before = start_number (latest gives_half_width (Path p ∷ before)) p.extensions
-gives_start _ before = None
+abbrev pub given_start : Record → List Record → Option ℤ
+given_start r before = start_number (latest given_half_width (r ∷ before)) (given_fields r).extensions
 
-abbrev pub gives_end : Record → List Record → Option ℤ
-gives_end (Path p) before = end_number (latest gives_half_width (Path p ∷ before)) p.extensions
-gives_end _ before = None
-
-abbrev pub gives_radius : Record → List Record → Option ℕ
-gives_radius (Circle c) before = c.radius
-gives_radius _ before = None
+abbrev pub given_end : Record → List Record → Option ℤ
+given_end r before = end_number (latest given_half_width (r ∷ before)) (given_fields r).extensions
 
 -- type 0 gives none, as it means the modal one
 abbrev pub new_repetition : Option RepField → Option Repetition
 new_repetition (Some (New repetition)) = Some repetition
 new_repetition _ = None
 
-abbrev pub gives_repetition : Record → List Record → Option Repetition
-gives_repetition (Placement p) before = new_repetition p.spot.repetition
-gives_repetition (Text t) before = new_repetition t.spot.repetition
-gives_repetition (Rectangle r) before = new_repetition r.spot.repetition
-gives_repetition (Polygon p) before = new_repetition p.spot.repetition
-gives_repetition (Path p) before = new_repetition p.spot.repetition
-gives_repetition (Circle c) before = new_repetition c.spot.repetition
-gives_repetition _ before = None
-
--- xy-mode: whether coordinates are relative
-abbrev pub gives_mode : Record → List Record → Option Bool
-gives_mode XyAbsolute before = Some false
-gives_mode XyRelative before = Some true
-gives_mode _ before = None
-
--- absolute where no record says
+-- coordinates are absolute where no record says
 abbrev pub is_relative : List Record → Bool
-is_relative rs = unwrap_or (latest gives_mode rs) false
+is_relative rs = unwrap_or (latest (field (λ g. g.relative)) rs) false

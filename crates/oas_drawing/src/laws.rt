@@ -1,4 +1,4 @@
-//! What the definitions say: each function's contract is a law, and its body is empty.
+//! What the definitions say. Each function's contract is a law, and its body is empty.
 ghost use Rattle.std.specs.Prelude.{◌≡◌, List, [], ◌∷◌, ◌++◌, reverse, ℕ, ℤ, Bool, ◌+◌, ◌<◌, Option, None, Some};
 ghost use Rattle.oas_shape.specs.declared.repetitions.Repetition.{Repetition};
 ghost use Rattle.oas_shape.specs.Polylines.{Polyline};
@@ -20,7 +20,7 @@ ghost use Rattle.oas_drawing.specs.declared.drawn.Drawn.{Drawn};
 ghost use Rattle.oas_drawing.specs.Drawn.{drawn_cmp};
 ghost use Rattle.oas_drawing.specs.Laws.DrawnLaws.{derived_cmp};
 
-/// One more record changes the modal variables by what it gives alone. The records are listed oldest first.
+/// How one more record changes the modal variables. The records are listed oldest first.
 pub fn one_more_record()
     ensures { (rs : List OneRecord) (r : OneRecord) → modal_of (reverse (rs ++ r ∷ [])) ≡ stepped (modal_of (reverse rs)) r }
 {}
@@ -43,7 +43,8 @@ pub fn drawn_order()
     ensures exact { (a b : Drawn) → drawn_cmp a b ≡ Equal → a ≡ b }
 {}
 
-/// An element record is refused copy by copy: for all but the places of its copies, then for the place of one of them.
+/// An element record is refused copy by copy: first for all except the places of its copies, then for the place of one of
+/// them.
 pub fn refused_copy_by_copy()
     ensures before { (limits : Limits) (count weight : ℕ) (m : ModalState) (r : OneRecord) (kind : Kind) (why : Why) → kind_of r ≡ Some kind →
         kind_reason limits count weight m kind (repeats r) ≡ Some why → draw_reason limits count weight m r ≡ Some why }
@@ -64,7 +65,7 @@ pub fn one_more_copy()
         ≡ copies_at (modal_of (r ∷ before)) r (first_offsets (modal_of (r ∷ before)) r (number_if (repeats r) (modal_of (r ∷ before)).repetition)) }
 {}
 
-/// The copies of a record stand on its places, as many on each.
+/// The copies of a record are on its places, equally many on each.
 pub fn copies_on_places()
     ensures { (repeated : Bool) (modal : Option Repetition) → ArePlaces (number_if repeated modal) (offset_if repeated modal) (places_if repeated modal) }
 {}

@@ -1,4 +1,4 @@
-//! An element that stands once and has a name, which is still that of a modal variable.
+//! An element without a repetition that has a name, which is still that of a modal variable.
 ghost use Rattle.std.specs.Prelude.{◌≡◌, Some, IfOk};
 ghost use Rattle.oas_drawing.specs.Drawn.{weight_so_far};
 ghost use Rattle.oas_drawing.specs.Drawing.{placement_at, text_at};
@@ -9,7 +9,8 @@ use oas_layout::{Element, Turns};
 use oas_record::{CellRef, TextRef};
 use std::alloc::{AllocError, Global};
 
-/// A placement or a text that stands once, on the grid. Its name, or the number for one, is borrowed, so that it takes no memory.
+/// A placement or a text without a repetition, on the grid. Its name, or the number for one, is borrowed, so it allocates
+/// nothing.
 #[derive(Debug, Drop)]
 pub enum DrawnOnce<'a> {
     Placement {
@@ -29,7 +30,7 @@ pub enum DrawnOnce<'a> {
 }
 
 impl<'a> DrawnOnce<'a> {
-    /// What it weighs, as long as its number has no name.
+    /// Its weight, as long as its number has no name.
     pub fn weight(&self) -> u64
         ensures { result ≡ weight_so_far (drawn_once self.now) }
     {

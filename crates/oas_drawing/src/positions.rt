@@ -5,8 +5,8 @@ ghost use Rattle.oas_drawing.specs.Modal.{moved, moved_by, origin};
 
 use oas_record::Spot;
 
-/// Where the latest element of a class stands, in grid steps. It may be past the limits, where the record that gave it is
-/// to be refused.
+/// The position of the latest element of a class, in grid steps. It may exceed the limits, where the record that gave it will
+/// be refused.
 #[derive(Clone, Copy, Debug, PartialEq, Eq)]
 pub struct Position {
     pub x: i128,
@@ -14,14 +14,14 @@ pub struct Position {
 }
 
 impl Position {
-    /// Where a CELL puts it.
+    /// The position that a CELL sets.
     pub(crate) fn origin() -> Position
         ensures { result ≡ origin }
     {
         Position { x: 0, y: 0 }
     }
 
-    /// The position of the next element of the class, by the coordinates that it gives.
+    /// The position of the next element of the class, from the coordinates that it gives.
     pub(crate) fn moved_by(&self, relative: bool, spot: &Spot) -> Position
         requires { IsNear self.now }
         ensures { result ≡ moved_by relative self.now spot.now }
@@ -41,7 +41,7 @@ impl Position {
     }
 }
 
-/// A coordinate after another may be given: in relative mode that is added to it.
+/// An optional coordinate after another: in relative mode that is added to it.
 fn moved(relative: bool, at: i128, given: Option<i64>) -> i128
     requires { IsWithin at }
     ensures { result ≡ moved relative at given }

@@ -28,7 +28,7 @@ fn is_quarters(angle: Option<Real>) -> bool
     }
 }
 
-/// So many quarter turns, counterclockwise or clockwise.
+/// This many quarter turns, counterclockwise or clockwise.
 fn turns_by(clockwise: bool, quarters: u128) -> Turns
     ensures { result ≡ turns_by clockwise quarters }
 {

@@ -11,7 +11,7 @@ module _ {X : Type 0} where
   joined-more [] xs = append-nil xs
   joined-more (ys ∷ yss) xs = ap (λ (zs : List X). ys ++ zs) (joined-more yss xs) ∙ sym (append_assoc ys (joined yss) xs)
 
-  -- an item more in the last block
+  -- one more item in the last block
   pub in_last : (full : List (List X)) (last news whole : List X) (x : X) → news ≡ last ++ x ∷ [] → joined full ++ last ≡ whole → joined full ++ news ≡ whole ++ x ∷ []
   in_last full last news whole x e v = ap (λ (xs : List X). joined full ++ xs) e ∙ sym (append_assoc (joined full) last (x ∷ [])) ∙ ap (λ (xs : List X). xs ++ x ∷ []) v
 

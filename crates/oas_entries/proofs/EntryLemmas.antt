@@ -1,4 +1,4 @@
--- Reading the entry that stands first, in the words of the code.
+-- Reading the first entry, as the code does.
 use Rattle.std.specs.Prelude.{◌≡◌, ℕ, ◌+◌, ◌<◌, ◌≤◌, List, [], ◌∷◌, ◌++◌, length, take, drop, cond, nat_lt, slice_index, suc, zero, refl, true}
 use Rattle.std.specs.Int.{w64, from_le_bytes}
 use Rattle.std.proofs.lemmas.Bool.{lt-ltb}
@@ -55,7 +55,7 @@ drop-drop (suc m) n (b ∷ bytes) = let e : suc (m + n) ≡ suc m + n = omega ar
 pub later : (m n : ℕ) (bytes others : List ℕ) → others ≡ drop m bytes → drop n others ≡ drop (m + n) bytes
 later m n bytes others e = ap (λ (bs : List ℕ). drop n bs) e ∙ drop-drop m n bytes
 
--- an entry more, at the end of a block of which some were taken
+-- one more entry, at the end of a block from which some were taken
 pub appended : (start : ℕ) (olds news : List ℕ) (p : Entry) → start ≤ length olds → IsBlock (drop start olds) → Fits p → news ≡ olds ++ entry_bytes p →
     IsMore (drop start news) (entries (drop start olds) ++ p ∷ [])
 appended start olds news p h b fits e =

@@ -1,4 +1,4 @@
--- Two runs becoming one, step by step.
+-- Two runs that are merged, step by step.
 use Rattle.std.specs.Prelude.{◌≡◌, ℕ, ◌+◌, ◌*◌, ◌<◌, List, [], ◌∷◌, ◌++◌, refl}
 use Rattle.std.proofs.Common.{sym, ◌∙◌, ap, arith, subst, append_assoc, append-nil, cond, length}
 use Rattle.std.specs.Cmp.{IsTotalOrder}
@@ -54,7 +54,7 @@ module _ {K : Type 0} where
   pub IsRun-recount : (R : K → K → Ordering) (os : List (K × ℕ)) (k : K) (n m : ℕ) (us : List (K × ℕ)) → 0 < m → IsRun R (os ++ (k, n) ∷ us) → IsRun R (os ++ (k, m) ∷ us)
   IsRun-recount R os k n m us h s = record { ascending = sorted-recount R os k n m us s.ascending; positive = positive-recount os k n m us h s.positive }
 
-  -- what comes at the end of a run is positive
+  -- what comes to the end of a run is positive
   pub positive_at : (os : List (K × ℕ)) (p : K × ℕ) (us : List (K × ℕ)) → Positive (os ++ p ∷ us) → 0 < p.1
   positive_at [] p us h = h.0
   positive_at (x ∷ xs) p us h = positive_at xs p us h.1
@@ -76,7 +76,7 @@ module _ {K : Type 0} where
     same = λ g. omega (arith, m.same g, total-append g os (us ++ vs), total-append g os (vs ++ us), total-append g us vs, total-append g vs us);
   }
 
-  -- equal heads move us one
+  -- equal heads move as one
   pub merge-both : {R : K → K → Ordering} → IsTotalOrder R → CmpEqualImpliesEq R → (os : List (K × ℕ)) (p q : K × ℕ) (us vs whole : List (K × ℕ)) → R p.0 q.0
       ≡ Equal → IsMerging R os (p ∷ us) (q ∷ vs) whole → IsMerging R (os ++ (p.0, p.1 + q.1) ∷ []) us vs whole
   merge-both {R} o exact os p q us vs whole e m =
@@ -131,7 +131,7 @@ module _ {K : Type 0} where
   pub run_back : (R : K → K → Ordering) (os us : List (K × ℕ)) → IsRun R (os ++ us) → IsRun R us
   run_back R os us h = record { ascending = sorted_back R os us h.ascending; positive = positive_back os us h.positive }
 
-  -- ---- the steps as the loop meets them
+  -- ---- the steps in the form of the loop
 
   -- the head of from goes to the end of to
   abbrev pub Moved : List (K × ℕ) → List (K × ℕ) → List (K × ℕ) → List (K × ℕ) → Type 0
@@ -168,7 +168,7 @@ module _ {K : Type 0} where
       let two = subst (λ (xs : List (K × ℕ)). IsMerging R os (p ∷ us') xs whole) f one in
       subst (λ (xs : List (K × ℕ)). IsMerging R xs us' vs' whole) (sym z) (merge-both o exact os p q us' vs' whole (t.equal p q us' vs' e f) two)
 
-  -- what a refusal leaves
+  -- what is left if out of memory
   pub step-none : (R : K → K → Ordering) (os us vs os' us' vs' whole : List (K × ℕ)) → os' ≡ os → us' ≡ us → vs' ≡ vs → IsMerging R os us vs whole → IsMerging R os' us' vs' whole
   step-none R os us vs os' us' vs' whole a b c m =
       subst (λ (xs : List (K × ℕ)). IsMerging R xs us' vs' whole) (sym a)

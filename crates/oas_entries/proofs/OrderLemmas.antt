@@ -16,7 +16,7 @@ bytes-take zero xs h = tt
 bytes-take (suc n) [] h = tt
 bytes-take (suc n) (x ∷ xs) h = (h 0, bytes-take n xs (λ k. h (suc k)))
 
--- a number, and bytes behind it, the first of them highest
+-- a number, followed by bytes, the first of them highest
 abbrev number_on : ℕ → List ℕ → ℕ
 number_on n [] = n
 number_on n (x ∷ xs) = number_on (n * 256 + x) xs
@@ -27,7 +27,7 @@ less_on m n [] (y ∷ ys) l b h = absurd (omega (arith, l))
 less_on m n (x ∷ xs) [] l b h = absurd (omega (arith, l))
 less_on m n (x ∷ xs) (y ∷ ys) l b h = less_on (m * 256 + x) (n * 256 + y) xs ys (omega (arith, l)) b.1 (omega (arith, b.0, h))
 
--- as many bytes are ordered as their numbers, and where these tie what comes behind decides
+-- equally many bytes are ordered as their numbers, and where these tie what follows decides
 order_on : (n : ℕ) (xs ys us vs : List ℕ) → length xs ≡ length ys → AreBytes xs → AreBytes ys
     → slice_cmp nat_cmp (xs ++ us) (ys ++ vs) ≡ ordering_then (nat_cmp (number_on n xs) (number_on n ys)) (slice_cmp nat_cmp us vs)
 order_on n [] [] us vs l a b = sym (ap (λ r. ordering_then r (slice_cmp nat_cmp us vs)) (tied_itself nat_cmp_total n))
@@ -91,7 +91,7 @@ order_apart xs ys m n a b h k e f d =
     ] refl in
     sym (order_by xs ys m n a b h k e f ∙ is)
 
--- and where they are the same, what comes behind does
+-- and where they are the same, what follows does
 pub order_behind : (xs ys : List ℕ) (m n : ℕ) → ((k : ℕ) → get_or xs k 0 < 256) → ((k : ℕ) → get_or ys k 0 < 256) → 8 ≤ length xs → 8 ≤ length ys
     → m ≡ from_be_bytes w64 (take 8 xs) → n ≡ from_be_bytes w64 (take 8 ys) → m ≡ n → slice_cmp nat_cmp (drop 8 xs) (drop 8 ys) ≡ slice_cmp nat_cmp xs ys
 order_behind xs ys m n a b h k e f s =

@@ -1,4 +1,4 @@
--- What blocks in a row come to.
+-- What blocks in a row hold.
 use Rattle.std.specs.Prelude.{◌≡◌, List, [], ◌∷◌, ◌++◌}
 use Rattle.std.specs.List.{AllByRecursion}
 

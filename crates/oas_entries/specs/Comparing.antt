@@ -14,13 +14,13 @@ same_entry p q = pointwise ◌==◌ p.0 q.0 && (p.1 == q.1)
 pub same_entry_per : IsPartialEquivalence (pointwise same_entry)
 same_entry_per = lists_per (and_per (on_per (λ (p : Entry). p.0) (partial_equiv_from_equiv nat_list_eq_equiv)) (on_per (λ (p : Entry). p.1) (partial_equiv_from_equiv nat_eq_equiv)))
 
--- the test holds of equal entries and no others
+-- the test holds exactly for equal entries
 same_entry_decides : (p q : Entry) → Decides (same_entry p q) (p ≡ q)
 same_entry_decides p q = (
   λ e. λ i. ((bytes_decides p.0 q.0).0 (first_so _ (p.1 == q.1) e) i, (unsigned_Decides p.1 q.1).0 (second_so (pointwise ◌==◌ p.0 q.0) _ e) i),
   λ e. λ i. (bytes_decides p.0 q.0).1 (ap (λ (u : Entry). u.0) e) i && (unsigned_Decides p.1 q.1).1 (ap (λ (u : Entry). u.1) e) i,
 )
 
--- and that of lists of equal lists
+-- and that of lists for equal lists
 pub same_entries_decide : (es fs : List Entry) → Decides (pointwise same_entry es fs) (es ≡ fs)
 same_entries_decide = pointwise_decides same_entry_decides

@@ -1,4 +1,4 @@
--- How keys with counts stand in a block of bytes.
+-- How keys with counts are laid out in a block of bytes.
 use Rattle.std.specs.Prelude.{◌≡◌, ℕ, ◌+◌, ◌-◌, ◌<◌, ◌^◌, List, [], ◌∷◌, ◌++◌, length, take, drop, cond, nat_lt, slice_index, zero, suc}
 use Rattle.std.specs.Int.{w64, to_le_bytes, from_le_bytes}
 use Rattle.std.specs.Borrow.{Bor}
@@ -21,29 +21,29 @@ abbrev pub block_bytes : List Entry → List ℕ
 block_bytes [] = []
 block_bytes (p ∷ ps) = entry_bytes p ++ block_bytes ps
 
--- what can be written so
+-- what can be written like this
 abbrev pub Fits : Entry → Type 0
 Fits p = (length p.0 < 2 ^ 64) × (p.1 < 2 ^ 64)
 
--- the number that stands first, and how many bytes it takes
+-- the first number, and how many bytes it takes
 abbrev pub number_at : List ℕ → ℕ
 number_at bytes = cond (nat_lt (slice_index bytes 0) 255) (slice_index bytes 0) (from_le_bytes w64 (take 8 (drop 1 bytes)))
 
 abbrev pub number_size : List ℕ → ℕ
 number_size bytes = cond (nat_lt (slice_index bytes 0) 255) 1 9
 
--- where the key of the entry that stands first begins, and where the entry ends
+-- where the key of the first entry begins, and where the entry ends
 abbrev pub key_start : List ℕ → ℕ
 key_start bytes = number_size bytes + number_size (drop (number_size bytes) bytes)
 
 abbrev pub entry_end : List ℕ → ℕ
 entry_end bytes = key_start bytes + number_at bytes
 
--- the entry that stands first
+-- the first entry
 abbrev pub entry_at : List ℕ → Entry
 entry_at bytes = (take (number_at bytes) (drop (key_start bytes) bytes), number_at (drop (number_size bytes) bytes))
 
--- the entries that stand after so many bytes
+-- the entries after this many bytes
 abbrev pub entries_after : ℕ → List ℕ → List Entry
 entries_after skipped [] = []
 entries_after zero (b ∷ bytes) = entry_at (b ∷ bytes) ∷ entries_after (entry_end (b ∷ bytes) - 1) bytes

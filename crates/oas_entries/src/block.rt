@@ -1,4 +1,4 @@
-//! A block of bytes that holds entries, of which the first may have been taken.
+//! A block of bytes that holds entries, the first of which may have been taken.
 
 ghost use Rattle.std.specs.Prelude.{◌≡◌, ◌+◌, ◌<◌, ◌≤◌, [], ◌∷◌, ◌++◌, List, ℕ, OnOk, OnErr, IfOk, IfSome, IfNone, IsTrue, IsFalse, length};
 ghost use Rattle.oas_entries.specs.Entries.{IsBlock, entries};
@@ -13,7 +13,7 @@ pub const BLOCK: usize = 65536;
 /// How many bytes of an entry are not its key, at most.
 pub const MARGIN: usize = 18;
 
-/// Entries in a row of bytes, seen as the list of those that are left.
+/// Entries in a row of bytes; contracts see the list of those that are left.
 #[derive(Drop)]
 pub struct Block {
     bytes: Vec<u8>,
@@ -42,7 +42,7 @@ impl Block {
         }
     }
 
-    /// No entries, and room for one with a key of so many bytes, or for many.
+    /// No entries, with room for one with a key of this many bytes, or for many.
     pub(crate) fn with_room(alloc: Global, key_len: usize) -> Result<Block, AllocError>
         ensures { IfOk result (λ block. block ≡ []) }
     {
@@ -51,7 +51,7 @@ impl Block {
         Ok(Block { bytes, start: 0 })
     }
 
-    /// No entries, and room for so many bytes, but for no more than a block holds.
+    /// No entries, with room for this many bytes, but for no more than a block holds.
     pub(crate) fn with_bytes(alloc: Global, bytes: usize) -> Result<Block, AllocError>
         ensures { IfOk result (λ block. block ≡ []) }
     {
@@ -64,7 +64,7 @@ impl Block {
         self.bytes.len()
     }
 
-    /// Takes all entries out, and keeps the memory.
+    /// Drops all entries, and keeps the memory.
     pub fn clear(&mut self)
         ensures { self.new ≡ [] }
     {
@@ -80,7 +80,7 @@ impl Block {
         is_over(self.left())
     }
 
-    /// Whether an entry more belongs into this block. Where there are none it does.
+    /// Whether one more entry fits into this block. Where there are none it does.
     pub(crate) fn has_room(&self, key_len: usize) -> bool
         ensures { IsFalse result → self.now ≡ [] → ⊥ }
     {
@@ -98,7 +98,7 @@ impl Block {
         Ok(())
     }
 
-    /// Gives back idle memory, but for room for so many bytes more.
+    /// Gives back idle memory, except room for this many more bytes.
     pub fn fit(&mut self, more: usize)
         ensures { self.new ≡ self.old }
     {

@@ -1,4 +1,4 @@
-//! Whether two runs are of the same entries.
+//! Whether two runs have the same entries.
 
 ghost use Rattle.std.specs.Prelude.{◌≡◌};
 ghost use Rattle.std.specs.Cmp.Lexicographic.{pointwise};
@@ -7,7 +7,7 @@ ghost use Rattle.oas_entries.specs.Comparing.{same_entry, same_entry_per};
 use crate::entries::Entries;
 use crate::run::Run;
 
-/// Whether the same entries are left of both, in one order.
+/// Whether the entries that are left of both are the same, in the same order.
 fn same_entries(one: Entries<'_>, other: Entries<'_>) -> bool
     ensures { result ≡ pointwise same_entry one.entry other.entry }
 {

@@ -11,7 +11,7 @@ use crate::entry::{after, read_entry};
 use std::collections::VecDeque;
 use std::marker::Model;
 
-/// Keys ascending, each with its count; seen as the list of those to come.
+/// Keys ascending, each with its count; contracts see the list of those to come.
 #[derive(Drop)]
 pub struct Entries<'a> {
     left: &'a [u8],
@@ -32,7 +32,7 @@ impl<'a> Model for Entries<'a> {
 }
 
 impl<'a> Entries<'a> {
-    /// Those of these bytes, and then those of these blocks.
+    /// The entries of these bytes, and then those of these blocks.
     pub(crate) fn of(left: &'a [u8], blocks: &'a VecDeque<Block>) -> Entries<'a>
         requires left { IsBlock left.now }
         requires blocks { NoneEmpty blocks.now.items }

@@ -6,7 +6,7 @@ ghost use Rattle.oas_entries.specs.Entries.{number_bytes, entry_bytes, number_at
 use crate::room::reserve_more;
 use std::alloc::AllocError;
 
-/// What a byte says before a number of eight bytes. Numbers below it are one byte.
+/// The byte that announces a number of eight bytes. Numbers below it are one byte.
 const LONG: u8 = 255;
 
 /// How many bytes of an entry are not its key, where both numbers are one byte.
@@ -15,7 +15,7 @@ pub(crate) const SHORT_HEAD: usize = 2;
 /// The same where both numbers are long.
 const LONG_HEAD: usize = 18;
 
-/// Puts a number at the end, or a part of it.
+/// Puts a number at the end, or a prefix of it.
 fn push_number(bytes: &mut Vec<u8>, number: u64) -> Result<(), AllocError>
     ensures ok { OnOk result (bytes.new.items ≡ bytes.old.items ++ number_bytes number) }
     ensures err { OnErr result (take (length bytes.old.items) bytes.new.items ≡ bytes.old.items) }
@@ -32,7 +32,7 @@ fn push_number(bytes: &mut Vec<u8>, number: u64) -> Result<(), AllocError>
     bytes.extend_from_slice(&number.to_le_bytes())
 }
 
-/// Puts an entry at the end, or a part of it.
+/// Puts an entry at the end, or a prefix of it.
 fn push_parts(bytes: &mut Vec<u8>, key: &[u8], times: u64) -> Result<(), AllocError>
     ensures ok { OnOk result (bytes.new.items ≡ bytes.old.items ++ entry_bytes (key.now, times)) }
     ensures err { OnErr result (take (length bytes.old.items) bytes.new.items ≡ bytes.old.items) }
@@ -69,7 +69,7 @@ fn push_short(bytes: &mut Vec<u8>, len: u8, times: u8, key: &[u8]) -> Result<(),
     bytes.extend_from_slice(key)
 }
 
-/// Puts an entry at the end, or nothing. One whose numbers are a byte each, as nearly all are, asks for room once.
+/// Puts an entry at the end, or nothing. One whose numbers have a byte each, as nearly all do, reserves memory once.
 #[inline(always)]
 pub(crate) fn push_entry(bytes: &mut Vec<u8>, key: &[u8], times: u64) -> Result<(), AllocError>
     ensures ok { OnOk result (bytes.new.items ≡ bytes.old.items ++ entry_bytes (key.now, times)) }
@@ -88,7 +88,7 @@ struct Number {
     size: usize,
 }
 
-/// Reads the number that stands first.
+/// Reads the first number.
 fn read_number(bytes: &[u8]) -> Number
     requires some { 0 < length bytes.now }
     requires long { slice_index bytes.now 0 ≡ 255 → 9 ≤ length bytes.now }
@@ -108,7 +108,7 @@ fn read_number(bytes: &[u8]) -> Number
     Number { value, size: 9 }
 }
 
-/// The bytes after so many.
+/// The bytes after this many.
 #[inline(always)]
 pub fn after(bytes: &[u8], skipped: usize) -> &[u8]
     requires { skipped ≤ length bytes.now }
@@ -117,7 +117,7 @@ pub fn after(bytes: &[u8], skipped: usize) -> &[u8]
     &bytes[skipped..]
 }
 
-/// So many bytes after so many.
+/// This many bytes after this many.
 #[inline(always)]
 fn part(bytes: &[u8], skipped: usize, len: usize) -> &[u8]
     requires { skipped + len ≤ length bytes.now }
@@ -134,7 +134,7 @@ pub struct Entry<'a> {
     pub end: usize,
 }
 
-/// Whether no entry stands there.
+/// Whether there is no entry.
 pub(crate) fn is_over(bytes: &[u8]) -> bool
     ensures over { IsTrue result → entries bytes.now ≡ [] }
     ensures left { IsFalse result → entries bytes.now ≡ [] → ⊥ }
@@ -145,7 +145,7 @@ pub(crate) fn is_over(bytes: &[u8]) -> bool
     false
 }
 
-/// Reads the entry that stands first, whatever its numbers are.
+/// Reads the first entry, whatever its numbers are.
 #[inline(never)]
 fn read_long(bytes: &[u8]) -> Option<Entry<'_>>
     requires { IsBlock bytes.now }
@@ -169,7 +169,7 @@ fn read_long(bytes: &[u8]) -> Option<Entry<'_>>
     })
 }
 
-/// Reads the entry that stands first. One whose numbers are a byte each is read with no call.
+/// Reads the first entry. One whose numbers have a byte each is read without a call.
 #[inline(always)]
 pub fn read_entry(bytes: &[u8]) -> Option<Entry<'_>>
     requires { IsBlock bytes.now }

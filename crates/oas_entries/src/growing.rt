@@ -13,7 +13,7 @@ use std::collections::VecDeque;
 use std::marker::Model;
 use std::mem;
 
-/// Entries in blocks, of which the last one grows.
+/// Entries in blocks, the last of which grows.
 #[derive(Drop)]
 pub struct Growing {
     full: VecDeque<Block>,
@@ -45,7 +45,7 @@ impl Growing {
         }
     }
 
-    /// No entries, and at once the memory for so many bytes, or for a first block of them.
+    /// No entries, with memory for this many bytes, or for a first block of them, reserved at once.
     pub fn with_bytes(alloc: Global, bytes: usize) -> Result<Growing, AllocError>
         ensures { IfOk result (λ growing. growing ≡ []) }
     {
@@ -74,7 +74,7 @@ impl Growing {
         Ok(())
     }
 
-    /// Gives back idle memory of the last bytes, but for room for so many more.
+    /// Gives back idle memory of the last bytes, except room for this many more.
     pub fn fit(&mut self, more: usize)
         ensures { self.new ≡ self.old }
     {
@@ -112,7 +112,7 @@ impl Growing {
     }
 }
 
-/// How many bytes there are with an entry more, about: its numbers may take more.
+/// About how many bytes there are with one more entry: its numbers may take more.
 #[inline(always)]
 pub fn size_with(size: usize, key: &[u8]) -> usize {
     size.saturating_add(key.len()).saturating_add(SHORT_HEAD)

@@ -1,29 +1,29 @@
-//! Entries as bytes, in blocks and in runs: each is a key, which is bytes, and how often it is there.
+//! Entries as bytes, in blocks and in runs. An entry is a key, which is bytes, and its count.
 //!
 //! What this crate promises to the crates above it:
 //!
-//! - The bytes of an entry and a block's are in specs/Entries.antt; no bytes stand for two lists of entries (specs/Laws).
-//!   [`read_entry`] reads the entry that stands first, and [`after`] has the bytes behind it, which are entries again.
-//! - A [`Block`] is seen as the list of its entries that are left. One more is put at its end, or, for want of memory, none; it is
-//!   cleared, it gives back idle memory, and its first entry and the bytes that are left can be looked at.
-//! - A [`Run`] is seen as the list of its entries that are left. Its first entry can be looked at and taken; a block that is used
-//!   up is given back. [`Run::entries`] goes over all that are left, and `==` compares them (specs/Comparing.antt: it holds of
-//!   equal lists and no others).
-//! - A [`Growing`] run is written entry by entry into blocks of bytes; a refused growth leaves it as it was. It becomes a
-//!   [`Run`] of the same entries, for which no memory is wanted. Before that, [`Growing::entries`] goes over what was written,
-//!   in no order: whatever a key weighs, all weigh the same. [`Growing::fit`] changes nothing of the list.
-//! - [`merge_all`] moves two runs to the end of an empty one, the counts of a key that both have summed: what comes out is a
-//!   run, and of each key there is as much as before (`IsMerging`, specs/Merging.antt). Where memory is refused in the middle,
-//!   the three hold together what the two did.
-//! - [`order_of`] is how two keys compare, byte by byte; [`number_of`] is the number of eight bytes, the first of them highest.
+//! - The bytes of an entry and of a block are in specs/Entries.antt. No bytes spell two lists of entries (specs/Laws).
+//!   [`read_entry`] reads the first entry, and [`after`] returns the bytes after it, which are entries again.
+//! - Contracts see a [`Block`] as the list of its entries that are left. One more can be put at its end; if out of memory
+//!   none is. A block can be cleared, and gives back idle memory. Its first entry and the bytes that are left can be read.
+//! - Contracts see a [`Run`] as the list of its entries that are left. Its first entry can be read and taken; a block that is
+//!   used up is freed. [`Run::entries`] iterates over all that are left, and `==` compares them (specs/Comparing.antt: it
+//!   holds exactly for equal lists).
+//! - A [`Growing`] run is written entry by entry into blocks of bytes. If out of memory it is unchanged. It becomes a [`Run`]
+//!   of the same entries without allocation. Before that, [`Growing::entries`] iterates over what was written, in no order:
+//!   whatever a key weighs, all together weigh the same. [`Growing::fit`] doesn't change the list.
+//! - [`merge_all`] moves two runs to the end of an empty one, and adds the counts of a key that both have. The result is a
+//!   run, with as much of each key as before (`IsMerging`, specs/Merging.antt). If out of memory in the middle, the three
+//!   together hold what the two did.
+//! - [`order_of`] compares two keys byte by byte. [`number_of`] is the number of eight bytes, with the first of them highest.
 //!
-//! How many bytes an entry, a block or a run has, about, is said by [`size_with`], [`Block::size`], [`Growing::size`] and
-//! [`Run::size`]; they and [`BLOCK`], [`MARGIN`] and [`AT_ONCE`] are for deciding what to do, and no contract speaks of them, of
-//! time or of bytes.
+//! [`size_with`], [`Block::size`], [`Growing::size`] and [`Run::size`] say about how many bytes an entry, a block or a run
+//! has. They and [`BLOCK`], [`MARGIN`] and [`AT_ONCE`] only help to decide what to do: no contract is about them, about time
+//! or about bytes.
 //!
-//! How keys are compared: eight bytes at once, as the number of which the first is the highest byte, as long as both keys have
-//! eight more (proofs/OrderLemmas.antt: such numbers are ordered as their bytes), and then byte by byte. A merge gives back each
-//! block that it has read.
+//! How keys are compared: eight bytes at once, as a number with the first byte highest, as long as both keys have eight more
+//! (proofs/OrderLemmas.antt: such numbers are ordered as their bytes), and then byte by byte. A merge frees each block that
+//! it has read.
 #![tactic(auto)]
 
 mod block;

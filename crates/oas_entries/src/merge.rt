@@ -1,4 +1,4 @@
-//! Two runs as one.
+//! Two runs merged into one.
 
 ghost use Rattle.std.specs.Prelude.{◌≡◌, ◌+◌, ◌<◌, ◌^◌, [], ◌∷◌, ◌++◌, List, ℕ, OnOk, OnErr, IfNone, IfSome, IsTrue};
 ghost use Rattle.std.specs.Cmp.Lexicographic.{slice_cmp};
@@ -13,7 +13,7 @@ use crate::run::Run;
 use std::alloc::{AllocError, Global};
 use std::cmp::Ordering;
 
-/// Moves two runs to the end of one that is empty, their counts summed; or, for want of memory, a part of them.
+/// Moves two runs to the end of an empty one, and adds up their counts. If out of memory it moves only a part.
 fn merge(alloc: Global, left: &mut Run, right: &mut Run, to: &mut Growing) -> Result<(), AllocError>
     requires left { IsRun (slice_cmp nat_cmp) left.old }
     requires right { IsRun (slice_cmp nat_cmp) right.old }
@@ -33,8 +33,8 @@ fn merge(alloc: Global, left: &mut Run, right: &mut Run, to: &mut Growing) -> Re
     Ok(())
 }
 
-/// Moves two runs to the end of one that is empty, their counts summed, and says whether it came to the end of both. Where it
-/// did not, memory was refused, and what is left of them is still there.
+/// Moves two runs to the end of an empty one, adds up their counts, and returns whether it came to the end of both. Where it
+/// did not, it was out of memory, and what is left of them is still there.
 pub fn merge_all(alloc: Global, left: &mut Run, right: &mut Run, to: &mut Growing) -> bool
     requires left { IsRun (slice_cmp nat_cmp) left.old }
     requires right { IsRun (slice_cmp nat_cmp) right.old }
@@ -50,7 +50,7 @@ pub fn merge_all(alloc: Global, left: &mut Run, right: &mut Run, to: &mut Growin
     }
 }
 
-/// Which of two runs has the lesser first key; one that is at its end has none.
+/// Which of two runs has the lesser first key. A run at its end has none.
 fn order_of_heads(left: &Run, right: &Run) -> Option<Ordering>
     ensures none { IfNone result ((left.now ≡ []) × (right.now ≡ [])) }
     ensures less { IfSome result (λ order. order ≡ Less → Precedes (slice_cmp nat_cmp) left.now right.now) }
@@ -79,7 +79,7 @@ fn move_head(alloc: Global, from: &mut Run, to: &mut Growing) -> Result<(), Allo
     Ok(())
 }
 
-/// Moves the first entries of two runs, whose key is one, to the end of another as one entry, or nothing.
+/// Moves the first entries of two runs, which have the same key, to the end of another as one entry, or nothing.
 #[inline(never)]
 fn join_heads(
     alloc: Global,

@@ -11,7 +11,7 @@ use std::cmp::Ordering;
 /// How many bytes are compared at once.
 pub const AT_ONCE: usize = 8;
 
-/// The first eight bytes as a number, the first of them highest. Such numbers are ordered as their bytes.
+/// The first eight bytes as a number, with the first of them highest. Such numbers are ordered as their bytes.
 #[inline(always)]
 pub fn number_of(bytes: &[u8]) -> u64
     requires { 8 ≤ length bytes.now }
@@ -23,7 +23,7 @@ pub fn number_of(bytes: &[u8]) -> u64
     ])
 }
 
-/// How two keys compare, byte by byte. Where one is the other's beginning, the way is longer.
+/// How two keys compare, byte by byte. Where one is a proper prefix of the other, the longer is greater.
 #[inline(always)]
 fn order_of_few(one: &[u8], other: &[u8]) -> Ordering
     ensures { result ≡ slice_cmp nat_cmp one.now other.now }

@@ -4,14 +4,14 @@ ghost use Rattle.std.specs.Prelude.{◌≡◌, ◌+◌, ◌≤◌, OnOk, vec_len
 
 use std::alloc::AllocError;
 
-/// Bytes are asked for in lots of so many, at least.
+/// Memory is reserved for at least this many bytes at a time.
 const LEAST: usize = 64;
 
-/// Which part of the bytes that are there is asked for at once: a quarter. So bytes are moved a few times each while they grow,
-/// and of many at most a fifth is idle.
+/// How much of the present size is reserved at once: a quarter. So bytes are moved only a few times each while they grow, and
+/// at most a fifth of many bytes is idle.
 const PART: usize = 4;
 
-/// Makes room for so many bytes more.
+/// Makes room for this many more bytes.
 #[inline(always)]
 pub(crate) fn reserve_more(bytes: &mut Vec<u8>, more: usize) -> Result<(), AllocError>
     ensures items { bytes.new.items ≡ bytes.old.items }
@@ -23,7 +23,7 @@ pub(crate) fn reserve_more(bytes: &mut Vec<u8>, more: usize) -> Result<(), Alloc
     grow(bytes, more)
 }
 
-/// Takes room for so many bytes more, or for a part of what is there, where that is more.
+/// Reserves room for this many more bytes, or for a part of the present size, where that is more.
 #[inline(never)]
 fn grow(bytes: &mut Vec<u8>, more: usize) -> Result<(), AllocError>
     ensures items { bytes.new.items ≡ bytes.old.items }

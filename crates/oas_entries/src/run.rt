@@ -9,7 +9,7 @@ use crate::entry::Entry;
 use std::collections::VecDeque;
 use std::marker::Model;
 
-/// Entries in blocks, seen as the list of those that are left. A block that is used up is given back.
+/// Entries in blocks; contracts see the list of those that are left. A block that is used up is freed.
 #[derive(Drop)]
 pub struct Run {
     first: Block,
@@ -30,7 +30,7 @@ impl Model for Run {
 }
 
 impl Run {
-    /// The entries of these blocks, of which none but the first may be empty.
+    /// The entries of these blocks. None except the first may be empty.
     pub(crate) fn of(first: Block, rest: VecDeque<Block>, size: usize) -> Run
         requires rest { NoneEmpty rest.items }
         requires first { first ≡ [] → rest.items ≡ [] }
@@ -39,7 +39,7 @@ impl Run {
         Run { first, rest, size }
     }
 
-    /// How many bytes it was made of, about.
+    /// About how many bytes it was made of.
     pub fn size(&self) -> usize {
         self.size
     }

@@ -1,5 +1,5 @@
--- How a number is heard in a line that is read byte by byte. What is heard in the lines of runs, the contract of
--- `number_heard` says of whole lines.
+-- How a number is recognized in a line that is read byte by byte. The contract of `number_recognized` says which number that is in
+-- the lines of runs.
 use Rattle.std.specs.Prelude.{ℕ, ◌+◌, ◌-◌, ◌*◌, min, nat_le, ◌&&◌, ◌==◌, Bool, Option, Some, None, if◌then◌else◌}
 use Rattle.oas_explain.specs.declared.hearing.Place.{Place}
 use Rattle.oas_explain.specs.declared.hearing.Place.TheVariants as place
@@ -20,10 +20,10 @@ hears (place.Number n) byte =
 hears (place.Behind n) byte = if byte == 97 then place.BehindA n else (if is_digit byte then place.Number (byte - 48) else anew byte)
 hears (place.BehindA n) byte = if byte == 116 then place.BehindAt n else anew byte
 hears (place.BehindAt n) byte = if byte == 32 then place.Offset n else anew byte
-hears (place.Offset n) byte = if is_digit byte then place.Offset n else (if byte == 10 then place.Ended n else anew byte)
+hears (place.Offset n) byte = if is_digit byte then place.Offset n else (if byte == 43 then place.Offset n else (if byte == 10 then place.Ended n else anew byte))
 hears (place.Ended n) byte = anew byte
 
--- the number of a line that ended so
+-- the number of a line that ended like this
 abbrev pub heard : Place → Option ℕ
 heard place.Elsewhere = None
 heard place.Blank = None

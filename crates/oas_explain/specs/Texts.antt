@@ -1,42 +1,48 @@
 -- The texts in which reasons are explained.
-use Rattle.std.specs.Prelude.{◌≡◌, ◌≢◌, ⊤, ℕ, List, [], ◌∷◌, ◌++◌, flat_map, codes, decimal, All, Option, Some, None, ◌⊎◌}
+use Rattle.std.specs.Prelude.{◌≡◌, ⊤, ℕ, List, [], ◌∷◌, ◌++◌, flat_map, codes, decimal, All, Option, Some, None, ◌⊎◌}
 use Rattle.std.specs.Borrow.{Bor}
 use Rattle.std.specs.Io.KnownBytes.{Appends}
-use Rattle.oas_command.specs.Runs.{AppendsFront}
-use Rattle.oas_explain.specs.declared.reasons.Reason.{Reason}
+use Rattle.oas_command.specs.Runs.{AppendsPrefix}
+use Rattle.oas_num.specs.declared.sentences.Reason.{Reason}
 
 -- N NAME, and below it its meaning and its remedy
 abbrev pub reason_text : Reason → List ℕ
 reason_text reason =
     decimal reason.number ++ (codes " " ++ (reason.name.now ++ (codes "\n  " ++ (reason.meaning.now ++ (codes "\n  " ++ (reason.remedy.now ++ codes "\n"))))))
 
--- those of several reasons, in their order
+-- those of several reasons, in order
 abbrev pub reasons_text : List Reason → List ℕ
 reasons_text reasons = flat_map reason_text reasons
 
--- a line with a reason's name and its meaning, and these words behind them
-abbrev pub explaining_line : List ℕ → Reason → List ℕ
-explaining_line words reason = codes "  = " ++ (reason.name.now ++ (codes ": " ++ (reason.meaning.now ++ (words ++ codes "\n"))))
+-- a line with a reason's name and its meaning, followed by these words; one with its remedy; and this advice below it
+abbrev pub explaining_lines : List ℕ → List ℕ → Reason → List ℕ
+explaining_lines words advice reason =
+    codes "  = " ++ (reason.name.now ++ (codes ": " ++ (reason.meaning.now ++ (words ++ (codes "\n  = " ++ (reason.remedy.now ++ (advice ++ codes "\n")))))))
 
--- it is one of the reasons, and the word is its number
-pub record IsOfNumber (reasons : List Reason) (word : List ℕ) (reason : Reason) : Type 0 where
+-- the word is the reason's number, or its name
+abbrev pub Calls : List ℕ → Reason → Type 0
+Calls word reason = (word ≡ decimal reason.number) ⊎ (word ≡ reason.name.now)
+
+-- it is one of the reasons, and the word is its number or its name
+pub record IsCalled (reasons : List Reason) (word : List ℕ) (reason : Reason) : Type 0 where
   pub before : List Reason
   pub behind : List Reason
   pub one_of : reasons ≡ before ++ reason ∷ behind
-  pub number : word ≡ decimal reason.number
+  pub called : Calls word reason
 
--- no reason has this number
+-- no reason has this number or this name
 abbrev pub IsOfNone : List Reason → List ℕ → Type 0
-IsOfNone reasons word = All (λ reason. word ≢ decimal reason.number) reasons
+IsOfNone reasons word = All (λ reason. Calls word reason → ⊥) reasons
 
--- status 0, and the reasons' texts were written; or status 1, and a front of them was
+-- status 0, and the reasons' texts were written; or status 1, and a prefix of them was
 abbrev pub AreExplained : {W : Type 0} → (W → Option (List ℕ)) → List Reason → W → ℕ → W → Type 0
 AreExplained contents reasons old status new =
-    ((status ≡ 0) × Appends (contents old) (contents new) (reasons_text reasons)) ⊎ ((status ≡ 1) × AppendsFront (contents old) (contents new) (reasons_text reasons))
+    ((status ≡ 0) × Appends (contents old) (contents new) (reasons_text reasons)) ⊎ ((status ≡ 1) × AppendsPrefix (contents old) (contents new) (reasons_text reasons))
 
--- all reasons without a word, the one whose number it is with one; or status 2, where there is none, and nothing was written
+-- all reasons without a word, the one with its number or name with one; or status 2, where there is none, and nothing was
+-- written
 abbrev pub Explains : {W : Type 0} → (W → Option (List ℕ)) → List Reason → Option (Bor (List ℕ)) → W → ℕ → W → Type 0
 Explains contents reasons None old status new = AreExplained contents reasons old status new
 Explains contents reasons (Some word) old status new =
-    ((reason : Reason) × IsOfNumber reasons word.now reason × AreExplained contents (reason ∷ []) old status new)
+    ((reason : Reason) × IsCalled reasons word.now reason × AreExplained contents (reason ∷ []) old status new)
     ⊎ (IsOfNone reasons word.now × (status ≡ 2) × (new ≡ old))

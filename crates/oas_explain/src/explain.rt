@@ -1,33 +1,32 @@
 //! The command `explain`.
 
-ghost use Rattle.std.specs.Prelude.{◌≡◌, ◌↔◌, None, IfSome, IsNone, IsTrue, OnOk, OnErr, Result, decimal};
+ghost use Rattle.std.specs.Prelude.{◌≡◌, ◌↔◌, None, IfSome, IsNone, IsTrue, OnOk, OnErr, Result};
 ghost use Rattle.std.specs.Io.KnownBytes.{Appends};
 ghost use Rattle.oas_num.specs.Outlets.{IsGiven, IsSent, failures_of};
 ghost use Rattle.oas_num.specs.Writing.{Writes};
-ghost use Rattle.oas_command.specs.Runs.{AppendsFront};
-ghost use Rattle.oas_explain.specs.Texts.{reasons_text, IsOfNumber, IsOfNone, AreExplained, Explains};
+ghost use Rattle.oas_command.specs.Runs.{AppendsPrefix};
+ghost use Rattle.oas_explain.specs.Texts.{reasons_text, Calls, IsCalled, IsOfNone, AreExplained, Explains};
 
-use crate::reasons::Reason;
 use crate::texts::put_reasons;
 use itoa::Buffer;
 use oas_command::{run_refused, write_line};
-use oas_num::{Outlet, Refusal, Sink, SinkFault, Why};
+use oas_num::{Outlet, Reason, Refusal, Sink, SinkFault, Why};
 use std::io::Write;
 
 /// The status of a run that did what was asked.
 const DONE: u8 = 0;
 
-/// The status of a word that is no reason's number.
+/// The status of a word that is no reason's number or name.
 const MISUSED: u8 = 2;
 
-/// What is said of such a word.
-const NO_REASON: &[u8] = b"error: no reason has this number; they are 1 to 34";
+/// The message for such a word.
+const NO_REASON: &[u8] = b"error: no reason has this number or name; `oascanon explain` lists all";
 
 /// The output's name in messages.
 const OUTPUT: &str = "standard output";
 
-/// Writes the reason whose number the word is, or all of them without one, to `out`, and answers the status of the command:
-/// 0; 1 where `out` failed; 2 where no reason has this number. Each of the last two is said on `err`.
+/// Writes the reason with the number or name of the word, or all of them without one, to `out`, and returns the status of the
+/// command: 0; 1 where `out` failed; 2 where no reason has that number or name. Each of the last two is said on `err`.
 pub fn run_explain<W: Write, E: Write>(
     reasons: &[Reason<'_>],
     word: Option<&str>,
@@ -48,7 +47,7 @@ pub fn run_explain<W: Write, E: Write>(
     }
 }
 
-/// Writes these reasons, and answers the status.
+/// Writes these reasons, and returns the status.
 fn explain<W: Write, E: Write>(reasons: &[Reason<'_>], out: &mut W, err: &mut E) -> u8
     ensures { AreExplained W.contents reasons.now out.old result out.new }
 {
@@ -61,10 +60,10 @@ fn explain<W: Write, E: Write>(reasons: &[Reason<'_>], out: &mut W, err: &mut E)
     }
 }
 
-/// Writes these reasons. Where the writer fails the answer is how many bytes it took.
+/// Writes these reasons. Where the writer fails it returns how many bytes it took.
 fn write_reasons<W: Write>(reasons: &[Reason<'_>], out: &mut W) -> Result<(), u64>
     ensures written { OnOk result (Appends (W.contents out.old) (W.contents out.new) (reasons_text reasons.now)) }
-    ensures cut_off { OnErr result (AppendsFront (W.contents out.old) (W.contents out.new) (reasons_text reasons.now)) }
+    ensures cut_off { OnErr result (AppendsPrefix (W.contents out.old) (W.contents out.new) (reasons_text reasons.now)) }
 {
     let mut outlet = Outlet::new(out);
     match put_and_close(reasons, &mut outlet) {
@@ -73,7 +72,7 @@ fn write_reasons<W: Write>(reasons: &[Reason<'_>], out: &mut W) -> Result<(), u6
     }
 }
 
-/// Puts these reasons into an outlet, and has its writer take all of it.
+/// Puts these reasons into an outlet, and sends all of it to the writer.
 fn put_and_close<W: Write>(
     reasons: &[Reason<'_>],
     outlet: &mut Outlet<'_, W>,
@@ -85,23 +84,23 @@ fn put_and_close<W: Write>(
     outlet.close()
 }
 
-/// The reason whose number a word is.
+/// The reason with the number or name of a word.
 fn find<'a>(reasons: &'a [Reason<'a>], word: &str) -> Option<&'a Reason<'a>>
-    ensures found { IfSome result (λ reason. IsOfNumber reasons.now word.now reason.now) }
+    ensures found { IfSome result (λ reason. IsCalled reasons.now word.now reason.now) }
     ensures none { IsNone result → IsOfNone reasons.now word.now }
 {
     for reason in reasons {
-        if has_number(reason, word) {
+        if is_called(reason, word) {
             return Some(reason);
         }
     }
     None
 }
 
-/// Whether a word is the reason's number.
-fn has_number(reason: &Reason<'_>, word: &str) -> bool
-    ensures { IsTrue result ↔ (word.now ≡ decimal reason.now.number) }
+/// Whether a word is the reason's number, or its name.
+fn is_called(reason: &Reason<'_>, word: &str) -> bool
+    ensures { IsTrue result ↔ Calls word.now reason.now }
 {
     let mut number = Buffer::new();
-    number.format(reason.number) == word
+    number.format(reason.number) == word || reason.name == word
 }

@@ -11,24 +11,24 @@ ghost use Rattle.oas_explain.specs.Hearing.{anew, hears, heard};
 #[derive(Clone, Copy)]
 enum Place {
     Elsewhere,
-    /// Behind a blank.
+    /// After a space.
     Blank,
-    /// Within a number behind a blank.
+    /// Within a number after a space.
     Number(u8),
-    /// Behind that number and a blank.
+    /// After that number and a space.
     Behind(u8),
-    /// Behind ` N a`.
+    /// After ` N a`.
     BehindA(u8),
-    /// Behind ` N at`.
+    /// After ` N at`.
     BehindAt(u8),
-    /// Within the digits of an offset.
+    /// Within the digits of an offset, or of one in a block, `P+Q`.
     Offset(u8),
-    /// Behind the line's end.
+    /// After the line's end.
     Ended(u8),
 }
 
-/// The number of the reason that the line of a refusal names. A line of another kind names none.
-pub(crate) fn number_heard(line: &[u8]) -> Option<u8>
+/// The number of the reason that the line of a refusal names. Another line names none.
+pub(crate) fn number_recognized(line: &[u8]) -> Option<u8>
     ensures refused { (name : List ℕ) → (why : Why) → (at : ℕ) → at < 2 ^ 64
         → line.now ≡ refusal_line name (number_of why) at → result ≡ Some (number_of why) }
     ensures unopened { (name : List ℕ) → line.now ≡ unopened_line name → result ≡ None }
@@ -66,7 +66,7 @@ fn hear(place: Place, byte: u8) -> Place
         Place::Behind(_) if byte.is_ascii_digit() => Place::Number(byte - b'0'),
         Place::BehindA(n) if byte == b't' => Place::BehindAt(n),
         Place::BehindAt(n) if byte == b' ' => Place::Offset(n),
-        Place::Offset(n) if byte.is_ascii_digit() => Place::Offset(n),
+        Place::Offset(n) if byte.is_ascii_digit() || byte == b'+' => Place::Offset(n),
         Place::Offset(n) if byte == b'\n' => Place::Ended(n),
         _ => begin(byte),
     }

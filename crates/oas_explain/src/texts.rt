@@ -2,13 +2,12 @@
 
 ghost use Rattle.std.specs.Prelude.{flat_map};
 ghost use Rattle.oas_num.specs.Writing.{Writes};
-ghost use Rattle.oas_explain.specs.Texts.{reason_text, reasons_text, explaining_line};
+ghost use Rattle.oas_explain.specs.Texts.{reason_text, reasons_text, explaining_lines};
 
-use crate::reasons::Reason;
 use itoa::Buffer;
-use oas_num::{Sink, SinkFault};
+use oas_num::{Reason, Sink, SinkFault};
 
-/// Puts pieces behind one another.
+/// Puts pieces one after another.
 fn put_pieces<K: Sink>(sink: &mut K, pieces: &[&[u8]]) -> Result<(), SinkFault>
     ensures { Writes K.given K.failures sink.old (flat_map (λ piece. piece.now) pieces.now) result sink.new }
 {
@@ -46,13 +45,15 @@ pub(crate) fn put_reasons<K: Sink>(sink: &mut K, reasons: &[Reason<'_>]) -> Resu
     Ok(())
 }
 
-/// Puts the line that explains a refusal: the name of its reason and when that is given, and these words.
+/// Puts the lines that explain a refusal: the name of its reason and when that is given, with these words; its remedy; and
+/// this advice, each line of which begins with the end of the one before.
 pub(crate) fn put_explanation<K: Sink>(
     sink: &mut K,
     reason: &Reason<'_>,
     words: &str,
+    advice: &str,
 ) -> Result<(), SinkFault>
-    ensures { Writes K.given K.failures sink.old (explaining_line words.now reason.now) result sink.new }
+    ensures { Writes K.given K.failures sink.old (explaining_lines words.now advice.now reason.now) result sink.new }
 {
     let pieces = [
         b"  = ",
@@ -60,6 +61,9 @@ pub(crate) fn put_explanation<K: Sink>(
         b": ",
         reason.meaning.as_bytes(),
         words.as_bytes(),
+        b"\n  = ",
+        reason.remedy.as_bytes(),
+        advice.as_bytes(),
         b"\n",
     ];
     put_pieces(sink, &pieces)

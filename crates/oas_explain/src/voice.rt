@@ -4,10 +4,10 @@ ghost use Rattle.std.specs.Prelude.{◌≡◌, false, IfOk, IfErr, []};
 ghost use Rattle.oas_num.specs.Refusals.{number_of};
 ghost use Rattle.oas_command.specs.Lines.{refusal_line};
 ghost use Rattle.oas_command.specs.Unopened.{unopened_line};
-ghost use Rattle.oas_command.specs.Runs.{AppendsFront};
+ghost use Rattle.oas_command.specs.Runs.{AppendsPrefix};
 
 use crate::reasons::all_reasons;
-use crate::telling::{explain_reason, tell, tell_explained};
+use crate::telling::{explain_reason, print_explained, tell};
 use oas_command::{run_refused, run_unopened};
 use oas_num::{Refusal, Why};
 use oas_progress::clear;
@@ -15,10 +15,10 @@ use std::alloc::Global;
 use std::io;
 use std::io::Write;
 
-/// As much as stands in the line of a run beside names: `: refused 34 at 18446744073709551615` and the like.
+/// As much as the line of a run has in addition to names: `: refused 34 at 18446744073709551615` and the like.
 const BESIDE_NAMES: usize = 64;
 
-/// Says what a run said, and explains it where that is asked for.
+/// Says what a run said, and explains it where that is requested.
 #[derive(Drop)]
 pub struct Voice<E> {
     err: E,
@@ -27,7 +27,7 @@ pub struct Voice<E> {
 }
 
 impl<E: Write> Voice<E> {
-    /// One on this error output, which explains refusals, and takes the line of a meter away before it speaks, if asked to.
+    /// One on this error output, which explains refusals, and removes the line of a meter before it speaks, if asked to.
     pub fn new(err: E, explains: bool, shows_progress: bool) -> Voice<E>
         ensures { (result.err ≡ err) × (result.explains ≡ explains) × (result.shows_progress ≡ shows_progress) }
     {
@@ -38,8 +38,8 @@ impl<E: Write> Voice<E> {
         }
     }
 
-    /// Room for the line of a run that names files whose names have so many bytes, or the run's status where there is no
-    /// memory for it: that is said under this name.
+    /// Room for the line of a run that names files whose names have this many bytes, or the run's status if out of memory,
+    /// which is said under this name.
     pub fn room(&mut self, alloc: Global, name: &str, bytes: usize) -> Result<Vec<u8>, u8>
         ensures room { IfOk result (λ room. room.items ≡ []) }
         ensures refused { IfErr result (λ status. status ≡ 1) }
@@ -53,39 +53,40 @@ impl<E: Write> Voice<E> {
         }
     }
 
-    /// Says what a run said. Where refusals are explained these words stand behind the explanation.
-    pub fn tell(&mut self, said: &[u8], words: &str)
+    /// Says what a run said. Where refusals are explained these words come after the reason's meaning, and this advice below
+    /// its remedy.
+    pub fn tell(&mut self, said: &[u8], words: &str, advice: &str)
         ensures plain { self.old.explains ≡ false → self.old.shows_progress ≡ false
-            → AppendsFront (E.contents self.old.err) (E.contents self.new.err) said.now }
+            → AppendsPrefix (E.contents self.old.err) (E.contents self.new.err) said.now }
     {
         self.begin();
         if self.explains {
-            tell_explained(all_reasons(), words, said, &mut self.err);
+            print_explained(&all_reasons(), words, advice, said, &mut self.err);
         } else {
             tell(said, &mut self.err);
         }
     }
 
-    /// Says that a run could not begin, and answers its status.
+    /// Says that a run could not begin, and returns its status.
     pub fn refused(&mut self, name: &str, refusal: Refusal) -> u8
         ensures status { result ≡ 1 }
         ensures plain { self.old.explains ≡ false → self.old.shows_progress ≡ false
-            → AppendsFront (E.contents self.old.err) (E.contents self.new.err) (refusal_line name.now (number_of refusal.why) refusal.at) }
+            → AppendsPrefix (E.contents self.old.err) (E.contents self.new.err) (refusal_line name.now (number_of refusal.why) refusal.at) }
     {
         self.begin();
         let status = run_refused(name, refusal, &mut self.err);
         if self.explains {
-            explain_reason(all_reasons(), refusal.why, &mut self.err);
+            explain_reason(&all_reasons(), refusal.why, &mut self.err);
         }
         status
     }
 
-    /// Says that an input can't be opened, and answers the status of its run. Where refusals are explained the system's
-    /// words for it stand in a line below.
+    /// Says that an input can't be opened, and returns the status of its run. Where refusals are explained the system's words
+    /// for it are in a line below.
     pub fn unopened(&mut self, name: &str, error: &io::Error) -> u8
         ensures status { result ≡ 1 }
         ensures plain { self.old.explains ≡ false → self.old.shows_progress ≡ false
-            → AppendsFront (E.contents self.old.err) (E.contents self.new.err) (unopened_line name.now) }
+            → AppendsPrefix (E.contents self.old.err) (E.contents self.new.err) (unopened_line name.now) }
     {
         self.begin();
         let status = run_unopened(name, &mut self.err);
@@ -95,7 +96,7 @@ impl<E: Write> Voice<E> {
         status
     }
 
-    /// Takes the line of a meter away.
+    /// Removes the line of a meter.
     fn begin(&mut self)
         ensures { self.old.shows_progress ≡ false → self.new ≡ self.old }
     {

@@ -48,7 +48,7 @@ module _ (old new : BTreeMap Group ℕ) (k : Group) (n : ℕ) (some : 0 < n) (up
 
 -- ---- elements
 
--- one element, so many times
+-- one element, this many times
 if_same_times : (n : ℕ) (g h : Group) → n * if_same 1 g h ≡ if_same n g h
 if_same_times n g h = by_test (is_eq (group_cmp h g)) where
   by_test : (b : Bool) → n * cond b 1 0 ≡ cond b n 0

@@ -12,7 +12,7 @@ use Rattle.oas_layout.specs.Meaning.{Meaning, cells_sum}
 use Rattle.oas_facts.specs.declared.group.Group.{Group}
 use Rattle.oas_facts.specs.declared.group.Group.TheVariants.{Placements, Texts, Rectangles, Polygons, Paths, Circles, Layer, TextLayer}
 
--- where a group stands
+-- the rank of a group
 abbrev pub rank : Group → ℕ
 rank Placements = 0
 rank Texts = 1
@@ -39,7 +39,7 @@ kind_of (element.Polygon layer datatype points) = Polygons
 kind_of (element.Path layer datatype half_width start end points) = Paths
 kind_of (element.Circle layer datatype radius x y) = Circles
 
--- the layer and datatype that it has, of a text the textlayer and texttype
+-- the layer and datatype that it has, or the textlayer and texttype of a text
 abbrev pub layer_of : Element → Option Group
 layer_of (element.Placement cell x y turns flip) = None
 layer_of (element.Text string textlayer texttype x y) = Some (TextLayer textlayer texttype)
@@ -66,7 +66,7 @@ if_in n g e = sum_by (if_same n g) (groups_of e)
 abbrev pub count_of : Group → List Element → ℕ
 count_of g es = sum_by (if_in 1 g) es
 
--- how many elements of the layout are
+-- how many elements of the layout are in the group
 abbrev pub group_count : Group → Meaning → ℕ
 group_count g m = cells_sum (λ c. count_of g c.1) m.cells
 
@@ -76,16 +76,16 @@ group_count g m = cells_sum (λ c. count_of g c.1) m.cells
 abbrev pub number_of : List (Group × ℕ) → Group → ℕ
 number_of ns g = unwrap_or (lookup (is_at (group_cmp g)) ns) 0
 
--- they ascend, and beside none stands 0
+-- they ascend, and none has the number 0
 pub record IsTally (ns : List (Group × ℕ)) : Type 0 where
   pub ascending : IsStrictlySortedBy group_cmp (keys_of ns)
   pub positive : (g : Group) → lookup (is_at (group_cmp g)) ns ≡ Some 0 → ⊥
 
--- each group's number has grown by what f says of it
+-- each group's number has grown by what f says for it
 abbrev pub Grows : (Group → ℕ) → List (Group × ℕ) → List (Group × ℕ) → Type 0
 Grows f old new = (g : Group) → number_of new g ≡ number_of old g + f g
 
--- ascending, each group that an element of the layout is in, beside how many are in it
+-- ascending, each group that an element of the layout is in, with the number of its elements
 pub record AreCounts (m : Meaning) (ns : List (Group × ℕ)) : Type 0 where
   pub tally : IsTally ns
   pub counts : (g : Group) → number_of ns g ≡ group_count g m

@@ -46,15 +46,15 @@ is_undefined m name = is_placed m name && not (is_defined m name)
 abbrev pub is_unplaced : Meaning → List ℕ → Bool
 is_unplaced m name = is_defined m name && not (is_placed m name)
 
--- ascending, the names of which P says true, and no others
+-- ascending, the names for which P is true, and no others
 pub record AreNames (P : List ℕ → Bool) (names : List (List ℕ)) : Type 0 where
   pub ascending : IsStrictlySortedBy name_cmp names
   pub those : (name : List ℕ) → has_name names name ≡ P name
 
--- those of which P says true are there besides
+-- those for which P is true are there too
 abbrev pub Adds : (List ℕ → Bool) → List (List ℕ) → List (List ℕ) → Type 0
 Adds P old new = (name : List ℕ) → has_name new name ≡ (has_name old name || P name)
 
--- those of which P says true, and no others
+-- those for which P is true, and no others
 abbrev pub HasNames : (List ℕ → Bool) → List (List ℕ) → Type 0
 HasNames P names = (name : List ℕ) → has_name names name ≡ P name

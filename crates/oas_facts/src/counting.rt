@@ -68,7 +68,7 @@ fn layer_of(element: &Element) -> Option<Group>
     }
 }
 
-/// So many elements more in a group.
+/// Adds this many elements to a group.
 fn count_up(numbers: &mut BTreeMap<Group, u64>, group: Group, times: u64) -> Result<(), AllocError>
     requires { unwrap_or (get derived_cmp numbers.old group) 0 + times < 2 ^ 64 }
     ensures updates { OnOk result (Updates derived_cmp numbers.old numbers.new group (Some (unwrap_or (get derived_cmp numbers.old group) 0 + times))) }
@@ -83,7 +83,7 @@ fn count_up(numbers: &mut BTreeMap<Group, u64>, group: Group, times: u64) -> Res
     Ok(())
 }
 
-/// So many more of an element, in each of its groups.
+/// Adds this many of an element, to each of its groups.
 fn count_element(
     numbers: &mut BTreeMap<Group, u64>,
     element: &Element,
@@ -102,7 +102,7 @@ fn count_element(
     }
 }
 
-/// The elements of a cell more, in each of their groups.
+/// Adds the elements of a cell, each to its groups.
 fn count_elements(
     numbers: &mut BTreeMap<Group, u64>,
     elements: Elements<'_>,
@@ -120,12 +120,12 @@ fn count_elements(
 }
 
 /// Each group that an element of the layout is in, and how many are in it, equal ones each counted. It goes over the distinct
-/// elements once, and takes memory for the groups.
+/// elements once, and allocates for the groups.
 pub fn count_groups(alloc: Global, layout: &Layout) -> Result<BTreeMap<Group, u64>, AllocError>
     ensures { IfOk result (λ numbers. AreCounts (meaning_of layout.now) numbers.entries) }
 {
     let mut numbers = BTreeMap::new(alloc);
-    let cells = layout.cells();
+    let cells = layout.cell_count();
     for cell in 0..cells {
         count_elements(&mut numbers, layout.elements(cell))?;
     }

@@ -12,7 +12,7 @@ use oas_num::{Fraction, Name};
 use std::alloc::{AllocError, Global};
 use std::collections::BTreeMap;
 
-/// What can be told of a layout in a few lines.
+/// The facts of a layout, in a few lines.
 #[derive(Drop)]
 pub struct Facts {
     /// The grid steps per micron.
@@ -21,17 +21,17 @@ pub struct Facts {
     pub cells: u64,
     /// How many elements there are, equal ones each counted.
     pub elements: u64,
-    /// What the layout weighs.
+    /// The weight of the layout.
     pub weight: u64,
     /// How many elements are in each group that has some, ascending.
     pub groups: BTreeMap<Group, u64>,
-    /// The names that are placed, and that no cell has, ascending.
+    /// The names that are placed but that no cell has, ascending.
     pub undefined: Vec<Name>,
     /// The names of cells that nothing places, ascending.
     pub unplaced: Vec<Name>,
 }
 
-/// The facts of a layout. It goes over the distinct elements twice, and takes memory for groups and names.
+/// The facts of a layout. It goes over the distinct elements twice, and allocates for groups and names.
 pub fn facts_of(alloc: Global, layout: &Layout) -> Result<Facts, AllocError>
     ensures { IfOk result (λ facts. AreFacts (meaning_of layout.now) facts) }
 {
@@ -39,7 +39,7 @@ pub fn facts_of(alloc: Global, layout: &Layout) -> Result<Facts, AllocError>
     let names = unmatched_names(alloc, layout)?;
     Ok(Facts {
         unit: layout.unit(),
-        cells: layout.cells() as u64,
+        cells: layout.cell_count() as u64,
         elements: layout.count(),
         weight: layout.weight(),
         groups,

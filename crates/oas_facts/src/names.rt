@@ -1,4 +1,4 @@
-//! The names of cells: those that are placed, those that are defined, and what either lacks of the other.
+//! The names of cells: those that are placed, those that are defined, and the differences.
 
 ghost use Rattle.std.specs.Prelude.{◌&&◌, ◌<◌, not, OnOk, IfOk};
 ghost use Rattle.std.specs.List.{AllByRecursion};
@@ -11,7 +11,7 @@ use oas_num::Name;
 use std::alloc::{AllocError, Global};
 use std::collections::BTreeSet;
 
-/// One name more.
+/// Adds a name.
 fn add_name(alloc: Global, names: &mut BTreeSet<Name>, name: &Name) -> Result<(), AllocError>
     ensures { OnOk result (Adds (is_named name.now) names.old.keys names.new.keys) }
 {
@@ -21,7 +21,7 @@ fn add_name(alloc: Global, names: &mut BTreeSet<Name>, name: &Name) -> Result<()
     Ok(())
 }
 
-/// The name that an element places more, if it places one.
+/// Adds the name that an element places, if it places one.
 fn add_placed(
     alloc: Global,
     names: &mut BTreeSet<Name>,
@@ -35,7 +35,7 @@ fn add_placed(
     }
 }
 
-/// The names that elements place more.
+/// Adds the names that elements place.
 fn add_all_placed(
     alloc: Global,
     names: &mut BTreeSet<Name>,
@@ -55,7 +55,7 @@ fn placed_names(alloc: Global, layout: &Layout) -> Result<BTreeSet<Name>, AllocE
     ensures { IfOk result (λ names. HasNames (is_placed (meaning_of layout.now)) names.keys) }
 {
     let mut names = BTreeSet::new(alloc);
-    let cells = layout.cells();
+    let cells = layout.cell_count();
     for cell in 0..cells {
         add_all_placed(alloc, &mut names, layout.elements(cell))?;
     }
@@ -67,7 +67,7 @@ fn defined_names(alloc: Global, layout: &Layout) -> Result<BTreeSet<Name>, Alloc
     ensures { IfOk result (λ names. HasNames (is_defined (meaning_of layout.now)) names.keys) }
 {
     let mut names = BTreeSet::new(alloc);
-    let cells = layout.cells();
+    let cells = layout.cell_count();
     for cell in 0..cells {
         add_name(alloc, &mut names, layout.cell_name(cell))?;
     }
@@ -99,7 +99,7 @@ pub struct Unmatched {
 }
 
 /// The names that are placed and not defined, and those that are defined and not placed. It goes over the distinct elements
-/// once, and takes memory for the names.
+/// once, and allocates for the names.
 pub fn unmatched_names(alloc: Global, layout: &Layout) -> Result<Unmatched, AllocError>
     ensures undefined { IfOk result (λ names. AreNames (is_undefined (meaning_of layout.now)) names.undefined.items) }
     ensures unplaced { IfOk result (λ names. AreNames (is_unplaced (meaning_of layout.now)) names.unplaced.items) }

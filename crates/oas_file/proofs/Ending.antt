@@ -1,4 +1,4 @@
--- What stands after END, and all that was read.
+-- What follows END, and all that was read.
 use Rattle.std.proofs.Common.{◌≡◌, ℕ, ◌+◌, List, [], ◌∷◌, ◌++◌, length, None, Some, Result, Ok, Err, OnOk, IfOk, IfErr, ◌⊎◌, inl, inr, refl, sym, ap, subst, ◌∙◌, append_assoc, arith}
 use Rattle.std.proofs.lemmas.List.{append-nil, length-append}
 use Rattle.oas_num.specs.declared.refusals.Why.{Why}
@@ -7,9 +7,9 @@ use Rattle.oas_num.specs.declared.refusals.Refusal.{Refusal}
 use Rattle.oas_num.specs.Laws.GrammarLaws.{after_same}
 use Rattle.oas_num.specs.Ratio.{Ratio}
 use Rattle.oas_num.specs.Reading.{ReadsValue}
-use Rattle.oas_num.specs.Script.{Script, Takes, IsAtEnd}
+use Rattle.oas_num.specs.Script.{Script, Consumed, IsAtEnd}
 use Rattle.oas_num.specs.Style.{Any}
-use Rattle.oas_num.proofs.ReadLemmas.{Takes-then}
+use Rattle.oas_num.proofs.ReadLemmas.{Consumed-then}
 use Rattle.oas_record.specs.declared.heads.Head.{Head}
 use Rattle.oas_record.specs.declared.records.Record.{Record}
 use Rattle.oas_record.specs.declared.records.Record.TheVariants.{End}
@@ -17,12 +17,12 @@ use Rattle.oas_record.specs.Heads.{head_in}
 use Rattle.oas_record.specs.Records.{record_in}
 use Rattle.oas_layout.specs.declared.limits.Limits.{Limits}
 use Rattle.oas_layout.specs.declared.profile.Profile.{Profile}
-use Rattle.oas_layout.specs.Contents.{Contents, meaning_of}
+use Rattle.oas_layout.specs.Contents.{Contents, IsLayout, meaning_of}
 use Rattle.oas_layout.specs.Meaning.{Meaning, SameLayout}
 use Rattle.oas_modal.specs.Stores.{Store}
-use Rattle.oas_modal.specs.Stands.{ReaderState, StandsFor, records_mean, end_refusal}
-use Rattle.oas_file.specs.Files.{Parts, FileOf, FrontOf}
-use Rattle.oas_file.specs.Laws.FileLaws.{OneFront-file}
+use Rattle.oas_modal.specs.Stands.{ReaderState, Represents, records_mean, end_refusal}
+use Rattle.oas_file.specs.Files.{Parts, FileOf, PrefixOf}
+use Rattle.oas_file.specs.Laws.FileLaws.{PrefixFree-file}
 use Rattle.oas_file.specs.Acceptance.{Allowed}
 use Rattle.oas_file.specs.Deciding.{TheTail, TheWhole, EndingMay, IsReasoned}
 use Rattle.oas_file.specs.Gathering.{HasBegun, HasAll, MissesEnd}
@@ -33,7 +33,7 @@ use Rattle.oas_file.proofs.Refusing.{Judges, ForMemory, Decided, judged_refused,
 
 -- ---- the head
 
-abbrev pub begun : {C : Type 0} {t : Store C} {old now : Script} {head : Head} {first : ReaderState C} → ReadsValue (head_in Any) old head now → StandsFor t first [] → HasBegun t head now first
+abbrev pub begun : {C : Type 0} {t : Store C} {old now : Script} {head : Head} {first : ReaderState C} → ReadsValue (head_in Any) old head now → Represents t first [] → HasBegun t head now first
 begun {old = old} read stands = record {
   origin = old;
   bytes = read.bytes;
@@ -48,7 +48,7 @@ refuses_within {old = old} {new = new} {refusal = refusal} same r = subst (λ (l
 
 -- ---- after END
 
-pub file_all : {head : Head} {rs : List Record} {bytes last : List ℕ} → FrontOf head rs bytes → record_in Any head.flag_in_end End last → FileOf head rs (bytes ++ last)
+pub file_all : {head : Head} {rs : List Record} {bytes last : List ℕ} → PrefixOf head rs bytes → record_in Any head.flag_in_end End last → FileOf head rs (bytes ++ last)
 file_all {last = last} f end = record {
   spelled = record {
     front = f.start;
@@ -60,14 +60,14 @@ file_all {last = last} f end = record {
 }
 
 -- no file goes on after END
-none_after : {head first : Head} {rs ss : List Record} {bytes last : List ℕ} (byte : ℕ) (more : List ℕ) → FrontOf head rs bytes → record_in Any head.flag_in_end End last →
+none_after : {head first : Head} {rs ss : List Record} {bytes last : List ℕ} (byte : ℕ) (more : List ℕ) → PrefixOf head rs bytes → record_in Any head.flag_in_end End last →
     FileOf first ss ((bytes ++ last) ++ (byte ∷ more)) → ⊥
 none_after {head = head} {first = first} {rs = rs} {ss = ss} {bytes = bytes} {last = last} byte more f end file = absurd (not_nil tails) where
   tails : byte ∷ more ≡ []
   tails =
       let whole = (bytes ++ last) ++ (byte ∷ more) in
       let e : (bytes ++ last) ++ (byte ∷ more) ≡ whole ++ [] = sym (append-nil whole) in
-      let one = (OneFront-file Any).one (head, (rs, End)) (first, (ss, End)) (bytes ++ last) whole (byte ∷ more) [] (file_all f end).spelled file.spelled e in
+      let one = (PrefixFree-file Any).one (head, (rs, End)) (first, (ss, End)) (bytes ++ last) whole (byte ∷ more) [] (file_all f end).spelled file.spelled e in
       after_same (bytes ++ last) whole (byte ∷ more) [] one.0 e
 
   not_nil : byte ∷ more ≡ [] → ⊥
@@ -77,21 +77,21 @@ module _ {C : Type 0} {t : Store C} {old mid : Script} {head : Head} {first s : 
   abbrev all : List ℕ
   all = m.bytes ++ m.last
 
-  -- no file stands in front of this one
+  -- no file is a proper prefix of this one
   all_taken : {other : Head} {ss : List Record} (whole rest : List ℕ) → whole ++ rest ≡ all → FileOf other ss whole → rest ≡ []
   all_taken {other = other} {ss = ss} whole rest e file =
       let same : whole ++ rest ≡ all ++ [] = e ∙ sym (append-nil all) in
-      let one = (OneFront-file Any).one (other, (ss, End)) (head, (m.records, End)) whole all rest [] file.spelled (file_all m.front m.end).spelled same in
+      let one = (PrefixFree-file Any).one (other, (ss, End)) (head, (m.records, End)) whole all rest [] file.spelled (file_all m.front m.end).spelled same in
       after_same whole all rest [] one.0 same
 
   tail_place : (at : ℕ) → at ≡ mid.given → old.given ≡ 0 → at ≡ length m.bytes + length m.last
   tail_place at is fresh = omega (arith, is, m.takes.given, fresh, length-append m.bytes m.last)
 
-  -- what was taken, where it isn't the end that follows
-  tail_reasoned : {new : Script} (at : ℕ) (why : Why) (tail : List ℕ) → at ≡ mid.given → Takes mid tail new → EndingMay why tail → IsReasoned first.limits old (record { at = at; why = why }) new
+  -- what was taken, where the end doesn't follow
+  tail_reasoned : {new : Script} (at : ℕ) (why : Why) (tail : List ℕ) → at ≡ mid.given → Consumed mid tail new → EndingMay why tail → IsReasoned first.limits old (record { at = at; why = why }) new
   tail_reasoned {new = new} at why tail is takes reason = record {
     bytes = all ++ tail;
-    takes = Takes-then old mid new all tail m.takes takes;
+    takes = Consumed-then old mid new all tail m.takes takes;
     decided = λ fresh. TheTail (record {
       left = m.last ++ tail;
       head = head;
@@ -107,10 +107,10 @@ module _ {C : Type 0} {t : Store C} {old mid : Script} {head : Head} {first s : 
     });
   }
 
-  byte_placed : {new : Script} (at byte : ℕ) → at ≡ mid.given → Takes mid (byte ∷ []) new → IsPlaced first.limits old (record { at = at; why = TrailingBytes }) new
+  byte_placed : {new : Script} (at byte : ℕ) → at ≡ mid.given → Consumed mid (byte ∷ []) new → IsPlaced first.limits old (record { at = at; why = TrailingBytes }) new
   byte_placed {new = new} at byte is takes = record {
     bytes = all ++ (byte ∷ []);
-    takes = Takes-then old mid new all (byte ∷ []) m.takes takes;
+    takes = Consumed-then old mid new all (byte ∷ []) m.takes takes;
     placed = λ fresh _ more _. AfterLast (record {
       left = m.last ++ (byte ∷ more);
       head = head;
@@ -126,13 +126,13 @@ module _ {C : Type 0} {t : Store C} {old mid : Script} {head : Head} {first s : 
     });
   }
 
-  byte_refused : {new : Script} (byte : ℕ) → Takes mid (byte ∷ []) new → IsRefused first.limits old TrailingBytes new
+  byte_refused : {new : Script} (byte : ℕ) → Consumed mid (byte ∷ []) new → IsRefused first.limits old TrailingBytes new
   byte_refused {new = new} byte takes =
-      judged_refused (all ++ (byte ∷ [])) (Takes-then old mid new all (byte ∷ []) m.takes takes)
+      judged_refused (all ++ (byte ∷ [])) (Consumed-then old mid new all (byte ∷ []) m.takes takes)
       (Decided refl (λ more a. none_after byte more m.front m.end (subst (λ (b : List ℕ). FileOf a.head a.records b) (append_assoc all (byte ∷ []) more) a.file)))
 
-  taken_all : {new : Script} → Takes mid [] new → Takes old all new
-  taken_all {new = new} takes = subst (λ (b : List ℕ). Takes old b new) (append-nil all) (Takes-then old mid new all [] m.takes takes)
+  taken_all : {new : Script} → Consumed mid [] new → Consumed old all new
+  taken_all {new = new} takes = subst (λ (b : List ℕ). Consumed old b new) (append-nil all) (Consumed-then old mid new all [] m.takes takes)
 
   tail_refuses : {new : Script} (at : ℕ) (why : Why) → at ≡ mid.given → MissesEnd mid why new → Refuses first.limits old (record { at = at; why = why }) new
   tail_refuses at TrailingBytes is h = (byte_refused h.0 h.1, byte_placed at h.0 is h.1, tail_reasoned at TrailingBytes (h.0 ∷ []) is h.1 (h.0, refl))
@@ -174,11 +174,11 @@ module _ {C : Type 0} {t : Store C} {old mid : Script} {head : Head} {first s : 
 
   -- ---- all that was read
 
-  module _ {new : Script} (takes : Takes mid [] new) (at_end : IsAtEnd new) where
-    -- no file that begins so has other records
+  module _ {new : Script} (takes : Consumed mid [] new) (at_end : IsAtEnd new) where
+    -- no file that begins like this has other records
     same_records : {other : Head} {ss : List Record} (more : List ℕ) → FileOf other ss (all ++ more) → m.records ≡ ss
     same_records {other = other} {ss = ss} more file =
-        let both = (OneFront-file Any).one (head, (m.records, End)) (other, (ss, End)) all (all ++ more) more [] (file_all m.front m.end).spelled file.spelled (sym (append-nil (all ++ more))) in
+        let both = (PrefixFree-file Any).one (head, (m.records, End)) (other, (ss, End)) all (all ++ more) more [] (file_all m.front m.end).spelled file.spelled (sym (append-nil (all ++ more))) in
         ap (λ (p : Parts). p.1.0) both.1
 
     whole_judged : (why : Why) → (why ≡ Memory) ⊎ (end_refusal first.limits m.records ≡ Some why) → Judges first.limits all why
@@ -229,9 +229,9 @@ module _ {C : Type 0} {t : Store C} {old mid : Script} {head : Head} {first s : 
 
     -- the layout is that of the file
     whole_read : {l : Contents} {limits : Limits} {profile : Profile} → first.limits ≡ limits → first.profile ≡ profile → first.unit ≡ head.unit → end_refusal s.limits m.records ≡ None →
-        SameLayout s.profile (meaning_of l) (records_mean s.unit m.records) → l.limits ≡ s.limits → l.profile ≡ s.profile
+        SameLayout s.profile (meaning_of l) (records_mean s.unit m.records) → IsLayout l → l.limits ≡ s.limits → l.profile ≡ s.profile
         → IsRead limits profile old l new
-    whole_read {l = l} {limits = limits} {profile = profile} within by unit none same limits_kept profile_kept =
+    whole_read {l = l} {limits = limits} {profile = profile} within by unit none same held limits_kept profile_kept =
         let kept = m.taken.same in
         let there : SameLayout profile (meaning_of l) (records_mean s.unit m.records) = subst (λ (p : Profile). SameLayout p (meaning_of l) (records_mean s.unit m.records)) (kept.profile ∙ by) same in
         let means : SameLayout profile (meaning_of l) (records_mean head.unit m.records) = subst (λ (u : Ratio). SameLayout profile (meaning_of l) (records_mean u m.records))
@@ -250,6 +250,7 @@ module _ {C : Type 0} {t : Store C} {old mid : Script} {head : Head} {first s : 
           meaning = records_mean head.unit m.records;
           means = record { head = head; records = m.records; file = file_all m.front m.end; is = refl };
           same = same_back profile (meaning_of l) (records_mean head.unit m.records) means;
+          layout = held;
           within = limits_kept ∙ (kept.limits ∙ within);
           by = profile_kept ∙ (kept.profile ∙ by);
         }
@@ -269,16 +270,16 @@ module _ {C : Type 0} {t : Store C} {old mid : Script} {head : Head} {first s : 
       };
     }
 
-    -- what accepting answers
+    -- what accepting returns
     pub accepted : {limits : Limits} (result : Result Unit Refusal) → first.limits ≡ limits → OnOk result (end_refusal s.limits m.records ≡ None)
         → IfErr result (λ e. (e.at ≡ end_at) × ((e.why ≡ Memory) ⊎ (end_refusal s.limits m.records ≡ Some e.why))) → AcceptsFile limits old result new
     accepted (Ok done) within none refused = whole_accepted within none
     accepted (Err refusal) within none refused = refuses_within within (whole_refuses refusal refused)
 
-    -- what finishing answers
+    -- what finishing returns
     pub finished : {limits : Limits} {profile : Profile} (result : Result Contents Refusal) → first.unit ≡ head.unit → first.limits ≡ limits → first.profile ≡ profile →
         OnOk result (end_refusal s.limits m.records ≡ None)
-        → IfOk result (λ l. SameLayout s.profile (meaning_of l) (records_mean s.unit m.records)) → IfOk result (λ l. l.limits ≡ s.limits) → IfOk result (λ l. l.profile ≡ s.profile)
+        → IfOk result (λ l. SameLayout s.profile (meaning_of l) (records_mean s.unit m.records)) → IfOk result (λ l. IsLayout l) → IfOk result (λ l. l.limits ≡ s.limits) → IfOk result (λ l. l.profile ≡ s.profile)
         → IfErr result (λ e. (e.at ≡ end_at) × ((e.why ≡ Memory) ⊎ (end_refusal s.limits m.records ≡ Some e.why))) → ReadsLayout limits profile old result new
-    finished (Ok l) unit within by none same limits_kept profile_kept refused = whole_read within by unit none same limits_kept profile_kept
-    finished (Err refusal) unit within by none same limits_kept profile_kept refused = refuses_within within (whole_refuses refusal refused)
+    finished (Ok l) unit within by none same held limits_kept profile_kept refused = whole_read within by unit none same held limits_kept profile_kept
+    finished (Err refusal) unit within by none same held limits_kept profile_kept refused = refuses_within within (whole_refuses refusal refused)

@@ -1,4 +1,4 @@
--- START, END and the records: whether one stands at the front of some bytes can be settled.
+-- START, END and the records: it is decidable whether some bytes begin with one.
 use Rattle.std.proofs.Common.{◌≡◌, ℕ, zero, suc, ◌<◌, ◌≤◌, ◌*◌, ◌/◌, ◌%◌, Bool, true, false, List, [], ◌∷◌, ◌++◌, length, ◌⊎◌, inl, inr, refl, sym, ap, subst, ◌∙◌, arith}
 use Rattle.std.specs.Prelude.{◌==◌}
 use Rattle.std.specs.Int.{IsGcd}
@@ -14,10 +14,10 @@ use Rattle.oas_record.specs.declared.records.Record.{Record}
 use Rattle.oas_record.specs.declared.records.Record.TheVariants.{End}
 use Rattle.oas_record.specs.Ends.{IsNumber, offsets_part}
 use Rattle.oas_record.specs.Records.{id_of, after, parts_in, record_in}
-use Rattle.oas_record.specs.Laws.RecordLaws.{OneFront-record}
+use Rattle.oas_record.specs.Laws.RecordLaws.{PrefixFree-record}
 use Rattle.oas_record.specs.Heads.{IsPositiveReal, version, version_in, SpellsUnit, IsFlag, head_of, start_in}
-use Rattle.oas_record.specs.Laws.HeadLaws.{OneFront-version, OneFront-SpellsUnit}
-use Rattle.oas_record.specs.Found.{NoneStands, Settled, settled_number, settled_both, Stands, IsFound, only, found_such, found_image, found_pair, found_keyed}
+use Rattle.oas_record.specs.Laws.HeadLaws.{PrefixFree-version, PrefixFree-SpellsUnit}
+use Rattle.oas_record.specs.Found.{NoneIsSpelled, Settled, settled_number, settled_both, Stands, IsFound, only, found_such, found_image, found_pair, found_keyed}
 use Rattle.oas_record.specs.FoundParts.{settled_below, found_unsigned, found_label, found_real}
 
 -- ---- a record
@@ -30,11 +30,11 @@ settled_end End = inl refl
 settled_end _ = inr (λ e. cc)
 
 pub found_record : (in_end : Bool) → IsFound (record_in Any in_end)
-found_record in_end = record { one = OneFront-record Any in_end; find = find } where
+found_record in_end = record { one = PrefixFree-record Any in_end; find = find } where
   f : IsFound (parts_in Any in_end)
   f = found_parts in_end
 
-  full : (left : List ℕ) (s : Stands (parts_in Any in_end) left) → s.value ≡ End → Settled (length s.front ≡ 256) → Stands (record_in Any in_end) left ⊎ NoneStands (record_in Any in_end) left
+  full : (left : List ℕ) (s : Stands (parts_in Any in_end) left) → s.value ≡ End → Settled (length s.front ≡ 256) → Stands (record_in Any in_end) left ⊎ NoneIsSpelled (record_in Any in_end) left
   full left s is (inl long) = inl (record { value = s.value; front = s.front; rest = s.rest; spelled = record { whole = λ _. long; parts = s.spelled }; joined = s.joined })
   full left s is (inr not) = inr (record {
     none = λ v front rest p e.
@@ -42,11 +42,11 @@ found_record in_end = record { one = OneFront-record Any in_end; find = find } w
         not (ap length same.front ∙ p.whole (sym same.value ∙ is));
   })
 
-  here : (left : List ℕ) (s : Stands (parts_in Any in_end) left) → Settled (s.value ≡ End) → Stands (record_in Any in_end) left ⊎ NoneStands (record_in Any in_end) left
+  here : (left : List ℕ) (s : Stands (parts_in Any in_end) left) → Settled (s.value ≡ End) → Stands (record_in Any in_end) left ⊎ NoneIsSpelled (record_in Any in_end) left
   here left s (inl is) = full left s is (settled_number (length s.front) 256)
   here left s (inr not) = inl (record { value = s.value; front = s.front; rest = s.rest; spelled = record { whole = λ is. absurd (not is); parts = s.spelled }; joined = s.joined })
 
-  find : (left : List ℕ) → Stands (record_in Any in_end) left ⊎ NoneStands (record_in Any in_end) left
+  find : (left : List ℕ) → Stands (record_in Any in_end) left ⊎ NoneIsSpelled (record_in Any in_end) left
   find left = elim (f.find left) [
     | inl s ↦ here left s (settled_end s.value)
     | inr lacks ↦ inr (record { none = λ v front rest p e. lacks.none v front rest p.parts e })
@@ -64,12 +64,12 @@ settled_list (x ∷ xs) (y ∷ ys) = elim (settled_both (settled_number x y) (se
 ]
 
 found_version : IsFound (version_in Any)
-found_version = record { one = OneFront-version Any; find = find } where
-  here : (left : List ℕ) (s : Stands (label_in Any) left) → Settled (s.value ≡ version) → Stands (version_in Any) left ⊎ NoneStands (version_in Any) left
+found_version = record { one = PrefixFree-version Any; find = find } where
+  here : (left : List ℕ) (s : Stands (label_in Any) left) → Settled (s.value ≡ version) → Stands (version_in Any) left ⊎ NoneIsSpelled (version_in Any) left
   here left s (inl is) = inl (record { value = tt; front = s.front; rest = s.rest; spelled = subst (λ (t : List ℕ). label_in Any t s.front) is s.spelled; joined = s.joined })
   here left s (inr not) = inr (record { none = λ v front rest p e. not (only found_label.one s version front rest p e).value })
 
-  find : (left : List ℕ) → Stands (version_in Any) left ⊎ NoneStands (version_in Any) left
+  find : (left : List ℕ) → Stands (version_in Any) left ⊎ NoneIsSpelled (version_in Any) left
   find left = elim (found_label.find left) [
     | inl s ↦ here left s (settled_list s.value version)
     | inr lacks ↦ inr (record { none = λ v front rest p e. lacks.none version front rest p e })
@@ -93,7 +93,7 @@ product_some p q (suc n) some also e = omega (arith, also, e)
 product_some p q zero some also e = omega (arith, some)
 
 found_unit : IsFound SpellsUnit
-found_unit = record { one = OneFront-SpellsUnit; find = find } where
+found_unit = record { one = PrefixFree-SpellsUnit; find = find } where
   positive : (left : List ℕ) (s : Stands SpellsReal left) (front rest : List ℕ) (v : Ratio) → SpellsUnit v front → left ≡ front ++ rest → IsPositiveReal s.value
   positive left s front rest v p e =
       let same = (only found_real.one s p.real front rest p.spelled e).value in
@@ -106,7 +106,7 @@ found_unit = record { one = OneFront-SpellsUnit; find = find } where
         ),
       )
 
-  here : (left : List ℕ) (s : Stands SpellsReal left) → Settled (IsPositiveReal s.value) → Stands SpellsUnit left ⊎ NoneStands SpellsUnit left
+  here : (left : List ℕ) (s : Stands SpellsReal left) → Settled (IsPositiveReal s.value) → Stands SpellsUnit left ⊎ NoneIsSpelled SpellsUnit left
   here left s (inl p) =
       let g = some_gcd s.value.den s.value.num s.value.den (omega arith) in
       inl (record {
@@ -118,7 +118,7 @@ found_unit = record { one = OneFront-SpellsUnit; find = find } where
       })
   here left s (inr not) = inr (record { none = λ v front rest p e. not (positive left s front rest v p e) })
 
-  find : (left : List ℕ) → Stands SpellsUnit left ⊎ NoneStands SpellsUnit left
+  find : (left : List ℕ) → Stands SpellsUnit left ⊎ NoneIsSpelled SpellsUnit left
   find left = elim (found_real.find left) [
     | inl s ↦ here left s (settled_both (settled_false s.value.negative) (settled_both (settled_below 0 s.value.num) (settled_below 0 s.value.den)))
     | inr lacks ↦ inr (record { none = λ v front rest p e. lacks.none p.real front rest p.spelled e })

@@ -1,4 +1,4 @@
--- Reasons that records are refused for lie in the file: none is that of the input's end, a device or the memory.
+-- Reasons that records are refused for are about the file: none is about the input's end, a device or the memory.
 use Rattle.std.proofs.Common.{◌≡◌, ◌≢◌, ◌⊎◌, inl, inr, ℕ, Bool, true, false, List, [], ◌∷◌, Option, None, Some, IsTrue, cond, reverse, refl, sym, ap, subst, ◌∙◌}
 use Rattle.std.specs.Prelude.{◌+◌, ◌*◌, nat_lt, not, is_none, unwrap_or}
 use Rattle.std.specs.Map.{keys_of}
@@ -11,18 +11,18 @@ use Rattle.oas_record.specs.declared.records.Record.{Record}
 use Rattle.oas_record.specs.declared.records.Record.TheVariants as record_of
 use Rattle.oas_layout.specs.declared.limits.Limits.{Limits}
 use Rattle.oas_layout.specs.Meaning.{cells_weight}
-use Rattle.oas_drawing.specs.declared.kinds.Kind.{Kind}
-use Rattle.oas_drawing.specs.Drawing.{kind_of, repeats, elements_at, drawn_by, place_of, number_if, lacks_repetition}
-use Rattle.oas_drawing.specs.Modal.{ModalState, stepped}
-use Rattle.oas_drawing.specs.Reasons.{first_of, kind_reason, reason_if, is_magnified, is_askew, weight_if, lacks_if, is_on_grid, all_fit}
-use Rattle.oas_names.specs.declared.names.Numbering.{Numbering}
-use Rattle.oas_names.specs.Names.{is_mixed, numbering_given, is_other, name_of, cell_names, text_strings, same_string, reason_given, numbering_of, next_number, named}
-use Rattle.oas_names.specs.Meaning.{DrawnCell, cells_meant, lacks_name, has_twice, end_reason, cells_drawn}
+use Rattle.oas_modal.specs.oas_drawing.declared.kinds.Kind.{Kind}
+use Rattle.oas_modal.specs.oas_drawing.Drawing.{kind_of, repeats, elements_at, drawn_by, place_of, number_if, lacks_repetition}
+use Rattle.oas_modal.specs.oas_drawing.Modal.{ModalState, stepped}
+use Rattle.oas_modal.specs.oas_drawing.Reasons.{first_of, kind_reason, reason_if, is_magnified, is_askew, weight_if, lacks_if, is_on_grid, all_fit}
+use Rattle.oas_modal.specs.oas_names.declared.names.Numbering.{Numbering}
+use Rattle.oas_modal.specs.oas_names.Names.{is_mixed, numbering_given, is_other, name_of, cell_names, text_strings, same_string, reason_given, numbering_of, next_number, named}
+use Rattle.oas_modal.specs.oas_names.Meaning.{DrawnCell, cells_by_name, lacks_name, has_twice, end_reason, cells_drawn}
 use Rattle.oas_modal.specs.Standing.{Standing, cell_weight, element_reason}
 use Rattle.oas_modal.specs.Stands.{seen, refused_after, refusal, end_refusal}
 use Rattle.oas_file.specs.Reading.{decides, is_of_file}
 
--- ---- what a reason that lies in the bytes isn't
+-- ---- what a reason of the bytes isn't
 
 false_not_true : ◌≡◌ {A = Bool} false true → ⊥
 false_not_true e = cc
@@ -54,7 +54,7 @@ format_or_end _ is = inl refl
 
 -- ---- the reasons of records
 
--- a reason, if there is one, lies in the bytes
+-- a reason, if there is one, is about the bytes
 record InBytes (o : Option Why) : Type 0 where
   decides : (why : Why) → o ≡ Some why → IsTrue (decides why)
 
@@ -110,23 +110,18 @@ record_in limits before (record_of.TextString label number) = name_in same_strin
 record_in limits before (record_of.Cell c) = if_in (nat_lt limits.weight ((seen before).weight + cell_weight c)) _ _ refl none_in
 record_in limits before record_of.XyAbsolute = none_in
 record_in limits before record_of.XyRelative = none_in
-record_in limits before (record_of.Placement p) = element_in limits (seen before) (stepped (seen before).modal (record_of.Placement p)) (record_of.Placement p)
-record_in limits before (record_of.Text p) = element_in limits (seen before) (stepped (seen before).modal (record_of.Text p)) (record_of.Text p)
-record_in limits before (record_of.Rectangle p) = element_in limits (seen before) (stepped (seen before).modal (record_of.Rectangle p)) (record_of.Rectangle p)
-record_in limits before (record_of.Polygon p) = element_in limits (seen before) (stepped (seen before).modal (record_of.Polygon p)) (record_of.Polygon p)
-record_in limits before (record_of.Path p) = element_in limits (seen before) (stepped (seen before).modal (record_of.Path p)) (record_of.Path p)
-record_in limits before (record_of.Circle p) = element_in limits (seen before) (stepped (seen before).modal (record_of.Circle p)) (record_of.Circle p)
+record_in limits before r = element_in limits (seen before) (stepped (seen before).modal r) r
 
 end_in : (names strings : List (ℕ × List ℕ)) (limits : Limits) (cs : List DrawnCell) → InBytes (end_reason names strings limits cs)
 end_in names strings limits cs =
     if_in (lacks_name names strings cs) _ _ refl (
-    if_in (has_twice (keys_of (cells_meant names strings cs))) _ _ refl (
-    if_in (nat_lt limits.weight (cells_weight (cells_meant names strings cs))) _ _ refl none_in))
+    if_in (has_twice (keys_of (cells_by_name names strings cs))) _ _ refl (
+    if_in (nat_lt limits.weight (cells_weight (cells_by_name names strings cs))) _ _ refl none_in))
 
--- why a record is refused lies in the bytes
+-- why a record is refused is about the bytes
 pub refusal_decides : (limits : Limits) (rs : List Record) (r : Record) (why : Why) → refusal limits rs r ≡ Some why → IsTrue (decides why)
 refusal_decides limits rs r why e = (record_in limits (reverse rs) r).decides why e
 
--- and so does why END refuses them
+-- and so is why END refuses them
 pub end_decides : (limits : Limits) (rs : List Record) (why : Why) → end_refusal limits rs ≡ Some why → IsTrue (decides why)
 end_decides limits rs why e = (end_in (named cell_names (reverse rs)) (named text_strings (reverse rs)) limits (cells_drawn elements_at (reverse rs))).decides why e

@@ -1,4 +1,4 @@
--- A file is refused at one place at most, and at none where it is accepted.
+-- A file is refused at no more than one place, and at none where it is accepted.
 use Rattle.std.proofs.Common.{◌≡◌, ℕ, ◌+◌, List, [], ◌∷◌, ◌++◌, length, sym, ap, subst, ◌∙◌, append_assoc, arith}
 use Rattle.std.proofs.lemmas.List.{append-nil, append_cancel_left, length-append}
 use Rattle.oas_num.specs.Laws.GrammarLaws.{after_same}
@@ -8,17 +8,17 @@ use Rattle.oas_record.specs.declared.records.Record.{Record}
 use Rattle.oas_record.specs.declared.records.Record.TheVariants.{End}
 use Rattle.oas_record.specs.Heads.{magic}
 use Rattle.oas_record.specs.Records.{record_in}
-use Rattle.oas_record.specs.Laws.RecordLaws.{OneFront-record}
+use Rattle.oas_record.specs.Laws.RecordLaws.{PrefixFree-record}
 use Rattle.oas_layout.specs.declared.limits.Limits.{Limits}
-use Rattle.oas_file.specs.Files.{FrontOf}
+use Rattle.oas_file.specs.Files.{PrefixOf}
 use Rattle.oas_file.specs.Acceptance.{Allowed, IsWhole, Accepted}
 use Rattle.oas_file.specs.Places.{AtMagic, AtStart, AtRecord, AfterEnd, AtEnd, ByMagic, ByStart, ByRecord, AfterLast, ByEnd, OnePlace, NoPlace}
-use Rattle.oas_file.proofs.Fronts.{Compared, Same, More, Less, Fronts, fronts, allowed_front, not_both, end_by, ended, BeginsFile, head_begins}
+use Rattle.oas_file.proofs.Fronts.{Compared, Same, More, Less, Fronts, fronts, allowed_prefix, not_both, end_by, ended, BeginsFile, head_begins}
 
 same_length : (one other left right : List ℕ) → left ≡ right → one ++ left ≡ other ++ right → length one ≡ length other
 same_length one other left right same e = omega (arith, ap length same, ap length e, length-append one left, length-append other right)
 
--- ---- where END stands
+-- ---- where END is
 
 record Ends (limits : Limits) (b : List ℕ) : Type 0 where
   head : Head
@@ -26,7 +26,7 @@ record Ends (limits : Limits) (b : List ℕ) : Type 0 where
   before : List ℕ
   last : List ℕ
   rest : List ℕ
-  front : FrontOf head records before
+  front : PrefixOf head records before
   allowed : Allowed limits records
   end : record_in Any head.flag_in_end End last
   joined : b ≡ before ++ (last ++ rest)
@@ -85,7 +85,7 @@ ends_same e f = by both.records where
 
   by : Compared e.head.flag_in_end e.records f.records (e.last ++ e.rest) (f.last ++ f.rest) → SameEnds e f
   by (Same same lefts) =
-      let one = (OneFront-record Any e.head.flag_in_end).one End End e.last f.last e.rest f.rest e.end (end_by both.heads f.end) lefts in
+      let one = (PrefixFree-record Any e.head.flag_in_end).one End End e.last f.last e.rest f.rest e.end (end_by both.heads f.end) lefts in
       record {
         records = same;
         place = same_length e.before f.before (e.last ++ e.rest) (f.last ++ f.rest) lefts (sym e.joined ∙ f.joined);
@@ -95,9 +95,9 @@ ends_same e f = by both.records where
   by (More r tail front rest is one stands) = absurd (not_both e.head.flag_in_end r front e.last rest e.rest one e.end (sym stands))
   by (Less r tail front rest is one stands) = absurd (not_both e.head.flag_in_end r front f.last rest f.rest one (end_by both.heads f.end) (sym stands))
 
--- a record of another front is one by which the records are allowed still
+-- a record of another prefix is one by which the records are still allowed
 further : (limits : Limits) (rs ss : List Record) (r : Record) (tail : List Record) → ss ≡ (rs ++ r ∷ []) ++ tail → Allowed limits ss → Allowed limits (rs ++ r ∷ [])
-further limits rs ss r tail is a = allowed_front limits (rs ++ r ∷ []) tail (subst (λ (all : List Record). Allowed limits all) is a)
+further limits rs ss r tail is a = allowed_prefix limits (rs ++ r ∷ []) tail (subst (λ (all : List Record). Allowed limits all) is a)
 
 record_not_end : {limits : Limits} {b : List ℕ} {at : ℕ} → AtRecord limits b at → Ends limits b → ⊥
 record_not_end {limits = limits} a e = by both.records where
@@ -124,7 +124,7 @@ records_same {limits = limits} {p = p} {q = q} a c = by both.records where
 
 -- ---- before the records
 
-front_begins : {head : Head} {rs : List Record} {b before : List ℕ} (left : List ℕ) → FrontOf head rs before → b ≡ before ++ left → BeginsFile b
+front_begins : {head : Head} {rs : List Record} {b before : List ℕ} (left : List ℕ) → PrefixOf head rs before → b ≡ before ++ left → BeginsFile b
 front_begins {head = head} left f e =
     subst BeginsFile (sym (e ∙ ap (λ (c : List ℕ). c ++ left) f.joined ∙ append_assoc f.start f.body left)) (head_begins head f.start (f.body ++ left) f.begun)
 

@@ -5,9 +5,9 @@ use Rattle.oas_num.specs.declared.refusals.Why.{Why}
 use Rattle.oas_num.specs.declared.refusals.Why.TheVariants.{Truncated, Read, InputTooLong, Write, Memory}
 use Rattle.oas_num.specs.declared.refusals.Refusal.{Refusal}
 use Rattle.oas_num.specs.Reading.{is_cut, FailsBy, FailsPiece}
-use Rattle.oas_num.specs.Script.{Script, Takes, IsAtEnd}
+use Rattle.oas_num.specs.Script.{Script, Consumed, IsAtEnd}
 use Rattle.oas_num.specs.Style.{Any}
-use Rattle.oas_num.proofs.ReadLemmas.{Takes-none, Takes-then, Wants, NoneFits-after, NoneWithin-after}
+use Rattle.oas_num.proofs.ReadLemmas.{Consumed-none, Consumed-then, Wants, NoneFits-after, NoneWithin-after}
 use Rattle.oas_num.proofs.PieceLemmas.{whole_piece}
 use Rattle.oas_record.proofs.NeverLemmas.{record_never, start_never}
 use Rattle.oas_record.specs.declared.records.Record.TheVariants.{End}
@@ -17,12 +17,12 @@ use Rattle.oas_record.specs.Heads.{magic, MagicMay, StartTook, RefusesMagic, Ref
 use Rattle.oas_record.specs.Records.{record_in}
 use Rattle.oas_record.specs.Refusals.{RecordTook}
 use Rattle.oas_layout.specs.declared.limits.Limits.{Limits}
-use Rattle.oas_file.specs.Files.{file_in, FrontOf}
+use Rattle.oas_file.specs.Files.{file_in, PrefixOf}
 use Rattle.oas_file.specs.Acceptance.{Allowed, Accepted}
 use Rattle.oas_file.specs.Deciding.{TheMagic, TheStart, TheRecord}
 use Rattle.oas_file.specs.Places.{ByMagic, ByStart, ByRecord}
 use Rattle.oas_file.specs.Reading.{decides, is_of_file, IsRefused, IsPlaced, Refuses}
-use Rattle.oas_file.proofs.Fronts.{magic_wanted, start_wanted, file_wants}
+use Rattle.oas_file.proofs.Fronts.{magic_expected, start_expected, file_expects}
 use Rattle.oas_file.proofs.Judged.{decided_not, decided_uncut, decides_format, format_or_end}
 
 -- ---- what can't be read
@@ -31,12 +31,12 @@ use Rattle.oas_file.proofs.Judged.{decided_not, decided_uncut, decides_format, f
 ended_cut : (why : Why) → why ≡ Truncated → IsTrue (is_cut why)
 ended_cut why e = subst (λ (w : Why). IsTrue (is_cut w)) (sym e) refl
 
--- what fails where a file wants it refuses the file
+-- what fails where a file requires it refuses the file
 pub read_refused : {W : Type 0} {piece : Bool} {next : W → List ℕ → Type 0} {may : Why → List ℕ → Type 0} {old mid new : Script} {why : Why} (limits : Limits) (front : List ℕ)
-    → Wants (file_in Any) front next → Takes old front mid → FailsBy piece next may mid why new → why ≢ Write → IsRefused limits old why new
+    → Wants (file_in Any) front next → Consumed old front mid → FailsBy piece next may mid why new → why ≢ Write → IsRefused limits old why new
 read_refused {next = next} {old = old} {mid = mid} {new = new} {why = why} limits front wants takes f reading = record {
   bytes = front ++ f.bytes;
-  takes = Takes-then old mid new front f.bytes takes f.takes;
+  takes = Consumed-then old mid new front f.bytes takes f.takes;
   decided = λ is more a.
       (NoneFits-after (file_in Any) next front f.bytes wants (f.format (decides_format why is))).none (a.head, (a.records, End)) ((front ++ f.bytes) ++ more) [] more a.file.spelled
       (append-nil ((front ++ f.bytes) ++ more));
@@ -50,11 +50,11 @@ read_refused {next = next} {old = old} {mid = mid} {new = new} {why = why} limit
   reading = reading;
 }
 
--- where a read fails stands no spelling
-pub none_stands : {V : Type 0} {piece : Bool} {spells : V → List ℕ → Type 0} {may : Why → List ℕ → Type 0} {old new : Script} {why : Why} (f : FailsBy piece spells may old why new) →
+-- where a read fails there is no spelling
+pub none_is_spelled : {V : Type 0} {piece : Bool} {spells : V → List ℕ → Type 0} {may : Why → List ℕ → Type 0} {old new : Script} {why : Why} (f : FailsBy piece spells may old why new) →
     IsTrue (is_of_file why)
     → (more : List ℕ) → (IsAtEnd new → more ≡ []) → (v : V) (front rest : List ℕ) → spells v front → f.bytes ++ more ≢ front ++ rest
-none_stands {why = why} f is more ended v front rest s e =
+none_is_spelled {why = why} f is more ended v front rest s e =
     elim (format_or_end why is) [
       | inl format ↦ (f.format format).none v front rest more s (sym e)
       | inr end ↦ (f.cut (ended_cut why end)).none v front rest s (sym e ∙ ap (λ (c : List ℕ). f.bytes ++ c) (ended (f.truncated end)) ∙ append-nil f.bytes)
@@ -62,7 +62,7 @@ none_stands {why = why} f is more ended v front rest s e =
 
 -- ---- what was read, and isn't accepted
 
--- it is refused for want of memory, or so that no accepted file goes on like this
+-- it is refused out of memory, or so that no accepted file goes on like this
 pub data Judges (limits : Limits) (bytes : List ℕ) (why : Why) : Type 0 where
   ForMemory : why ≡ Memory → Judges limits bytes why
   Decided : IsTrue (decides why) → ((more : List ℕ) → Accepted limits (bytes ++ more) → ⊥) → Judges limits bytes why
@@ -79,7 +79,7 @@ judged_decided : {limits : Limits} {bytes : List ℕ} {why : Why} → Judges lim
 judged_decided (ForMemory e) is = let d : IsTrue (decides Memory) = subst (λ (w : Why). IsTrue (decides w)) e is in absurd cc
 judged_decided (Decided d none) is = none
 
-pub judged_refused : {limits : Limits} {old new : Script} {why : Why} (bytes : List ℕ) → Takes old bytes new → Judges limits bytes why → IsRefused limits old why new
+pub judged_refused : {limits : Limits} {old new : Script} {why : Why} (bytes : List ℕ) → Consumed old bytes new → Judges limits bytes why → IsRefused limits old why new
 judged_refused bytes takes j = record {
   bytes = bytes;
   takes = takes;
@@ -91,8 +91,8 @@ judged_refused bytes takes j = record {
   reading = judged_not Write (λ e. cc) refl j;
 }
 
--- want of memory has no place
-pub memory_placed : {limits : Limits} {old new : Script} (at : ℕ) (why : Why) (bytes : List ℕ) → Takes old bytes new → why ≡ Memory → IsPlaced limits old (record { at = at; why = why }) new
+-- out of memory has no place
+pub memory_placed : {limits : Limits} {old new : Script} (at : ℕ) (why : Why) (bytes : List ℕ) → Consumed old bytes new → why ≡ Memory → IsPlaced limits old (record { at = at; why = why }) new
 memory_placed at why bytes takes e = record {
   bytes = bytes;
   takes = takes;
@@ -108,20 +108,20 @@ module _ {limits : Limits} {old new : Script} (refusal : Refusal) where
   magic_refuses : RefusesMagic old refusal new → Refuses limits old refusal new
   magic_refuses r =
       let f = r.fails in (
-        read_refused limits [] magic_wanted (Takes-none old) f (not_writing refusal.why MagicMay f.reason.last (λ h. h) f.reason.holds),
-        record { bytes = f.bytes; takes = f.takes; placed = λ fresh is more ended. ByMagic (record { place = r.at; differs = λ rest. none_stands f is more ended tt magic rest refl }) },
+        read_refused limits [] magic_expected (Consumed-none old) f (not_writing refusal.why MagicMay f.reason.last (λ h. h) f.reason.holds),
+        record { bytes = f.bytes; takes = f.takes; placed = λ fresh is more ended. ByMagic (record { place = r.at; differs = λ rest. none_is_spelled f is more ended tt magic rest refl }) },
         record { bytes = f.bytes; takes = f.takes; decided = λ fresh. TheMagic (record { place = r.at; decides = f.reason; cut = f.cut }) },
       )
 
   start_refuses : RefusesStart old refusal new → Refuses limits old refusal new
   start_refuses r =
       let f = r.fails in
-      let takes = Takes-then old r.mid new magic f.bytes r.takes f.takes in (
-        read_refused limits magic start_wanted r.takes f (not_writing refusal.why StartTook f.reason.last (start_never f.reason.last) f.reason.holds),
+      let takes = Consumed-then old r.mid new magic f.bytes r.takes f.takes in (
+        read_refused limits magic start_expected r.takes f (not_writing refusal.why StartTook f.reason.last (start_never f.reason.last) f.reason.holds),
         record {
           bytes = magic ++ f.bytes;
           takes = takes;
-          placed = λ fresh is more ended. ByStart (record { left = f.bytes ++ more; place = r.at; joined = append_assoc magic f.bytes more; none = record { none = none_stands f is more ended } });
+          placed = λ fresh is more ended. ByStart (record { left = f.bytes ++ more; place = r.at; joined = append_assoc magic f.bytes more; none = record { none = none_is_spelled f is more ended } });
         },
         record { bytes = magic ++ f.bytes; takes = takes; decided = λ fresh. TheStart (record { left = f.bytes; place = r.at; joined = refl; took = whole_piece f; cut = f.cut }) },
       )
@@ -134,11 +134,11 @@ module _ {limits : Limits} {old new : Script} (refusal : Refusal) where
 
 module _ {limits : Limits} {origin mid new : Script} {head : Head} {rs : List Record} {bytes : List ℕ} where
   -- neither a record nor END can be read
-  pub record_refuses : (refusal : Refusal) → FrontOf head rs bytes → Allowed limits rs → Takes origin bytes mid → refusal.at ≡ mid.given
+  pub record_refuses : (refusal : Refusal) → PrefixOf head rs bytes → Allowed limits rs → Consumed origin bytes mid → refusal.at ≡ mid.given
       → FailsPiece (record_in Any head.flag_in_end) (RecordTook head.flag_in_end) mid refusal.why new → Refuses limits origin refusal new
   record_refuses refusal front allowed takes at f =
-      let both = Takes-then origin mid new bytes f.bytes takes f.takes in (
-        read_refused limits bytes (file_wants front) takes f (not_writing refusal.why (RecordTook head.flag_in_end) f.reason.last (record_never head.flag_in_end f.reason.last) f.reason.holds),
+      let both = Consumed-then origin mid new bytes f.bytes takes f.takes in (
+        read_refused limits bytes (file_expects front) takes f (not_writing refusal.why (RecordTook head.flag_in_end) f.reason.last (record_never head.flag_in_end f.reason.last) f.reason.holds),
         record {
           bytes = bytes ++ f.bytes;
           takes = both;
@@ -147,8 +147,8 @@ module _ {limits : Limits} {origin mid new : Script} {head : Head} {rs : List Re
             head = head;
             records = rs;
             before = record { before = bytes; front = front; allowed = allowed; place = omega (arith, at, takes.given, fresh); joined = append_assoc bytes f.bytes more };
-            no_end = none_stands f is more ended End;
-            no_record = record { none = λ r front rest s. none_stands f is more ended r front rest s.spelled };
+            no_end = none_is_spelled f is more ended End;
+            no_record = record { none = λ r front rest s. none_is_spelled f is more ended r front rest s.spelled };
           });
         },
         record {

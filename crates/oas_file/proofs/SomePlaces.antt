@@ -19,7 +19,7 @@ use Rattle.oas_file.proofs.Fronts.{allowed_last, allowed_more, front_more}
 use Rattle.oas_record.specs.Found.{Settled, Stands, only, found_exactly}
 use Rattle.oas_file.proofs.FoundRecords.{settled_end, found_record, found_start}
 
--- ---- a record takes a byte at least
+-- ---- a record takes at least one byte
 
 closed_long : (bytes : List ℕ) → IsClosed bytes → 0 < length bytes
 closed_long [] c = absurd c
@@ -30,7 +30,7 @@ record_long in_end r bytes s =
     let p = s.parts in
     omega (arith, ap length p.joined, length-append p.front p.back, closed_long p.front p.first.closed)
 
--- ---- what stands after the front of a file
+-- ---- what follows a prefix of a file
 
 settled_none : (o : Option Why) → Settled (o ≡ None)
 settled_none None = inl refl

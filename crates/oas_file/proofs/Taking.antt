@@ -1,38 +1,38 @@
--- One record more, or a refusal there.
+-- One more record, or a refusal there.
 use Rattle.std.specs.Prelude.{take, Bool, List}
 use Rattle.std.proofs.Common.{◌≡◌, ℕ, [], ◌∷◌, ◌++◌, None, Some, ◌⊎◌, inl, inr, refl, sym, ap, subst, ◌∙◌, append_assoc, arith}
 use Rattle.oas_num.specs.declared.refusals.Why.{Why}
 use Rattle.oas_num.specs.declared.refusals.Why.TheVariants.{Memory}
 use Rattle.oas_num.specs.declared.refusals.Refusal.{Refusal}
 use Rattle.oas_num.specs.Reading.{ReadsValue, FailsPiece}
-use Rattle.oas_num.specs.Script.{Script, Takes}
+use Rattle.oas_num.specs.Script.{Script, Consumed}
 use Rattle.oas_num.specs.Style.{Any}
-use Rattle.oas_num.proofs.ReadLemmas.{Takes-then}
+use Rattle.oas_num.proofs.ReadLemmas.{Consumed-then}
 use Rattle.oas_record.specs.declared.heads.Head.{Head}
 use Rattle.oas_record.specs.declared.records.Record.{Record}
 use Rattle.oas_record.specs.declared.records.Record.TheVariants.{End, Rectangle}
-use Rattle.oas_ahead.specs.declared.rectangles.RectangleAhead.{RectangleAhead}
-use Rattle.oas_ahead.specs.Ahead.{IsAhead}
-use Rattle.oas_ahead.specs.declared.named.NamedAhead.{NamedAhead}
-use Rattle.oas_ahead.specs.declared.named.NamedOnce.{NamedOnce}
-use Rattle.oas_ahead.specs.declared.named.NamedOnce.TheVariants as once
-use Rattle.oas_ahead.specs.Named.{IsNamedAhead, named_record}
-use Rattle.oas_ahead.specs.declared.figures.FigureAhead.{FigureAhead}
-use Rattle.oas_ahead.specs.Figures.{IsFigureAhead}
+use Rattle.oas_peek.specs.declared.rectangles.PeekedRectangle.{PeekedRectangle}
+use Rattle.oas_peek.specs.Peeked.{IsPeeked}
+use Rattle.oas_peek.specs.declared.named.PeekedNamed.{PeekedNamed}
+use Rattle.oas_peek.specs.declared.named.NamedOnce.{NamedOnce}
+use Rattle.oas_peek.specs.declared.named.NamedOnce.TheVariants as once
+use Rattle.oas_peek.specs.Named.{IsPeekedNamed, named_record}
+use Rattle.oas_peek.specs.declared.figures.PeekedFigure.{PeekedFigure}
+use Rattle.oas_peek.specs.Figures.{IsPeekedFigure}
 use Rattle.oas_record.specs.Records.{record_in, IsInner}
-use Rattle.oas_record.specs.Laws.RecordLaws.{OneFront-record}
+use Rattle.oas_record.specs.Laws.RecordLaws.{PrefixFree-record}
 use Rattle.oas_record.specs.Refusals.{RecordTook}
 use Rattle.oas_layout.specs.declared.limits.Limits.{Limits}
-use Rattle.oas_modal.specs.Standing.{MayWant}
+use Rattle.oas_modal.specs.Standing.{MayRunOut}
 use Rattle.oas_modal.specs.Stores.{Store}
-use Rattle.oas_modal.specs.Stands.{ReaderState, StandsFor, refusal as refusal_of}
-use Rattle.oas_file.specs.Files.{FrontOf}
+use Rattle.oas_modal.specs.Stands.{ReaderState, Represents, refusal as refusal_of}
+use Rattle.oas_file.specs.Files.{PrefixOf}
 use Rattle.oas_file.specs.Acceptance.{Allowed}
 use Rattle.oas_file.specs.Deciding.{TheNext, IsReasoned}
 use Rattle.oas_file.specs.Gathering.{inner_in, HasBegun, HasGathered, HasAll, HasTakenOne, RefusesOne}
 use Rattle.oas_file.specs.Places.{ByRecord}
 use Rattle.oas_file.specs.Reading.{IsPlaced, Refuses}
-use Rattle.oas_file.proofs.Fronts.{allowed_last, allowed_more, front_allowed, front_more}
+use Rattle.oas_file.proofs.Fronts.{allowed_last, allowed_more, prefix_allowed, front_more}
 use Rattle.oas_file.proofs.Judged.{refusal_decides}
 use Rattle.oas_file.proofs.Refusing.{record_refuses, Judges, ForMemory, Decided, judged_refused, memory_placed}
 
@@ -52,14 +52,14 @@ module _ {C : Type 0} {t : Store C} {origin mid new : Script} {head : Head} {fir
   gather_fails refusal at f = record_refuses refusal m.front m.taken.allowed m.takes at f
 
   module _ {r : Record} (read : ReadsValue (inner_in head.flag_in_end) mid r new) where
-    both : Takes origin (m.bytes ++ read.bytes) new
-    both = Takes-then origin mid new m.bytes read.bytes m.takes read.takes
+    both : Consumed origin (m.bytes ++ read.bytes) new
+    both = Consumed-then origin mid new m.bytes read.bytes m.takes read.takes
 
-    front : FrontOf head (m.records ++ r ∷ []) (m.bytes ++ read.bytes)
+    front : PrefixOf head (m.records ++ r ∷ []) (m.bytes ++ read.bytes)
     front = front_more m.front read.spelled
 
     -- a record is read and taken
-    pub gather_more : (after : ReaderState C) → (refusal_of s.limits m.records r ≡ None) × StandsFor t after (m.records ++ r ∷ []) → after.unit ≡ s.unit →
+    pub gather_more : (after : ReaderState C) → (refusal_of s.limits m.records r ≡ None) × Represents t after (m.records ++ r ∷ []) → after.unit ≡ s.unit →
         after.limits ≡ s.limits → after.profile ≡ s.profile
         → HasGathered t origin head first new after
     gather_more after h unit limits profile =
@@ -76,9 +76,9 @@ module _ {C : Type 0} {t : Store C} {origin mid new : Script} {head : Head} {fir
           };
         }
 
-    -- the reason, or want of memory, under these limits
+    -- the reason, or out of memory, under these limits
     abbrev Reasons : Limits → Why → Type 0
-    Reasons limits why = ((why ≡ Memory) × MayWant (refusal_of limits m.records r)) ⊎ (refusal_of limits m.records r ≡ Some why)
+    Reasons limits why = ((why ≡ Memory) × MayRunOut (refusal_of limits m.records r)) ⊎ (refusal_of limits m.records r ≡ Some why)
 
     -- it isn't allowed
     not_allowed : (why : Why) → refusal_of first.limits m.records r ≡ Some why → Allowed first.limits (m.records ++ r ∷ []) → ⊥
@@ -94,10 +94,10 @@ module _ {C : Type 0} {t : Store C} {origin mid new : Script} {head : Head} {fir
         head = head;
         records = m.records;
         before = record { before = m.bytes; front = m.front; allowed = m.taken.allowed; place = omega (arith, is, m.takes.given, fresh); joined = append_assoc m.bytes read.bytes more };
-        no_end = λ front rest end e. read.spelled.holds ((OneFront-record Any head.flag_in_end).one r End read.bytes front more rest read.spelled.spelled end e).1;
+        no_end = λ front rest end e. read.spelled.holds ((PrefixFree-record Any head.flag_in_end).one r End read.bytes front more rest read.spelled.spelled end e).1;
         no_record = record {
           none = λ q front rest next e.
-              let same = ((OneFront-record Any head.flag_in_end).one r q read.bytes front more rest read.spelled.spelled next.spelled e).1 in
+              let same = ((PrefixFree-record Any head.flag_in_end).one r q read.bytes front more rest read.spelled.spelled next.spelled e).1 in
               not_allowed why some (subst (λ (k : Record). Allowed first.limits (m.records ++ k ∷ [])) (sym same) next.allowed);
         };
       });
@@ -122,7 +122,7 @@ module _ {C : Type 0} {t : Store C} {origin mid new : Script} {head : Head} {fir
     next_refuses refusal at reason = (judged_refused (m.bytes ++ read.bytes) both (judged reason), next_placed refusal.at refusal.why at reason, next_reasoned refusal.at refusal.why at reason) where
       judged : Reasons first.limits refusal.why → Judges first.limits (m.bytes ++ read.bytes) refusal.why
       judged (inl e) = ForMemory e.0
-      judged (inr some) = Decided (refusal_decides first.limits m.records r refusal.why some) (λ more a. not_allowed refusal.why some (front_allowed more front a))
+      judged (inr some) = Decided (refusal_decides first.limits m.records r refusal.why some) (λ more a. not_allowed refusal.why some (prefix_allowed more front a))
 
     -- or it is refused
     pub gather_refuses : (at : ℕ) (refusal : Refusal) → at ≡ mid.given → (refusal.at ≡ at) × Reasons s.limits refusal.why → Refuses first.limits origin refusal new
@@ -145,7 +145,7 @@ module _ {C : Type 0} {t : Store C} {origin mid new : Script} {head : Head} {fir
     records = m.records;
     bytes = m.bytes;
     last = read.bytes;
-    takes = Takes-then origin mid new m.bytes read.bytes m.takes read.takes;
+    takes = Consumed-then origin mid new m.bytes read.bytes m.takes read.takes;
     front = m.front;
     end = read.spelled;
     place = is ∙ m.takes.given;
@@ -153,18 +153,18 @@ module _ {C : Type 0} {t : Store C} {origin mid new : Script} {head : Head} {fir
   }
 
 -- a rectangle at hand is a record before END
-pub ahead_read : {old new : Script} {bytes : List ℕ} {ahead : RectangleAhead} (in_end : Bool) → IsAhead bytes ahead → Takes old (take ahead.length bytes) new → ReadsValue (inner_in in_end) old (Rectangle ahead.rectangle) new
-ahead_read in_end is takes = record { bytes = _; takes = takes; spelled = record { holds = λ e. cc; spelled = is.spelled in_end } }
+pub peeked_read : {old new : Script} {bytes : List ℕ} {ahead : PeekedRectangle} (in_end : Bool) → IsPeeked bytes ahead → Consumed old (take ahead.length bytes) new → ReadsValue (inner_in in_end) old (Rectangle ahead.rectangle) new
+peeked_read in_end is takes = record { bytes = _; takes = takes; spelled = record { holds = λ e. cc; spelled = is.spelled in_end } }
 
 -- so is a placement or a text
 pub named_inner : (next : NamedOnce) → IsInner (named_record next)
 named_inner (once.Placement c quarters flip x y) = λ e. cc
 named_inner (once.Text s textlayer texttype x y) = λ e. cc
 
-pub named_read : {old new : Script} {bytes : List ℕ} {ahead : NamedAhead} (in_end : Bool) → IsNamedAhead bytes ahead → Takes old (take ahead.length bytes) new
+pub named_read : {old new : Script} {bytes : List ℕ} {ahead : PeekedNamed} (in_end : Bool) → IsPeekedNamed bytes ahead → Consumed old (take ahead.length bytes) new
     → ReadsValue (inner_in in_end) old (named_record ahead.element) new
 named_read {ahead = ahead} in_end is takes = record { bytes = _; takes = takes; spelled = record { holds = named_inner ahead.element; spelled = is.spelled in_end } }
 
 -- and a polygon or a path
-pub figure_read : {old new : Script} {bytes : List ℕ} {ahead : FigureAhead} (in_end : Bool) → IsFigureAhead bytes ahead → Takes old (take ahead.length bytes) new → ReadsValue (inner_in in_end) old ahead.record new
+pub figure_read : {old new : Script} {bytes : List ℕ} {ahead : PeekedFigure} (in_end : Bool) → IsPeekedFigure bytes ahead → Consumed old (take ahead.length bytes) new → ReadsValue (inner_in in_end) old ahead.record new
 figure_read in_end is takes = record { bytes = _; takes = takes; spelled = record { holds = is.inner; spelled = is.spelled in_end } }

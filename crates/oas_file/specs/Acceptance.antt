@@ -23,7 +23,7 @@ pub record Accepted (limits : Limits) (b : List ℕ) : Type 0 where
   pub allowed : Allowed limits records
   pub whole : IsWhole limits records
 
--- the bytes are a file that means this layout
+-- the bytes are a file with this layout as its meaning
 pub record Means (b : List ℕ) (m : Meaning) : Type 0 where
   pub head : Head
   pub records : List Record

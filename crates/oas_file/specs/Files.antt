@@ -1,4 +1,4 @@
--- What a file is: its front, its records and END, spelled in a style (SEMI P39, OASIS file).
+-- What a file is: its head, its records and END, spelled in a style (SEMI P39, OASIS file).
 use Rattle.std.specs.Prelude.{◌≡◌, ℕ, List, ◌++◌}
 use Rattle.oas_num.specs.Grammar.{IsPair, IsSuch, IsEach}
 use Rattle.oas_num.specs.Style.{Style, Any}
@@ -11,7 +11,7 @@ use Rattle.oas_record.specs.Records.{record_in, records_in, IsInner}
 abbrev pub Parts : Type 0
 Parts = Head × (List Record × Record)
 
--- the magic and START, then records and END, by START's word on where the table-offsets stand
+-- the magic and START, then records and END; START says where the table-offsets are
 abbrev pub file_in : Style → Parts → List ℕ → Type 0
 file_in style = IsPair (head_in style) (λ head. records_in style head.flag_in_end)
 
@@ -22,8 +22,8 @@ pub record FileIn (style : Style) (head : Head) (rs : List Record) (bytes : List
 abbrev pub FileOf : Head → List Record → List ℕ → Type 0
 FileOf head rs bytes = FileIn Any head rs bytes
 
--- the bytes are the front of a file: the magic, START and these records
-pub record FrontOf (head : Head) (rs : List Record) (bytes : List ℕ) : Type 0 where
+-- the bytes are a prefix of a file: the magic, START and these records
+pub record PrefixOf (head : Head) (rs : List Record) (bytes : List ℕ) : Type 0 where
   pub start : List ℕ
   pub body : List ℕ
   pub begun : head_in Any head start

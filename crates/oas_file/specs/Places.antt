@@ -7,8 +7,8 @@ use Rattle.oas_record.specs.declared.records.Record.TheVariants.{End}
 use Rattle.oas_record.specs.Heads.{magic, start_in}
 use Rattle.oas_record.specs.Records.{record_in}
 use Rattle.oas_layout.specs.declared.limits.Limits.{Limits}
-use Rattle.oas_file.specs.Files.{FrontOf}
-use Rattle.oas_record.specs.Found.{NoneStands}
+use Rattle.oas_file.specs.Files.{PrefixOf}
+use Rattle.oas_record.specs.Found.{NoneIsSpelled}
 use Rattle.oas_file.specs.Acceptance.{Allowed, IsWhole, Accepted}
 
 -- before the magic
@@ -21,29 +21,29 @@ pub record AtStart (b : List ℕ) (at : ℕ) : Type 0 where
   pub left : List ℕ
   pub place : at ≡ 13
   pub joined : b ≡ magic ++ left
-  pub none : NoneStands (start_in Any) left
+  pub none : NoneIsSpelled (start_in Any) left
 
--- before the place stand the magic, START and records that are allowed, and all of it is this
+-- before the place come the magic, START and records that are allowed, and this is all
 pub record IsBefore (limits : Limits) (b left : List ℕ) (at : ℕ) (head : Head) (records : List Record) : Type 0 where
   pub before : List ℕ
-  pub front : FrontOf head records before
+  pub front : PrefixOf head records before
   pub allowed : Allowed limits records
   pub place : at ≡ length before
   pub joined : b ≡ before ++ left
 
--- a record by which they are allowed still
+-- a record by which they are still allowed
 pub record IsNext (limits : Limits) (head : Head) (records : List Record) (r : Record) (bytes : List ℕ) : Type 0 where
   pub spelled : record_in Any head.flag_in_end r bytes
   pub allowed : Allowed limits (records ++ r ∷ [])
 
--- at a record: neither END nor one that is allowed stands there
+-- at a record: there is neither END nor one that is allowed
 pub record AtRecord (limits : Limits) (b : List ℕ) (at : ℕ) : Type 0 where
   pub left : List ℕ
   pub head : Head
   pub records : List Record
   pub before : IsBefore limits b left at head records
   pub no_end : (front rest : List ℕ) → record_in Any head.flag_in_end End front → left ≢ front ++ rest
-  pub no_record : NoneStands (IsNext limits head records) left
+  pub no_record : NoneIsSpelled (IsNext limits head records) left
 
 -- after END, where a byte follows
 pub record AfterEnd (limits : Limits) (b : List ℕ) (at : ℕ) : Type 0 where
@@ -59,7 +59,7 @@ pub record AfterEnd (limits : Limits) (b : List ℕ) (at : ℕ) : Type 0 where
   pub joined : left ≡ last ++ (byte ∷ rest)
   pub place : at ≡ start + length last
 
--- at END, behind which nothing follows, where it refuses the records
+-- at END, with nothing after it, where it refuses the records
 pub record AtEnd (limits : Limits) (b : List ℕ) (at : ℕ) : Type 0 where
   pub left : List ℕ
   pub head : Head
@@ -76,7 +76,7 @@ pub data RefusedAt (limits : Limits) (b : List ℕ) (at : ℕ) : Type 0 where
   AfterLast : AfterEnd limits b at → RefusedAt limits b at
   ByEnd : AtEnd limits b at → RefusedAt limits b at
 
--- a file is refused at one place at most
+-- a file is refused at most at one place
 abbrev pub OnePlace : Type 0
 OnePlace = (limits : Limits) (b : List ℕ) (p q : ℕ) → RefusedAt limits b p → RefusedAt limits b q → p ≡ q
 

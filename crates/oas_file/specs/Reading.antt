@@ -3,12 +3,12 @@ use Rattle.std.specs.Prelude.{◌≡◌, ◌≢◌, ℕ, Bool, true, false, List
 use Rattle.oas_num.specs.declared.refusals.Why.{Why}
 use Rattle.oas_num.specs.declared.refusals.Refusal.{Refusal}
 use Rattle.oas_num.specs.declared.refusals.Why.TheVariants.{Truncated, Read, InputTooLong, Write, Memory}
-use Rattle.oas_num.specs.Script.{Script, Takes, IsAtEnd, HasFailed, IsTooLong}
+use Rattle.oas_num.specs.Script.{Script, Consumed, IsAtEnd, HasFailed, IsTooLong}
 use Rattle.oas_num.specs.Reading.{is_cut}
 use Rattle.oas_layout.specs.declared.limits.Limits.{Limits}
 use Rattle.oas_layout.specs.declared.profile.Profile.{Profile}
 use Rattle.oas_layout.specs.Meaning.{Meaning, SameLayout}
-use Rattle.oas_layout.specs.Contents.{Contents, meaning_of}
+use Rattle.oas_layout.specs.Contents.{Contents, IsLayout, meaning_of}
 use Rattle.oas_file.specs.Acceptance.{Accepted, Means}
 use Rattle.oas_file.specs.Places.{RefusedAt}
 use Rattle.oas_file.specs.Deciding.{IsReasoned}
@@ -22,7 +22,7 @@ decides Write = false
 decides Memory = false
 decides _ = true
 
--- the reason lies in the file, and not in a device, a limit of the source, or the memory
+-- the reason is about the file, and not about a device, a limit of the source, or the memory
 abbrev pub is_of_file : Why → Bool
 is_of_file Read = false
 is_of_file InputTooLong = false
@@ -30,23 +30,26 @@ is_of_file Write = false
 is_of_file Memory = false
 is_of_file _ = true
 
--- all that the source gave is an accepted file, of which this is the layout
+-- All that the source gave is an accepted file, and this is its layout: the same as the file's meaning, its cells by
+-- ascending names, one of each name, and the elements of each ascending in the form that the profile keeps. So there is only
+-- one such layout, and what is said of its list of cells is said of the file.
 pub record IsRead (limits : Limits) (profile : Profile) (old : Script) (l : Contents) (new : Script) : Type 0 where
   pub bytes : List ℕ
-  pub takes : Takes old bytes new
+  pub takes : Consumed old bytes new
   pub ended : IsAtEnd new
   pub accepted : Accepted limits bytes
   pub meaning : Meaning
   pub means : Means bytes meaning
   pub same : SameLayout profile meaning (meaning_of l)
+  pub layout : IsLayout l
   pub within : l.limits ≡ limits
   pub by : l.profile ≡ profile
 
 -- No accepted file begins with what was taken, or the source has ended and what was taken is none, or a device or the memory
--- failed. Where the input was cut off, what was taken goes on after no accepted file.
+-- failed. Where the input was cut off, no accepted file goes on from what was taken.
 pub record IsRefused (limits : Limits) (old : Script) (why : Why) (new : Script) : Type 0 where
   pub bytes : List ℕ
-  pub takes : Takes old bytes new
+  pub takes : Consumed old bytes new
   pub decided : IsTrue (decides why) → (more : List ℕ) → Accepted limits (bytes ++ more) → ⊥
   pub cut : IsTrue (is_cut why) → (front rest : List ℕ) → front ++ rest ≡ bytes → Accepted limits front → rest ≡ []
   pub truncated : why ≡ Truncated → (Accepted limits bytes → ⊥) × IsAtEnd new
@@ -54,11 +57,11 @@ pub record IsRefused (limits : Limits) (old : Script) (why : Why) (new : Script)
   pub too_long : why ≡ InputTooLong → IsTooLong new
   pub reading : why ≢ Write
 
--- Of a source that had given nothing before: the refusal's offset is a place at which each file is refused that goes on so;
--- where the source has ended, it goes on by nothing.
+-- Where the source had given nothing before: the refusal's offset is a place at which each file is refused that continues
+-- what was taken; where the source has ended, nothing continues it.
 pub record IsPlaced (limits : Limits) (old : Script) (refusal : Refusal) (new : Script) : Type 0 where
   pub bytes : List ℕ
-  pub takes : Takes old bytes new
+  pub takes : Consumed old bytes new
   pub placed : old.given ≡ 0 → IsTrue (is_of_file refusal.why) → (more : List ℕ) → (IsAtEnd new → more ≡ []) → RefusedAt limits (bytes ++ more) refusal.at
 
 abbrev pub Refuses : Limits → Script → Refusal → Script → Type 0
@@ -71,7 +74,7 @@ ReadsLayout limits profile old (Err refusal) new = Refuses limits old refusal ne
 -- all that the source gave is an accepted file
 pub record IsAccepted (limits : Limits) (old new : Script) : Type 0 where
   pub bytes : List ℕ
-  pub takes : Takes old bytes new
+  pub takes : Consumed old bytes new
   pub ended : IsAtEnd new
   pub accepted : Accepted limits bytes
 

@@ -1,4 +1,4 @@
-//! Laws of the definitions, each the contract of a function that does nothing.
+//! Laws of the definitions. Each is the contract of a function that does nothing.
 ghost use Rattle.oas_file.specs.Files.{OneReading};
 ghost use Rattle.oas_file.specs.Acceptance.{OneMeaning};
 ghost use Rattle.oas_file.specs.Places.{OnePlace, NoPlace, SomePlace};
@@ -13,7 +13,7 @@ pub fn one_meaning()
     ensures { OneMeaning }
 {}
 
-/// A file is refused at one place at most, at none where it is accepted, and at some where it isn't.
+/// A file is refused at no more than one place: at none where it is accepted, and at one where it isn't.
 pub fn one_place()
     ensures one { OnePlace }
     ensures none { NoPlace }

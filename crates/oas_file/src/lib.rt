@@ -1,33 +1,87 @@
-//! A whole file: what it is and means, which files are accepted, reading its layout, and reading only whether it is accepted.
+//! A whole file: what it is and means, which files are accepted, reading its layout, and checking only whether it is
+//! accepted.
 //!
 //! What this crate promises to the crates above it:
 //!
-//! - [`read_layout`] gives the layout of what a source gives exactly where that is an accepted file, under the limits and
-//!   for the profile that it is handed, and refuses it else: `ReadsLayout` (specs/Reading.antt). The layout is the same as
-//!   what the file means. On both sides: a refusal whose reason lies in the bytes says that no accepted file begins with
-//!   what was taken, `Why::Truncated` that what was taken to the end is none, and the reasons of the device and of the
-//!   source's limit that the source said so.
-//! - [`accept_file`] accepts what a source gives exactly where it is an accepted file, and refuses it else, by the same clauses
-//!   (`AcceptsFile`). It keeps no element.
-//! - Their parts, for a reader that does more with each record: [`take_record`] takes the next record, or END (`TakesNext`,
-//!   specs/Gathering.antt), [`take_records`] has a reader take all of them, whatever its stores (`Gathers`), and
+//! - [`read_layout`] returns the layout of what a source gives exactly where that is an accepted file, under the limits and
+//!   for the profile that it is handed, and fails otherwise: `ReadsLayout` (specs/Reading.antt). The layout is the same as
+//!   the file's meaning, and in order (`IsLayout` of oas_layout), so there is only one. The clauses cover both outcomes. A
+//!   refusal with a reason of the bytes says that no accepted file begins with what was taken. `Why::Truncated` says that
+//!   what was taken to the end is no accepted file. The reasons of the device and of the source's limit say that the source
+//!   returned them.
+//! - [`accept_file`] accepts what a source gives exactly where it is an accepted file, and fails otherwise, by the same
+//!   clauses (`AcceptsFile`). It keeps no element.
+//! - Their parts, for a reader that does more with each record: [`take_record`] takes the next record, or END
+//!   (`ConsumesNext`, specs/Gathering.antt); [`take_records`] gives all of them to a reader, with any stores (`Gathers`);
 //!   [`find_end_of_input`] finds that nothing follows (`FindsEnd`).
-//! - Of a source that had given nothing before: the offset of a refusal whose reason lies in the file is a place at which
-//!   every file that goes on so is refused (`IsPlaced`), and each refusal says which of the bytes that were taken decided,
-//!   and that its reason holds of them (`IsReasoned`, specs/Deciding.antt).
-//! - The laws stand over the definitions alone: [`laws`]. A file has one reading and one meaning, and is either accepted or
-//!   refused at exactly one place.
+//! - Where the source had given nothing before: the offset of a refusal with a reason of the file is a place at which every
+//!   file that continues it is refused (`IsPlaced`). Each refusal says which of the bytes that were taken decided, and that
+//!   its reason holds for them (`IsReasoned`, specs/Deciding.antt).
+//! - Laws, from the definitions alone: [`laws`]. A file has one reading and one meaning, and is either accepted or refused at
+//!   exactly one place.
 //!
 //! The definitions: what a file is, in a style (specs/Files.antt); which files are accepted, and what they mean
 //! (specs/Acceptance.antt); where a file is refused (specs/Places.antt), and which bytes decide that it is
-//! (specs/Deciding.antt). What a record is, is oas_record's, and what records mean and why they are refused, oas_modal's.
+//! (specs/Deciding.antt). oas_record defines what a record is, and oas_modal what records mean and why they are refused.
 //!
-//! Whether memory is there is outside every contract: what allocates may answer `Why::Memory`.
+//! Whether an allocation succeeds is outside every contract: what allocates may return `Why::Memory`.
+//!
+//! # How it is built
+//!
+//! oas_file uses oas_modal, and what that uses. What it promises to the crates above: `read_layout` (`ReadsLayout`), and what
+//! a file is and means, with its laws.
+//!
+//! | specs/ | What |
+//! |---|---|
+//! | Files, FileLaws | the grammar of a file, once, over a `Style`; prefixes of a file (`PrefixOf`); the grammar's three laws
+//! |
+//! | Acceptance | which files are accepted (`Allowed` record by record, `IsWhole` at END, `Accepted`), and what they mean (`Means`) |
+//! | Places | where a file is refused: five cases of `RefusedAt` |
+//! | Deciding | which bytes decide that, and after what: six cases of `DecidedAt`; where a reader that keeps the bytes may
+//! run out of memory: three cases of `OutOfMemoryAt` |
+//! | Reading | what reading a layout does |
+//! | Gathering | what its parts do: one record, all records, the end of the input |
+//!
+//! src/reading.rt is all of the code: START by oas_record, then each record by value to oas_modal's `Reader` until END
+//! (`take_next`; oas_peek reads a rectangle, a placement, a text, a polygon or a path at hand faster), then the end of the
+//! input, and only then `Reader::finish`, with END's offset. What holds for every layout (`IsLayout`) comes from
+//! `Layout::cells`. So a byte after END is refused before what END itself refuses. Taking the records (`take_records`) is
+//! generic over the reader's stores.
+//!
+//! How the proof goes.
+//!
+//! 1. *What was taken represents its records.* The invariant of the one loop is `HasGathered`: the bytes taken are a prefix
+//!    of a file with the records so far; the reader represents these (`Represents` of oas_modal, which says what one more
+//!    record does); and they are allowed. The loop's contract quantifies over where the read began (`HasBegun`), so the loop
+//!    is about the whole file.
+//! 2. *Two prefixes of one file compare* (`fronts`, proofs/Fronts.antt): they have one START, and their records are the same,
+//!    or one list goes on with a record where the other has ended. This is the one lemma on how a file goes on, and follows
+//!    from "no record is a prefix of another". From it follow that after a prefix of a file comes another of its records or
+//!    END (`file_expects`), and that the records of an accepted file's prefix are allowed (`prefix_allowed`).
+//! 3. *A read that fails refuses the file* (`read_refused`, proofs/Refusing.antt), in the magic, in START and in a record
+//!    alike: what a file requires there couldn't be read, and what fits nothing there fits no file (`Wants` of oas_num). What
+//!    was read and isn't accepted is refused out of memory, or so that no accepted file goes on like this (`judged_refused`).
+//!    For each reason in oas_modal's definitions proofs/Judged.antt shows that it isn't about the input's end, the device or
+//!    the memory.
+//! 4. *Three facts at once.* In each situation the refusal, its place and what decided it are one triple (`Refuses`):
+//!    `head_refuses`, `record_refuses`, `gather_refuses` (proofs/Taking.antt), `not_ended` and `finished`
+//!    (proofs/Ending.antt). Where the source has ended, no bytes follow: this gives the place of a file that is cut off, and
+//!    of what END refuses.
+//! 5. *One place* (proofs/PlaceLaws.antt) follows from 2 for each pair of cases. An accepted file is the case in which END is
+//!    there and nothing is cut off.
+//! 6. *Some place* (proofs/SomePlaces.antt) goes through the bytes. At each place it is decidable whether there is a spelling
+//!    (`IsFound` of oas_record, specs/Found.antt): it is for what is made of spellings for which it is. So each kind of
+//!    record has it from its tree; FoundRecords.antt adds END's length and START. Where there is a record by which all are
+//!    still allowed, the next is looked for, and each takes at least one byte. Where there is none, or one that is refused,
+//!    that is the place. Where END is there the file is accepted, or has its place there or after it.
 #![tactic(auto)]
 
 mod accepting;
 pub mod laws;
 mod reading;
 
+// The crates below, for those above.
 pub use accepting::accept_file;
+pub use oas_modal;
+pub use oas_modal::oas_names;
 pub use reading::{find_end_of_input, read_layout, take_record, take_records};

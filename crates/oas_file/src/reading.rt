@@ -1,22 +1,22 @@
 //! From a source to a layout.
 ghost use Rattle.std.specs.Prelude.{◌≡◌};
-ghost use Rattle.oas_file.specs.Gathering.{TakesNext, TakesOne, Gathers, FindsEnd};
+ghost use Rattle.oas_file.specs.Gathering.{ConsumesNext, ConsumesOne, Gathers, FindsEnd};
 ghost use Rattle.oas_file.specs.Reading.{ReadsLayout};
 
-use oas_ahead::{figure_ahead, named_ahead, rectangle_ahead};
 use oas_layout::{Layout, Limits, Profile};
 use oas_modal::{CellStore, Reader};
 use oas_num::{Refusal, Source, SourceFault, Why};
+use oas_peek::{peek_figure, peek_named, peek_rectangle};
 use oas_record::{Head, Record, read_head};
 use std::alloc::Global;
 
-/// Takes the next record, and answers None where it is END.
+/// Takes the next record, and returns None where it is END.
 pub fn take_record<S: Source>(
     alloc: Global,
     source: &mut S,
     flag_in_end: bool,
 ) -> Result<Option<Record>, Refusal>
-    ensures { TakesNext flag_in_end (S.script source.old) result (S.script source.new) }
+    ensures { ConsumesNext flag_in_end (S.script source.old) result (S.script source.new) }
 {
     match Record::read(alloc, source, flag_in_end)? {
         Record::End => Ok(None),
@@ -24,10 +24,10 @@ pub fn take_record<S: Source>(
     }
 }
 
-/// Has the reader take the next record, which starts at byte `at`, and answers false where it is END. A polygon or a path that is
-/// at hand goes the short way.
+/// Gives the reader the next record, which starts at byte `at`, and returns false where it is END. A polygon or a path at
+/// hand is read the faster way.
 ///
-/// It stands apart since whole records are moved here, and a call begins by clearing room for each of them.
+/// It is a function of its own since whole records are moved here, and a call begins by clearing room for each of them.
 fn take_other<S: Source, C: CellStore>(
     alloc: Global,
     source: &mut S,
@@ -36,9 +36,9 @@ fn take_other<S: Source, C: CellStore>(
     reader: &mut Reader<C>,
 ) -> Result<bool, Refusal>
     requires { at ≡ (S.script source.old).given }
-    ensures { TakesOne C.store flag_in_end (S.script source.old) reader.old result (S.script source.new) reader.new }
+    ensures { ConsumesOne C.store flag_in_end (S.script source.old) reader.old result (S.script source.new) reader.new }
 {
-    if let Some(figure) = figure_ahead(alloc, source.ahead()) {
+    if let Some(figure) = peek_figure(alloc, source.ahead()) {
         source.skip(figure.length);
         reader.take(at, figure.record)?;
         return Ok(true);
@@ -50,7 +50,7 @@ fn take_other<S: Source, C: CellStore>(
     Ok(true)
 }
 
-/// The same, by which a rectangle, a placement or a text that is at hand goes the short way too.
+/// The same, where also a rectangle, a placement or a text at hand is read the faster way.
 fn take_next<S: Source, C: CellStore>(
     alloc: Global,
     source: &mut S,
@@ -59,14 +59,14 @@ fn take_next<S: Source, C: CellStore>(
     reader: &mut Reader<C>,
 ) -> Result<bool, Refusal>
     requires { at ≡ (S.script source.old).given }
-    ensures { TakesOne C.store flag_in_end (S.script source.old) reader.old result (S.script source.new) reader.new }
+    ensures { ConsumesOne C.store flag_in_end (S.script source.old) reader.old result (S.script source.new) reader.new }
 {
-    if let Some(found) = rectangle_ahead(source.ahead()) {
+    if let Some(found) = peek_rectangle(source.ahead()) {
         source.skip(found.length);
         reader.take_rectangle(at, found.rectangle)?;
         return Ok(true);
     }
-    if let Some(found) = named_ahead(source.ahead()) {
+    if let Some(found) = peek_named(source.ahead()) {
         let length = found.length;
         let taken = reader.take_named(at, &found.element);
         source.skip(length);
@@ -76,7 +76,7 @@ fn take_next<S: Source, C: CellStore>(
     take_other(alloc, source, flag_in_end, at, reader)
 }
 
-/// Has the reader take the records up to END, and answers END's offset.
+/// Gives the reader the records up to END, and returns END's offset.
 pub fn take_records<S: Source, C: CellStore>(
     alloc: Global,
     source: &mut S,
@@ -106,11 +106,11 @@ pub fn find_end_of_input<S: Source>(source: &mut S) -> Result<(), Refusal>
     Err(Refusal { at, why })
 }
 
-/// Reads all that a source gives, and answers the layout that it means.
+/// Reads all that a source gives, and returns its layout.
 ///
-/// A refusal names the reason, and an offset: 0 for the magic, 13 for START, the record's for a record that can't be read
-/// or isn't allowed, the first byte's after END for what follows it, and END's for what can be decided only once the
-/// whole file is known (numbers without names, cells of one name, and the weight with all names).
+/// A refusal has the reason and an offset. The offset is 0 for the magic, 13 for START, the record's for a record that can't
+/// be read or isn't allowed, and the first byte's after END for what follows it. It is END's for what can be decided only
+/// once the whole file is known (numbers without names, cells with one name, and the weight with all names).
 pub fn read_layout<S: Source>(
     alloc: Global,
     source: &mut S,
@@ -123,5 +123,8 @@ pub fn read_layout<S: Source>(
     let mut reader = Reader::new(alloc, head.unit, limits, profile);
     let end = take_records(alloc, source, head, &mut reader)?;
     find_end_of_input(source)?;
-    reader.finish(end)
+    let layout = reader.finish(end)?;
+    // `Layout::cells` says what holds for each layout.
+    let _ = layout.cell_count();
+    Ok(layout)
 }

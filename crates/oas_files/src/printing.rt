@@ -1,9 +1,10 @@
 //! Names as they are printed: each in one line.
 
+use crate::naming::shown_alone;
 use std::alloc::{AllocError, Global};
 
-/// A name in one line. One that has an end of a line in it is escaped as `sha256sum` does it: `\n`, `\r`, and `\\` for a
-/// backslash; every other name stands as it is.
+/// A name in one line. One that contains an end of a line is escaped as `sha256sum` does it: `\n`, `\r`, and `\\` for a
+/// backslash. Every other name is unchanged, and one that isn't UTF-8 is spelled as by `text_of`.
 #[derive(Drop)]
 pub enum Printed<'a> {
     Plain(&'a str),
@@ -13,6 +14,9 @@ pub enum Printed<'a> {
 impl<'a> Printed<'a> {
     /// The name in one line.
     pub fn new(alloc: Global, name: &'a str) -> Result<Printed<'a>, AllocError> {
+        if let Some(shown) = shown_alone(name) {
+            return Ok(Printed::Plain(shown));
+        }
         if !name.contains('\n') && !name.contains('\r') {
             return Ok(Printed::Plain(name));
         }
@@ -36,8 +40,35 @@ impl<'a> Printed<'a> {
         }
     }
 
-    /// Whether it had an end of a line in it.
+    /// Whether it contained an end of a line.
     pub fn is_escaped(&self) -> bool {
         matches!(self, Printed::Escaped(_))
+    }
+}
+
+/// The name that was printed like this with the mark of an escaped one; nothing where no name is printed like this.
+pub fn unescaped(alloc: Global, shown: &str) -> Result<Option<String>, AllocError> {
+    let mut name = String::with_capacity(alloc, shown.len())?;
+    let mut letters = shown.chars();
+    while let Some(letter) = letters.next() {
+        let meant = match letter {
+            '\\' => letter_meant(letters.next()),
+            _ => Some(letter),
+        };
+        match meant {
+            Some(letter) => name.push(letter)?,
+            None => return Ok(None),
+        }
+    }
+    Ok(Some(name))
+}
+
+/// The meaning of a letter after a backslash.
+fn letter_meant(letter: Option<char>) -> Option<char> {
+    match letter? {
+        'n' => Some('\n'),
+        'r' => Some('\r'),
+        '\\' => Some('\\'),
+        _ => None,
     }
 }

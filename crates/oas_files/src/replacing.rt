@@ -1,98 +1,126 @@
-//! A file that takes the place of another once it is whole.
-ghost use Rattle.std.specs.Prelude.{◌≡◌, ◌≢◌, IfOk, OnErr, IsOk};
+//! A file that takes its place once it is whole.
+ghost use Rattle.std.specs.Prelude.{◌≡◌, ◌≢◌, [], IfOk, OnErr, IsOk};
 ghost use Rattle.oas_files.specs.declared.replacing.Stage.TheVariants.{Beside as IsBeside, Placed as IsPlaced, Gone as IsGone};
 
-use std::alloc::Global;
-use std::fmt::Write as _;
-use std::fs::{File, OpenOptions, Permissions};
+use crate::beside::create_beside;
+use crate::owning::take_over;
+use crate::placing::Place;
+use oas_bytes::NotedWriter;
+use std::fs::File;
 use std::io::{ErrorKind, Write};
-use std::os::unix::fs::OpenOptionsExt;
 use std::path::PathBuf;
 use std::{fs, io};
-
-/// How many names are tried for the new file. One is taken where a run that was killed left its file.
-const NAMES: u32 = 100;
 
 /// Nobody else reads the new file before it has the old one's mode.
 const OWN: u32 = 0o600;
 
-/// Where a new file stands.
+/// The mode of a file that replaces none; the process's mask takes bits from it.
+const ALL: u32 = 0o666;
+
+/// What happens to a file in the place.
+#[derive(Clone, Copy, Debug, PartialEq, Eq)]
+pub enum Existing {
+    Replaced,
+    /// It stays, and the new file finds no place.
+    Kept,
+}
+
+/// Where a new file is.
 #[derive(Clone, Copy, Debug, PartialEq, Eq)]
 pub enum Stage {
-    /// Beside the old one, which is as it was.
+    /// Next to its place. What is there is unchanged.
     Beside,
-    /// In the old one's place.
+    /// In its place.
     Placed,
-    /// Nowhere: it could not be written, and was removed. The old one is as it was.
+    /// It could not be written, and its place is unchanged; except that a new file that is cut off by a limit on the size of
+    /// files stays there cut off.
     Gone,
 }
 
-/// A new file beside an old one, of its mode. When it is flushed it is brought to the disk and takes the old one's place by
-/// a rename; until then, and after any fault, the old file stands as it was.
+/// A new file next to its place. When it is flushed it is brought to the disk, gets the owner, the group and the mode of the
+/// file that it replaces, and takes the place by a rename. Until then, and after any fault, the place is unchanged.
 #[derive(Drop)]
 pub struct Replacement<'a> {
     rt: &'a HostRuntime,
-    file: File,
+    file: NotedWriter<File>,
     beside: PathBuf,
-    target: PathBuf,
+    place: Place,
+    existing: Existing,
     stage: Stage,
 }
 
 impl<'a> Replacement<'a> {
-    /// One for the file of this name, or the one that its links lead to.
-    pub fn new(
-        rt: &'a HostRuntime,
-        path: &str,
-        permissions: Permissions,
-    ) -> io::Result<Replacement<'a>>
-        ensures { IfOk result (λ replacement. replacement.stage ≡ IsBeside) }
+    /// One for this place.
+    pub fn new(rt: &'a HostRuntime, place: Place, existing: Existing) -> io::Result<Replacement<'a>>
+        ensures stage { IfOk result (λ replacement. replacement.stage ≡ IsBeside) }
+        ensures none { IfOk result (λ replacement. replacement.file.taken.bytes ≡ []) }
     {
-        let target = fs::canonicalize(rt, path)?;
-        let (file, beside) = create_beside(rt, &target)?;
-        let mut replacement = Replacement {
+        let mode = if place.standing.is_some() { OWN } else { ALL };
+        let (file, beside) = create_beside(rt, &place.path, mode)?;
+        Ok(Replacement {
             rt,
-            file,
+            file: NotedWriter::new(file),
             beside,
-            target,
+            place,
+            existing,
             stage: Stage::Beside,
-        };
-        if let Err(error) = replacement.file.set_permissions(permissions) {
-            replacement.remove();
-            return Err(error);
-        }
-        Ok(replacement)
+        })
     }
 
-    /// Removes the new file, where it stands beside the old one.
-    fn remove(&mut self)
-        ensures { self.new.stage ≡ IsGone }
+    /// Ends the new file at a fault of this kind. It is removed. But where a limit on the size of files cuts off one that
+    /// replaces none, what was written takes the place, since that is all that such a limit allows there.
+    fn end(&mut self, kind: ErrorKind)
+        ensures gone { self.new.stage ≡ IsGone }
+        ensures taken { self.new.file ≡ self.old.file }
     {
         if self.stage == Stage::Beside {
-            let _ = fs::remove_file(self.rt, &self.beside);
+            if kind == ErrorKind::FileTooLarge && self.place.standing.is_none() {
+                let _ = self.take_name();
+            } else {
+                let _ = fs::remove_file(self.rt, &self.beside);
+            }
         }
         self.stage = Stage::Gone;
     }
 
-    /// Brings the new file to the disk, and in the old one's place.
+    /// Brings the new file to the disk, and into its place.
     fn take_place(&mut self) -> io::Result<()>
         ensures placed { IsOk result → self.new.stage ≡ IsPlaced }
         ensures stays { OnErr result (self.new.stage ≡ self.old.stage) }
+        ensures taken { self.new.file ≡ self.old.file }
     {
-        self.file.sync_all()?;
-        fs::rename(self.rt, &self.beside, &self.target)?;
+        if let Some(old) = &self.place.standing {
+            take_over(self.file.get_ref(), old)?;
+        }
+        self.file.get_ref().sync_all()?;
+        self.take_name()?;
         self.stage = Stage::Placed;
         Ok(())
+    }
+
+    /// Gives the new file the name of its place. A second name is given only where there is no file with that name.
+    fn take_name(&self) -> io::Result<()> {
+        match self.existing {
+            Existing::Replaced => fs::rename(self.rt, &self.beside, &self.place.path),
+            Existing::Kept => {
+                fs::hard_link(self.rt, &self.beside, &self.place.path)?;
+                let _ = fs::remove_file(self.rt, &self.beside);
+                Ok(())
+            }
+        }
     }
 }
 
 impl Write for Replacement<'_> {
-    ghost use Rattle.std.specs.Prelude.{◌≢◌, None};
+    ghost use Rattle.std.specs.Prelude.{◌≡◌, ◌≢◌, Some};
     ghost use Rattle.std.specs.Io.{WritesAtMost};
     ghost use Rattle.std.specs.Io.KnownBytes.{WriteAppends};
 
+    ghost contents = { λ r. Some r.file.taken.bytes };
+
     fn write(&mut self, buf: &[u8]) -> io::Result<usize>
         ensures bound { WritesAtMost result buf.now }
-        ensures bytes { WriteAppends None None result buf.now }
+        ensures bytes { WriteAppends (Some self.old.file.taken.bytes) (Some self.new.file.taken.bytes) result buf.now }
         ensures gone { OnErr result (self.new.stage ≡ IsGone) }
         ensures stays { IsOk result → self.new.stage ≡ self.old.stage × (self.old.stage ≢ IsGone) }
     {
@@ -101,20 +129,21 @@ impl Write for Replacement<'_> {
         }
         let written = self.file.write(buf);
         if written.is_err() {
-            self.remove();
+            self.end(kind_of(&written));
         }
         written
     }
 
     fn flush(&mut self) -> io::Result<()>
+        ensures bytes { self.new.file.taken.bytes ≡ self.old.file.taken.bytes }
         ensures gone { OnErr result (self.new.stage ≡ IsGone) }
         ensures placed { IsOk result → self.new.stage ≡ IsPlaced }
     {
         match self.stage {
             Stage::Beside => {
                 let placed = self.take_place();
-                if placed.is_err() {
-                    self.remove();
+                if let Err(error) = &placed {
+                    self.end(error.kind());
                 }
                 placed
             }
@@ -130,28 +159,10 @@ impl Write for Replacement<'_> {
     }
 }
 
-/// A new file in the folder of another, with its path. Its name begins with a dot.
-fn create_beside(rt: &HostRuntime, target: &PathBuf) -> io::Result<(File, PathBuf)> {
-    let alloc = rt.alloc();
-    let name = target.file_name().unwrap_or("out");
-    for n in 0..NAMES {
-        let beside = target.with_file_name(alloc, &name_beside(alloc, name, n)?)?;
-        let mut options = OpenOptions::new();
-        options.write(true).create_new(true).mode(OWN);
-        match options.open(rt, &beside) {
-            Ok(file) => return Ok((file, beside)),
-            Err(error) if error.kind() == ErrorKind::AlreadyExists => {}
-            Err(error) => return Err(error),
-        }
-    }
-    Err(io::Error::from(ErrorKind::AlreadyExists))
-}
-
-/// The n-th name that is tried.
-fn name_beside(alloc: Global, name: &str, n: u32) -> io::Result<String> {
-    let mut beside = String::new(alloc);
-    match write!(beside, ".{name}.oascanon-{n}") {
-        Ok(()) => Ok(beside),
-        Err(_) => Err(io::Error::from(ErrorKind::OutOfMemory)),
+/// The kind of a fault.
+fn kind_of(written: &io::Result<usize>) -> ErrorKind {
+    match written {
+        Ok(_) => ErrorKind::Other,
+        Err(error) => error.kind(),
     }
 }

@@ -34,7 +34,7 @@ no_kind s kind t le = when_true (nat_le 26 kind) (Err wide.CtrapezoidType) _ (le
 not_above : (kind : ℕ) → kind < 26 → nat_le 26 kind ≡ false
 not_above kind lt = grind (arith, nat_tests)
 
--- of a kind that there is
+-- for a kind that there is
 of_kind : (s : Tracked) (kind : ℕ) (t : NamedTrapezoid) → kind < 26 → box_if s kind t ≡ checked t (box_of kind (option_or t.width s.width) (option_or t.height s.height))
 of_kind s kind t lt = when_false (nat_le 26 kind) (Err wide.CtrapezoidType) _ (not_above kind lt)
 

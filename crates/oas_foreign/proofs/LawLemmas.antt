@@ -1,38 +1,31 @@
 -- Records of the profile alone, and the vertices of corners.
-use Rattle.std.proofs.Common.{◌≡◌, Bool, false, List, [], ◌∷◌, map, refl, ap, ◌∙◌, arith}
+use Rattle.std.proofs.Common.{◌≡◌, Bool, true, false, List, [], ◌∷◌, map, refl, ap, ◌∙◌, arith}
 use Rattle.std.proofs.lemmas.Int.{ints}
 use Rattle.std.proofs.lemmas.List.{append-nil}
-use Rattle.std.specs.Prelude.{ℤ, pos, ◌+ℤ◌, ◌-ℤ◌, if◌then◌else◌, Result, Ok}
+use Rattle.std.specs.Prelude.{ℤ, pos, ◌+ℤ◌, ◌-ℤ◌, if◌then◌else◌, cond, Result, Ok}
 use Rattle.oas_num.specs.declared.deltas.GDelta.{GDelta}
 use Rattle.oas_ring.specs.declared.point.Point.{Point}
 use Rattle.oas_shape.specs.Steps.{still, added, sums_after, moved}
 use Rattle.oas_shape.specs.PointLists.{plain_line}
 use Rattle.oas_shape.specs.Polylines.{vertices_of, listed_vertices}
 use Rattle.oas_record.specs.declared.records.Record.{Record}
-use Rattle.oas_record.specs.declared.records.Record.TheVariants as record_of
 use Rattle.oas_wide.specs.declared.records.WideRecord.TheVariants.{Profile}
 use Rattle.oas_wide.specs.declared.reasons.WideWhy.{WideWhy}
-use Rattle.oas_foreign.specs.Tracked.{Tracked, tracked}
+use Rattle.oas_drawing.specs.Looking.{is_cell}
+use Rattle.oas_drawing.specs.GivenFields.{GivenFields, given_fields}
+use Rattle.oas_foreign.specs.Tracked.{Tracked, fresh, tracked_by, tracked}
 use Rattle.oas_foreign.specs.Kept.{given, given_mixed}
 use Rattle.oas_foreign.specs.Shapes.{step_to, steps_after, steps_of}
 use Rattle.oas_foreign.specs.Laws.{joined, handed_all}
 
 -- ---- records of the profile
 
+plain_by : (s : Tracked) (cell : Bool) (g : GivenFields) → s.is_mixed ≡ false → (cond cell fresh (tracked_by s g)).is_mixed ≡ false
+plain_by s true g h = refl
+plain_by s false g h = h
+
 pub tracked_plain : (s : Tracked) (r : Record) → s.is_mixed ≡ false → (tracked s r).is_mixed ≡ false
-tracked_plain s record_of.Pad h = h
-tracked_plain s record_of.End h = h
-tracked_plain s (record_of.CellName name number) h = h
-tracked_plain s (record_of.TextString label number) h = h
-tracked_plain s (record_of.Cell cell) h = refl
-tracked_plain s record_of.XyAbsolute h = h
-tracked_plain s record_of.XyRelative h = h
-tracked_plain s (record_of.Placement p) h = h
-tracked_plain s (record_of.Text t) h = h
-tracked_plain s (record_of.Rectangle r) h = h
-tracked_plain s (record_of.Polygon p) h = h
-tracked_plain s (record_of.Path p) h = h
-tracked_plain s (record_of.Circle c) h = h
+tracked_plain s r h = plain_by s (is_cell r) (given_fields r) h
 
 pub given_plain : (s : Tracked) (r : Record) → s.is_mixed ≡ false → given s r ≡ Ok (r ∷ [])
 given_plain s r h = ap (λ (b : Bool). if b then given_mixed s r else Ok (r ∷ [])) h

@@ -1,17 +1,18 @@
--- The variables that are kept, beside all variables of the standard.
+-- The variables that are tracked, and all variables of the standard.
 use Rattle.std.proofs.Common.{◌≡◌, ℕ, Bool, true, false, refl, ap, ◌∙◌, arith}
 use Rattle.std.proofs.lemmas.Int.{ints}
-use Rattle.std.specs.Prelude.{ℤ, pos, negsuc, neg_ℤ, ◌≤ℤ◌, ◌+ℤ◌, ◌-◌, ◌^◌, min, cond, Option, Some, None}
+use Rattle.std.specs.Prelude.{ℤ, pos, negsuc, neg_ℤ, ◌≤ℤ◌, ◌+ℤ◌, ◌-◌, ◌^◌, min, cond, unwrap_or, Option, Some, None}
 use Rattle.std.specs.Int.{saturate_signed, w64}
 use Rattle.std.specs.Option.{option_or}
 use Rattle.oas_record.specs.declared.spots.Spot.{Spot}
 use Rattle.oas_record.specs.declared.records.Record.{Record}
-use Rattle.oas_record.specs.declared.records.Record.TheVariants as record_of
+use Rattle.oas_drawing.specs.Looking.{is_cell}
+use Rattle.oas_drawing.specs.GivenFields.{GivenFields, given_fields}
 use Rattle.oas_drawing.specs.Positions.{IsWithin, IsNear}
 use Rattle.oas_drawing.specs.Values.{new_repetition}
-use Rattle.oas_drawing.specs.Modal.{ModalState, moved, moved_by, stepped}
+use Rattle.oas_drawing.specs.Modal.{ModalState, moved, moved_by, given, stepped, fresh as modal_fresh}
 use Rattle.oas_foreign.specs.Places.{coordinate_after}
-use Rattle.oas_foreign.specs.Tracked.{Tracked, tracked}
+use Rattle.oas_foreign.specs.Tracked.{Tracked, fresh, tracked_by, tracked}
 use Rattle.oas_foreign.specs.Laws.{AreKept}
 
 small_pos : (n : ℕ) → pos n ≤ℤ pos (2 ^ 60) → min n (2 ^ 63 - 1) ≡ n
@@ -46,12 +47,21 @@ module _ (s : Tracked) (m : ModalState) (k : AreKept s m) where
   pub y_kept : (spot : Spot) → IsNear (moved_by m.relative m.geometry spot) → coordinate_after s.place.relative s.place.y spot.y ≡ moved m.relative m.geometry.y spot.y
   y_kept spot near = kept_moved s.place.relative m.relative s.place.y m.geometry.y spot.y k.relative k.y near.y
 
-  pub record_kept : (r : Record) → IsNear (stepped m r).geometry → AreKept (tracked s r) (stepped m r)
-  record_kept record_of.Pad near = k
-  record_kept record_of.End near = k
-  record_kept (record_of.CellName name number) near = k
-  record_kept (record_of.TextString label number) near = k
-  record_kept (record_of.Cell cell) near = record {
+  given_kept : (g : GivenFields) → IsNear (given m g).geometry → AreKept (tracked_by s g) (given m g)
+  given_kept g near = record {
+    layer = ap (option_or g.layer) k.layer;
+    datatype = ap (option_or g.datatype) k.datatype;
+    width = ap (option_or g.width) k.width;
+    height = height_kept g.square g.width g.height s.width m.width s.height m.height k.width k.height;
+    polygon_points = ap (option_or g.polygon_points) k.polygon_points;
+    repetition = ap (option_or (new_repetition g.repetition)) k.repetition;
+    relative = ap (unwrap_or g.relative) k.relative;
+    x = x_kept g.geometry near;
+    y = y_kept g.geometry near;
+  }
+
+  kept_by : (cell : Bool) (g : GivenFields) → IsNear (cond cell modal_fresh (given m g)).geometry → AreKept (cond cell fresh (tracked_by s g)) (cond cell modal_fresh (given m g))
+  kept_by true g near = record {
     layer = refl;
     datatype = refl;
     width = refl;
@@ -62,91 +72,7 @@ module _ (s : Tracked) (m : ModalState) (k : AreKept s m) where
     x = refl;
     y = refl;
   }
-  record_kept record_of.XyAbsolute near = record {
-    layer = k.layer;
-    datatype = k.datatype;
-    width = k.width;
-    height = k.height;
-    polygon_points = k.polygon_points;
-    repetition = k.repetition;
-    relative = refl;
-    x = k.x;
-    y = k.y;
-  }
-  record_kept record_of.XyRelative near = record {
-    layer = k.layer;
-    datatype = k.datatype;
-    width = k.width;
-    height = k.height;
-    polygon_points = k.polygon_points;
-    repetition = k.repetition;
-    relative = refl;
-    x = k.x;
-    y = k.y;
-  }
-  record_kept (record_of.Placement p) near = record {
-    layer = k.layer;
-    datatype = k.datatype;
-    width = k.width;
-    height = k.height;
-    polygon_points = k.polygon_points;
-    repetition = ap (option_or (new_repetition p.spot.repetition)) k.repetition;
-    relative = k.relative;
-    x = k.x;
-    y = k.y;
-  }
-  record_kept (record_of.Text t) near = record {
-    layer = k.layer;
-    datatype = k.datatype;
-    width = k.width;
-    height = k.height;
-    polygon_points = k.polygon_points;
-    repetition = ap (option_or (new_repetition t.spot.repetition)) k.repetition;
-    relative = k.relative;
-    x = k.x;
-    y = k.y;
-  }
-  record_kept (record_of.Rectangle r) near = record {
-    layer = ap (option_or r.layer) k.layer;
-    datatype = ap (option_or r.datatype) k.datatype;
-    width = ap (option_or r.width) k.width;
-    height = height_kept r.square r.width r.height s.width m.width s.height m.height k.width k.height;
-    polygon_points = k.polygon_points;
-    repetition = ap (option_or (new_repetition r.spot.repetition)) k.repetition;
-    relative = k.relative;
-    x = x_kept r.spot near;
-    y = y_kept r.spot near;
-  }
-  record_kept (record_of.Polygon p) near = record {
-    layer = ap (option_or p.layer) k.layer;
-    datatype = ap (option_or p.datatype) k.datatype;
-    width = k.width;
-    height = k.height;
-    polygon_points = ap (option_or p.points) k.polygon_points;
-    repetition = ap (option_or (new_repetition p.spot.repetition)) k.repetition;
-    relative = k.relative;
-    x = x_kept p.spot near;
-    y = y_kept p.spot near;
-  }
-  record_kept (record_of.Path p) near = record {
-    layer = ap (option_or p.layer) k.layer;
-    datatype = ap (option_or p.datatype) k.datatype;
-    width = k.width;
-    height = k.height;
-    polygon_points = k.polygon_points;
-    repetition = ap (option_or (new_repetition p.spot.repetition)) k.repetition;
-    relative = k.relative;
-    x = x_kept p.spot near;
-    y = y_kept p.spot near;
-  }
-  record_kept (record_of.Circle c) near = record {
-    layer = ap (option_or c.layer) k.layer;
-    datatype = ap (option_or c.datatype) k.datatype;
-    width = k.width;
-    height = k.height;
-    polygon_points = k.polygon_points;
-    repetition = ap (option_or (new_repetition c.spot.repetition)) k.repetition;
-    relative = k.relative;
-    x = x_kept c.spot near;
-    y = y_kept c.spot near;
-  }
+  kept_by false g near = given_kept g near
+
+  pub record_kept : (r : Record) → IsNear (stepped m r).geometry → AreKept (tracked s r) (stepped m r)
+  record_kept r near = kept_by (is_cell r) (given_fields r) near

@@ -19,10 +19,10 @@ use Rattle.oas_foreign.specs.Kept.{given, given_mixed}
 use Rattle.oas_foreign.specs.Shapes.{shape_of}
 use Rattle.oas_foreign.specs.Trapezoids.{enclosed, corners_of, trapezoid_after, box_at, modal_box, trapezoid_by, checked, box_if, box_by, named_box, named_after, named_by}
 use Rattle.oas_foreign.specs.Extensions.{geometry_after, geometry_by}
-use Rattle.oas_foreign.specs.Steps.{handed_by}
+use Rattle.oas_foreign.specs.Steps.{translated_by}
 use Rattle.oas_foreign.specs.Laws.{IsReason, Undefined, OffGrid, OtherSide, NoKind, NoShape}
 
--- what is refused is refused by one of them
+-- what is refused is refused for one of them
 record RefusedSo {V : Type 0} (h : Result V WideWhy) : Type 0 where
   by : (why : WideWhy) → h ≡ Err why → IsReason why
 
@@ -81,7 +81,7 @@ geometry_so s g = if_so _ _ _ (err_so _ (Undefined refl)) (if_so _ _ _ (ok_so _)
 
 -- ---- all records
 
-handed_so : (s : Tracked) (w : WideRecord) → RefusedSo (handed_by s w)
+handed_so : (s : Tracked) (w : WideRecord) → RefusedSo (translated_by s w)
 handed_so s (wide.Profile r) = given_so (tracked s r) r
 handed_so s (wide.Trapezoid t) = let after = trapezoid_after s t in trapezoid_so after t (modal_box after) (box_so after.width after.height)
 handed_so s (wide.NamedTrapezoid t) = named_so (named_after s t) t (option_or t.kind s.kind) (named_box s t) (kind_so s (option_or t.kind s.kind) t)
@@ -98,5 +98,5 @@ handed_so s (wide.ExtensionElement attribute string) = ok_so _
 handed_so s (wide.Placement p) = ok_so _
 handed_so s (wide.Block head) = ok_so _
 
-pub handed_reason : (s : Tracked) (w : WideRecord) (why : WideWhy) → handed_by s w ≡ Err why → IsReason why
+pub handed_reason : (s : Tracked) (w : WideRecord) (why : WideWhy) → translated_by s w ≡ Err why → IsReason why
 handed_reason s w = (handed_so s w).by

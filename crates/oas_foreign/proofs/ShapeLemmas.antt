@@ -1,4 +1,4 @@
--- What whoever reads the records handed out has behind a trapezoid, or geometry of an extension.
+-- What a reader of the returned records has after a trapezoid, or geometry of an extension.
 use Rattle.std.proofs.Common.{◌≡◌, ℕ, Bool, true, false, List, refl, ap, sym, subst, ◌∙◌}
 use Rattle.std.specs.Prelude.{if◌then◌else◌, Option, Some, None, Result, Ok}
 use Rattle.std.specs.Option.{option_or}
@@ -34,7 +34,7 @@ both_sides (Some w) (Some h) box e = (cc, cc)
 both_sides (Some w) None box e = cc
 both_sides None h box e = cc
 
--- ---- what is kept
+-- ---- what is tracked
 
 module _ (s : Tracked) (m : ModalState) (k : AreKept s m) where
   pub trapezoid_kept : (t : Trapezoid) (box : Sides) → modal_box (trapezoid_after s t) ≡ Ok box → IsNear (moved_by m.relative m.geometry t.spot) → AreKept (trapezoid_after s t) (boxed m t.layer t.datatype t.spot box)
@@ -85,7 +85,7 @@ module _ (s : Tracked) (m : ModalState) (k : AreKept s m) where
     y = y_kept s m k g.spot near;
   }
 
--- ---- what whoever reads has
+-- ---- what a reader has
 
 module _ (s : Tracked) (reader standard : ModalState) (a : AreRead reader standard) where
   pub extension_read : (g : ExtensionGeometry) → AreRead reader (passed_over standard g)

@@ -42,7 +42,7 @@ module _ {place : Place} {first : Point} {corners : List Corner} {steps : List G
   pub next_near : (corner : Corner) → index < length corners → is_grid_point (point_of place (get_or corners index corner)) ≡ true
   next_near corner below = (seen place (drop index corners) (drop (index + 1) corners) (get_or corners index corner) (next corner below) s.grid).0
 
-  -- one corner more
+  -- one more corner
   pub stepped_more : (corner : Corner) (to : Point) → index < length corners → to ≡ point_of place (get_or corners index corner) → IsInRange to → Stepped place first corners (steps ++ step_to last to ∷ []) to (index + 1)
   stepped_more corner to below is near =
       let e = next corner below in

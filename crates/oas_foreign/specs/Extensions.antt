@@ -12,7 +12,7 @@ use Rattle.oas_foreign.specs.Tracked.{Tracked, drawn_by}
 abbrev pub geometry_after : Tracked → ExtensionGeometry → Tracked
 geometry_after s g = record (drawn_by s g.layer g.datatype g.spot) { is_mixed = true }
 
--- a variable is undefined that an element of its fields would need
+-- a variable is undefined that an element with its fields would need
 abbrev pub is_undefined : Tracked → ExtensionGeometry → Bool
 is_undefined s g = (is_none s.layer || is_none s.datatype) || (is_some g.spot.repetition && is_none s.repetition)
 
@@ -23,6 +23,6 @@ geometry_by s g =
     else if is_on_grid s.place then Ok []
     else Err (Profile CoordinateRange)
 
--- no record is handed out for it; it is refused as an element would be (own rule)
+-- no record is returned for it; it is refused as an element would be (own rule)
 abbrev pub geometry_handed : Tracked → ExtensionGeometry → Result (List Record) WideWhy
 geometry_handed s g = geometry_by (geometry_after s g) g

@@ -1,4 +1,4 @@
--- What follows from the rules by which records are handed out.
+-- What follows from the rules by which records are returned.
 use Rattle.std.specs.Prelude.{◌≡◌, false, cond, ◌&&◌, is_none, ℕ, List, [], ◌∷◌, ◌++◌, map, Option, Some, None, Result, Ok, Err}
 use Rattle.std.specs.Option.{option_or}
 use Rattle.oas_num.specs.declared.deltas.GDelta.{GDelta}
@@ -22,13 +22,13 @@ use Rattle.oas_corners.specs.declared.sides.Sides.{Sides}
 use Rattle.oas_drawing.specs.Positions.{IsNear}
 use Rattle.oas_drawing.specs.Values.{new_repetition}
 use Rattle.oas_drawing.specs.Modal.{ModalState, moved_by, stepped}
-use Rattle.oas_drawing.specs.Drawing.{drawn_at, offsets_of}
+use Rattle.oas_drawing.specs.Drawing.{is_geometry, drawn_at, offsets_of}
 use Rattle.oas_foreign.specs.Tracked.{Tracked, fresh, tracked, placed}
-use Rattle.oas_foreign.specs.Kept.{filled, is_geometry, lacks_points}
+use Rattle.oas_foreign.specs.Kept.{filled, lacks_points}
 use Rattle.oas_foreign.specs.Shapes.{steps_of, geometry_of}
 use Rattle.oas_foreign.specs.Trapezoids.{modal_box, trapezoid_after, named_box, named_after}
 use Rattle.oas_foreign.specs.Extensions.{geometry_after}
-use Rattle.oas_foreign.specs.Steps.{handed_by, kept_after}
+use Rattle.oas_foreign.specs.Steps.{translated_by, kept_after}
 
 -- one list and another, or why one of them is refused
 abbrev pub joined : Result (List Record) WideWhy → Result (List Record) WideWhy → Result (List Record) WideWhy
@@ -36,18 +36,18 @@ joined (Ok rs) (Ok more) = Ok (rs ++ more)
 joined (Ok rs) (Err why) = Err why
 joined (Err why) rest = Err why
 
--- what is handed out for records, one after another, or why the first is refused that is
+-- what is returned for records, one after another, or why the first one that is refused is
 abbrev pub handed_all : Tracked → List WideRecord → Result (List Record) WideWhy
 handed_all s [] = Ok []
-handed_all s (w ∷ ws) = joined (handed_by s w) (handed_all (kept_after s w) ws)
+handed_all s (w ∷ ws) = joined (translated_by s w) (handed_all (kept_after s w) ws)
 
--- records of the profile alone are handed out as they are
+-- where there are only records of the profile, they are returned unchanged
 abbrev pub ProfileAsItIs : Type 0
 ProfileAsItIs = (rs : List Record) → handed_all fresh (map (λ (r : Record). Profile r) rs) ≡ Ok rs
 
--- a CELL is handed out, and behind it all is as at the beginning
+-- a CELL is returned, and after it all is as at the beginning
 abbrev pub CellBeginsAnew : Type 0
-CellBeginsAnew = (s : Tracked) (cell : CellRef) → (handed_by s (Profile (record_of.Cell cell)) ≡ Ok (record_of.Cell cell ∷ [])) × (kept_after s (Profile (record_of.Cell cell)) ≡ fresh)
+CellBeginsAnew = (s : Tracked) (cell : CellRef) → (translated_by s (Profile (record_of.Cell cell)) ≡ Ok (record_of.Cell cell ∷ [])) × (kept_after s (Profile (record_of.Cell cell)) ≡ fresh)
 
 -- the vertices of a list of steps, from the first of some points on, are these points
 abbrev pub VerticesAreCorners : Type 0
@@ -55,7 +55,7 @@ VerticesAreCorners = (p : Point) (ps : List Point) → vertices_of (plain_line (
 
 -- ---- the reasons
 
--- one by which a record is refused
+-- one for which a record is refused
 pub data IsReason (why : WideWhy) : Type 0 where
   Undefined : why ≡ wide_why.Profile ModalUndefined → IsReason why
   OffGrid : why ≡ wide_why.Profile CoordinateRange → IsReason why
@@ -65,11 +65,11 @@ pub data IsReason (why : WideWhy) : Type 0 where
 
 -- there is no other
 abbrev pub OnlyReasons : Type 0
-OnlyReasons = (s : Tracked) (w : WideRecord) (why : WideWhy) → handed_by s w ≡ Err why → IsReason why
+OnlyReasons = (s : Tracked) (w : WideRecord) (why : WideWhy) → translated_by s w ≡ Err why → IsReason why
 
 -- ---- the variables
 
--- what is kept are the variables of the standard
+-- what is tracked are the variables of the standard
 pub record AreKept (s : Tracked) (m : ModalState) : Type 0 where
   pub layer : s.layer ≡ m.layer
   pub datatype : s.datatype ≡ m.datatype
@@ -81,14 +81,14 @@ pub record AreKept (s : Tracked) (m : ModalState) : Type 0 where
   pub x : s.place.x ≡ m.geometry.x
   pub y : s.place.y ≡ m.geometry.y
 
--- They stay so over each record of the profile that isn't past the limits.
+-- They stay so over each record of the profile that doesn't exceed the limits.
 abbrev pub KeepsVariables : Type 0
 KeepsVariables = (s : Tracked) (m : ModalState) (r : Record) → AreKept s m → IsNear (stepped m r).geometry → AreKept (tracked s r) (stepped m r)
 
 -- ---- what is drawn
 
--- Whoever reads the records handed out has these variables where the standard has those: the same of those that only records handed
--- out set, and of those that are shared none that the standard leaves undefined.
+-- A reader of the returned records has these variables where the standard has those: the same for those that only returned
+-- records set, and, of the shared ones, none that the standard leaves undefined.
 pub record AreRead (reader standard : ModalState) : Type 0 where
   pub cell : reader.cell ≡ standard.cell
   pub string : reader.string ≡ standard.string
@@ -108,12 +108,12 @@ pub record AreRead (reader standard : ModalState) : Type 0 where
   pub height : standard.height ≡ None → reader.height ≡ None
   pub repetition : standard.repetition ≡ None → reader.repetition ≡ None
 
--- the variables by which a record is drawn: behind it, in the mode in which it is handed out
+-- the variables with which a record is drawn: after it, in the mode in which it is returned
 abbrev pub drawing : ModalState → Record → Record → ModalState
 drawing reader r filled = stepped (record reader { relative = cond (is_geometry r) false reader.relative }) filled
 
--- In a cell with trapezoids or geometry of extensions, each element of the profile draws what it draws by the standard: s are the
--- variables that are kept behind it.
+-- In a cell with trapezoids or geometry of extensions, each element of the profile draws what it draws by the standard: s are
+-- the variables that are tracked after it.
 pub record DrawsTheSame (s : Tracked) (reader standard : ModalState) (r : Record) : Type 0 where
   pub element : (d : GDelta) → drawn_at (drawing reader r (filled s r)) (filled s r) d ≡ drawn_at (stepped standard r) r d
   pub offsets : offsets_of (drawing reader r (filled s r)) (filled s r) ≡ offsets_of (stepped standard r) r
@@ -121,19 +121,19 @@ pub record DrawsTheSame (s : Tracked) (reader standard : ModalState) (r : Record
 abbrev pub DrawnAsByTheStandard : Type 0
 DrawnAsByTheStandard = (s : Tracked) (reader standard : ModalState) (r : Record) → AreRead reader standard → AreKept s (stepped standard r) → (lacks_points r && is_none s.polygon_points) ≡ false → DrawsTheSame s reader standard r
 
--- the variables behind more records, oldest first
+-- the variables after more records, oldest first
 abbrev pub read_all : ModalState → List Record → ModalState
 read_all m [] = m
 read_all m (r ∷ rs) = read_all (stepped m r) rs
 
--- whoever reads has them still behind what is handed out for a record of the profile
+-- a reader still has them after what is returned for a record of the profile
 abbrev pub StaysRead : Type 0
 StaysRead = (s : Tracked) (reader standard : ModalState) (r : Record) → AreRead reader standard → AreKept s (stepped standard r) →
     AreRead (read_all reader (placed (is_geometry r && s.place.relative) (filled s r))) (stepped standard r)
 
 -- ---- trapezoids and geometry of extensions
 
--- the variables of the standard behind a trapezoid with that box
+-- the variables of the standard after a trapezoid with that box
 abbrev pub boxed : ModalState → Option ℕ → Option ℕ → Spot → Sides → ModalState
 boxed m layer datatype spot box =
     record m {
@@ -145,7 +145,7 @@ boxed m layer datatype spot box =
       geometry = moved_by m.relative m.geometry spot;
     }
 
--- and behind geometry of an extension
+-- and after geometry of an extension
 abbrev pub passed_over : ModalState → ExtensionGeometry → ModalState
 passed_over m g =
     record m {
@@ -155,7 +155,7 @@ passed_over m g =
       geometry = moved_by m.relative m.geometry g.spot;
     }
 
--- what is kept are they
+-- they are what is tracked
 pub record KeepsShapes (s : Tracked) (m : ModalState) : Type 0 where
   pub trapezoid : (t : Trapezoid) (box : Sides) → modal_box (trapezoid_after s t) ≡ Ok box → IsNear (moved_by m.relative m.geometry t.spot) → AreKept (trapezoid_after s t) (boxed m t.layer t.datatype t.spot box)
   pub named : (t : NamedTrapezoid) (box : Sides) → named_box s t ≡ Ok box → IsNear (moved_by m.relative m.geometry t.spot) → AreKept (named_after s t) (boxed m t.layer t.datatype t.spot box)
@@ -164,7 +164,7 @@ pub record KeepsShapes (s : Tracked) (m : ModalState) : Type 0 where
 abbrev pub ShapesAreKept : Type 0
 ShapesAreKept = (s : Tracked) (m : ModalState) → AreKept s m → KeepsShapes s m
 
--- and whoever reads has them behind what is handed out
+-- and a reader has them after what is returned
 pub record ReadsShapes (s : Tracked) (reader standard : ModalState) : Type 0 where
   pub shape : (layer datatype : Option ℕ) (spot : Spot) (box : Sides) (corners : List Corner) → AreKept s (boxed standard layer datatype spot box) →
       AreRead (read_all reader (placed s.place.relative (geometry_of s spot.repetition box corners))) (boxed standard layer datatype spot box)

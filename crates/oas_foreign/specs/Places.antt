@@ -1,4 +1,4 @@
--- Where geometry stands (SEMI P39, Modal variables: geometry-x, geometry-y, xy-mode).
+-- The position of geometry (SEMI P39, Modal variables: geometry-x, geometry-y, xy-mode).
 use Rattle.std.specs.Prelude.{ℤ, pos, ◌+ℤ◌, Bool, false, cond, ◌&&◌, Option, Some, None}
 use Rattle.std.specs.Int.{saturate_signed, w64}
 use Rattle.oas_corners.specs.declared.corners.Corner.{Corner}
@@ -11,7 +11,7 @@ use Rattle.oas_foreign.specs.declared.places.Place.{Place}
 abbrev pub origin : Place
 origin = record { relative = false; x = pos 0; y = pos 0 }
 
--- A coordinate after another may be given. One past 64 bits stands as the nearest that isn't.
+-- An optional coordinate after another. One that exceeds 64 bits is replaced by the nearest one that doesn't.
 abbrev pub coordinate_after : Bool → ℤ → Option ℤ → ℤ
 coordinate_after relative at None = at
 coordinate_after relative at (Some z) = cond relative (saturate_signed w64 (at +ℤ z)) z
@@ -27,6 +27,6 @@ place_after place spot =
 abbrev pub is_on_grid : Place → Bool
 is_on_grid place = is_coordinate place.x && is_coordinate place.y
 
--- where a corner of a box stands whose lower left corner stands there
+-- the place of a corner of a box with its lower left corner here
 abbrev pub point_of : Place → Corner → Point
 point_of place corner = record { x = place.x +ℤ pos corner.x; y = place.y +ℤ pos corner.y }

@@ -23,7 +23,7 @@ use Rattle.oas_foreign.specs.Places.{point_of}
 use Rattle.oas_foreign.specs.Tracked.{Tracked, placed}
 use Rattle.oas_foreign.specs.Kept.{repetition_given, spot_given}
 
--- where the corners stand
+-- the places of the corners
 abbrev pub points_of : Place → List Corner → List Point
 points_of place corners = map (point_of place) corners
 
@@ -81,7 +81,7 @@ geometry_of s field sides corners =
     if is_box sides corners then record_of.Rectangle (rectangle_of s field sides)
     else record_of.Polygon (polygon_of s field (points_of s.place corners))
 
--- what is handed out, where all corners are on the grid
+-- what is returned, where all corners are on the grid
 abbrev pub shape_of : Tracked → Option RepField → Sides → List Corner → Result (List Record) WideWhy
 shape_of s field sides corners =
     if are_on_grid s.place corners then Ok (placed s.place.relative (geometry_of s field sides corners))

@@ -1,4 +1,4 @@
--- The records of the profile for which the records of a file of the standard stand, one after another.
+-- The records of the profile that the records of a file of the standard are translated to, one after another.
 use Rattle.std.specs.Prelude.{List, [], Result, Ok}
 use Rattle.oas_record.specs.declared.records.Record.{Record}
 use Rattle.oas_wide.specs.declared.records.WideRecord.{WideRecord}
@@ -9,15 +9,15 @@ use Rattle.oas_foreign.specs.Kept.{given}
 use Rattle.oas_foreign.specs.Trapezoids.{trapezoid_after, trapezoid_handed, named_after, named_handed}
 use Rattle.oas_foreign.specs.Extensions.{geometry_after, geometry_handed}
 
--- the records that are handed out for one more, or why it is refused
-abbrev pub handed_by : Tracked → WideRecord → Result (List Record) WideWhy
-handed_by s (wide.Profile r) = given (tracked s r) r
-handed_by s (wide.Trapezoid t) = trapezoid_handed s t
-handed_by s (wide.NamedTrapezoid t) = named_handed s t
-handed_by s (wide.ExtensionGeometry g) = geometry_handed s g
-handed_by s _ = Ok []
+-- the records that are returned for one more, or why it is refused
+abbrev pub translated_by : Tracked → WideRecord → Result (List Record) WideWhy
+translated_by s (wide.Profile r) = given (tracked s r) r
+translated_by s (wide.Trapezoid t) = trapezoid_handed s t
+translated_by s (wide.NamedTrapezoid t) = named_handed s t
+translated_by s (wide.ExtensionGeometry g) = geometry_handed s g
+translated_by s _ = Ok []
 
--- what is kept after it, where it isn't refused
+-- what is tracked after it, where it isn't refused
 abbrev pub kept_after : Tracked → WideRecord → Tracked
 kept_after s (wide.Profile r) = tracked s r
 kept_after s (wide.Trapezoid t) = trapezoid_after s t

@@ -1,15 +1,15 @@
--- What is kept of the modal variables (SEMI P39, Modal variables): those that trapezoids and geometry of extensions share with other
--- elements, and ctrapezoid-type.
-use Rattle.std.specs.Prelude.{ℕ, Bool, true, false, cond, List, [], ◌∷◌, Option, None}
+-- What is tracked of the modal variables (SEMI P39, Modal variables): those that trapezoids and geometry of extensions share
+-- with other elements, and ctrapezoid-type.
+use Rattle.std.specs.Prelude.{ℕ, Bool, true, false, cond, unwrap_or, List, [], ◌∷◌, Option, None}
 use Rattle.std.specs.Option.{option_or}
 use Rattle.oas_shape.specs.declared.repetitions.Repetition.{Repetition}
 use Rattle.oas_shape.specs.declared.repetitions.RepField.{RepField}
 use Rattle.oas_shape.specs.Polylines.{Polyline}
-use Rattle.oas_record.specs.declared.polygons.Polygon.{Polygon}
-use Rattle.oas_record.specs.declared.rectangles.Rectangle.{Rectangle}
 use Rattle.oas_record.specs.declared.spots.Spot.{Spot}
 use Rattle.oas_record.specs.declared.records.Record.{Record}
 use Rattle.oas_record.specs.declared.records.Record.TheVariants as record_of
+use Rattle.oas_drawing.specs.Looking.{is_cell}
+use Rattle.oas_drawing.specs.GivenFields.{GivenFields, given_fields}
 use Rattle.oas_drawing.specs.Values.{new_repetition}
 use Rattle.oas_foreign.specs.declared.places.Place.{Place}
 use Rattle.oas_foreign.specs.declared.resolved.Resolved.{Resolved}
@@ -60,33 +60,30 @@ drawn_by s layer datatype spot =
       place = place_after s.place spot;
     }
 
--- a square gives its width as its height, which may be the modal one
-abbrev pub rectangle_drawn : Tracked → Rectangle → Tracked
-rectangle_drawn s r =
-    record (drawn_by s r.layer r.datatype r.spot) {
-      width = option_or r.width s.width;
-      height = option_or (cond r.square (option_or r.width s.width) r.height) s.height;
-    }
+-- by the coordinates and the mode that a record gives
+abbrev pub place_given : Place → GivenFields → Place
+place_given place g = record (place_after place g.geometry) { relative = unwrap_or g.relative place.relative }
 
-abbrev pub polygon_drawn : Tracked → Polygon → Tracked
-polygon_drawn s p = record (drawn_by s p.layer p.datatype p.spot) { polygon_points = option_or p.points s.polygon_points }
+-- By what a record gives. A square gives its width as its height, which may be the modal one.
+abbrev pub tracked_by : Tracked → GivenFields → Tracked
+tracked_by s g =
+    record s {
+      layer = option_or g.layer s.layer;
+      datatype = option_or g.datatype s.datatype;
+      width = option_or g.width s.width;
+      height = option_or (cond g.square (option_or g.width s.width) g.height) s.height;
+      polygon_points = option_or g.polygon_points s.polygon_points;
+      repetition = option_or (new_repetition g.repetition) s.repetition;
+      place = place_given s.place g;
+    }
 
 -- by a record of the profile
 abbrev pub tracked : Tracked → Record → Tracked
-tracked s (record_of.Cell c) = fresh
-tracked s record_of.XyAbsolute = record s { place = record s.place { relative = false } }
-tracked s record_of.XyRelative = record s { place = record s.place { relative = true } }
-tracked s (record_of.Placement p) = repeated_by s p.spot.repetition
-tracked s (record_of.Text t) = repeated_by s t.spot.repetition
-tracked s (record_of.Rectangle r) = rectangle_drawn s r
-tracked s (record_of.Polygon p) = polygon_drawn s p
-tracked s (record_of.Path p) = drawn_by s p.layer p.datatype p.spot
-tracked s (record_of.Circle c) = drawn_by s c.layer c.datatype c.spot
-tracked s _ = s
+tracked s r = cond (is_cell r) fresh (tracked_by s (given_fields r))
 
--- ---- what is handed out
+-- ---- what is returned
 
--- the records, in their order
+-- the records, in order
 abbrev pub handed : Resolved → List Record
 handed Nothing = []
 handed (One r) = r ∷ []

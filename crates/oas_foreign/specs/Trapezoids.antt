@@ -1,4 +1,4 @@
--- What trapezoids stand for (SEMI P39, TRAPEZOID and CTRAPEZOID records).
+-- What trapezoids are translated to (SEMI P39, TRAPEZOID and CTRAPEZOID records).
 use Rattle.std.specs.Prelude.{ℕ, pos, ◌^◌, Bool, true, ◌&&◌, nat_lt, nat_le, ◌==◌, if◌then◌else◌, List, Option, None, Some, unwrap_or, Result, Ok, Err}
 use Rattle.std.specs.Option.{option_or}
 use Rattle.oas_num.specs.declared.refusals.Why.TheVariants.{ModalUndefined, InfoByte, CoordinateRange}
@@ -16,7 +16,7 @@ use Rattle.oas_wide.specs.declared.reasons.WideWhy.TheVariants as wide
 use Rattle.oas_foreign.specs.Tracked.{Tracked, drawn_by}
 use Rattle.oas_foreign.specs.Shapes.{shape_of}
 
--- what is handed out for what is enclosed, if anything is
+-- what is returned for what is enclosed, if anything is
 abbrev pub enclosed : Tracked → Option RepField → Sides → Option (List Corner) → Result (List Record) WideWhy
 enclosed s field box None = Err wide.Trapezoid
 enclosed s field box (Some corners) = shape_of s field box corners
@@ -32,7 +32,7 @@ trapezoid_after s t =
       height = option_or t.height s.height;
     }
 
--- its corners in a box, where they enclose something; a delta that its id doesn't give is 0
+-- its corners in a box, where they enclose an area; a delta that its id doesn't give is 0
 abbrev pub corners_of : Trapezoid → Sides → Option (List Corner)
 corners_of t box = trapezoid t.upright box.width box.height (unwrap_or t.delta_a (pos 0)) (unwrap_or t.delta_b (pos 0))
 
@@ -49,13 +49,13 @@ abbrev pub trapezoid_by : Tracked → Trapezoid → Result Sides WideWhy → Res
 trapezoid_by s t (Err why) = Err why
 trapezoid_by s t (Ok box) = enclosed s t.spot.repetition box (corners_of t box)
 
--- what is handed out for it
+-- what is returned for it
 abbrev pub trapezoid_handed : Tracked → Trapezoid → Result (List Record) WideWhy
 trapezoid_handed s t = let after = trapezoid_after s t in trapezoid_by after t (modal_box after)
 
 -- ---- CTRAPEZOID
 
--- a side that is given is that of the box
+-- a given side is that of the box
 abbrev pub agrees : ℕ → Option ℕ → Bool
 agrees side None = true
 agrees side (Some given) = given == side
@@ -64,7 +64,7 @@ agrees side (Some given) = given == side
 abbrev pub is_short : Sides → Bool
 is_short box = nat_lt box.width (2 ^ 64) && nat_lt box.height (2 ^ 64)
 
--- The box, as its kind implies it. A side that is implied may be given all the same, but as it is implied (own rule).
+-- The box, as its kind implies it. An implied side may also be given, but only with the implied value (own rule).
 abbrev pub checked : NamedTrapezoid → Option Sides → Result Sides WideWhy
 checked t None = Err (wide.Profile ModalUndefined)
 checked t (Some box) =
@@ -81,11 +81,11 @@ abbrev pub box_by : Tracked → Option ℕ → NamedTrapezoid → Result Sides W
 box_by s None t = Err (wide.Profile ModalUndefined)
 box_by s (Some kind) t = box_if s kind t
 
--- the box of a trapezoid of the kind that it gives, or the modal one
+-- the box of a trapezoid with the kind that it gives, or the modal one
 abbrev pub named_box : Tracked → NamedTrapezoid → Result Sides WideWhy
 named_box s t = box_by s (option_or t.kind s.kind) t
 
--- The variables after it: both sides of its box are modal, also one that is implied (own rule).
+-- The variables after it: both sides of its box are modal, also an implied one (own rule).
 abbrev pub with_box : Tracked → Result Sides WideWhy → Tracked
 with_box s (Err why) = s
 with_box s (Ok box) = record s { width = Some box.width; height = Some box.height }
@@ -99,6 +99,6 @@ named_by s t _ (Err why) = Err why
 named_by s t None (Ok box) = Err (wide.Profile ModalUndefined)
 named_by s t (Some kind) (Ok box) = enclosed s t.spot.repetition box (named kind box.width box.height)
 
--- what is handed out for it
+-- what is returned for it
 abbrev pub named_handed : Tracked → NamedTrapezoid → Result (List Record) WideWhy
 named_handed s t = named_by (named_after s t) t (option_or t.kind s.kind) (named_box s t)

@@ -11,8 +11,8 @@ use oas_wide::{ExtensionGeometry, WideWhy};
 use std::alloc::Global;
 
 impl Resolver {
-    /// Passes over geometry of an extension, which sets its layer, datatype and repetition and moves the position of geometry.
-    /// It is refused as an element would be: by `ModalUndefined` and `CoordinateRange`.
+    /// Skips geometry of an extension, which sets its layer, datatype and repetition and moves the position of geometry. It
+    /// is refused as an element would be: with `ModalUndefined` and `CoordinateRange`.
     pub(crate) fn pass_over(
         &mut self,
         alloc: Global,

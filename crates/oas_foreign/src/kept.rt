@@ -1,22 +1,24 @@
-//! Records of the profile as they are handed out.
+//! Records of the profile as they are returned.
 ghost use Rattle.std.specs.Prelude.{◌≡◌, ◌⊎◌, Ok, Err, IfOk, IfErr};
 ghost use Rattle.oas_num.specs.declared.refusals.Why.TheVariants.{Memory};
 ghost use Rattle.oas_wide.specs.declared.reasons.WideWhy.TheVariants.{Profile};
+ghost use Rattle.oas_drawing.specs.GivenFields.{given_fields, with_geometry};
 ghost use Rattle.oas_foreign.specs.Tracked.{handed};
-ghost use Rattle.oas_foreign.specs.Kept.{repetition_given, spot_repeated, spot_given, rectangle_filled, polygon_filled, path_filled, circle_filled, filled, lacks_points, is_geometry, given};
+ghost use Rattle.oas_foreign.specs.Kept.{repetition_given, spot_repeated, spot_given, rectangle_filled, polygon_filled, filled, lacks_points, given};
 
 use crate::resolved::Resolved;
 use crate::resolver::Resolver;
 use crate::tracking::no_memory;
+use oas_drawing::{is_geometry, take_repetition, with_geometry};
 use oas_num::Why;
-use oas_record::{Circle, Path, Placement, Polygon, Record, Rectangle, Spot, Text};
+use oas_record::{Placement, Polygon, Record, Rectangle, Spot, Text};
 use oas_shape::RepField;
 use oas_wide::WideWhy;
 use std::alloc::{AllocError, Global};
 
 impl Resolver {
-    /// A repetition field, in which the modal repetition is given in place of the word for it. The word stays where that
-    /// repetition is undefined.
+    /// A repetition field, where the modal repetition is given in place of the reference to it. The reference stays where
+    /// that repetition is undefined.
     fn repetition_given(
         &self,
         alloc: Global,
@@ -33,7 +35,7 @@ impl Resolver {
         }
     }
 
-    /// Where an element of another class stands, with its repetition given.
+    /// The position of an element of another class, with its repetition given.
     fn spot_repeated(&self, alloc: Global, spot: Spot) -> Result<Spot, AllocError>
         ensures { IfOk result (λ given. given ≡ spot_repeated self.now spot) }
     {
@@ -45,7 +47,7 @@ impl Resolver {
         })
     }
 
-    /// Where geometry stands, by absolute coordinates and with its repetition given.
+    /// The position of geometry, by absolute coordinates and with its repetition given.
     pub(crate) fn spot_given(
         &self,
         alloc: Global,
@@ -61,7 +63,7 @@ impl Resolver {
         })
     }
 
-    /// A rectangle with all its fields. It gives its height also where it is a square.
+    /// A rectangle with all its fields. It gives its height even where it is a square.
     fn rectangle_filled(&self, alloc: Global, next: Rectangle) -> Result<Rectangle, AllocError>
         ensures { IfOk result (λ filled. filled ≡ rectangle_filled self.now next) }
     {
@@ -93,35 +95,17 @@ impl Resolver {
         })
     }
 
-    /// A path with all its fields but those that only paths have.
-    fn path_filled(&self, alloc: Global, next: Path) -> Result<Path, AllocError>
-        ensures { IfOk result (λ filled. filled ≡ path_filled self.now next) }
+    /// Other geometry with all that all geometry gives; each kind has its sizes for itself. Another record stays as it is.
+    fn geometry_filled(&self, alloc: Global, next: Record) -> Result<Record, AllocError>
+        ensures { IfOk result (λ filled. filled ≡ with_geometry self.now.layer self.now.datatype (spot_given self.now (given_fields next).geometry.repetition) next) }
     {
-        let spot = self.spot_given(alloc, next.spot.repetition)?;
-        Ok(Path {
-            layer: self.layer,
-            datatype: self.datatype,
-            half_width: next.half_width,
-            extensions: next.extensions,
-            points: next.points,
-            spot,
-        })
+        let mut next = next;
+        let repetition = take_repetition(&mut next);
+        let spot = self.spot_given(alloc, repetition)?;
+        Ok(with_geometry(next, self.layer, self.datatype, spot))
     }
 
-    /// A circle with all its fields but its radius, which only circles have.
-    fn circle_filled(&self, alloc: Global, next: Circle) -> Result<Circle, AllocError>
-        ensures { IfOk result (λ filled. filled ≡ circle_filled self.now next) }
-    {
-        let spot = self.spot_given(alloc, next.spot.repetition)?;
-        Ok(Circle {
-            layer: self.layer,
-            datatype: self.datatype,
-            radius: next.radius,
-            spot,
-        })
-    }
-
-    /// An element with the values given that it takes from variables which other kinds of elements set too.
+    /// An element where the values are given that it takes from variables which other kinds of elements set too.
     fn filled(&self, alloc: Global, next: Record) -> Result<Record, AllocError>
         ensures { IfOk result (λ r. r ≡ filled self.now next) }
     {
@@ -140,13 +124,11 @@ impl Resolver {
             }),
             Record::Rectangle(drawn) => Record::Rectangle(self.rectangle_filled(alloc, drawn)?),
             Record::Polygon(drawn) => Record::Polygon(self.polygon_filled(alloc, drawn)?),
-            Record::Path(drawn) => Record::Path(self.path_filled(alloc, drawn)?),
-            Record::Circle(drawn) => Record::Circle(self.circle_filled(alloc, drawn)?),
-            other => other,
+            other => self.geometry_filled(alloc, other)?,
         })
     }
 
-    /// A record of the profile that has set its variables, as it is handed out.
+    /// A record of the profile that has set its variables, as it is returned.
     pub(crate) fn hand_out(&self, alloc: Global, next: Record) -> Result<Resolved, WideWhy>
         ensures ok { IfOk result (λ resolved. given self.now next ≡ Ok (handed resolved)) }
         ensures err { IfErr result (λ why. (why ≡ Profile Memory) ⊎ (given self.now next ≡ Err why)) }
@@ -171,14 +153,4 @@ fn lacks_points(next: &Record) -> bool
         Record::Polygon(drawn) => drawn.points.is_none(),
         _ => false,
     }
-}
-
-/// Whether a record is of the class that rectangles, polygons, paths and circles share a position in.
-fn is_geometry(next: &Record) -> bool
-    ensures { result ≡ is_geometry next.now }
-{
-    matches!(
-        next,
-        Record::Rectangle(_) | Record::Polygon(_) | Record::Path(_) | Record::Circle(_)
-    )
 }

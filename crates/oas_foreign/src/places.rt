@@ -1,4 +1,4 @@
-//! Where geometry stands.
+//! The positions of geometry.
 ghost use Rattle.std.specs.Prelude.{◌≡◌, ◌^◌, ◌&&◌, pos, ◌+ℤ◌, true};
 ghost use Rattle.oas_layout.specs.Grid.{is_coordinate, is_grid_point};
 ghost use Rattle.oas_shape.specs.Steps.{IsBounded, IsInRange};
@@ -14,8 +14,8 @@ const FURTHEST: i128 = 1 << 60;
 /// The position of geometry and the mode of coordinates (SEMI P39, Modal variables: geometry-x, geometry-y, xy-mode), in grid
 /// steps.
 ///
-/// A coordinate past 64 bits stands as the nearest one that isn't. That is off the grid as well, so that whatever stands
-/// there is refused.
+/// A coordinate that exceeds 64 bits is replaced by the nearest one that doesn't. That is off the grid as well, so whatever
+/// is there is refused.
 #[derive(Clone, Copy, Debug)]
 pub(crate) struct Place {
     /// Whether coordinates are relative.
@@ -24,7 +24,7 @@ pub(crate) struct Place {
     pub(crate) y: i64,
 }
 
-/// A coordinate after another may be given: in relative mode that is added to it.
+/// An optional coordinate after another: in relative mode that is added to it.
 fn coordinate_after(relative: bool, at: i64, given: Option<i64>) -> i64
     ensures { result ≡ coordinate_after relative at given }
 {
@@ -48,7 +48,7 @@ fn are_coordinates(x: i128, y: i128) -> bool
     is_coordinate(x) && is_coordinate(y)
 }
 
-/// A coordinate so far from another.
+/// A coordinate at this distance from another.
 fn sum(at: i64, by: u64) -> i128
     ensures { result ≡ at +ℤ pos by }
 {
@@ -65,7 +65,7 @@ fn narrow(z: i128) -> i64
 }
 
 impl Place {
-    /// Where a CELL puts it: at the origin, in absolute mode.
+    /// The place that a CELL sets: the origin, in absolute mode.
     pub(crate) fn origin() -> Place
         ensures { result ≡ origin }
     {
@@ -76,7 +76,7 @@ impl Place {
         }
     }
 
-    /// The place of the next geometry, by the coordinates that it gives.
+    /// The place of the next geometry, from the coordinates that it gives.
     pub(crate) fn after(self, spot: &Spot) -> Place
         ensures { result ≡ place_after self spot.now }
     {
@@ -94,14 +94,14 @@ impl Place {
         are_coordinates(i128::from(self.x), i128::from(self.y))
     }
 
-    /// Whether a corner is on the grid of a box whose lower left corner stands here.
+    /// Whether a corner of a box with its lower left corner here is on the grid.
     pub(crate) fn reaches(self, corner: Corner) -> bool
         ensures { result ≡ is_grid_point (point_of self corner) }
     {
         are_coordinates(sum(self.x, corner.x), sum(self.y, corner.y))
     }
 
-    /// Where that corner stands.
+    /// The place of that corner.
     #[tactic(auto, using(crate::proofs::Grids::x_near, crate::proofs::Grids::y_near, crate::proofs::Grids::in_range))]
     pub(crate) fn point_of(self, corner: Corner) -> Point
         requires { is_grid_point (point_of self corner) ≡ true }

@@ -1,22 +1,22 @@
-//! What a record of the standard comes to.
+//! The translation of a record of the standard.
 ghost use Rattle.std.specs.Prelude.{◌≡◌};
 ghost use Rattle.oas_foreign.specs.Tracked.{handed, placed};
 
 use oas_record::Record;
 
-/// The records of the profile for which a record of the standard stands.
+/// The records of the profile that a record of the standard is translated to.
 #[derive(Debug, Drop)]
 pub enum Resolved {
     /// None.
     Nothing,
     /// One.
     One(Record),
-    /// One of which the coordinates are absolute, between an XYABSOLUTE and an XYRELATIVE.
+    /// One with absolute coordinates, between an XYABSOLUTE and an XYRELATIVE.
     Absolute(Record),
 }
 
 impl Resolved {
-    /// Geometry whose coordinates are absolute, where the mode is relative or not.
+    /// Geometry with absolute coordinates, whether the mode is relative or not.
     pub(crate) fn placed(is_relative: bool, geometry: Record) -> Resolved
         ensures { handed result ≡ placed is_relative geometry }
     {

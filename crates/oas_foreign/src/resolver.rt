@@ -1,9 +1,9 @@
-//! The modal variables of what the profile leaves out, and what its records stand for.
+//! The modal variables of what the profile leaves out, and what its records are translated to.
 ghost use Rattle.std.specs.Prelude.{◌≡◌, ◌⊎◌, Ok, Err, IfOk, IfErr, OnOk};
 ghost use Rattle.oas_num.specs.declared.refusals.Why.TheVariants.{Memory};
 ghost use Rattle.oas_wide.specs.declared.reasons.WideWhy.TheVariants.{Profile};
 ghost use Rattle.oas_foreign.specs.Tracked.{fresh, handed};
-ghost use Rattle.oas_foreign.specs.Steps.{handed_by, kept_after};
+ghost use Rattle.oas_foreign.specs.Steps.{translated_by, kept_after};
 
 use crate::places::Place;
 use crate::resolved::Resolved;
@@ -66,15 +66,16 @@ impl Resolver {
         }
     }
 
-    /// The records of the profile for which the next record stands.
+    /// The records of the profile that the next record is translated to.
     ///
-    /// Records that the profile leaves out and that are no elements stand for none, and so do a CBLOCK and END: these are for the
-    /// caller to see to. So is a placement by reals, which is handed in as the record of the profile that it stands for. It is refused by `ModalUndefined`, `CtrapezoidType`, `InfoByte`, `Trapezoid` and `CoordinateRange`, and by
-    /// `Memory`. Where it is refused nothing is said of what is kept.
+    /// Records that the profile leaves out and that are no elements are translated to none. So are a CBLOCK and END, which
+    /// the caller must handle. A placement by reals is handed in as the record of the profile that it is translated to. It is
+    /// refused with `ModalUndefined`, `CtrapezoidType`, `InfoByte`, `Trapezoid` and `CoordinateRange`, or fails with
+    /// `Memory`. Where it is refused nothing is known about what is tracked.
     pub fn resolve(&mut self, alloc: Global, next: WideRecord) -> Result<Resolved, WideWhy>
-        ensures handed { IfOk result (λ r. handed_by self.old next ≡ Ok (handed r)) }
+        ensures handed { IfOk result (λ r. translated_by self.old next ≡ Ok (handed r)) }
         ensures kept { OnOk result (self.new ≡ kept_after self.old next) }
-        ensures refused { IfErr result (λ why. (why ≡ Profile Memory) ⊎ (handed_by self.old next ≡ Err why)) }
+        ensures refused { IfErr result (λ why. (why ≡ Profile Memory) ⊎ (translated_by self.old next ≡ Err why)) }
     {
         match next {
             WideRecord::Profile(record) => {

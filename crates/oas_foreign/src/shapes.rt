@@ -19,7 +19,7 @@ use oas_shape::{PointList, RepField};
 use oas_wide::WideWhy;
 use std::alloc::{AllocError, Global};
 
-/// Whether all corners of a box are on the grid whose lower left corner stands there.
+/// Whether all corners of a box with its lower left corner there are on the grid.
 fn are_on_grid(place: Place, corners: &[Corner]) -> bool
     ensures { result ≡ are_on_grid place corners.now }
 {
@@ -43,7 +43,7 @@ fn is_box(sides: Sides, corners: &[Corner]) -> bool
     corners == whole
 }
 
-/// How far it is from a coordinate of the grid to another.
+/// The distance from one coordinate of the grid to another.
 fn difference(from: i64, to: i64) -> i64
     requires from { IsBounded (2 ^ 60) from }
     requires to { IsBounded (2 ^ 60) to }
@@ -52,7 +52,7 @@ fn difference(from: i64, to: i64) -> i64
     to - from
 }
 
-/// The step from a point of the grid to another.
+/// The step from one point of the grid to another.
 fn step_to(from: Point, to: Point) -> GDelta
     requires from { IsInRange from }
     requires to { IsInRange to }
@@ -64,7 +64,7 @@ fn step_to(from: Point, to: Point) -> GDelta
     }
 }
 
-/// The steps from a point to where the corners of a box stand, one after another.
+/// The steps from a point to the corners of a box, one after another.
 fn steps_after(
     alloc: Global,
     place: Place,
@@ -85,7 +85,7 @@ fn steps_after(
     Ok(steps)
 }
 
-/// Where the first corner of a box stands, and the list that leads to the others.
+/// The place of the first corner of a box, and the list that leads to the others.
 fn outline(
     alloc: Global,
     place: Place,
@@ -148,7 +148,7 @@ impl Resolver {
         })
     }
 
-    /// What is handed out for the corners of a box: a rectangle or a polygon. It is refused by `CoordinateRange`.
+    /// What is returned for the corners of a box: a rectangle or a polygon. It is refused with `CoordinateRange`.
     pub(crate) fn shape_of(
         &self,
         alloc: Global,

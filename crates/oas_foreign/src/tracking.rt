@@ -1,19 +1,22 @@
-//! How records change the modal variables that are kept.
+//! How records change the modal variables that are tracked.
 ghost use Rattle.std.specs.Prelude.{◌≡◌, OnOk, IfOk};
 ghost use Rattle.std.specs.Option.{option_or};
 ghost use Rattle.oas_num.specs.declared.refusals.Why.TheVariants.{Memory};
+ghost use Rattle.oas_record.specs.declared.records.Record.{Record as OneRecord};
+ghost use Rattle.oas_drawing.specs.GivenFields.{given_fields};
 ghost use Rattle.oas_drawing.specs.Values.{new_repetition};
 ghost use Rattle.oas_wide.specs.declared.reasons.WideWhy.TheVariants.{Profile};
-ghost use Rattle.oas_foreign.specs.Tracked.{repeated_by, drawn_by, rectangle_drawn, polygon_drawn, tracked};
+ghost use Rattle.oas_foreign.specs.Tracked.{repeated_by, drawn_by, tracked};
 
 use crate::resolver::Resolver;
+use oas_drawing::Geometry;
 use oas_num::Why;
 use oas_record::{Polygon, Record, Rectangle, Spot};
 use oas_shape::{RepField, Repetition};
 use oas_wide::WideWhy;
 use std::alloc::{AllocError, Global};
 
-/// The reason where there is no memory.
+/// The reason if out of memory.
 pub(crate) fn no_memory(_failed: AllocError) -> WideWhy
     ensures { result ≡ Profile Memory }
 {
@@ -69,9 +72,9 @@ impl Resolver {
         Ok(())
     }
 
-    /// What a rectangle sets. A square sets the height too, to its width, which may be the modal one.
+    /// What a rectangle sets. A square also sets the height, to its width, which may be the modal one.
     fn draw_rectangle(&mut self, alloc: Global, drawn: &Rectangle) -> Result<(), AllocError>
-        ensures { OnOk result (self.new ≡ rectangle_drawn self.old drawn.now) }
+        ensures { OnOk result (self.new ≡ tracked self.old (OneRecord.Rectangle drawn.now)) }
     {
         self.draw(alloc, drawn.layer, drawn.datatype, &drawn.spot)?;
         set(&mut self.width, drawn.width);
@@ -86,13 +89,23 @@ impl Resolver {
 
     /// What a polygon sets.
     fn draw_polygon(&mut self, alloc: Global, drawn: &Polygon) -> Result<(), AllocError>
-        ensures { OnOk result (self.new ≡ polygon_drawn self.old drawn.now) }
+        ensures { OnOk result (self.new ≡ tracked self.old (OneRecord.Polygon drawn.now)) }
     {
         self.draw(alloc, drawn.layer, drawn.datatype, &drawn.spot)?;
         if let Some(points) = &drawn.points {
             self.polygon_points = Some(points.try_clone(alloc)?);
         }
         Ok(())
+    }
+
+    /// What other geometry sets, of which each kind has its sizes for itself. Another record sets nothing so.
+    fn draw_other(&mut self, alloc: Global, next: &Record) -> Result<(), AllocError>
+        ensures { OnOk result (self.new ≡ drawn_by self.old (given_fields next.now).layer (given_fields next.now).datatype (given_fields next.now).geometry) }
+    {
+        match Geometry::of(next) {
+            Some(other) => self.draw(alloc, other.layer, other.datatype, other.spot),
+            None => Ok(()),
+        }
     }
 
     /// What a record of the profile sets.
@@ -107,9 +120,7 @@ impl Resolver {
             Record::Text(written) => self.repeat(alloc, &written.spot.repetition)?,
             Record::Rectangle(drawn) => self.draw_rectangle(alloc, drawn)?,
             Record::Polygon(drawn) => self.draw_polygon(alloc, drawn)?,
-            Record::Path(drawn) => self.draw(alloc, drawn.layer, drawn.datatype, &drawn.spot)?,
-            Record::Circle(drawn) => self.draw(alloc, drawn.layer, drawn.datatype, &drawn.spot)?,
-            Record::Pad | Record::End | Record::CellName { .. } | Record::TextString { .. } => {}
+            _ => self.draw_other(alloc, next)?,
         }
         Ok(())
     }

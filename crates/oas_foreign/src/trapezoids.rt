@@ -1,4 +1,4 @@
-//! What trapezoids stand for (SEMI P39, TRAPEZOID and CTRAPEZOID records).
+//! What trapezoids are translated to (SEMI P39, TRAPEZOID and CTRAPEZOID records).
 ghost use Rattle.std.specs.Prelude.{◌≡◌, ◌⊎◌, Ok, Err, IfOk, IfErr, OnOk, option_map};
 ghost use Rattle.oas_corners.specs.Corners.{listed};
 ghost use Rattle.oas_num.specs.declared.refusals.Why.TheVariants.{Memory};
@@ -17,7 +17,7 @@ use std::alloc::{AllocError, Global};
 /// How many kinds of CTRAPEZOIDs there are.
 const KINDS: u64 = 26;
 
-/// The corners of a TRAPEZOID in its box, where it encloses something.
+/// The corners of a TRAPEZOID in its box, where it encloses an area.
 fn corners_of(next: &Trapezoid, sides: Sides) -> Option<Corners>
     ensures { option_map listed result ≡ corners_of next.now sides }
 {
@@ -37,7 +37,7 @@ impl Resolver {
         Ok(())
     }
 
-    /// The modal box. It is refused by `ModalUndefined`.
+    /// The modal box. It is refused with `ModalUndefined`.
     fn modal_box(&self) -> Result<Sides, WideWhy>
         ensures { result ≡ modal_box self.now }
     {
@@ -47,9 +47,10 @@ impl Resolver {
         }
     }
 
-    /// What a TRAPEZOID stands for.
+    /// What a TRAPEZOID is translated to.
     ///
-    /// It is refused by `ModalUndefined` where its width or its height is undefined, by `Trapezoid` and `CoordinateRange`.
+    /// It is refused with `ModalUndefined` where its width or its height is undefined, and with `Trapezoid` and
+    /// `CoordinateRange`.
     pub(crate) fn resolve_trapezoid(
         &mut self,
         alloc: Global,
@@ -67,9 +68,9 @@ impl Resolver {
         self.shape_of(alloc, sides, corners.as_slice(), next.spot.repetition)
     }
 
-    /// The box of a CTRAPEZOID of a kind, by the sides that it gives and those that are modal. It is refused by
-    /// `CtrapezoidType` where there is no such kind, by `ModalUndefined` where a side is undefined that the kind is given by,
-    /// by `CoordinateRange` where the one that it implies is 2^64 or more, and by `InfoByte` where it gives another.
+    /// The box of a CTRAPEZOID of a kind, from the sides that it gives and those that are modal. It is refused with
+    /// `CtrapezoidType` where there is no such kind, with `ModalUndefined` where a side that the kind needs is undefined,
+    /// with `CoordinateRange` where the implied one is 2^64 or more, and with `InfoByte` where it gives another.
     #[tactic(auto, using(crate::proofs::BoxLemmas::no_kind, crate::proofs::BoxLemmas::undefined_side, crate::proofs::BoxLemmas::long_side, crate::proofs::BoxLemmas::other_side, crate::proofs::BoxLemmas::right_sides))]
     fn box_of(&self, kind: u64, next: &NamedTrapezoid) -> Result<Sides, WideWhy>
         ensures ok { IfOk result (λ sides. box_if self.now kind next.now ≡ Ok sides) }
@@ -91,10 +92,10 @@ impl Resolver {
         Ok(sides)
     }
 
-    /// What a CTRAPEZOID stands for. Its box becomes modal, also the side that its kind implies (own rule).
+    /// What a CTRAPEZOID is translated to. Its box becomes modal, also the side that its kind implies (own rule).
     ///
-    /// It is refused by `ModalUndefined` where its kind is undefined, by what its box is refused by, by `Trapezoid` and
-    /// `CoordinateRange`.
+    /// It is refused with `ModalUndefined` where its kind is undefined, with what its box is refused with, and with
+    /// `Trapezoid` and `CoordinateRange`.
     pub(crate) fn resolve_named(
         &mut self,
         alloc: Global,

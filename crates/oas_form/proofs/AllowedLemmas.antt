@@ -1,129 +1,49 @@
 -- The records of cells are accepted.
-use Rattle.std.proofs.Common.{◌≡◌, ℕ, ◌+◌, ◌*◌, ◌≤◌, Bool, true, false, List, [], ◌∷◌, map, reverse, Option, None, Some, length, ◌&&◌, ◌||◌, refl, sym, ap, subst, ◌∙◌, arith}
+use Rattle.std.proofs.Common.{◌≡◌, ℕ, ◌+◌, ◌≤◌, Bool, true, false, List, ◌∷◌, map, reverse, None, Some, length, ◌||◌, refl, sym, ap, subst, ◌∙◌, arith, []}
 use Rattle.std.proofs.lemmas.Bool.{le-ltb}
 use Rattle.std.proofs.lemmas.List.Sums.{sum_by-cons}
 use Rattle.std.proofs.lemmas.Map.Keys.{sorted_head, sorted_tail}
-use Rattle.std.specs.Prelude.{pos, ◌+ℤ◌, ◌^◌, nat_le, cond, not, nat_lt, is_none, sum_by}
-use Rattle.std.specs.List.{AllByRecursion, list_any, list_all}
+use Rattle.std.specs.Prelude.{cond, nat_lt, sum_by}
+use Rattle.std.specs.List.{AllByRecursion, list_any}
 use Rattle.std.specs.List.Sorted.{IsStrictlySortedBy}
 use Rattle.std.specs.Map.{keys_of}
-use Rattle.std.specs.Option.{option_or}
 use Rattle.std.specs.Ordering.{nat_cmp, is_eq}
 use Rattle.std.specs.declared.cmp.Ordering.TheVariants.{Less}
 use Rattle.std.specs.Cmp.Lexicographic.{slice_cmp, texts_ties}
-use Rattle.oas_num.specs.declared.refusals.Why.{Why}
-use Rattle.oas_num.specs.declared.refusals.Why.TheVariants.{OutOfPlace, ModalUndefined, Magnification, Angle, TooManyElements, TooHeavy, PointCount, CoordinateRange, UnknownReference, DuplicateCell}
-use Rattle.oas_shape.specs.Steps.{still}
+use Rattle.oas_num.specs.declared.refusals.Why.TheVariants.{OutOfPlace, TooHeavy, UnknownReference, DuplicateCell}
 use Rattle.oas_record.specs.Records.{id_of}
 use Rattle.oas_record.specs.declared.records.Record.{Record}
 use Rattle.oas_record.specs.declared.records.Record.TheVariants as record_of
 use Rattle.oas_record.specs.declared.references.CellRef.TheVariants as cell
 use Rattle.oas_layout.specs.declared.element.Element.{Element}
-use Rattle.oas_layout.specs.declared.element.Element.TheVariants.{Placement, Text, Rectangle, Polygon, Path, Circle}
+use Rattle.oas_layout.specs.declared.element.Element.TheVariants.{Placement}
 use Rattle.oas_layout.specs.declared.limits.Limits.{Limits}
-use Rattle.oas_layout.specs.Grid.{is_coordinate, is_grid_point, fits_grid}
+use Rattle.oas_layout.specs.Grid.{fits_grid}
 use Rattle.oas_layout.specs.Weight.{weight_of, lacks_points}
 use Rattle.oas_layout.specs.Meaning.{element_count, cells_weight}
-use Rattle.oas_drawing.specs.declared.drawn.Drawn.{Drawn}
-use Rattle.oas_drawing.specs.declared.drawn.Drawn.TheVariants.{Named}
-use Rattle.oas_drawing.specs.Modal.{ModalState, modal_of, stepped}
-use Rattle.oas_drawing.specs.Drawn.{weight_so_far}
-use Rattle.oas_drawing.specs.Drawing.{drawn_at, elements_at}
-use Rattle.oas_drawing.specs.Reasons.{first_of, weight_if, lacks_if, is_on_grid, fits_if, draw_reason}
-use Rattle.oas_names.specs.Names.{named, cell_names, text_strings, same_string}
-use Rattle.oas_names.specs.Meaning.{is_unnamed, lacks_name, has_twice, end_reason}
-use Rattle.oas_modal.specs.Standing.{element_reason}
-use Rattle.oas_modal.specs.Stands as stands
-use Rattle.oas_modal.specs.Stands.{is_in_cell, number_drawn, weight_so_far_of, seen, refused_after}
+use Rattle.oas_file.specs.oas_drawing.declared.drawn.Drawn.{Drawn}
+use Rattle.oas_file.specs.oas_drawing.declared.drawn.Drawn.TheVariants.{Named}
+use Rattle.oas_file.specs.oas_drawing.Modal.{ModalState, modal_of, stepped}
+use Rattle.oas_file.specs.oas_drawing.Drawn.{weight_so_far}
+use Rattle.oas_file.specs.oas_drawing.Drawing.{elements_at}
+use Rattle.oas_file.specs.oas_drawing.Reasons.{first_of, draw_reason}
+use Rattle.oas_file.specs.oas_names.Names.{named, cell_names, text_strings, same_string}
+use Rattle.oas_file.specs.oas_names.Meaning.{is_unnamed, lacks_name, has_twice, end_reason}
+use Rattle.oas_file.specs.oas_modal.Standing.{element_reason}
+use Rattle.oas_file.specs.oas_modal.Stands as stands
+use Rattle.oas_file.specs.oas_modal.Stands.{is_in_cell, number_drawn, weight_so_far_of, seen, refused_after}
 use Rattle.oas_form.specs.Records.{Cells, element_record, records_of}
 use Rattle.oas_form.specs.RecordMeaning.{HavePoints, FitGrid, CanonicalAllowed, CanonicalWhole, AscendingWhole}
-use Rattle.oas_form.proofs.MeantLemmas.{onto, onto-append, reverse-is, landed, drawn_of_record, IsAbsolute, draws, absolute_element, drawn_cell, drawn_again, cells_named}
+use Rattle.oas_form.proofs.MeantLemmas.{onto, onto-append, reverse-is, IsAbsolute, draws, absolute_element, drawn_cell, drawn_again, cells_named}
+use Rattle.oas_form.proofs.AllKinds.{of_element}
 
 -- ---- one element
 
--- why a record that stands once is refused, by the conditions in their order
-abbrev judged : Bool → Bool → Bool → Bool → Bool → Bool → Bool → Bool → Option Why
-judged undefined magnified askew many heavy lacks off out =
-    option_or (first_of (
-    (undefined, ModalUndefined) ∷
-    (false, ModalUndefined) ∷
-    (magnified, Magnification) ∷
-    (askew, Angle) ∷
-    (many, TooManyElements) ∷
-    (heavy, TooHeavy) ∷
-    (lacks, PointCount) ∷
-    (off, CoordinateRange) ∷ [])) (first_of ((out, CoordinateRange) ∷ []))
-
--- none of these holds of a canonical record
-pub record IsFine (limits : Limits) (count weight : ℕ) (m : ModalState) (e : Element) : Type 0 where
-  pub drawn : drawn_at m (element_record e) still ≡ Some (Named e)
-  pub points : lacks_points e ≡ false
-  pub inside : fits_grid e ≡ true
-  pub few : count + 1 ≤ limits.elements
-  pub light : weight + weight_of e ≤ limits.weight
-
-module _ (limits : Limits) (count weight : ℕ) (m : ModalState) (e : Element) (h : IsFine limits count weight m e) where
-  -- with what is drawn, and the position
-  abbrev by_drawn : Option Drawn → Bool → Option Why
-  by_drawn d at =
-      judged (is_none d) false false (nat_lt limits.elements (count + 1)) (nat_lt limits.weight (weight + 1 * weight_if d)) (lacks_if d) (not at) (not (fits_if d && true))
-
-  not_heavy : nat_lt limits.weight (weight + 1 * weight_of e) ≡ false
-  not_heavy = le-ltb limits.weight (weight + 1 * weight_of e) (omega (arith, h.light))
-
-  not_many : nat_lt limits.elements (count + 1) ≡ false
-  not_many = le-ltb limits.elements (count + 1) h.few
-
-  none_wrong : (at : Bool) → at ≡ true → by_drawn (drawn_at m (element_record e) still) at ≡ None
-  none_wrong at e' =
-      ap (λ (d : Option Drawn). by_drawn d at) h.drawn
-      ∙ (λ i. judged false false false (not_many i) (not_heavy i) (h.points i) (not (e' i)) (not (h.inside i && true)))
-
--- parts of a test that holds
-first_part : (a b : Bool) → (a && b) ≡ true → a ≡ true
-first_part true b e = refl
-first_part false b e = e
-
-last_part : (a b : Bool) → (a && b) ≡ true → b ≡ true
-last_part true b e = e
-last_part false b e = absurd cc
-
-first_parts : (a b c d : Bool) → ((a && b) && (c && d)) ≡ true → (a && c) ≡ true
-first_parts true true true d e = refl
-first_parts true true false d e = e
-first_parts true false c d e = absurd cc
-first_parts false b c d e = e
-
-fourth_part : (a b c d e : Bool) → (a && (b && (c && (d && e)))) ≡ true → d ≡ true
-fourth_part a b c d e h = first_part d e (last_part c (d && e) (last_part b (c && (d && e)) (last_part a (b && (c && (d && e))) h)))
-
--- a record is refused for none of the reasons, where its element is sound and there is room for it
-kind_none : (limits : Limits) (count weight : ℕ) (m : ModalState) (e : Element) → m.relative ≡ false → IsFine limits count weight (stepped m (element_record e)) e →
-    draw_reason limits count weight (stepped m (element_record e)) (element_record e) ≡ None
-kind_none limits count weight m (Placement name x y turns flip) absolute h = none_wrong _ _ _ _ _ h _ (ap is_on_grid (landed m.relative m.placement (record { x = x; y = y }) absolute) ∙ h.inside)
-kind_none limits count weight m (Text string textlayer texttype x y) absolute h = none_wrong _ _ _ _ _ h _ (ap is_on_grid (landed m.relative m.text (record { x = x; y = y }) absolute) ∙ h.inside)
-kind_none limits count weight m (Rectangle layer datatype width height x y) absolute h =
-    none_wrong _ _ _ _ _ h _ (ap is_on_grid (landed m.relative m.geometry (record { x = x; y = y }) absolute)
-    ∙ first_parts (is_coordinate x) (is_coordinate (x +ℤ pos width)) (is_coordinate y) (is_coordinate (y +ℤ pos height)) h.inside)
-kind_none limits count weight m (Polygon layer datatype []) absolute h = let lacks = h.points in absurd cc
-kind_none limits count weight m (Polygon layer datatype (p ∷ ps)) absolute h = none_wrong _ _ _ _ _ h _
-    (ap is_on_grid (landed m.relative m.geometry p absolute) ∙ first_part (is_grid_point p) (list_all is_grid_point ps) h.inside)
-kind_none limits count weight m (Path layer datatype half_width start end []) absolute h = let lacks = h.points in absurd cc
-kind_none limits count weight m (Path layer datatype half_width start end (p ∷ ps)) absolute h = none_wrong _ _ _ _ _ h _
-    (ap is_on_grid (landed m.relative m.geometry p absolute)
-    ∙ fourth_part (nat_le half_width (2 ^ 60)) (is_coordinate start) (is_coordinate end) (is_grid_point p) (list_all is_grid_point ps) h.inside)
-kind_none limits count weight m (Circle layer datatype radius x y) absolute h = none_wrong _ _ _ _ _ h _
-    (ap is_on_grid (landed m.relative m.geometry (record { x = x; y = y }) absolute) ∙ last_part (nat_le radius (2 ^ 60)) (is_coordinate x && is_coordinate y) h.inside)
-
 -- after records in a cell
-in_cell_as : (limits : Limits) (e : Element) (before : List Record) →
+pub in_cell_as : (limits : Limits) (e : Element) (before : List Record) →
     refused_after limits before (element_record e) ≡ element_reason limits (seen before) (stepped (modal_of before) (element_record e)) (element_record e)
 in_cell_as limits (Placement name x y turns flip) before = refl
-in_cell_as limits (Text string textlayer texttype x y) before = refl
-in_cell_as limits (Rectangle layer datatype width height x y) before = refl
-in_cell_as limits (Polygon layer datatype points) before = refl
-in_cell_as limits (Path layer datatype half_width start end points) before = refl
-in_cell_as limits (Circle layer datatype radius x y) before = refl
+in_cell_as limits e before = refl
 
 refused_none : (limits : Limits) (e : Element) (before : List Record) → IsAbsolute before → is_in_cell before ≡ true → lacks_points e ≡ false → fits_grid e ≡ true →
     number_drawn before + 1 ≤ limits.elements → weight_so_far_of before + weight_of e ≤ limits.weight
@@ -133,32 +53,24 @@ refused_none limits e before absolute opened points inside few light =
     let r : Record = element_record e in
     in_cell_as limits e before
     ∙ ap (λ (b : Bool). cond b (draw_reason limits (number_drawn before) (weight_so_far_of before) (stepped m r) r) (Some (OutOfPlace (id_of r)))) opened
-    ∙ kind_none limits (number_drawn before) (weight_so_far_of before) m e absolute (record { drawn = drawn_of_record e m absolute points; points = points; inside = inside; few = few; light = light })
+    ∙ (of_element e).allowed limits (number_drawn before) (weight_so_far_of before) m absolute (record { drawn = (of_element e).drawn m absolute points; points = points; inside = inside; few = few; light = light })
 
 -- ---- all records
 
--- the records are allowed, and so many elements are drawn, of that weight
+-- the records are allowed, and this many elements are drawn, with that weight
 pub record Goes (limits : Limits) (before : List Record) (count weight : ℕ) : Type 0 where
   pub allowed : stands.Allowed limits before
   pub count_is : number_drawn before ≡ count
   pub weight_is : weight_so_far_of before ≡ weight
 
--- an element more, in a cell
+-- one more element, in a cell
 open_stays : (e : Element) (before : List Record) → is_in_cell (element_record e ∷ before) ≡ is_in_cell before
 open_stays (Placement name x y turns flip) before = refl
-open_stays (Text string textlayer texttype x y) before = refl
-open_stays (Rectangle layer datatype width height x y) before = refl
-open_stays (Polygon layer datatype points) before = refl
-open_stays (Path layer datatype half_width start end points) before = refl
-open_stays (Circle layer datatype radius x y) before = refl
+open_stays e before = refl
 
 weighs : (e : Element) (before : List Record) → weight_so_far_of (element_record e ∷ before) ≡ weight_so_far_of before + sum_by weight_so_far (elements_at (element_record e) before)
 weighs (Placement name x y turns flip) before = refl
-weighs (Text string textlayer texttype x y) before = refl
-weighs (Rectangle layer datatype width height x y) before = refl
-weighs (Polygon layer datatype points) before = refl
-weighs (Path layer datatype half_width start end points) before = refl
-weighs (Circle layer datatype radius x y) before = refl
+weighs e before = refl
 
 element_goes : (limits : Limits) (e : Element) (before : List Record) (count weight : ℕ) → Goes limits before count weight → IsAbsolute before → is_in_cell before ≡ true →
     lacks_points e ≡ false → fits_grid e ≡ true → count + 1 ≤ limits.elements → weight + weight_of e ≤ limits.weight
@@ -182,7 +94,7 @@ elements_go limits (e ∷ es) before count weight g absolute opened points insid
     (open_stays e before ∙ opened) points.1 inside.1 (omega (arith, few)) (omega (arith, light, sum)) in
     record { allowed = all.allowed; count_is = omega (arith, all.count_is); weight_is = omega (arith, all.weight_is, sum) }
 
--- a CELL more
+-- one more CELL
 cell_goes : (limits : Limits) (name : List ℕ) (before : List Record) (count weight : ℕ) → Goes limits before count weight → weight + (1 + length name) ≤ limits.weight →
     Goes limits (record_of.Cell (cell.Name name) ∷ before) count (weight + (1 + length name))
 cell_goes limits name before count weight g light =

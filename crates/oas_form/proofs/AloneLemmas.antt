@@ -80,7 +80,7 @@ alone_counted l i lt h = omega (
   h.limits.light,
 )
 
--- ---- what is put of it
+-- ---- what is put for it
 
 -- by its name and its elements
 named_at : (cs : List Cell) (i : ℕ) (name : List ℕ) (bag : List (Element × ℕ)) → slice_get (names cs) i ≡ Some name → slice_get (bags cs) i ≡ Some bag → held_at cs i ≡ (name, bag)
@@ -102,7 +102,7 @@ module _ (l : Contents) (i : ℕ) (name : List ℕ) (bag : List (Element × ℕ)
   pub alone_light : (1 + length name) + sum_by weight_of (items bag) ≤ 2 ^ 30
   alone_light = subst (λ (c : Cell). (1 + length c.0) + sum_by weight_of (items c.1) ≤ 2 ^ 30) here (omega (arith, cell_light l.cells i lt, h.light, h.limits.light))
 
-  -- what its canonical bytes are
+  -- its canonical bytes
   pub alone_bytes : canonical_bytes (cell_alone l i) ≡ head_bytes l.unit ++ (cell_bytes (name, items bag) ++ end_bytes)
   unfolding canonical_bytes
   alone_bytes =

@@ -2,7 +2,7 @@
 use Rattle.std.proofs.Common.{◌≡◌, ◌≢◌, ℕ, ◌<◌, ◌⊎◌, Bool, true, false, if◌then◌else◌, List, [], ◌∷◌, ◌++◌, Result, Ok, Err, IsTrue, ◌↔◌, inl, inr, refl, sym, ◌∙◌, append_assoc, append-nil, arith}
 use Rattle.std.proofs.lemmas.List.{append_cancel_left}
 use Rattle.oas_num.specs.SinkFault.{SinkFault}
-use Rattle.oas_num.specs.Writing.{PutsFront}
+use Rattle.oas_num.specs.Writing.{PutsPrefix}
 use Rattle.oas_form.specs.Putting.{Counts}
 use Rattle.oas_form.specs.declared.comparing.Comparer.{Comparer}
 use Rattle.oas_form.specs.Comparing.{Compares}
@@ -10,7 +10,7 @@ use Rattle.oas_form.specs.Laws.ComparingLaws.{Compares-none}
 
 -- a byte that isn't the next one left
 pub differs : (old : Comparer) (byte : ℕ) → old.differs ≡ false → ((more : List ℕ) → old.rest.now ≢ byte ∷ more) →
-    PutsFront Compares (λ c. if c.differs then 1 else 0) old (byte ∷ []) (record { rest = old.rest; differs = true })
+    PutsPrefix Compares (λ c. if c.differs then 1 else 0) old (byte ∷ []) (record { rest = old.rest; differs = true })
 differs old byte works none = record {
   front = byte ∷ [];
   back = [];
@@ -35,7 +35,7 @@ true_or_false : (b : Bool) → (b ≡ true) ⊎ (b ≡ false)
 true_or_false true = inl refl
 true_or_false false = inr refl
 
--- it was given just the bytes that it was made of, exactly if it is done
+-- it was given exactly the bytes that it was made of, if and only if it is done
 pub spelled : (start end : Comparer) (bytes all : List ℕ) (r : Result ℕ SinkFault) (done : Bool) → start.rest.now ≡ bytes → start.differs ≡ false →
     Counts Compares (λ c. if c.differs then 1 else 0) start all r end → (IsTrue done ↔ ((end.differs ≡ false) × (end.rest.now ≡ []))) → IsTrue done ↔ (all ≡ bytes)
 spelled start end bytes all (Ok n) done rest works p h =

@@ -1,4 +1,5 @@
--- What an accepted file means is sound: each name and element of it can be spelled, and has its points within the grid.
+-- The meaning of an accepted file is sound: each of its names and elements can be spelled, and has its points within the
+-- grid.
 use Rattle.std.proofs.Common.{◌≡◌, ℕ, ◌+◌, ◌≤◌, Bool, true, false, cond, List, [], ◌∷◌, ◌++◌, reverse, length, Option, None, Some, refl, sym, ap, subst, ◌∙◌, arith, length-append}
 use Rattle.std.specs.Prelude.{IfSome, nat_eq}
 use Rattle.std.specs.Option.{option_map}
@@ -10,28 +11,26 @@ use Rattle.oas_record.specs.declared.records.Record.{Record}
 use Rattle.oas_record.specs.declared.records.Record.TheVariants as record_of
 use Rattle.oas_record.specs.declared.references.CellRef.{CellRef}
 use Rattle.oas_record.specs.declared.references.CellRef.TheVariants as cell
-use Rattle.oas_record.specs.declared.references.TextRef.TheVariants as text
 use Rattle.oas_layout.specs.declared.element.Element.{Element}
 use Rattle.oas_layout.specs.declared.element.Element.TheVariants as element
 use Rattle.oas_layout.specs.declared.limits.Limits.{Limits}
 use Rattle.oas_layout.specs.Meaning.{Meaning, element_count, cells_weight}
 use Rattle.oas_layout.specs.Sound.{IsSound, IsUnit}
-use Rattle.oas_drawing.specs.declared.drawn.Drawn.{Drawn}
-use Rattle.oas_drawing.specs.declared.drawn.Drawn.TheVariants.{Named, PlacementBy, TextBy}
-use Rattle.oas_drawing.specs.declared.kinds.Kind.TheVariants.{Placement, Text, Rectangle, Polygon, Path, Circle}
-use Rattle.oas_drawing.specs.Drawing.{elements_at}
-use Rattle.oas_names.specs.Names.{cell_names, text_strings, name_of, named}
-use Rattle.oas_names.specs.References.{cell_by}
-use Rattle.oas_names.specs.Meaning.{DrawnCell, element_by, with_element, elements_meant, with_named, cells_meant, has_twice, in_last, cells_drawn}
-use Rattle.oas_modal.specs.Stands as stands
-use Rattle.oas_modal.specs.Stands.{number_drawn, records_mean}
-use Rattle.oas_modal.proofs.TakeLemmas.{all_append}
+use Rattle.oas_file.specs.oas_drawing.declared.drawn.Drawn.{Drawn}
+use Rattle.oas_file.specs.oas_drawing.declared.drawn.Drawn.TheVariants.{Named, PlacementBy, TextBy}
+use Rattle.oas_file.specs.oas_drawing.Drawing.{elements_at}
+use Rattle.oas_file.specs.oas_names.Names.{cell_names, text_strings, name_of, named}
+use Rattle.oas_file.specs.oas_names.References.{cell_by}
+use Rattle.oas_file.specs.oas_names.Meaning.{DrawnCell, element_by, with_element, elements_by_name, with_named, cells_by_name, has_twice, in_last, cells_drawn}
+use Rattle.oas_file.specs.oas_modal.Stands as stands
+use Rattle.oas_file.specs.oas_modal.Stands.{number_drawn, records_mean}
+use Rattle.oas_file.proofs.oas_modal_proofs.TakeLemmas.{all_append}
 use Rattle.oas_file.specs.Acceptance.{Accepted}
 use Rattle.oas_form.specs.Spelling.{IsSpellable}
-use Rattle.oas_form.proofs.FieldsGiven.{CellFits, GivesFit, all_given, unit_given}
+use Rattle.oas_form.proofs.FieldsGiven.{CellFits, GivenFieldsFit}
+use Rattle.oas_form.proofs.AllGiven.{all_given, unit_given}
 use Rattle.oas_form.proofs.Held.{whole_once, whole_light}
 use Rattle.oas_form.proofs.MeantLemmas.{onto, reverse-is}
-use Rattle.oas_form.proofs.DrawnFits.{textlayer_fits, texttype_fits, string_fits}
 use Rattle.oas_form.proofs.DrawsSound.{IsSoundDrawn, DrawsSound, draws_sound}
 
 -- ---- the cells that are drawn
@@ -72,19 +71,8 @@ abbrev ByLast : Record → List Record → Type 0
 ByLast r before = cells_drawn elements_at (r ∷ before) ≡ in_last (elements_at r before) (cells_drawn elements_at before)
 
 drawn_step : (P : Record → Type 0) → ((c : CellRef) → P (record_of.Cell c)) → (before : List Record) → ((r : Record) → ByLast r before → P r) → (r : Record) → P r
-drawn_step P opens before more record_of.Pad = more record_of.Pad refl
-drawn_step P opens before more record_of.End = more record_of.End refl
-drawn_step P opens before more (record_of.CellName name number) = more (record_of.CellName name number) refl
-drawn_step P opens before more (record_of.TextString label number) = more (record_of.TextString label number) refl
 drawn_step P opens before more (record_of.Cell c) = opens c
-drawn_step P opens before more record_of.XyAbsolute = more record_of.XyAbsolute refl
-drawn_step P opens before more record_of.XyRelative = more record_of.XyRelative refl
-drawn_step P opens before more (record_of.Placement p) = more (record_of.Placement p) refl
-drawn_step P opens before more (record_of.Text t) = more (record_of.Text t) refl
-drawn_step P opens before more (record_of.Rectangle r) = more (record_of.Rectangle r) refl
-drawn_step P opens before more (record_of.Polygon p) = more (record_of.Polygon p) refl
-drawn_step P opens before more (record_of.Path p) = more (record_of.Path p) refl
-drawn_step P opens before more (record_of.Circle c) = more (record_of.Circle c) refl
+drawn_step P opens before more r = more r refl
 
 pub number_is : (before : List Record) → drawn_number (cells_drawn elements_at before) ≤ number_drawn before
 number_is [] = omega arith
@@ -93,14 +81,14 @@ number_is (r ∷ before) =
     (λ c. omega (arith, number_append (cells_drawn elements_at before) (c, []), number_is before)) before
     (λ r is. omega (arith, ap drawn_number is, number_last (elements_at r before) (cells_drawn elements_at before), number_is before)) r
 
-pub drawn_sound : (limits : Limits) (before : List Record) → AllByRecursion GivesFit before → stands.Allowed limits before → AreDrawnSound limits before
+pub drawn_sound : (limits : Limits) (before : List Record) → AllByRecursion GivenFieldsFit before → stands.Allowed limits before → AreDrawnSound limits before
 drawn_sound limits [] given h = record { refs = tt; sound = tt; few = omega arith }
 drawn_sound limits (r ∷ before) given h =
     let rest = drawn_sound limits before given.1 h.0 in
     let here = draws_sound limits r before given rest.few h.1 in
-    drawn_step (λ r. GivesFit r → DrawsSound limits r before → AreDrawnSound limits (r ∷ before))
+    drawn_step (λ r. GivenFieldsFit r → DrawsSound limits r before → AreDrawnSound limits (r ∷ before))
     (λ c fits d. record {
-      refs = all_append (λ (c : DrawnCell). CellFits c.0) (cells_drawn elements_at before) ((c, []) ∷ []) rest.refs (fits, tt);
+      refs = all_append (λ (c : DrawnCell). CellFits c.0) (cells_drawn elements_at before) ((c, []) ∷ []) rest.refs (fits.name, tt);
       sound = all_append (λ (c : DrawnCell). AllByRecursion IsSoundDrawn c.1) (cells_drawn elements_at before) ((c, []) ∷ []) rest.sound (tt, tt);
       few = d.few;
     })
@@ -117,44 +105,22 @@ drawn_sound limits (r ∷ before) given h =
 abbrev AllNamed : (List ℕ → Type 0) → List (ℕ × List ℕ) → Type 0
 AllNamed P names = AllByRecursion (λ p. P p.1) names
 
-names_fit : (rs : List Record) → AllByRecursion GivesFit rs → AllNamed IsName (named cell_names rs)
+names_fit : (rs : List Record) → AllByRecursion GivenFieldsFit rs → AllNamed IsName (named cell_names rs)
 names_fit [] h = tt
-names_fit (record_of.CellName name number ∷ before) h = (h.0, names_fit before h.1)
-names_fit (record_of.Pad ∷ before) h = names_fit before h.1
-names_fit (record_of.End ∷ before) h = names_fit before h.1
-names_fit (record_of.TextString label number ∷ before) h = names_fit before h.1
-names_fit (record_of.Cell c ∷ before) h = names_fit before h.1
-names_fit (record_of.XyAbsolute ∷ before) h = names_fit before h.1
-names_fit (record_of.XyRelative ∷ before) h = names_fit before h.1
-names_fit (record_of.Placement p ∷ before) h = names_fit before h.1
-names_fit (record_of.Text t ∷ before) h = names_fit before h.1
-names_fit (record_of.Rectangle r ∷ before) h = names_fit before h.1
-names_fit (record_of.Polygon p ∷ before) h = names_fit before h.1
-names_fit (record_of.Path p ∷ before) h = names_fit before h.1
-names_fit (record_of.Circle c ∷ before) h = names_fit before h.1
+names_fit (record_of.CellName name number ∷ before) h = (h.0.name, names_fit before h.1)
+names_fit (_ ∷ before) h = names_fit before h.1
 
-strings_fit : (rs : List Record) → AllByRecursion GivesFit rs → AllNamed IsLabel (named text_strings rs)
+strings_fit : (rs : List Record) → AllByRecursion GivenFieldsFit rs → AllNamed IsLabel (named text_strings rs)
 strings_fit [] h = tt
-strings_fit (record_of.TextString label number ∷ before) h = (h.0, strings_fit before h.1)
-strings_fit (record_of.Pad ∷ before) h = strings_fit before h.1
-strings_fit (record_of.End ∷ before) h = strings_fit before h.1
-strings_fit (record_of.CellName name number ∷ before) h = strings_fit before h.1
-strings_fit (record_of.Cell c ∷ before) h = strings_fit before h.1
-strings_fit (record_of.XyAbsolute ∷ before) h = strings_fit before h.1
-strings_fit (record_of.XyRelative ∷ before) h = strings_fit before h.1
-strings_fit (record_of.Placement p ∷ before) h = strings_fit before h.1
-strings_fit (record_of.Text t ∷ before) h = strings_fit before h.1
-strings_fit (record_of.Rectangle r ∷ before) h = strings_fit before h.1
-strings_fit (record_of.Polygon p ∷ before) h = strings_fit before h.1
-strings_fit (record_of.Path p ∷ before) h = strings_fit before h.1
-strings_fit (record_of.Circle c ∷ before) h = strings_fit before h.1
+strings_fit (record_of.TextString label number ∷ before) h = (h.0.name, strings_fit before h.1)
+strings_fit (_ ∷ before) h = strings_fit before h.1
 
 -- what is found is one of them
 found_fits : (P : List ℕ → Type 0) (test : ℕ → Bool) (names : List (ℕ × List ℕ)) → AllNamed P names → IfSome (lookup test names) P
 found_fits P test [] h = tt
 found_fits P test (p ∷ ps) h = elim (test p.0) as (λ b. IfSome (cond b (Some p.1) (lookup test ps)) P) [ true ↦ h.0 | false ↦ found_fits P test ps h.1 ]
 
--- ---- what is meant
+-- ---- the meaning
 
 module _ (names strings : List (ℕ × List ℕ)) (n : AllNamed IsName names) (s : AllNamed IsLabel strings) where
   element_sound : (d : Drawn) → IsSoundDrawn d → IfSome (element_by names strings d) IsSound
@@ -168,17 +134,17 @@ module _ (names strings : List (ℕ × List ℕ)) (n : AllNamed IsName names) (s
     by None f = tt
     by (Some string) f = record { points = refl; inside = h.fit.inside; fits = record { string_fits = f; textlayer_fits = h.fields.0; texttype_fits = h.fields.1 } }
 
-  elements_sound : (ds : List Drawn) → AllByRecursion IsSoundDrawn ds → AllByRecursion IsSound (elements_meant names strings ds)
+  elements_sound : (ds : List Drawn) → AllByRecursion IsSoundDrawn ds → AllByRecursion IsSound (elements_by_name names strings ds)
   elements_sound [] h = tt
   elements_sound (d ∷ ds) h = by (element_by names strings d) (element_sound d h.0) (elements_sound ds h.1) where
-    by : (o : Option Element) → IfSome o IsSound → AllByRecursion IsSound (elements_meant names strings ds) → AllByRecursion IsSound (with_element o (elements_meant names strings ds))
+    by : (o : Option Element) → IfSome o IsSound → AllByRecursion IsSound (elements_by_name names strings ds) → AllByRecursion IsSound (with_element o (elements_by_name names strings ds))
     by None f rest = rest
     by (Some e) f rest = (f, rest)
 
-  elements_number : (ds : List Drawn) → length (elements_meant names strings ds) ≤ length ds
+  elements_number : (ds : List Drawn) → length (elements_by_name names strings ds) ≤ length ds
   elements_number [] = omega arith
   elements_number (d ∷ ds) = by (element_by names strings d) (elements_number ds) where
-    by : (o : Option Element) → length (elements_meant names strings ds) ≤ length ds → length (with_element o (elements_meant names strings ds)) ≤ length (d ∷ ds)
+    by : (o : Option Element) → length (elements_by_name names strings ds) ≤ length ds → length (with_element o (elements_by_name names strings ds)) ≤ length (d ∷ ds)
     by None rest = omega (arith, rest)
     by (Some e) rest = omega (arith, rest)
 
@@ -186,29 +152,29 @@ module _ (names strings : List (ℕ × List ℕ)) (n : AllNamed IsName names) (s
   ref_fits (cell.Number number) h = found_fits IsName (nat_eq number) names n
   ref_fits (cell.Name name) h = h
 
-  -- the cells that are meant
+  -- the cells of the meaning
   pub record AreMeantSound (ds : List DrawnCell) : Type 0 where
-    pub names_fit : AllByRecursion (λ c. IsName c.0) (cells_meant names strings ds)
-    pub sound : AllByRecursion (λ c. AllByRecursion IsSound c.1) (cells_meant names strings ds)
-    pub few : element_count (cells_meant names strings ds) ≤ drawn_number ds
+    pub names_fit : AllByRecursion (λ c. IsName c.0) (cells_by_name names strings ds)
+    pub sound : AllByRecursion (λ c. AllByRecursion IsSound c.1) (cells_by_name names strings ds)
+    pub few : element_count (cells_by_name names strings ds) ≤ drawn_number ds
 
   meant_sound : (ds : List DrawnCell) → AllByRecursion (λ c. CellFits c.0) ds → AllByRecursion (λ c. AllByRecursion IsSoundDrawn c.1) ds → AreMeantSound ds
   meant_sound [] refs sound = record { names_fit = tt; sound = tt; few = omega arith }
   meant_sound (d ∷ ds) refs sound = let all = by (cell_by names d.0) (ref_fits d.0 refs.0) (meant_sound ds refs.1 sound.1) in record { names_fit = all.0; sound = all.1; few = all.2 } where
     by : (o : Option (List ℕ)) → IfSome o IsName → AreMeantSound ds →
-        AllByRecursion (λ c. IsName c.0) (with_named o (elements_meant names strings d.1) (cells_meant names strings ds)) ×
-        AllByRecursion (λ c. AllByRecursion IsSound c.1) (with_named o (elements_meant names strings d.1) (cells_meant names strings ds)) ×
-        (element_count (with_named o (elements_meant names strings d.1) (cells_meant names strings ds)) ≤ drawn_number (d ∷ ds))
+        AllByRecursion (λ c. IsName c.0) (with_named o (elements_by_name names strings d.1) (cells_by_name names strings ds)) ×
+        AllByRecursion (λ c. AllByRecursion IsSound c.1) (with_named o (elements_by_name names strings d.1) (cells_by_name names strings ds)) ×
+        (element_count (with_named o (elements_by_name names strings d.1) (cells_by_name names strings ds)) ≤ drawn_number (d ∷ ds))
     by None f rest = (rest.names_fit, rest.sound, omega (arith, rest.few))
     by (Some name) f rest = ((f, rest.names_fit), (elements_sound d.1 sound.0, rest.sound), omega (arith, rest.few, elements_number d.1))
 
--- ---- what a file means
+-- ---- the meaning of a file
 
 all_onto : (P : Record → Type 0) (xs ys : List Record) → AllByRecursion P xs → AllByRecursion P ys → AllByRecursion P (onto xs ys)
 all_onto P [] ys a b = b
 all_onto P (x ∷ xs) ys a b = all_onto P xs (x ∷ ys) a.1 (a.0, b)
 
--- what an accepted file means can be spelled, is within the limits, and no name stands twice in it
+-- the meaning of an accepted file can be spelled, is within the limits, and no name occurs twice in it
 pub record IsSoundMeaning (limits : Limits) (m : Meaning) : Type 0 where
   pub spellable : IsSpellable m
   pub few : element_count m.cells ≤ limits.elements
@@ -221,7 +187,7 @@ records_sound limits b h =
     let start = front.spelled.second in
     let body = h.file.spelled.second in
     let given = all_given h.head.flag_in_end h.records body.front body.first in
-    let newest = subst (AllByRecursion GivesFit) (sym (reverse-is h.records)) (all_onto GivesFit h.records [] given tt) in
+    let newest = subst (AllByRecursion GivenFieldsFit) (sym (reverse-is h.records)) (all_onto GivenFieldsFit h.records [] given tt) in
     let drawn = drawn_sound limits (reverse h.records) newest h.allowed in
     let meant = meant_sound (named cell_names (reverse h.records)) (named text_strings (reverse h.records)) (names_fit (reverse h.records) newest) (strings_fit (reverse h.records) newest)
     (cells_drawn elements_at (reverse h.records)) drawn.refs drawn.sound in

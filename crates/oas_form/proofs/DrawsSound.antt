@@ -16,28 +16,29 @@ use Rattle.oas_record.specs.declared.references.TextRef.TheVariants as text
 use Rattle.oas_record.specs.Records.{id_of}
 use Rattle.oas_layout.specs.declared.element.Element.TheVariants as element
 use Rattle.oas_layout.specs.declared.limits.Limits.{Limits}
-use Rattle.oas_drawing.specs.declared.drawn.Drawn.{Drawn}
-use Rattle.oas_drawing.specs.declared.drawn.Drawn.TheVariants.{Named, PlacementBy, TextBy}
-use Rattle.oas_drawing.specs.declared.kinds.Kind.{Kind}
-use Rattle.oas_drawing.specs.Modal.{ModalState, modal_of, stepped}
-use Rattle.oas_drawing.specs.Drawing.{kind_of, repeats, place_of, point_from, drawn_by, drawn_if, drawn_at, offset_if, number_if, offsets_of, copies_at, elements_at}
-use Rattle.oas_drawing.specs.Drawn.{weight_so_far}
-use Rattle.oas_drawing.specs.Reasons.{first_of, weight_if, lacks_if, fits_if, kind_reason, all_fit, reason_if, draw_reason}
-use Rattle.oas_drawing.proofs.Steps.{modal_step}
-use Rattle.oas_names.specs.Names.{cell_names, text_strings, same_string, name_reason}
-use Rattle.oas_modal.specs.Finish.{IsFit}
-use Rattle.oas_modal.specs.Standing.{element_reason}
-use Rattle.oas_modal.specs.Stands as stands
-use Rattle.oas_modal.specs.Stands.{is_in_cell, number_drawn, weight_so_far_of, seen, refused_after}
-use Rattle.oas_modal.proofs.DrawLemmas.{is_element, is_passed}
-use Rattle.oas_modal.proofs.PlaceLemmas.{drawn_alike}
-use Rattle.oas_modal.proofs.TakeLemmas.{all_append}
-use Rattle.oas_form.proofs.FieldsGiven.{GivesFit}
-use Rattle.oas_form.proofs.DrawnFits.{DrawnFits, kind_fits}
+use Rattle.oas_file.specs.oas_drawing.declared.drawn.Drawn.{Drawn}
+use Rattle.oas_file.specs.oas_drawing.declared.drawn.Drawn.TheVariants.{Named, PlacementBy, TextBy}
+use Rattle.oas_file.specs.oas_drawing.declared.kinds.Kind.{Kind}
+use Rattle.oas_file.specs.oas_drawing.Modal.{ModalState, modal_of, stepped}
+use Rattle.oas_file.specs.oas_drawing.Drawing.{kind_of, repeats, place_of, point_from, drawn_by, drawn_if, drawn_at, offset_if, number_if, offsets_of, copies_at, elements_at}
+use Rattle.oas_file.specs.oas_drawing.Drawn.{weight_so_far}
+use Rattle.oas_file.specs.oas_drawing.Reasons.{first_of, weight_if, lacks_if, fits_if, kind_reason, all_fit, reason_if, draw_reason}
+use Rattle.oas_file.proofs.oas_drawing_proofs.Steps.{modal_step}
+use Rattle.oas_file.specs.oas_names.Names.{cell_names, text_strings, same_string, name_reason}
+use Rattle.oas_file.specs.oas_modal.Finish.{IsFit}
+use Rattle.oas_file.specs.oas_modal.Standing.{element_reason}
+use Rattle.oas_file.specs.oas_modal.Stands as stands
+use Rattle.oas_file.specs.oas_modal.Stands.{is_in_cell, number_drawn, weight_so_far_of, seen, refused_after}
+use Rattle.oas_file.proofs.oas_modal_proofs.DrawLemmas.{is_element, is_passed}
+use Rattle.oas_file.proofs.oas_drawing_proofs.AllKinds.{drawn_alike}
+use Rattle.oas_file.proofs.oas_modal_proofs.TakeLemmas.{all_append}
+use Rattle.oas_form.proofs.FieldsGiven.{GivenFieldsFit}
+use Rattle.oas_form.proofs.DrawnFits.{DrawnFits}
+use Rattle.oas_form.proofs.AllKinds.{kind_fits}
 
 -- ---- what an allowed record draws
 
--- it has its points, lies within the grid, and its fields fit
+-- it has its points, is within the grid, and its fields fit
 pub record IsSoundDrawn (d : Drawn) : Type 0 where
   pub fit : IsFit d
   pub fields : DrawnFits d
@@ -60,7 +61,7 @@ one_sound (Some (Named e)) f l h = (record { fit = record { points = l; inside =
 one_sound (Some (PlacementBy number x y turns flip)) f l h = (record { fit = record { points = refl; inside = f }; fields = h }, tt)
 one_sound (Some (TextBy number textlayer texttype x y)) f l h = (record { fit = record { points = refl; inside = f }; fields = h }, tt)
 
--- the copies at offsets at which all fit
+-- the copies at offsets where all fit
 copies_sound : (m : ModalState) (r : Record) (kind : Kind) → kind_of r ≡ Some kind → lacks_if (drawn_by m kind still) ≡ false → ((d : GDelta) → IfSome (drawn_by m kind d) DrawnFits) →
     (ds : List GDelta) → list_all (λ d. fits_if (drawn_by m kind d)) ds ≡ true → AllByRecursion IsSoundDrawn (copies_at m r ds)
 copies_sound m r kind e points fields [] h = tt
@@ -77,7 +78,7 @@ copies_number m r (d ∷ ds) = omega (arith, length-append (option_to_list (draw
   one None = omega arith
   one (Some d) = omega arith
 
--- each weighs as much
+-- each has the same weight
 copies_weight : (m : ModalState) (r : Record) (kind : Kind) → kind_of r ≡ Some kind → (ds : List GDelta) → AllByRecursion (λ x. weight_so_far x ≤ weight_if (drawn_by m kind still)) (copies_at m r ds)
 copies_weight m r kind e [] = tt
 copies_weight m r kind e (d ∷ ds) =
@@ -88,11 +89,11 @@ copies_weight m r kind e (d ∷ ds) =
       one None h = tt
       one (Some x) h = (omega (arith, h), tt)
 
--- one of several weighs no more than they
+-- one of several weighs no more than all
 one_of_many : (n w all : ℕ) → 1 ≤ n → n * w ≤ all → w ≤ all
 one_of_many n w all some h = let more : 1 * w ≤ n * w = mul-le 1 w n w some (omega arith) in omega (arith, more, h)
 
--- a record of no kind draws nothing
+-- a record without a kind draws nothing
 none_drawn : (m : ModalState) (r : Record) → kind_of r ≡ None → (ds : List GDelta) → copies_at m r ds ≡ []
 none_drawn m r e [] = refl
 none_drawn m r e (d ∷ ds) = (λ i. option_to_list (drawn_if m (e i) d) ++ none_drawn m r e ds i)
@@ -107,7 +108,7 @@ in_cell : (b : Bool) (o : Option Why) (w : Why) → cond b o (Some w) ≡ None �
 in_cell true o w h = h
 in_cell false o w h = cc
 
-pub draws_sound : (limits : Limits) (r : Record) (before : List Record) → AllByRecursion GivesFit (r ∷ before) → number_drawn before ≤ limits.elements →
+pub draws_sound : (limits : Limits) (r : Record) (before : List Record) → AllByRecursion GivenFieldsFit (r ∷ before) → number_drawn before ≤ limits.elements →
     refused_after limits before r ≡ None → DrawsSound limits r before
 draws_sound limits r before given few h = by (kind_of r) refl where
   by : (k : Option Kind) → kind_of r ≡ k → DrawsSound limits r before

@@ -3,10 +3,10 @@ use Rattle.std.proofs.Common.{◌≡◌, ℕ, zero, suc, ◌+◌, ◌*◌, ◌-�
 use Rattle.std.specs.Prelude.{nat_lt, sum_by, slice_get}
 use Rattle.std.specs.List.{AllByRecursion}
 use Rattle.std.proofs.lemmas.List.Sums.{sum_by-cons, sum_by-append}
-use Rattle.oas_num.specs.Writing.{PutsFront}
+use Rattle.oas_num.specs.Writing.{PutsPrefix}
 use Rattle.oas_layout.specs.declared.profile.Profile.{Profile}
 use Rattle.oas_layout.specs.declared.element.Element.{Element}
-use Rattle.oas_layout.specs.declared.element.Element.TheVariants.{Placement, Text, Rectangle, Polygon, Path, Circle}
+use Rattle.oas_layout.specs.declared.element.Element.TheVariants.{Path}
 use Rattle.oas_layout.specs.Weight.{weight_of}
 use Rattle.oas_layout.specs.Sound.{IsSound}
 use Rattle.oas_layout.specs.Bag.{items}
@@ -15,7 +15,7 @@ use Rattle.oas_layout.specs.Contents.{Cell, Contents, names, bags, expanded, All
 use Rattle.oas_form.specs.Bytes.{element_bytes, elements_bytes, cell_bytes, cells_bytes}
 use Rattle.oas_form.specs.Spelling.{HasPoint}
 use Rattle.oas_form.specs.Putting.{PutsAll}
-use Rattle.oas_form.proofs.Lengths.{length-elements, length-cells}
+use Rattle.oas_form.proofs.FileLengths.{length-elements, length-cells}
 use Rattle.oas_form.proofs.PuttingLemmas.{PutSoFar, fails_at, part_fits, ◌▸◌}
 
 elements_bytes-append : (es fs : List Element) → elements_bytes (es ++ fs) ≡ elements_bytes es ++ elements_bytes fs
@@ -25,15 +25,11 @@ elements_bytes-append (e ∷ es) fs = ap (λ (b : List ℕ). element_bytes e ++ 
 -- ---- sound elements have points
 
 sound_point : (e : Element) → IsSound e → HasPoint e
-sound_point (Placement cell x y turns flip) h = tt
-sound_point (Text string textlayer texttype x y) h = tt
-sound_point (Rectangle layer datatype width height x y) h = tt
-sound_point (Polygon layer datatype points) h = tt
 sound_point (Path layer datatype half_width start end points) h = some (length points) h.points where
   some : (n : ℕ) → nat_lt n 1 ≡ false → 0 < n
   some zero h = cc
   some (suc n) h = omega arith
-sound_point (Circle layer datatype radius x y) h = tt
+sound_point e h = tt
 
 copies_points : (n : ℕ) (e : Element) → HasPoint e → AllByRecursion HasPoint (replicate n e)
 copies_points zero e h = tt
@@ -53,7 +49,7 @@ cells_points profile (c ∷ cs) h = (items_points c.1 h.0.sound, cells_points pr
 
 -- ---- copies of one element
 
--- so many copies were put, and the others are left
+-- this many copies were put, and the others are left
 pub record CopiesLeft {K : Type 0} (given : K → List ℕ → K → Type 0) (failures : K → ℕ) (e : Element) (times i : ℕ) (old now : K) (count : ℕ) : Type 0 where
   pub so_far : PutSoFar given failures (elements_bytes (replicate times e)) (elements_bytes (replicate (times - i) e)) old now count
   pub light : sum_by weight_of (replicate (times - i) e) ≤ 2 ^ 30
@@ -80,7 +76,7 @@ module _ {K : Type 0} {given : K → List ℕ → K → Type 0} {failures : K �
   pub copy_light : weight_of e ≤ 2 ^ 30
   copy_light = omega (arith, copies_light)
 
-  pub copy_fails : {new : K} → PutsFront given failures mid (element_bytes e) new → PutsFront given failures old (elements_bytes (replicate times e)) new
+  pub copy_fails : {new : K} → PutsPrefix given failures mid (element_bytes e) new → PutsPrefix given failures old (elements_bytes (replicate times e)) new
   copy_fails q = fails_at _ copy_left q
 
   pub copy_put : {new : K} {m : ℕ} → PutsAll given failures mid (element_bytes e) m new → CopiesLeft given failures e times (i + 1) old new (n + m)
@@ -118,7 +114,7 @@ module _ {K : Type 0} {given : K → List ℕ → K → Type 0} {failures : K �
   pub pair_light : sum_by weight_of (replicate times e) ≤ 2 ^ 30
   pair_light = omega (arith, pair_weight)
 
-  pub pair_fails : {new : K} → PutsFront given failures mid (elements_bytes (replicate times e)) new → PutsFront given failures old (elements_bytes (items all)) new
+  pub pair_fails : {new : K} → PutsPrefix given failures mid (elements_bytes (replicate times e)) new → PutsPrefix given failures old (elements_bytes (items all)) new
   pair_fails q = fails_at _ pair_left q
 
   pub pair_put : {new : K} {m : ℕ} → PutsAll given failures mid (elements_bytes (replicate times e)) m new → ElementsLeft given failures all after old new (n + m)
@@ -129,7 +125,7 @@ module _ {K : Type 0} {given : K → List ℕ → K → Type 0} {failures : K �
 
 -- ---- cells
 
--- so many cells were put, and the others are left
+-- this many cells were put, and the others are left
 pub record CellsLeft {K : Type 0} (given : K → List ℕ → K → Type 0) (failures : K → ℕ) (profile : Profile) (cs : List Cell) (i : ℕ) (old now : K) (count : ℕ) : Type 0 where
   pub so_far : PutSoFar given failures (cells_bytes (expanded cs)) (cells_bytes (expanded (drop i cs))) old now count
   pub are_cells : AllByRecursion (IsCell profile) (drop i cs)
@@ -171,7 +167,7 @@ module _ {K : Type 0} {given : K → List ℕ → K → Type 0} {failures : K �
   pub cell_light : (1 + length name) + sum_by weight_of (items bag) ≤ 2 ^ 30
   cell_light = omega (arith, cells_light)
 
-  pub cell_fails : {new : K} → PutsFront given failures mid (cell_bytes (name, items bag)) new → PutsFront given failures old (cells_bytes (expanded cs)) new
+  pub cell_fails : {new : K} → PutsPrefix given failures mid (cell_bytes (name, items bag)) new → PutsPrefix given failures old (cells_bytes (expanded cs)) new
   cell_fails q = fails_at _ cell_left q
 
   pub cell_put : {new : K} {m : ℕ} → PutsAll given failures mid (cell_bytes (name, items bag)) m new → CellsLeft given failures profile cs (i + 1) old new (n + m)

@@ -1,4 +1,4 @@
--- Each accepted file has a canonical form: what it means, put in order, and written.
+-- Each accepted file has a canonical form: its meaning, put in order, and written.
 use Rattle.std.proofs.Common.{◌≡◌, ℕ, ◌<◌, ◌^◌, Bool, true, false, ◌&&◌, List, [], ◌∷◌, Option, None, Some, refl, sym, subst, arith}
 use Rattle.std.proofs.lemmas.Int.{ints}
 use Rattle.std.specs.Prelude.{ℤ, pos, ◌+ℤ◌}
@@ -22,7 +22,7 @@ use Rattle.oas_layout.proofs.LawProofs.{symmetric}
 use Rattle.oas_layout.proofs.Order.{sound-put_more}
 use Rattle.oas_layout.proofs.Sealed.{name_cmp}
 use Rattle.oas_layout.proofs.SoundLemmas.{lacks_points-normal, fits_grid-normal}
-use Rattle.oas_modal.specs.Stands.{records_mean}
+use Rattle.oas_file.specs.oas_modal.Stands.{records_mean}
 use Rattle.oas_form.specs.Records.{Cells}
 use Rattle.oas_form.specs.Bytes.{canonical_bytes}
 use Rattle.oas_form.specs.Canonical.{IsCanonicalOf, SameExactly}
@@ -66,7 +66,7 @@ module _ (profile : Profile) where
       let inside = fits_grid-normal profile e h.inside in
       record { points = lacks_points-normal profile e h.points; inside = inside; fits = normal_fits e h.fits inside }
 
-  -- ---- sound cells are so in order
+  -- ---- sound cells are sound in order
 
   tally_sound : (xs : List Element) → AllByRecursion IsSound xs → AllByRecursion (λ p. IsSound p.0) (tally profile xs)
   tally_sound [] h = tt

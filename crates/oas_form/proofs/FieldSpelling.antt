@@ -109,7 +109,7 @@ length-steps_from : (p : Point) (ps : List Point) → length (steps_from p ps) �
 length-steps_from p [] = refl
 length-steps_from p (q ∷ qs) = ap (λ (n : ℕ). suc n) (length-steps_from q qs)
 
--- one point less than there are
+-- one less than the number of points
 one_less : (p : Point) (ps : List Point) → length (p ∷ ps) - 1 ≡ length (steps_from p ps)
 one_less p ps = omega (arith, length-steps_from p ps)
 

@@ -1,4 +1,4 @@
--- How an element is judged with which the latest one was compared.
+-- How an element is judged that was compared with the latest one.
 use Rattle.std.proofs.Common.{◌≡◌, ◌↔◌, ℕ, Bool, false, IsTrue, List, Option, Some, is_gt, sym, ◌∙◌, ap, subst}
 use Rattle.std.specs.declared.cmp.Ordering.{Ordering}
 use Rattle.oas_layout.specs.declared.element.Element.{Element}
@@ -8,7 +8,7 @@ use Rattle.oas_form.specs.Judging.{IsNotBelow, GoesOnDrawing}
 use Rattle.oas_form.specs.declared.judging.FormJudge.{FormJudge}
 use Rattle.oas_form.proofs.JudgeStanding.{draws_kept}
 
--- an element with which the latest one compares so
+-- an element that the latest one compares with like this
 pub draws_next : (old : FormJudge) (now : Bool) (last made kept : Element) (order : Ordering) (bytes : List ℕ) → old.element ≡ Some last → order ≡ element_cmp last kept →
     IsTrue now ↔ (IsTrue old.holds × (is_gt order ≡ false))
     → element_bytes kept ≡ bytes → made ≡ kept → GoesOnDrawing old kept bytes (record { holds = now; name = old.name; element = Some made })

@@ -8,7 +8,7 @@ use Rattle.oas_layout.specs.declared.limits.Limits.{Limits}
 use Rattle.oas_layout.specs.declared.profile.Profile.{Profile}
 use Rattle.oas_layout.specs.Meaning.{Meaning, SameLayout}
 use Rattle.oas_layout.proofs.LawProofs.{reflexive, symmetric, transitive}
-use Rattle.oas_modal.specs.Stands.{records_mean}
+use Rattle.oas_file.specs.oas_modal.Stands.{records_mean}
 use Rattle.oas_file.specs.Files.{FileIn}
 use Rattle.oas_file.specs.Laws.FileLaws.{one_reading, one_spelling, means_one}
 use Rattle.oas_file.specs.Acceptance.{Allowed, IsWhole, Means}
@@ -22,13 +22,13 @@ use Rattle.oas_form.proofs.ShortestLemmas.{shortest_is_canonical, shortest_has_p
 abbrev pub plain_head : Ratio → Head
 plain_head unit = record { unit = unit; flag_in_end = false }
 
--- what its own records mean is what it means
+-- the meaning of its own records is its meaning
 pub form_means : (limits : Limits) (profile : Profile) (c : List ℕ) (m : Meaning) → (h : CanonicalForm limits profile c) → Means c m → records_mean h.head.unit h.records ≡ m
 form_means limits profile c m h k =
     let both = one_reading Shortest Any h.head k.head h.records k.records c h.file k.file in
     ap (λ (p : Head × List Record). records_mean p.0.unit p.1) (λ i. (both.0 i, both.1 i)) ∙ k.is
 
--- what a canonical form means is in order, and of that it has the records
+-- the meaning of a canonical form is in order, and it has the records of that
 pub record Shaped (limits : Limits) (profile : Profile) (c : List ℕ) (m : Meaning) : Type 0 where
   pub file : FileIn Shortest (plain_head m.unit) (records_of m.cells) c
   pub points : HavePoints m.cells

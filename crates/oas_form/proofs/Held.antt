@@ -1,4 +1,4 @@
--- A canonical form is the canonical bytes of what it means, and what it keeps of a file.
+-- A canonical form is the canonical bytes of its meaning, and what it keeps of a file.
 use Rattle.std.proofs.Common.{◌≡◌, ℕ, ◌≤◌, Bool, true, false, List, [], ◌∷◌, length, None, refl, ap, ◌∙◌, subst, arith}
 use Rattle.std.specs.Prelude.{nat_lt}
 use Rattle.std.specs.List.{AllByRecursion}
@@ -12,14 +12,14 @@ use Rattle.oas_record.specs.declared.records.Record.{Record}
 use Rattle.oas_layout.specs.declared.limits.Limits.{Limits}
 use Rattle.oas_layout.specs.declared.profile.Profile.{Profile}
 use Rattle.oas_layout.specs.declared.element.Element.{Element}
-use Rattle.oas_layout.specs.declared.element.Element.TheVariants.{Placement, Text, Rectangle, Polygon, Path, Circle}
+use Rattle.oas_layout.specs.declared.element.Element.TheVariants.{Path}
 use Rattle.oas_layout.specs.Weight.{lacks_points}
 use Rattle.oas_layout.specs.Grid.{fits_grid}
 use Rattle.oas_layout.specs.Sound.{Fits, IsSound, IsUnit}
 use Rattle.oas_layout.specs.Meaning.{Meaning, SameLayout, cells_weight}
-use Rattle.oas_drawing.specs.Reasons.{first_of}
-use Rattle.oas_names.specs.Meaning.{has_twice}
-use Rattle.oas_modal.specs.Stands.{records_mean}
+use Rattle.oas_file.specs.oas_drawing.Reasons.{first_of}
+use Rattle.oas_file.specs.oas_names.Meaning.{has_twice}
+use Rattle.oas_file.specs.oas_modal.Stands.{records_mean}
 use Rattle.oas_file.specs.Laws.FileLaws.{one_reading, means_one}
 use Rattle.oas_file.specs.Laws.FileLaws as file
 use Rattle.oas_file.specs.Acceptance.{Accepted, IsWhole, Means}
@@ -30,10 +30,11 @@ use Rattle.oas_form.specs.Spelling.{IsSpellable, HasPoint}
 use Rattle.oas_form.specs.Canonical.{CanonicalForm}
 use Rattle.oas_form.specs.Laws.FormLaws.{form_is_accepted}
 use Rattle.oas_form.specs.Layouts.{FormIsBytes, FormIsItsBytes, CanonicalWeight, FormLength}
-use Rattle.oas_form.proofs.FieldsFit.{unit_fits, cells_fit}
+use Rattle.oas_form.proofs.FieldsFit.{unit_fits}
+use Rattle.oas_form.proofs.CellsFit.{cells_fit}
 use Rattle.oas_form.proofs.Forms.{plain_head, shaped}
 use Rattle.oas_form.proofs.InGrid.{allowed_fit}
-use Rattle.oas_form.proofs.Lengths.{canonical_length}
+use Rattle.oas_form.proofs.FileLengths.{canonical_length}
 use Rattle.oas_form.proofs.MeantLemmas.{canonical_means}
 use Rattle.oas_form.proofs.OrderedLayouts.{equal_in_order, layout_in_order}
 use Rattle.oas_form.proofs.Sizes.{same_count, same_weight, least_weight}
@@ -41,7 +42,7 @@ use Rattle.oas_form.proofs.Spelling.{canonical_spelled}
 
 -- ---- what END doesn't refuse
 
--- of three reasons none holds
+-- none of three reasons holds
 none_holds : (a b c : Bool) → first_of ((a, UnknownReference) ∷ (b, DuplicateCell) ∷ (c, TooHeavy) ∷ []) ≡ None → (b ≡ false) × (c ≡ false)
 none_holds true b c h = cc
 none_holds false true c h = cc
@@ -51,7 +52,7 @@ none_holds false false false h = (refl, refl)
 no_more : (most n : ℕ) → nat_lt most n ≡ false → n ≤ most
 no_more most n h = grind (arith, nat_tests)
 
--- no name stands twice
+-- no name occurs twice
 pub whole_once : (limits : Limits) (unit : Ratio) (rs : List Record) → IsWhole limits rs → has_twice (keys_of (records_mean unit rs).cells) ≡ false
 whole_once limits unit rs h = (none_holds _ _ _ h).0
 
@@ -59,7 +60,7 @@ whole_once limits unit rs h = (none_holds _ _ _ h).0
 pub whole_light : (limits : Limits) (unit : Ratio) (rs : List Record) → IsWhole limits rs → cells_weight (records_mean unit rs).cells ≤ limits.weight
 whole_light limits unit rs h = no_more limits.weight (cells_weight (records_mean unit rs).cells) (none_holds _ _ _ h).1
 
--- ---- what a canonical form means can be spelled
+-- ---- the meaning of a canonical form can be spelled
 
 sound_elements : (es : List Element) → AllByRecursion (λ e. lacks_points e ≡ false) es → AllByRecursion (λ e. fits_grid e ≡ true) es → AllByRecursion Fits es → AllByRecursion IsSound es
 sound_elements [] p g f = tt
@@ -95,7 +96,7 @@ form_is_bytes limits c m l h k held s =
 
 -- ---- what it keeps
 
--- in an accepted file no name stands twice
+-- in an accepted file no name occurs twice
 pub accepted_once : (limits : Limits) (b : List ℕ) (m : Meaning) → Accepted limits b → Means b m → has_twice (keys_of m.cells) ≡ false
 accepted_once limits b m h k =
     let both = one_reading Any Any h.head k.head h.records k.records b h.file k.file in
@@ -116,12 +117,8 @@ canonical_weight limits profile b c m n h k p q =
 
 -- a path has a point
 element_has_point : (e : Element) → lacks_points e ≡ false → HasPoint e
-element_has_point (Placement name x y turns flip) h = tt
-element_has_point (Text string textlayer texttype x y) h = tt
-element_has_point (Rectangle layer datatype width height x y) h = tt
-element_has_point (Polygon layer datatype points) h = tt
 element_has_point (Path layer datatype half_width start end points) h = let some : 1 ≤ length points = no_more (length points) 1 h in omega (arith, some)
-element_has_point (Circle layer datatype radius x y) h = tt
+element_has_point e h = tt
 
 have_point : (es : List Element) → AllByRecursion (λ e. lacks_points e ≡ false) es → AllByRecursion HasPoint es
 have_point [] h = tt

@@ -1,4 +1,4 @@
--- The elements of canonical records that are accepted lie within the grid.
+-- The elements of canonical records that are accepted are within the grid.
 use Rattle.std.proofs.Common.{◌≡◌, ℕ, Bool, true, false, List, [], ◌∷◌, ◌++◌, map, Option, None, Some, refl, sym, ap, subst, ◌∙◌}
 use Rattle.std.specs.Prelude.{cond, not, ◌&&◌}
 use Rattle.std.specs.List.{AllByRecursion}
@@ -12,25 +12,26 @@ use Rattle.oas_record.specs.declared.references.CellRef.TheVariants as cell
 use Rattle.oas_record.specs.declared.placements.Turn.TheVariants.{Quarters}
 use Rattle.oas_record.specs.Records.{id_of}
 use Rattle.oas_layout.specs.declared.element.Element.{Element}
-use Rattle.oas_layout.specs.declared.element.Element.TheVariants.{Placement, Text, Rectangle, Polygon, Path, Circle}
 use Rattle.oas_layout.specs.declared.limits.Limits.{Limits}
 use Rattle.oas_layout.specs.Element.{turn_count}
 use Rattle.oas_layout.specs.Grid.{fits_grid}
 use Rattle.oas_layout.specs.Weight.{lacks_points}
-use Rattle.oas_drawing.specs.declared.drawn.Drawn.{Drawn}
-use Rattle.oas_drawing.specs.declared.drawn.Drawn.TheVariants.{Named}
-use Rattle.oas_drawing.specs.declared.kinds.Kind.{Kind}
-use Rattle.oas_drawing.specs.declared.kinds.Kind.TheVariants as kind
-use Rattle.oas_drawing.specs.Modal.{ModalState, modal_of, stepped}
-use Rattle.oas_drawing.specs.Drawing.{kind_of, repeats, drawn_if, drawn_by, copies_at, offsets_if, elements_at}
-use Rattle.oas_drawing.specs.Reasons.{first_of, fits_if, all_fit, kind_reason, reason_if, draw_reason}
-use Rattle.oas_drawing.proofs.Steps.{modal_step}
-use Rattle.oas_modal.specs.Standing.{element_reason}
-use Rattle.oas_modal.specs.Stands as stands
-use Rattle.oas_modal.specs.Stands.{seen, refused_after}
+use Rattle.oas_file.specs.oas_drawing.declared.drawn.Drawn.{Drawn}
+use Rattle.oas_file.specs.oas_drawing.declared.drawn.Drawn.TheVariants.{Named}
+use Rattle.oas_file.specs.oas_drawing.declared.kinds.Kind.{Kind}
+use Rattle.oas_file.specs.oas_drawing.declared.kinds.Kind.TheVariants as kind
+use Rattle.oas_file.specs.oas_drawing.Modal.{ModalState, modal_of, stepped}
+use Rattle.oas_file.specs.oas_drawing.Drawing.{kind_of, repeats, drawn_if, drawn_by, copies_at, offsets_if, elements_at}
+use Rattle.oas_file.specs.oas_drawing.Reasons.{first_of, fits_if, all_fit, kind_reason, reason_if, draw_reason}
+use Rattle.oas_file.proofs.oas_drawing_proofs.Steps.{modal_step}
+use Rattle.oas_file.specs.oas_modal.Standing.{element_reason}
+use Rattle.oas_file.specs.oas_modal.Stands as stands
+use Rattle.oas_file.specs.oas_modal.Stands.{seen, refused_after}
 use Rattle.oas_file.specs.Acceptance.{Allowed}
 use Rattle.oas_form.specs.Records.{Cells, element_record, records_of}
 use Rattle.oas_form.specs.RecordMeaning.{HavePoints, FitGrid}
+use Rattle.oas_form.proofs.AllKinds.{of_element}
+use Rattle.oas_form.proofs.AllowedLemmas.{in_cell_as}
 use Rattle.oas_form.proofs.MeantLemmas.{onto, onto-append, reverse-is, IsAbsolute, draws, absolute_element}
 
 -- ---- one record
@@ -54,7 +55,7 @@ left_true : (a : Bool) → (a && true) ≡ true → a ≡ true
 left_true true h = refl
 left_true false h = cc
 
--- a record that stands once, is not refused and draws one element
+-- a record without a repetition that is not refused and draws one element
 within : (limits : Limits) (count weight : ℕ) (m : ModalState) (r : Record) (k : Kind) (e : Element) → kind_of r ≡ Some k → repeats r ≡ false →
     copies_at m r (offsets_if (repeats r) m.repetition) ≡ Named e ∷ [] → draw_reason limits count weight m r ≡ None → fits_grid e ≡ true
 within limits count weight m r k e is once draws none =
@@ -77,36 +78,20 @@ within_after limits before r k e is once draws none =
 
 -- an element
 element_within : (limits : Limits) (e : Element) (before : List Record) → IsAbsolute before → lacks_points e ≡ false → refused_after limits before (element_record e) ≡ None → fits_grid e ≡ true
-element_within limits (Placement name x y turns flip) before absolute h none =
-    within_after limits before (element_record (Placement name x y turns flip)) (kind.Placement (Quarters (turn_count turns)) flip) (Placement name x y turns flip) refl refl
-    (draws (Placement name x y turns flip) before absolute h) none
-element_within limits (Text string textlayer texttype x y) before absolute h none =
-    within_after limits before (element_record (Text string textlayer texttype x y)) kind.Text (Text string textlayer texttype x y) refl refl
-    (draws (Text string textlayer texttype x y) before absolute h) none
-element_within limits (Rectangle layer datatype width height x y) before absolute h none =
-    within_after limits before (element_record (Rectangle layer datatype width height x y)) kind.Rectangle (Rectangle layer datatype width height x y) refl refl
-    (draws (Rectangle layer datatype width height x y) before absolute h) none
-element_within limits (Polygon layer datatype points) before absolute h none =
-    within_after limits before (element_record (Polygon layer datatype points)) kind.Polygon (Polygon layer datatype points) refl refl (draws (Polygon layer datatype points) before absolute h) none
-element_within limits (Path layer datatype half_width start end points) before absolute h none =
-    within_after limits before (element_record (Path layer datatype half_width start end points)) kind.Path (Path layer datatype half_width start end points) refl refl
-    (draws (Path layer datatype half_width start end points) before absolute h) none
-element_within limits (Circle layer datatype radius x y) before absolute h none =
-    within_after limits before (element_record (Circle layer datatype radius x y)) kind.Circle (Circle layer datatype radius x y) refl refl
-    (draws (Circle layer datatype radius x y) before absolute h) none
+element_within limits e before absolute h none = let o = of_element e in within_after limits before (element_record e) o.kind e o.is o.once (draws e before absolute h) (sym (in_cell_as limits e before) ∙ none)
 
 -- ---- all records
 
--- what is allowed of all is allowed of the first
-front_allowed : (limits : Limits) (rs before : List Record) → stands.Allowed limits (onto rs before) → stands.Allowed limits before
-front_allowed limits [] before h = h
-front_allowed limits (r ∷ rs) before h = (front_allowed limits rs (r ∷ before) h).0
+-- what is allowed as all records is allowed as the first
+prefix_allowed : (limits : Limits) (rs before : List Record) → stands.Allowed limits (onto rs before) → stands.Allowed limits before
+prefix_allowed limits [] before h = h
+prefix_allowed limits (r ∷ rs) before h = (prefix_allowed limits rs (r ∷ before) h).0
 
 elements_within : (limits : Limits) (es : List Element) (before : List Record) → IsAbsolute before → AllByRecursion (λ e. lacks_points e ≡ false) es →
     stands.Allowed limits (onto (map element_record es) before) → AllByRecursion (λ e. fits_grid e ≡ true) es
 elements_within limits [] before absolute points h = tt
 elements_within limits (e ∷ es) before absolute points h = (
-  element_within limits e before absolute points.0 (front_allowed limits (map element_record es) (element_record e ∷ before) h).1,
+  element_within limits e before absolute points.0 (prefix_allowed limits (map element_record es) (element_record e ∷ before) h).1,
   elements_within limits es (element_record e ∷ before)
       (absolute_element e before ∙ absolute) points.1 h,
 )
@@ -116,7 +101,7 @@ cells_within limits [] before points h = tt
 cells_within limits (c ∷ cs) before points h =
     let opened : List Record = record_of.Cell (cell.Name c.0) ∷ before in
     let all : stands.Allowed limits (onto (records_of cs) (onto (map element_record c.1) opened)) = subst (stands.Allowed limits) (onto-append (map element_record c.1) (records_of cs) opened) h in (
-      elements_within limits c.1 opened refl points.0 (front_allowed limits (records_of cs) (onto (map element_record c.1) opened) all),
+      elements_within limits c.1 opened refl points.0 (prefix_allowed limits (records_of cs) (onto (map element_record c.1) opened) all),
       cells_within limits cs
           (onto (map element_record c.1) opened) points.1 all,
     )

@@ -11,24 +11,24 @@ use Rattle.oas_layout.specs.declared.limits.Limits.{Limits}
 use Rattle.oas_layout.specs.declared.profile.Profile.{Profile}
 use Rattle.oas_layout.specs.Sound.{IsUnit}
 use Rattle.oas_layout.specs.Meaning.{Meaning}
-use Rattle.oas_drawing.specs.declared.drawn.Drawn.TheVariants.{Named}
-use Rattle.oas_drawing.specs.Drawing.{elements_at}
-use Rattle.oas_modal.specs.Stands as stands
-use Rattle.oas_modal.specs.Stands.{records_mean}
+use Rattle.oas_file.specs.oas_drawing.declared.drawn.Drawn.TheVariants.{Named}
+use Rattle.oas_file.specs.oas_drawing.Drawing.{elements_at}
+use Rattle.oas_file.specs.oas_modal.Stands as stands
+use Rattle.oas_file.specs.oas_modal.Stands.{records_mean}
 use Rattle.oas_file.specs.Acceptance.{Allowed, Accepted}
 use Rattle.oas_file.specs.Laws.FileLaws.{one_reading, means_one}
 use Rattle.oas_form.specs.Bytes.{canonical_bytes}
 use Rattle.oas_form.specs.Canonical.{IsOrdered, CanonicalForm}
 use Rattle.oas_form.specs.Judging.{Entry, entry_records, IsReadAs, judge_of, AreInOrder, JudgedFile, Matches, AllMatch, JudgedByBytes, BytesJudge, BytesGoOn, KeptBytes}
 use Rattle.oas_form.specs.Judging.{FormIsOrderedBytes}
-use Rattle.oas_form.proofs.FieldsGiven.{unit_given}
+use Rattle.oas_form.proofs.AllGiven.{unit_given}
 use Rattle.oas_form.proofs.DrawnSound.{records_sound}
 use Rattle.oas_form.proofs.Forms.{shaped}
 use Rattle.oas_form.proofs.Held.{form_is_its_bytes}
 use Rattle.oas_form.proofs.JudgeRecords.{judge_is_right, read_file, all_more, records_more, head_is_bytes, end_is_bytes}
 use Rattle.oas_form.proofs.MeantLemmas.{onto, reverse-is}
 use Rattle.oas_form.proofs.ShortestLemmas.{shortest_flag}
-use Rattle.oas_form.proofs.Spelling.{spelled}
+use Rattle.oas_form.proofs.ElementSpelling.{spelled}
 use Rattle.oas_form.proofs.Written.{form_of}
 use Rattle.oas_form.proofs.JudgeMatches.{all_match, all_shortest, kept_after}
 
@@ -46,7 +46,7 @@ kept_bytes limits profile entries x e each allowed m one =
 head_fits : (head : Head) (start : List ℕ) → head_in Any head start → IsUnit head.unit
 head_fits head start h = let s = h.spelled.second in subst (λ (p : Head). IsUnit p.unit) (s.is ∙ h.is) (unit_given s.from.1.1.0 _ s.spelled.second.second.first)
 
--- in a file whose table-offsets stand in START
+-- in a file with its table-offsets in START
 judged_bytes : (limits : Limits) (profile : Profile) (b : List ℕ) (unit : Ratio) (start : List ℕ) (entries : List Entry) (last : List ℕ) → Accepted limits b →
     IsReadAs b (record { unit = unit; flag_in_end = false }) start entries last
     → JudgedFile profile (record { unit = unit; flag_in_end = false }) start entries last ↔ JudgedByBytes profile (record { unit = unit; flag_in_end = false }) start entries last
@@ -75,7 +75,7 @@ judged_bytes limits profile b unit start entries last a h =
           },
     )
 
--- the table-offsets of a file in the shortest style stand in START
+-- the table-offsets of a file in the shortest style are in START
 with_flag : (limits : Limits) (profile : Profile) (b : List ℕ) (head : Head) (start : List ℕ) (entries : List Entry) (last : List ℕ) → Accepted limits b →
     IsReadAs b head start entries last → head.flag_in_end ≡ false → JudgedFile profile head start entries last ↔ JudgedByBytes profile head start entries last
 with_flag limits profile b head start entries last a h flag =
@@ -90,7 +90,7 @@ bytes_judge limits profile b head start entries last a h =
       λ j. right.1 ((with_flag limits profile b head start entries last a h j.flag).1 j),
     )
 
--- one entry more, after those records
+-- one more entry, after those records
 more_match : (profile : Profile) (before : List Record) (es : List Entry) (e : Entry) →
     AllMatch profile before (es ++ e ∷ []) ↔ (AllMatch profile before es × Matches profile (judge_of (onto (entry_records es) before)) e.0 e.1 (elements_at e.0 (onto (entry_records es) before)))
 more_match profile before [] e = (λ h. (tt, h.0), λ h. (h.1, tt))
@@ -101,7 +101,7 @@ bytes_go_on profile entries e =
     subst (λ (rs : List Record). AllMatch profile [] (entries ++ e ∷ []) ↔ (AllMatch profile [] entries × Matches profile (judge_of rs) e.0 e.1 (elements_at e.0 rs)))
     (sym (reverse-is (entry_records entries))) (more_match profile [] entries e)
 
--- ---- by what the file means
+-- ---- by the meaning of the file
 
 pub form_is_ordered_bytes : FormIsOrderedBytes
 form_is_ordered_bytes limits profile b m a k = (

@@ -12,7 +12,7 @@ use Rattle.oas_record.specs.declared.records.Record.{Record}
 use Rattle.oas_record.specs.declared.records.Record.TheVariants as record_of
 use Rattle.oas_record.specs.declared.references.CellRef.TheVariants as cell
 use Rattle.oas_layout.specs.declared.element.Element.{Element}
-use Rattle.oas_layout.specs.declared.element.Element.TheVariants.{Placement, Text, Rectangle, Polygon, Path, Circle}
+use Rattle.oas_layout.specs.declared.element.Element.TheVariants.{Placement}
 use Rattle.oas_layout.specs.declared.profile.Profile.{Profile}
 use Rattle.oas_layout.specs.Ascending.{Ascends}
 use Rattle.oas_layout.specs.Element.{element_cmp}
@@ -20,8 +20,8 @@ use Rattle.oas_layout.specs.Laws.ElementLaws.{element_total}
 use Rattle.oas_layout.specs.Same.{IsNormal}
 use Rattle.oas_layout.specs.Weight.{lacks_points}
 use Rattle.oas_layout.proofs.Sealed.{name_cmp}
-use Rattle.oas_drawing.specs.declared.drawn.Drawn.{Drawn}
-use Rattle.oas_drawing.specs.Drawing.{elements_at}
+use Rattle.oas_file.specs.oas_drawing.declared.drawn.Drawn.{Drawn}
+use Rattle.oas_file.specs.oas_drawing.Drawing.{elements_at}
 use Rattle.oas_form.specs.Canonical.{IsOrdered}
 use Rattle.oas_form.specs.Records.{Cells, element_record, records_of}
 use Rattle.oas_form.specs.RecordMeaning.{HavePoints}
@@ -106,27 +106,15 @@ module _ (profile : Profile) where
 
   judge_element : (e : Element) (j : Judge) (ds : List Drawn) → judge_after j (element_record e) ds ≡ judge_drawn j ds
   judge_element (Placement name x y turns flip) j ds = refl
-  judge_element (Text string textlayer texttype x y) j ds = refl
-  judge_element (Rectangle layer datatype width height x y) j ds = refl
-  judge_element (Polygon layer datatype points) j ds = refl
-  judge_element (Path layer datatype half_width start end points) j ds = refl
-  judge_element (Circle layer datatype radius x y) j ds = refl
+  judge_element e j ds = refl
 
   order_there : (e : Element) (j : Judge) (ds : List Drawn) → IsDrawnInOrder profile j ds → IsInOrder profile j (element_record e) ds
   order_there (Placement name x y turns flip) j ds h = h
-  order_there (Text string textlayer texttype x y) j ds h = h
-  order_there (Rectangle layer datatype width height x y) j ds h = h
-  order_there (Polygon layer datatype points) j ds h = h
-  order_there (Path layer datatype half_width start end points) j ds h = h
-  order_there (Circle layer datatype radius x y) j ds h = h
+  order_there e j ds h = h
 
   order_back : (e : Element) (j : Judge) (ds : List Drawn) → IsInOrder profile j (element_record e) ds → IsDrawnInOrder profile j ds
   order_back (Placement name x y turns flip) j ds h = h
-  order_back (Text string textlayer texttype x y) j ds h = h
-  order_back (Rectangle layer datatype width height x y) j ds h = h
-  order_back (Polygon layer datatype points) j ds h = h
-  order_back (Path layer datatype half_width start end points) j ds h = h
-  order_back (Circle layer datatype radius x y) j ds h = h
+  order_back e j ds h = h
 
   -- what the record of an element makes of the judge
   judge_is : (e : Element) (before : List Record) → IsAbsolute before → lacks_points e ≡ false → judge_of (element_record e ∷ before) ≡ record { name = (judge_of before).name; element = Some e }
@@ -148,7 +136,7 @@ module _ (profile : Profile) where
       elements_judged es (element_record e ∷ before) (absolute_element e before ∙ absolute) points.1 (h, element_in_order e before absolute points.0 f.0)
       (subst (λ (j : Judge). ElementsFollow j.element es) (sym (judge_is e before absolute points.0)) f.1)
 
-  -- what is in order is so before the last
+  -- what is in order is in order before the last
   order_front : (rs before : List Record) → AreInOrder profile (onto rs before) → AreInOrder profile before
   order_front [] before h = h
   order_front (r ∷ rs) before h = (order_front rs (r ∷ before) h).0

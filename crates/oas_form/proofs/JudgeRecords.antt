@@ -9,12 +9,12 @@ use Rattle.oas_record.specs.declared.records.Record.{Record}
 use Rattle.oas_record.specs.declared.records.Record.TheVariants as record_of
 use Rattle.oas_record.specs.declared.references.CellRef.TheVariants as cell
 use Rattle.oas_record.specs.Heads.{head_in}
-use Rattle.oas_record.specs.Laws.HeadLaws.{OneFront-head, OneSpelling-head, IsWithin-head}
+use Rattle.oas_record.specs.Laws.HeadLaws.{PrefixFree-head, OneSpelling-head, IsWithin-head}
 use Rattle.oas_record.specs.Records.{record_in, IsInner}
-use Rattle.oas_record.specs.Laws.RecordLaws.{OneFront-record, OneSpelling-record, IsWithin-record}
+use Rattle.oas_record.specs.Laws.RecordLaws.{PrefixFree-record, OneSpelling-record, IsWithin-record}
 use Rattle.oas_layout.specs.declared.limits.Limits.{Limits}
 use Rattle.oas_layout.specs.declared.profile.Profile.{Profile}
-use Rattle.oas_modal.specs.Stands.{records_mean}
+use Rattle.oas_file.specs.oas_modal.Stands.{records_mean}
 use Rattle.oas_file.specs.Acceptance.{Allowed, IsWhole, Accepted}
 use Rattle.oas_file.specs.Files.{FileIn}
 use Rattle.oas_file.specs.Laws.FileLaws.{one_reading}
@@ -24,7 +24,9 @@ use Rattle.oas_form.specs.Records.{element_record, records_of}
 use Rattle.oas_form.specs.Judging.{JudgedSoFar, Entry, entry_records, entry_bytes, IsReadAs, judge_of, AreInOrder, JudgedFile, JudgeIsRight, IsReadAsSome, JudgeBegins, JudgeGoesOn}
 use Rattle.oas_form.specs.Judging.{JudgeStays, JudgeSteps, HeadIsBytes, CellIsBytes, ElementIsBytes, EndIsBytes}
 use Rattle.oas_form.proofs.ShortestLemmas.{shortest_is_canonical, shortest_has_points}
-use Rattle.oas_form.proofs.Spelling.{spelled, element_inner, cell_inner, head_spelled, end_spelled}
+use Rattle.oas_form.proofs.ElementSpelling.{spelled}
+use Rattle.oas_form.proofs.AllKinds.{of_element}
+use Rattle.oas_form.proofs.Spelling.{cell_inner, head_spelled, end_spelled}
 use Rattle.oas_form.proofs.JudgeElements.{judged_if_ordered, ordered_if_judged}
 
 -- ---- the entries of a file
@@ -40,7 +42,7 @@ each_read : (flag : Bool) (entries : List Entry) → AllByRecursion (λ e. IsSuc
 each_read flag [] any = refl
 each_read flag (e ∷ es) any = (e.1, entry_bytes es, any.0, each_read flag es any.1, refl)
 
--- what follows equal fronts is equal
+-- what follows equal prefixes is equal
 same_front : (a x y : List ℕ) → a ++ x ≡ a ++ y → x ≡ y
 same_front [] x y e = e
 same_front (b ∷ bs) x y e = same_front bs x y cc
@@ -48,7 +50,7 @@ same_front (b ∷ bs) x y e = same_front bs x y cc
 cancelled : (a b x y : List ℕ) → a ≡ b → a ++ x ≡ b ++ y → x ≡ y
 cancelled a b x y p e = same_front b x y (ap (λ (c : List ℕ). c ++ x) (sym p) ∙ e)
 
--- the entries have the bytes that spell them in the shortest style, where such bytes stand there
+-- the entries have the bytes that spell them in the shortest style, where there are such bytes
 record EntriesShortest (flag : Bool) (entries : List Entry) (x y : List ℕ) : Type 0 where
   shortest : AllByRecursion (λ e. record_in Shortest flag e.0 e.1) entries
   rest : x ≡ y
@@ -58,7 +60,7 @@ aligned : (flag : Bool) (entries : List Entry) (body x y : List ℕ) → AllByRe
 aligned flag [] body x y any h e = record { shortest = tt; rest = ap (λ (b : List ℕ). b ++ x) (sym h) ∙ e }
 aligned flag (r ∷ rs) body x y any h e =
     let joined : h.0 ++ (h.1 ++ x) ≡ r.1 ++ (entry_bytes rs ++ y) = sym (append_assoc h.0 h.1 x) ∙ ap (λ (b : List ℕ). b ++ x) (sym h.4) ∙ e ∙ append_assoc r.1 (entry_bytes rs) y in
-    let one = (OneFront-record Any flag).one r.0 r.0 h.0 r.1 (h.1 ++ x) (entry_bytes rs ++ y) ((IsWithin-record flag).within r.0 h.0 h.2.spelled) any.0.spelled joined in
+    let one = (PrefixFree-record Any flag).one r.0 r.0 h.0 r.1 (h.1 ++ x) (entry_bytes rs ++ y) ((IsWithin-record flag).within r.0 h.0 h.2.spelled) any.0.spelled joined in
     let rest : h.1 ++ x ≡ entry_bytes rs ++ y = cancelled h.0 r.1 (h.1 ++ x) (entry_bytes rs ++ y) one.0 joined in
     let more = aligned flag rs h.1 x y any.1 h.3 rest in
     record { shortest = (subst (record_in Shortest flag r.0) one.0 h.2.spelled, more.shortest); rest = more.rest }
@@ -114,7 +116,7 @@ judged_form limits profile b head start entries last a h j =
           (subst (λ (ss : List Record). AreInOrder profile (reverse ss)) is j.so_far.in_order);
     }
 
--- a canonical form is judged so
+-- a canonical form is judged to be one
 form_judged : (limits : Limits) (profile : Profile) (b : List ℕ) (head : Head) (start : List ℕ) (entries : List Entry) (last : List ℕ) → IsReadAs b head start entries last →
     CanonicalForm limits profile b → JudgedFile profile head start entries last
 form_judged limits profile b head start entries last h c =
@@ -125,7 +127,7 @@ form_judged limits profile b head start entries last h c =
     let ordered : IsOrdered profile (records_mean head.unit rs).cells = subst (λ (p : Head × List Record). IsOrdered profile (records_mean p.0.unit p.1).cells) (λ i. (both.0 i, both.1 i)) c.ordered in
     let is : rs ≡ records_of (records_mean head.unit rs).cells = shortest_is_canonical limits head rs b file allowed in
     let s = file.spelled in
-    let front = (OneFront-head Any).one head head s.front start s.back (entry_bytes entries ++ last) (IsWithin-head.within head s.front s.first) h.begun (sym s.joined ∙ h.joined) in
+    let front = (PrefixFree-head Any).one head head s.front start s.back (entry_bytes entries ++ last) (IsWithin-head.within head s.front s.first) h.begun (sym s.joined ∙ h.joined) in
     let back : s.back ≡ entry_bytes entries ++ last = cancelled s.front start s.back (entry_bytes entries ++ last) front.0 (sym s.joined ∙ h.joined) in
     let all = aligned head.flag_in_end entries s.second.front s.second.back last h.each s.second.first (sym s.second.joined ∙ back) in
     record {
@@ -172,7 +174,7 @@ is_read limits b a =
       },
     )
 
--- ---- one entry more
+-- ---- one more entry
 
 pub records_more : (entries : List Entry) (e : Entry) → reverse (entry_records (entries ++ e ∷ [])) ≡ e.0 ∷ reverse (entry_records entries)
 records_more entries e = ap (λ (rs : List Record). reverse rs) (split entries) ∙ reverse-append (entry_records entries) (e.0 ∷ []) where
@@ -221,7 +223,7 @@ cell_is_bytes name bytes h =
 pub element_is_bytes : ElementIsBytes
 element_is_bytes e bytes h light =
     let r : Record = element_record e in
-    let is = (spelled (element_record e) (element_bytes e) (element_inner e h light)).spelled in
+    let is = (spelled (element_record e) (element_bytes e) ((of_element e).inner h light)).spelled in
     (λ s. (OneSpelling-record false).same r bytes (element_bytes e) s is, λ same. subst (record_in Shortest false r) (sym same) is)
 
 pub end_is_bytes : EndIsBytes

@@ -1,4 +1,4 @@
--- What a judge in code stands for, and how it goes on.
+-- What a judge in code represents, and how it goes on.
 use Rattle.std.proofs.Common.{◌≡◌, ◌↔◌, ℕ, Bool, IsTrue, List, [], ◌∷◌, ◌++◌, reverse, Option, None, Some, refl, sym, ap, subst, ◌∙◌, true≢false}
 use Rattle.oas_record.specs.declared.records.Record.{Record}
 use Rattle.oas_record.specs.declared.records.Record.TheVariants as record_of
@@ -7,10 +7,10 @@ use Rattle.oas_layout.specs.declared.element.Element.{Element}
 use Rattle.oas_layout.specs.declared.limits.Limits.{Limits}
 use Rattle.oas_layout.specs.declared.profile.Profile.{Profile}
 use Rattle.oas_layout.specs.Same.{normal, IsNormal}
-use Rattle.oas_drawing.specs.declared.drawn.Drawn.TheVariants.{Named}
-use Rattle.oas_drawing.specs.Drawing.{elements_at}
+use Rattle.oas_file.specs.oas_drawing.declared.drawn.Drawn.TheVariants.{Named}
+use Rattle.oas_file.specs.oas_drawing.Drawing.{elements_at}
 use Rattle.oas_form.specs.Bytes.{element_bytes}
-use Rattle.oas_form.specs.Judging.{Entry, entry_records, Judge, IsAbove, IsNotBelow, judge_drawn, judge_of, MatchesDrawn, AllMatch, AreRead, JudgeStands, JudgeStandsFirst}
+use Rattle.oas_form.specs.Judging.{Entry, entry_records, Judge, IsAbove, IsNotBelow, judge_drawn, judge_of, MatchesDrawn, AllMatch, AreRead, JudgeRepresents, JudgeStandsFirst}
 use Rattle.oas_form.specs.Judging.{JudgeDraws, JudgeOpens, JudgeRefuses}
 use Rattle.oas_form.proofs.JudgeRecords.{judge_steps}
 use Rattle.oas_form.proofs.JudgeMatches.{IsDrawing, by_kind}
@@ -93,8 +93,8 @@ pub draws_kept : (holds now : Bool) (name : Option (List ℕ)) (element : Option
     IsTrue now ↔ (IsTrue holds × (element_bytes kept ≡ bytes) × IsNotBelow element kept)
     → (limits : Limits) (profile : Profile) (entries : List Entry) (r : Record) (e : Element) → AreRead limits (entries ++ (r, bytes) ∷ []) →
     elements_at r (reverse (entry_records entries)) ≡ Named e ∷ [] → kept ≡ normal profile e
-    → JudgeStands profile holds name element entries → JudgeStands profile now name (Some kept) (entries ++ (r, bytes) ∷ [])
+    → JudgeRepresents profile holds name element entries → JudgeRepresents profile now name (Some kept) (entries ++ (r, bytes) ∷ [])
 draws_kept holds now name element kept bytes step limits profile entries r e read one is stands =
-    subst (λ (f : Element). JudgeStands profile now name (Some f) (entries ++ (r, bytes) ∷ [])) (sym is)
+    subst (λ (f : Element). JudgeRepresents profile now name (Some f) (entries ++ (r, bytes) ∷ [])) (sym is)
     (judge_draws limits profile entries (r, bytes) e holds now name element read one stands
     (subst (λ (f : Element). IsTrue now ↔ (IsTrue holds × (element_bytes f ≡ bytes) × IsNotBelow element f)) is step))

@@ -12,18 +12,18 @@ use Rattle.oas_record.specs.declared.records.Record.TheVariants as record_of
 use Rattle.oas_record.specs.Records.{id_of}
 use Rattle.oas_layout.specs.declared.limits.Limits.{Limits}
 use Rattle.oas_layout.specs.Meaning.{cells_weight}
-use Rattle.oas_drawing.specs.declared.kinds.Kind.{Kind}
-use Rattle.oas_drawing.specs.Modal.{ModalState, stepped}
-use Rattle.oas_drawing.specs.Drawing.{kind_of, repeats, place_of, drawn_by, number_if, lacks_repetition, elements_at}
-use Rattle.oas_drawing.specs.Reasons.{first_of, is_magnified, is_askew, weight_if, lacks_if, is_on_grid, kind_reason, all_fit, reason_if, draw_reason}
-use Rattle.oas_names.specs.Names.{cell_names, text_strings, named}
-use Rattle.oas_names.specs.Meaning.{DrawnCell, cells_drawn, cells_meant, lacks_name, has_twice, end_reason}
-use Rattle.oas_modal.specs.Standing.{Standing, cell_weight, element_reason}
-use Rattle.oas_modal.specs.Stands as stands
-use Rattle.oas_modal.specs.Stands.{weight_so_far_of, seen, refused_after}
+use Rattle.oas_file.specs.oas_drawing.declared.kinds.Kind.{Kind}
+use Rattle.oas_file.specs.oas_drawing.Modal.{ModalState, stepped}
+use Rattle.oas_file.specs.oas_drawing.Drawing.{kind_of, repeats, place_of, drawn_by, number_if, lacks_repetition, elements_at}
+use Rattle.oas_file.specs.oas_drawing.Reasons.{first_of, is_magnified, is_askew, weight_if, lacks_if, is_on_grid, kind_reason, all_fit, reason_if, draw_reason}
+use Rattle.oas_file.specs.oas_names.Names.{cell_names, text_strings, named}
+use Rattle.oas_file.specs.oas_names.Meaning.{DrawnCell, cells_drawn, cells_by_name, lacks_name, has_twice, end_reason}
+use Rattle.oas_file.specs.oas_modal.Standing.{Standing, cell_weight, element_reason}
+use Rattle.oas_file.specs.oas_modal.Stands as stands
+use Rattle.oas_file.specs.oas_modal.Stands.{weight_so_far_of, seen, refused_after}
 use Rattle.oas_form.specs.Layouts.{LargerLimits}
 
--- ---- reasons of which one or two hold more seldom
+-- ---- reasons, where one or two hold more rarely
 
 -- by weight alone
 lighter : (heavy less : Bool) → (heavy ≡ false → less ≡ false) → first_of ((heavy, TooHeavy) ∷ []) ≡ None → first_of ((less, TooHeavy) ∷ []) ≡ None
@@ -128,7 +128,7 @@ module _ (one other : Limits) (elements : one.elements ≤ other.elements) (weig
 
   end_allowed : (names strings : List (ℕ × List ℕ)) (cs : List DrawnCell) → end_reason names strings one cs ≡ None → end_reason names strings other cs ≡ None
   end_allowed names strings cs =
-      let meant = cells_meant names strings cs in
+      let meant = cells_by_name names strings cs in
       let heavy = cells_weight meant in
       end_lighter (lacks_name names strings cs) (has_twice (keys_of meant)) (nat_lt one.weight heavy) (nat_lt other.weight heavy) (fewer one.weight other.weight heavy weight)
 

@@ -1,4 +1,4 @@
--- What a layout's canonical bytes are.
+-- The canonical bytes of a layout.
 use Rattle.std.proofs.Common.{◌+◌, ◌*◌, ◌<◌, ◌≤◌, ◌^◌, length, arith}
 use Rattle.oas_layout.specs.Meaning.{cells_weight}
 use Rattle.oas_layout.specs.Contents.{Contents, expanded, meaning_of, IsLayout}
@@ -6,7 +6,7 @@ use Rattle.oas_file.specs.Acceptance.{Means}
 use Rattle.oas_form.specs.Bytes.{canonical_bytes}
 use Rattle.oas_form.specs.Canonical.{CanonicalForm}
 use Rattle.oas_form.proofs.ElementPutting.{cells_points}
-use Rattle.oas_form.proofs.Lengths.{canonical_length}
+use Rattle.oas_form.proofs.FileLengths.{canonical_length}
 use Rattle.oas_form.proofs.Written.{canonical_form}
 
 pub layout_form : (l : Contents) → IsLayout l → CanonicalForm l.limits l.profile (canonical_bytes (meaning_of l))

@@ -1,6 +1,12 @@
+pub mod AllGiven
+pub mod AllKinds
 pub mod AllowedLemmas
 pub mod AloneLemmas
+pub mod Boxes
+pub mod CellsFit
+pub mod CircleKind
 pub mod ComparingLemmas
+pub mod DrawnAgain
 pub mod DrawnFits
 pub mod DrawsSound
 pub mod DrawnSound
@@ -10,6 +16,7 @@ pub mod ElementSpelling
 pub mod Existence
 pub mod FieldsFit
 pub mod FieldsGiven
+pub mod FileLengths
 pub mod FollowingLemmas
 pub mod Forms
 pub mod Held
@@ -26,11 +33,22 @@ pub mod LayoutForms
 pub mod Lengths
 pub mod MeantLemmas
 pub mod NumberPutting
+pub mod OneLayout
+pub mod OfElement
+pub mod OneAllowed
 pub mod OrderedLayouts
+pub mod PathKind
+pub mod PlacementKind
 pub mod PointPutting
+pub mod PolygonKind
 pub mod PuttingLemmas
+pub mod RectangleKind
 pub mod Rekeying
 pub mod ShortestLemmas
 pub mod Sizes
 pub mod Spelling
+pub mod TextKind
 pub mod Written
+pub use Rattle.oas_file.proofs.oas_drawing_proofs
+pub use Rattle.oas_file.proofs as oas_file_proofs
+pub use Rattle.oas_file.proofs.oas_modal_proofs

@@ -3,14 +3,14 @@ use Rattle.std.proofs.Common.{◌≡◌, ℕ, zero, suc, ◌+◌, ◌*◌, ◌/�
 use Rattle.std.proofs.Math.Nat.{pow-suc}
 use Rattle.std.proofs.lemmas.Nat.{div_below}
 use Rattle.std.proofs.lemmas.Bool.{lt-ltb, le-ltb}
-use Rattle.oas_num.specs.Writing.{Puts, PutsFront, groups, shortest}
+use Rattle.oas_num.specs.Writing.{Puts, PutsPrefix, groups, shortest}
 use Rattle.oas_form.specs.Putting.{PutsAll}
 use Rattle.oas_form.proofs.PuttingLemmas.{PutSoFar, begins, ends, fails_at, last_fails, ◌▸◌}
 
 abbrev pub group_of : ℕ → ℕ
 group_of rest = rest % 128 + 128
 
--- the groups of what is at least 128: the lowest, and those of the rest
+-- the groups of a number of at least 128: the lowest, and those of the rest
 record HasMore (fuel rest : ℕ) : Type 0 where
   pub left : ℕ
   pub some : 0 < left
@@ -36,7 +36,7 @@ has_one zero rest some lt = absurd (omega arith)
 has_one (suc k) rest some lt = rw (lt-ltb rest 128 lt) refl
 
 module _ {K : Type 0} (given : K → List ℕ → K → Type 0) (failures : K → ℕ) where
-  -- so many groups were put, and those of the rest are left
+  -- this many groups were put, and those of the rest are left
   pub record NumberLeft (value rest : ℕ) (old now : K) (count : ℕ) : Type 0 where
     pub fuel : ℕ
     pub some : 0 < fuel
@@ -64,7 +64,7 @@ module _ {K : Type 0} {given : K → List ℕ → K → Type 0} {failures : K �
           so_far = ◌▸◌ {a = group_of rest ∷ []} {left = groups g.left (rest / 128)} (left_is g.is) (record { puts = put; count_is = refl });
         }
 
-    pub group_fails : (new : K) → 128 ≤ rest → PutsFront given failures mid (group_of rest ∷ []) new → PutsFront given failures old (shortest value) new
+    pub group_fails : (new : K) → 128 ≤ rest → PutsPrefix given failures mid (group_of rest ∷ []) new → PutsPrefix given failures old (shortest value) new
     group_fails new le put =
         let g = has_more m.fuel rest m.some m.below le in
         fails_at {a = group_of rest ∷ []} (groups g.left (rest / 128)) (left_is g.is) put
@@ -72,5 +72,5 @@ module _ {K : Type 0} {given : K → List ℕ → K → Type 0} {failures : K �
     pub last_put : (new : K) → rest < 128 → Puts given failures mid (rest ∷ []) new → PutsAll given failures old (shortest value) (count + 1) new
     last_put new lt put = ends {a = rest ∷ []} (left_is (has_one m.fuel rest m.some lt)) (record { puts = put; count_is = refl })
 
-    pub last_group_fails : (new : K) → rest < 128 → PutsFront given failures mid (rest ∷ []) new → PutsFront given failures old (shortest value) new
+    pub last_group_fails : (new : K) → rest < 128 → PutsPrefix given failures mid (rest ∷ []) new → PutsPrefix given failures old (shortest value) new
     last_group_fails new lt put = last_fails {a = rest ∷ []} (left_is (has_one m.fuel rest m.some lt)) put

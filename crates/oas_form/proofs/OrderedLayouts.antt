@@ -45,7 +45,7 @@ pub find_is : (name : List ℕ) (cs : Cells) → find name_cmp name cs ≡ eleme
 find_is name [] = refl
 find_is name (c ∷ cs) = λ i. cond (sym (texts_ties name c.0) i) (Some c.1) (find_is name cs i)
 
--- ---- the same are equal
+-- ---- layouts that are the same are equal
 
 module _ (profile : Profile) where
   abbrev InOrder : List Element → Type 0
@@ -77,7 +77,7 @@ equal_in_order profile m n p q s = let cs = same_cells profile m n p q s in λ i
 
 -- ---- what is held is in order
 
--- a list that begins with one element, so often
+-- a list that begins with one element, this often
 repeated : (n : ℕ) (x : Element) (ys : List Element) → AllByRecursion (λ y. is_gt (element_cmp x y) ≡ false) ys → Ascends element_cmp ys → Ascends element_cmp (replicate n x ++ ys)
 repeated zero x ys h a = a
 repeated (suc n) x ys h a = (at_most n, repeated n x ys h a) where
@@ -85,7 +85,7 @@ repeated (suc n) x ys h a = (at_most n, repeated n x ys h a) where
   at_most zero = h
   at_most (suc n) = (ap is_gt (tied_itself element_total x), at_most n)
 
--- what holds of the elements holds of each place that they have
+-- what holds for the elements holds for each of their places
 pub all-items : (P : Element → Type 0) (es : List (Element × ℕ)) → AllByRecursion P (keys_of es) → AllByRecursion P (items es)
 all-items P [] h = tt
 all-items P (p ∷ ps) h = so_often p.1 (all-items P ps h.1) where

@@ -6,7 +6,7 @@ use Rattle.std.specs.List.{list_all, IsFirstAndRest}
 use Rattle.std.specs.Borrow.{Bor}
 use Rattle.std.proofs.lemmas.Bool.{and_parts}
 use Rattle.std.proofs.lemmas.Int.{ints, to_z-of_z, fits_signed_from_abs}
-use Rattle.oas_num.specs.Writing.{PutsFront, shortest, shortest_gdelta}
+use Rattle.oas_num.specs.Writing.{PutsPrefix, shortest, shortest_gdelta}
 use Rattle.oas_ring.specs.declared.point.Point.{Point}
 use Rattle.oas_layout.specs.Grid.{is_coordinate, is_grid_point}
 use Rattle.oas_form.specs.Bytes.{step_bytes, list_bytes}
@@ -26,7 +26,7 @@ coordinate_fits x h = fits_signed_from_abs w64 x (omega (arith, near x h))
 difference_fits : (x y : ℤ) → is_coordinate x ≡ true → is_coordinate y ≡ true → FitsSigned w64 (y -ℤ x)
 difference_fits x y h k = fits_signed_from_abs w64 (y -ℤ x) (omega (arith, apart x y h k))
 
--- what the subtraction of two coordinates gives
+-- the difference of two coordinates
 difference_is : (x y : ℤ) → is_coordinate x ≡ true → is_coordinate y ≡ true → to_z w64 (of_z w64 (to_z w64 (of_z w64 y) -ℤ to_z w64 (of_z w64 x))) ≡ y -ℤ x
 difference_is x y h k = rw (to_z-of_z w64 y (coordinate_fits y k), to_z-of_z w64 x (coordinate_fits x h)) (to_z-of_z w64 (y -ℤ x) (difference_fits x y h k))
 
@@ -90,7 +90,7 @@ module _ {K : Type 0} {given : K → List ℕ → K → Type 0} {failures : K �
   pub next_inside : is_grid_point next ≡ true
   next_inside = all_inside.0
 
-  pub step_fails : {new : K} → PutsFront given failures mid next_bytes new → PutsFront given failures old (step_bytes first rest) new
+  pub step_fails : {new : K} → PutsPrefix given failures mid next_bytes new → PutsPrefix given failures old (step_bytes first rest) new
   step_fails q = fails_at _ next_left q
 
   pub step_put : {new : K} {m : ℕ} → PutsAll given failures mid next_bytes m new → m ≤ 20 → StepsLeft given failures first rest next (i + 1) old new (n + m)
@@ -98,7 +98,7 @@ module _ {K : Type 0} {given : K → List ℕ → K → Type 0} {failures : K �
 
 -- ---- a list of points
 
--- one less than there are points is how many steps there are
+-- there is one step less than there are points
 pub list_is : (p : Point) (ps : List Point) → list_bytes (p ∷ ps) ≡ 4 ∷ (shortest (length ps) ++ step_bytes p ps)
 list_is p ps =
     let less : length (p ∷ ps) - 1 ≡ length ps = omega arith in

@@ -2,11 +2,11 @@
 use Rattle.std.proofs.Common.{◌≡◌, ℕ, ◌+◌, ◌≤◌, List, [], ◌∷◌, ◌++◌, length, refl, sym, ap, subst, ◌∙◌, append_assoc, length-append, arith}
 use Rattle.std.proofs.lemmas.List.{append-nil}
 use Rattle.std.proofs.lemmas.Bool.{ne_eqb}
-use Rattle.oas_num.specs.Writing.{Puts, PutsFront, shortest}
+use Rattle.oas_num.specs.Writing.{Puts, PutsPrefix, shortest}
 use Rattle.oas_form.specs.Bytes.{unit_bytes}
 use Rattle.oas_form.specs.Putting.{PutsAll}
 
--- of the whole a front was put and counted, and this is left
+-- a prefix of the whole was put and counted, and this is left
 pub record PutSoFar {K : Type 0} (given : K → List ℕ → K → Type 0) (failures : K → ℕ) (whole left : List ℕ) (old now : K) (count : ℕ) : Type 0 where
   pub front : List ℕ
   pub joined : whole ≡ front ++ left
@@ -50,7 +50,7 @@ module _ {K : Type 0} {given : K → List ℕ → K → Type 0} {failures : K �
 
   -- ---- where the sink fails
 
-  pub first_fails : {old new : K} {a : List ℕ} (left : List ℕ) → PutsFront given failures old a new → PutsFront given failures old (a ++ left) new
+  pub first_fails : {old new : K} {a : List ℕ} (left : List ℕ) → PutsPrefix given failures old a new → PutsPrefix given failures old (a ++ left) new
   first_fails left q = record {
     front = q.front;
     back = q.back ++ left;
@@ -59,7 +59,7 @@ module _ {K : Type 0} {given : K → List ℕ → K → Type 0} {failures : K �
     failed = q.failed;
   }
 
-  pub last_fails : {whole a : List ℕ} {old mid new : K} {n : ℕ} → PutSoFar given failures whole a old mid n → PutsFront given failures mid a new → PutsFront given failures old whole new
+  pub last_fails : {whole a : List ℕ} {old mid new : K} {n : ℕ} → PutSoFar given failures whole a old mid n → PutsPrefix given failures mid a new → PutsPrefix given failures old whole new
   last_fails p q = record {
     front = p.front ++ q.front;
     back = q.back;
@@ -68,11 +68,11 @@ module _ {K : Type 0} {given : K → List ℕ → K → Type 0} {failures : K �
     failed = q.failed;
   }
 
-  pub fails_at : {whole a : List ℕ} {old mid new : K} {n : ℕ} (left : List ℕ) → PutSoFar given failures whole (a ++ left) old mid n → PutsFront given failures mid a new →
-      PutsFront given failures old whole new
+  pub fails_at : {whole a : List ℕ} {old mid new : K} {n : ℕ} (left : List ℕ) → PutSoFar given failures whole (a ++ left) old mid n → PutsPrefix given failures mid a new →
+      PutsPrefix given failures old whole new
   fails_at left p q = last_fails p (first_fails left q)
 
-  -- what was put whole is a front of itself
+  -- what was put whole is a prefix of itself
   pub nothing_left : {whole : List ℕ} {old now : K} {n : ℕ} → PutsAll given failures old whole n now → PutSoFar given failures whole [] old now n
   nothing_left {whole = whole} p = record { front = whole; joined = sym (append-nil whole); puts = p.puts; count_is = p.count_is }
 

@@ -1,5 +1,6 @@
--- Sameness by profile one is sameness by profile two, and canonical forms by either.
-use Rattle.std.proofs.Common.{◌≡◌, ℕ, ◌+◌, ◌*◌, List, [], ◌∷◌, cond, unwrap_or, refl, sym, ◌∙◌, ap, subst, arith}
+-- Sameness by profile one implies sameness by profile two; canonical forms by either.
+use Rattle.std.proofs.Common.{◌≡◌, ℕ, ◌+◌, ◌*◌, Bool, List, [], ◌∷◌, cond, unwrap_or, refl, sym, ◌∙◌, ap, subst, arith}
+use Rattle.std.specs.Prelude.{count_by}
 use Rattle.std.specs.List.{AllByRecursion}
 use Rattle.std.specs.Ordering.{eq_by_cmp}
 use Rattle.std.proofs.lemmas.List.Sums.{sum_by-cons}
@@ -19,7 +20,7 @@ use Rattle.oas_layout.specs.Same.{same_element, normal_polygon, normal, IsNormal
 use Rattle.oas_layout.specs.Laws.SameLaws.{same_element-is, normal-least, normal-polygon}
 use Rattle.oas_layout.specs.Meaning.{Meaning, SameLayout, count_of, elements_of}
 use Rattle.oas_layout.proofs.LawProofs.{equal, reflexive, symmetric, transitive}
-use Rattle.oas_modal.specs.Stands.{records_mean}
+use Rattle.oas_file.specs.oas_modal.Stands.{records_mean}
 use Rattle.oas_file.specs.Laws.FileLaws.{file_of, means_one}
 use Rattle.oas_file.specs.Acceptance.{Means}
 use Rattle.oas_form.specs.Records.{Cells}
@@ -39,15 +40,15 @@ normal_twice e = refl
 same_by_two : (q e : Element) → same_element Two q (normal One e) ≡ same_element Two q e
 same_by_two q e = same_element-is Two q (normal One e) ∙ ap (λ (x : Element). eq_by_cmp element_cmp (normal Two q) x) (normal_twice e) ∙ sym (same_element-is Two q e)
 
--- counted by profile two, elements are as many in their kept forms by profile one
-tally_by_two : (q : Element) (xs : List Element) → count_of Two q (items (tally One xs)) ≡ count_of Two q xs
-tally_by_two q [] = refl
-tally_by_two q (x ∷ xs) =
-    let one : Element → ℕ = λ y. cond (same_element Two q y) 1 0 in
+-- among elements in their kept forms by profile one, a test that gives the same for these counts as many
+tally_counts : (test : Element → Bool) → ((e : Element) → test (normal One e) ≡ test e) → (xs : List Element) → count_by test (items (tally One xs)) ≡ count_by test xs
+tally_counts test alike [] = refl
+tally_counts test alike (x ∷ xs) =
+    let one : Element → ℕ = λ y. cond (test y) 1 0 in
     let more : total one (with_more (tally One xs) (normal One x) 1) ≡ total one (tally One xs) + 1 * one (normal One x) = total-put_more element_cmp one (tally One xs) (normal One x) 1
     (λ y h. ap one (sym (exact_elements (normal One x) y h))) in
-    let there : one (normal One x) ≡ one x = ap (λ b. cond b 1 0) (same_by_two q x) in
-    omega (arith, sum_by-items one (with_more (tally One xs) (normal One x) 1), more, sum_by-items one (tally One xs), there, sum_by-cons one x xs, tally_by_two q xs)
+    let there : one (normal One x) ≡ one x = ap (λ b. cond b 1 0) (alike x) in
+    omega (arith, sum_by-items one (with_more (tally One xs) (normal One x) 1), more, sum_by-items one (tally One xs), there, sum_by-cons one x xs, tally_counts test alike xs)
 
 -- lists that count the same by profile one hold the same kept forms
 one_tally : (xs ys : List Element) → ((q : Element) → count_of One q xs ≡ count_of One q ys) → items (tally One xs) ≡ items (tally One ys)
@@ -58,14 +59,16 @@ one_tally xs ys h =
     (items_ascend (tally One xs) b.tally.ascending) (items_ascend (tally One ys) c.tally.ascending)
     (λ q. tally_count One q xs ∙ h q ∙ sym (tally_count One q ys))
 
-counts_by_two : (xs ys : List Element) → ((q : Element) → count_of One q xs ≡ count_of One q ys) → (q : Element) → count_of Two q xs ≡ count_of Two q ys
-counts_by_two xs ys h q = sym (tally_by_two q xs) ∙ ap (count_of Two q) (one_tally xs ys h) ∙ tally_by_two q ys
+-- such a test counts as many of both
+pub counts_alike : (test : Element → Bool) → ((e : Element) → test (normal One e) ≡ test e) → (xs ys : List Element) → ((q : Element) → count_of One q xs ≡ count_of One q ys) →
+    count_by test xs ≡ count_by test ys
+counts_alike test alike xs ys h = sym (tally_counts test alike xs) ∙ ap (count_by test) (one_tally xs ys h) ∙ tally_counts test alike ys
 
 pub coarser : SameByTwo
 coarser m n s = record {
   unit = s.unit;
   cells = s.cells;
-  counts = λ name q. counts_by_two (unwrap_or (elements_of name m.cells) []) (unwrap_or (elements_of name n.cells) []) (s.counts name) q;
+  counts = λ name q. counts_alike (same_element Two q) (same_by_two q) (unwrap_or (elements_of name m.cells) []) (unwrap_or (elements_of name n.cells) []) (s.counts name);
 }
 
 -- ---- from the one form to the other

@@ -1,4 +1,4 @@
--- What the fields and the point lists of a record in the shortest style are.
+-- The fields and the point lists of a record in the shortest style.
 use Rattle.std.proofs.Common.{◌≡◌, ℕ, true, false, List, [], ◌∷◌, Option, None, Some, length, refl, sym, ap, ◌∙◌, arith}
 use Rattle.std.proofs.lemmas.Int.{ints}
 use Rattle.std.specs.Prelude.{ℤ, ◌+ℤ◌, ◌-ℤ◌}
@@ -18,7 +18,7 @@ use Rattle.oas_form.specs.Records.{steps_from, line_of, spot_at}
 
 -- ---- fields
 
--- a field that is there has a value
+-- a field that is given has a value
 pub record Given {V : Type 0} (spells : V → List ℕ → Type 0) (o : Option V) (bytes : List ℕ) : Type 0 where
   pub value : V
   pub is : Some value ≡ o
@@ -33,7 +33,7 @@ absent : {V : Type 0} (spells : V → List ℕ → Type 0) (o : Option V) (bytes
 absent spells (Some v) bytes h = absurd h
 absent spells None bytes h = refl
 
--- x and y, and no repetition
+-- x and y, without a repetition
 pub record IsSpot (spot : Spot) : Type 0 where
   pub x : ℤ
   pub y : ℤ
@@ -48,7 +48,7 @@ spot_is spot bytes h =
 
 -- ---- point lists
 
--- the points to which the steps lead
+-- the points that the steps reach
 abbrev pub walk : Point → List GDelta → List Point
 walk p [] = []
 walk p (d ∷ ds) = moved p d ∷ walk (moved p d) ds

@@ -10,18 +10,19 @@ use Rattle.oas_record.specs.declared.records.Record.{Record}
 use Rattle.oas_record.specs.Heads.{head_of, head_in}
 use Rattle.oas_record.specs.Records.{record_in, IsInner}
 use Rattle.oas_layout.specs.declared.element.Element.{Element}
-use Rattle.oas_layout.specs.declared.element.Element.TheVariants.{Placement, Text, Rectangle, Polygon, Path, Circle}
+use Rattle.oas_layout.specs.declared.element.Element.TheVariants.{Placement}
 use Rattle.oas_layout.specs.declared.limits.Limits.{Limits}
 use Rattle.oas_layout.specs.Weight.{lacks_points}
 use Rattle.oas_layout.specs.Meaning.{Meaning}
-use Rattle.oas_modal.specs.Stands as stands
-use Rattle.oas_modal.specs.Stands.{records_mean, refused_after}
+use Rattle.oas_file.specs.oas_modal.Stands as stands
+use Rattle.oas_file.specs.oas_modal.Stands.{records_mean, refused_after}
 use Rattle.oas_file.specs.Files.{FileIn}
 use Rattle.oas_file.specs.Acceptance.{Allowed}
 use Rattle.oas_form.specs.Records.{Cells, element_record, records_of}
 use Rattle.oas_form.specs.RecordMeaning.{HavePoints, ShortestIsCanonical, ShortestHasPoints, ShortestHead}
 use Rattle.oas_form.proofs.MeantLemmas.{onto, reverse-is, canonical_means}
-use Rattle.oas_form.proofs.KindLemmas.{IsPlain, plain_of}
+use Rattle.oas_form.proofs.KindLemmas.{IsPlain}
+use Rattle.oas_form.proofs.AllKinds.{plain_of}
 
 -- ---- the records of a file, one by one
 
@@ -60,26 +61,22 @@ split (r ∷ rs) h =
 
 -- ---- before the first CELL there is no element
 
--- what is allowed of all is allowed of the first
-allowed_front : (limits : Limits) (rs before : List Record) → stands.Allowed limits (onto rs before) → stands.Allowed limits before
-allowed_front limits [] before h = h
-allowed_front limits (r ∷ rs) before h = (allowed_front limits rs (r ∷ before) h).0
+-- what is allowed as all records is allowed as the first
+allowed_prefix : (limits : Limits) (rs before : List Record) → stands.Allowed limits (onto rs before) → stands.Allowed limits before
+allowed_prefix limits [] before h = h
+allowed_prefix limits (r ∷ rs) before h = (allowed_prefix limits rs (r ∷ before) h).0
 
--- an element is out of place there
+-- an element is not allowed there
 out_of_place : (limits : Limits) (e : Element) → refused_after limits [] (element_record e) ≡ None → ⊥
 out_of_place limits (Placement name x y turns flip) h = absurd cc
-out_of_place limits (Text string textlayer texttype x y) h = absurd cc
-out_of_place limits (Rectangle layer datatype width height x y) h = absurd cc
-out_of_place limits (Polygon layer datatype points) h = absurd cc
-out_of_place limits (Path layer datatype half_width start end points) h = absurd cc
-out_of_place limits (Circle layer datatype radius x y) h = absurd cc
+out_of_place limits e h = absurd cc
 
 none_leads : (limits : Limits) (es : List Element) (cs : Cells) → Allowed limits (map element_record es ++ records_of cs) → es ≡ []
 none_leads limits [] cs h = refl
 none_leads limits (e ∷ es) cs h =
     let rest : List Record = map element_record es ++ records_of cs in
     let newest = subst (stands.Allowed limits) (reverse-is (element_record e ∷ rest)) h in
-    absurd (out_of_place limits e (allowed_front limits rest (element_record e ∷ []) newest).1)
+    absurd (out_of_place limits e (allowed_prefix limits rest (element_record e ∷ []) newest).1)
 
 -- the records of cells
 pub record IsOfCells (rs : List Record) : Type 0 where
@@ -94,7 +91,7 @@ of_cells limits head rs c file allowed =
     let none : s.leading ≡ [] = none_leads limits s.leading s.cells (subst (Allowed limits) s.is allowed) in
     record { cells = s.cells; is = s.is ∙ ap (λ (es : List Element). map element_record es ++ records_of s.cells) none; points = s.points }
 
--- they are the cells that are meant
+-- they are the cells of the meaning
 meant : (unit : Ratio) (rs : List Record) → (h : IsOfCells rs) → (records_mean unit rs).cells ≡ h.cells
 meant unit rs h = ap (λ (m : Meaning). m.cells) (ap (records_mean unit) h.is ∙ canonical_means unit h.cells h.points)
 
@@ -104,7 +101,7 @@ shortest_is_canonical limits head rs c file allowed = let h = of_cells limits he
 pub shortest_has_points : ShortestHasPoints
 shortest_has_points limits head rs c file allowed = let h = of_cells limits head rs c file allowed in subst HavePoints (sym (meant head.unit rs h)) h.points
 
--- ---- the front of the file
+-- ---- the head of the file
 
 pub shortest_flag : (head : Head) (start : List ℕ) → head_in Shortest head start → head.flag_in_end ≡ false
 shortest_flag head start h =

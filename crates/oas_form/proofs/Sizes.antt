@@ -1,5 +1,5 @@
--- Layouts that are the same have as many elements. Under profile one they weigh as much, and one in order weighs no more
--- than any that is the same.
+-- Layouts that are the same have as many elements. Under profile one they weigh as much, and one in order weighs no more than
+-- any that is the same.
 use Rattle.std.proofs.Common.{◌≡◌, ℕ, ◌+◌, ◌<◌, ◌≤◌, List, [], ◌∷◌, Bool, true, false, cond, Option, None, Some, is_some, unwrap_or, length, refl, sym, ◌∙◌, ap, T, ◌&&◌, ◌||◌, arith}
 use Rattle.std.specs.Prelude.{sum_by, ◌==◌}
 use Rattle.std.specs.List.{AllByRecursion, list_any}
@@ -28,8 +28,8 @@ use Rattle.oas_layout.specs.Laws.ContentsLaws.{length-items-with_more, weight-wi
 use Rattle.oas_layout.proofs.LawProofs.{symmetric, transitive}
 use Rattle.oas_layout.proofs.Order.{IsBag-empty, IsBag-put_more}
 use Rattle.oas_layout.proofs.Sealed.{name_cmp}
-use Rattle.oas_names.specs.Names.{same_string}
-use Rattle.oas_names.specs.Meaning.{has_twice}
+use Rattle.oas_file.specs.oas_names.Names.{same_string}
+use Rattle.oas_file.specs.oas_names.Meaning.{has_twice}
 use Rattle.oas_form.specs.Records.{Cells}
 use Rattle.oas_form.specs.Canonical.{IsOrdered}
 use Rattle.oas_form.specs.Layouts.{SameCount, SameWeight, LeastWeight}
@@ -138,7 +138,7 @@ all_put P k v (c ∷ cs) h all =
       | Greater ↦ (all.0, all_put P k v cs h all.1)
     ]
 
--- a cell of a new name adds what it gives itself
+-- a cell with a new name adds what it has itself
 sum_put : (f : List ℕ × List Element → ℕ) (k : List ℕ) (v : List Element) (cs : Cells) → find name_cmp k cs ≡ None → cells_sum f (put name_cmp k v cs) ≡ f (k, v) + cells_sum f cs
 sum_put f k v [] none = refl
 sum_put f k v (c ∷ cs) none =

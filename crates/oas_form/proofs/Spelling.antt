@@ -1,5 +1,5 @@
 -- The canonical bytes of a layout spell its canonical records.
-use Rattle.std.proofs.Common.{◌≡◌, ℕ, ◌+◌, ◌<◌, ◌≤◌, ◌^◌, Bool, true, false, List, [], ◌∷◌, ◌++◌, map, refl, sym, arith, replicate, append_assoc}
+use Rattle.std.proofs.Common.{◌≡◌, ℕ, ◌+◌, ◌<◌, ◌≤◌, ◌^◌, Bool, true, false, List, ◌∷◌, ◌++◌, map, refl, sym, arith, replicate, append_assoc, []}
 use Rattle.std.specs.Prelude.{◌==◌, if◌then◌else◌, sum_by}
 use Rattle.std.specs.List.{AllByRecursion}
 use Rattle.std.proofs.lemmas.Bool.{eqb-true}
@@ -18,9 +18,8 @@ use Rattle.oas_record.specs.declared.records.Record.TheVariants as record_of
 use Rattle.oas_record.specs.declared.references.CellRef.TheVariants as cell
 use Rattle.oas_record.specs.Heads.{magic, version, version_in, ShortestUnit, start_parts, head_in}
 use Rattle.oas_record.specs.Ends.{end_bytes as ending}
-use Rattle.oas_record.specs.Records.{id_of, after_id, record_in, IsInner}
+use Rattle.oas_record.specs.Records.{record_in, IsInner}
 use Rattle.oas_layout.specs.declared.element.Element.{Element}
-use Rattle.oas_layout.specs.declared.element.Element.TheVariants.{Placement, Text, Rectangle, Polygon, Path, Circle}
 use Rattle.oas_layout.specs.Weight.{weight_of}
 use Rattle.oas_layout.specs.Meaning.{cells_weight}
 use Rattle.oas_layout.specs.Sound.{IsSound, IsUnit}
@@ -28,46 +27,10 @@ use Rattle.oas_form.specs.Records.{Cells, element_record, records_of}
 use Rattle.oas_form.specs.Bytes.{string_bytes, element_bytes, elements_bytes, cells_bytes, unit_bytes, head_bytes, end_bytes, canonical_bytes}
 use Rattle.oas_form.specs.Spelling.{CanonicalBytesSpell}
 use Rattle.oas_form.proofs.FieldSpelling.{small_spelled, text_spelled, name_spelled}
-use Rattle.oas_form.proofs.ElementSpelling.{placement_spelled, string_spelled, box_spelled, polygon_spelled, path_spelled, circle_spelled}
+use Rattle.oas_form.proofs.ElementSpelling.{Inner, spelled}
+use Rattle.oas_form.proofs.AllKinds.{of_element}
 
 -- ---- records
-
--- a record that isn't END, by its id and what follows it
-pub record Inner (r : Record) (bytes : List ℕ) : Type 0 where
-  pub inner : IsInner r
-  pub small : id_of r < 128
-  pub rest : List ℕ
-  pub after : after_id Shortest false (id_of r) r rest
-  pub is : bytes ≡ id_of r ∷ rest
-
-pub spelled : (r : Record) (bytes : List ℕ) → Inner r bytes → IsSuch IsInner (record_in Shortest false) r bytes
-spelled r bytes h = record {
-  holds = h.inner;
-  spelled = record {
-    whole = λ e. absurd (h.inner e);
-    parts = record { front = id_of r ∷ []; back = h.rest; first = small_spelled (id_of r) h.small; second = h.after; joined = h.is };
-  };
-}
-
--- an element is spelled by its bytes
-pub element_inner : (e : Element) → IsSound e → weight_of e ≤ 2 ^ 30 → Inner (element_record e) (element_bytes e)
-element_inner (Placement name x y turns flip) h light =
-    record { inner = λ e. cc; small = omega arith; rest = _; is = refl; after = record { from = _; is = refl; spelled = placement_spelled name x y turns flip h.fits h.inside } }
-element_inner (Text string textlayer texttype x y) h light =
-    record { inner = λ e. cc; small = omega arith; rest = _; is = refl; after = record { from = _; is = refl; spelled = string_spelled string textlayer texttype x y h.fits h.inside } }
-element_inner (Rectangle layer datatype width height x y) h light =
-    record { inner = λ e. cc; small = omega arith; rest = _; is = refl; after = record { from = _; is = refl; spelled = box_spelled layer datatype width height x y h.fits h.inside } }
-element_inner (Polygon layer datatype points) h light =
-    record { inner = λ e. cc; small = omega arith; rest = _; is = refl; after = record { from = _; is = refl; spelled = polygon_spelled layer datatype points h.fits h.points h.inside (omega arith) } }
-element_inner (Path layer datatype half_width start end points) h light = record {
-  inner = λ e. cc;
-  small = omega arith;
-  rest = _;
-  is = refl;
-  after = record { from = _; is = refl; spelled = path_spelled layer datatype half_width start end points h.fits h.points h.inside (omega arith) };
-}
-element_inner (Circle layer datatype radius x y) h light =
-    record { inner = λ e. cc; small = omega arith; rest = _; is = refl; after = record { from = _; is = refl; spelled = circle_spelled layer datatype radius x y h.fits h.inside } }
 
 pub cell_inner : (name : List ℕ) → IsName name → Inner (record_of.Cell (cell.Name name)) (14 ∷ string_bytes name)
 cell_inner name h = record {
@@ -90,7 +53,7 @@ elements_spelled (e ∷ es) rs bytes h light k =
     let sum = sum_by-cons weight_of e es in (
       element_bytes e,
       elements_bytes es ++ bytes,
-      spelled (element_record e) (element_bytes e) (element_inner e h.0 (omega (arith, sum, light))),
+      spelled (element_record e) (element_bytes e) ((of_element e).inner h.0 (omega (arith, sum, light))),
       elements_spelled es rs bytes h.1
           (omega (arith, sum, light)) k,
       append_assoc (element_bytes e) (elements_bytes es) bytes,

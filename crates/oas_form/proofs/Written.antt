@@ -1,4 +1,4 @@
--- What is written of a layout is its canonical form.
+-- What is written for a layout is its canonical form.
 use Rattle.std.proofs.Common.{◌≡◌, ℕ, ◌≤◌, true, false, List, [], ◌∷◌, sym, subst, arith}
 use Rattle.std.specs.List.{AllByRecursion}
 use Rattle.std.specs.Map.{keys_of}
@@ -12,7 +12,7 @@ use Rattle.oas_layout.specs.Grid.{fits_grid}
 use Rattle.oas_layout.specs.Sound.{IsSound}
 use Rattle.oas_layout.specs.Meaning.{Meaning, element_count, cells_weight}
 use Rattle.oas_layout.specs.Contents.{Cell, Contents, IsCell, IsLayout, AllSound, expanded, meaning_of}
-use Rattle.oas_modal.specs.Stands.{records_mean}
+use Rattle.oas_file.specs.oas_modal.Stands.{records_mean}
 use Rattle.oas_file.specs.Laws.FileLaws.{file_of}
 use Rattle.oas_file.specs.Acceptance.{Means}
 use Rattle.oas_form.specs.Records.{Cells, records_of}
@@ -28,7 +28,7 @@ use Rattle.oas_form.proofs.MeantLemmas.{canonical_means}
 use Rattle.oas_form.proofs.OrderedLayouts.{all-items, layout_in_order}
 use Rattle.oas_form.proofs.Spelling.{canonical_spelled}
 
--- ---- sound elements have their points, and lie within the grid
+-- ---- sound elements have their points, and are within the grid
 
 points_of : (es : List Element) → AllByRecursion IsSound es → AllByRecursion (λ e. lacks_points e ≡ false) es
 points_of [] h = tt
@@ -48,7 +48,7 @@ fit_grid (c ∷ cs) h = (grid_of c.1 h.0, fit_grid cs h.1)
 
 -- ---- the canonical form
 
--- of what can be spelled, in order and within the limits
+-- for what can be spelled, in order and within the limits
 pub form_of : (limits : Limits) (profile : Profile) (m : Meaning) → IsSpellable m → IsOrdered profile m.cells → element_count m.cells ≤ limits.elements →
     cells_weight m.cells ≤ limits.weight → CanonicalForm limits profile (canonical_bytes m) × Means (canonical_bytes m) m
 form_of limits profile m h o few light =

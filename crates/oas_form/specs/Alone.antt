@@ -9,10 +9,10 @@ use Rattle.oas_layout.specs.Contents.{Contents, expanded}
 abbrev pub alone : Ratio → List ℕ × List Element → Meaning
 alone unit c = record { unit = unit; cells = c ∷ [] }
 
--- the cell of a layout that stands at i: its name and its elements
+-- cell i of a layout: its name and its elements
 abbrev pub cell_at : Contents → ℕ → List ℕ × List Element
 cell_at l i = get_or (expanded l.cells) i ([], [])
 
--- a layout's unit, and of its cells the one at i alone
+-- a layout's unit, and only cell i of its cells
 abbrev pub cell_alone : Contents → ℕ → Meaning
 cell_alone l i = alone l.unit (cell_at l i)

@@ -41,7 +41,7 @@ flip_bit flip = if flip then 1 else 0
 abbrev pub placement_info : ℕ → Bool → ℕ
 placement_info quarters flip = 176 + 2 * quarters + flip_bit flip
 
--- the record of an element: its id, the info byte that says that all fields are given, and these
+-- the record of an element: its id, the info byte for all fields, and these
 abbrev pub element_bytes : Element → List ℕ
 element_bytes (Placement name x y turns flip) = 17 ∷ placement_info (turn_count turns) flip ∷ (string_bytes name ++ place_bytes x y)
 element_bytes (Text string textlayer texttype x y) = 19 ∷ 0x5B ∷ (string_bytes string ++ (shortest textlayer ++ (shortest texttype ++ place_bytes x y)))

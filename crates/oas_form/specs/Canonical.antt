@@ -1,4 +1,4 @@
--- The one spelling of a layout, judged on bytes (own rule).
+-- The one spelling of a layout, defined on bytes (own rule).
 use Rattle.std.specs.Prelude.{◌≡◌, ℕ, ◌↔◌, List}
 use Rattle.std.specs.List.{AllByRecursion}
 use Rattle.std.specs.List.Sorted.{IsStrictlySortedBy}
@@ -14,19 +14,20 @@ use Rattle.oas_layout.specs.Element.{element_cmp}
 use Rattle.oas_layout.specs.Ascending.{Ascends}
 use Rattle.oas_layout.specs.Same.{IsNormal}
 use Rattle.oas_layout.specs.Meaning.{Meaning, SameLayout}
-use Rattle.oas_modal.specs.Stands.{records_mean}
+use Rattle.oas_file.specs.oas_modal.Stands.{records_mean}
 use Rattle.oas_file.specs.Files.{FileIn}
 use Rattle.oas_file.specs.Acceptance.{Allowed, IsWhole, Accepted, Means}
 use Rattle.oas_form.specs.Records.{Cells}
 
--- names ascend strictly; in each cell the elements ascend, an equal one next to it, and each is in the form that the profile keeps
+-- names ascend strictly; in each cell the elements ascend, with equal ones next to each other, and each is in the form that
+-- the profile keeps
 pub record IsOrdered (profile : Profile) (cs : Cells) : Type 0 where
   pub names : IsStrictlySortedBy (slice_cmp nat_cmp) (keys_of cs)
   pub ascending : AllByRecursion (λ c. Ascends element_cmp c.1) cs
   pub normal : AllByRecursion (λ c. AllByRecursion (IsNormal profile) c.1) cs
 
--- An accepted file in the shortest style, and in order. In that style there are CELL by name and elements with all their
--- fields, and no other records.
+-- An accepted file in the shortest style, and in order. In that style there are only CELL by name and elements with all their
+-- fields.
 pub record CanonicalForm (limits : Limits) (profile : Profile) (c : List ℕ) : Type 0 where
   pub head : Head
   pub records : List Record

@@ -1,5 +1,5 @@
--- Whether a file is a canonical form, judged record by record as it is read. Kept are the name of the open cell and the
--- latest element in it, and no others. Records and entries are listed oldest first, but `before` newest first.
+-- Whether a file is a canonical form, judged record by record as it is read. Only the name of the open cell and the latest
+-- element in it are kept. Records and entries are listed oldest first, except that `before` is newest first.
 use Rattle.std.specs.Prelude.{◌≡◌, ◌↔◌, ℕ, ◌≤◌, ◌^◌, Bool, true, false, IsTrue, List, [], ◌∷◌, ◌++◌, map, reverse, Option, None, Some}
 use Rattle.std.specs.List.{AllByRecursion}
 use Rattle.std.specs.Ordering.{nat_cmp, is_gt}
@@ -23,9 +23,9 @@ use Rattle.oas_layout.specs.Same.{normal, IsNormal}
 use Rattle.oas_layout.specs.Sound.{IsSound, IsUnit}
 use Rattle.oas_layout.specs.Weight.{weight_of}
 use Rattle.oas_layout.specs.Meaning.{Meaning}
-use Rattle.oas_drawing.specs.declared.drawn.Drawn.{Drawn}
-use Rattle.oas_drawing.specs.declared.drawn.Drawn.TheVariants.{Named}
-use Rattle.oas_drawing.specs.Drawing.{elements_at}
+use Rattle.oas_file.specs.oas_drawing.declared.drawn.Drawn.{Drawn}
+use Rattle.oas_file.specs.oas_drawing.declared.drawn.Drawn.TheVariants.{Named}
+use Rattle.oas_file.specs.oas_drawing.Drawing.{elements_at}
 use Rattle.oas_file.specs.Acceptance.{Allowed, Accepted, Means}
 use Rattle.oas_form.specs.Bytes.{opening_bytes, element_bytes, head_bytes, end_bytes, canonical_bytes}
 use Rattle.oas_form.specs.Canonical.{IsOrdered, CanonicalForm}
@@ -34,7 +34,7 @@ use Rattle.oas_form.specs.declared.judging.FormJudge.{FormJudge}
 
 -- ---- a file as it was read
 
--- a record, and the bytes that were read as it
+-- a record, and the bytes that it was read from
 abbrev pub Entry : Type 0
 Entry = Record × List ℕ
 
@@ -131,7 +131,7 @@ JudgeIsRight = (limits : Limits) (profile : Profile) (b : List ℕ) (head : Head
 abbrev pub IsReadAsSome : Type 0
 IsReadAsSome = (limits : Limits) (b : List ℕ) → Accepted limits b → (head : Head) × (start : List ℕ) × (entries : List Entry) × (last : List ℕ) × IsReadAs b head start entries last
 
--- nothing but START was read
+-- only START was read
 abbrev pub JudgeBegins : Type 0
 JudgeBegins = (profile : Profile) (head : Head) (start : List ℕ) → head_in Shortest head start ↔ JudgedSoFar profile head start []
 
@@ -141,7 +141,7 @@ JudgeGoesOn = (profile : Profile) (head : Head) (start : List ℕ) (entries : Li
     → JudgedSoFar profile head start (entries ++ e ∷ [])
     ↔ (JudgedSoFar profile head start entries × EntryJudged profile head (judge_of (reverse (entry_records entries))) e (elements_at e.0 (reverse (entry_records entries))))
 
--- what was judged is judged at each place before, so a file that once failed fails however it goes on
+-- what was judged is judged at each place before, so a file that once failed fails whatever follows
 abbrev pub JudgeStays : Type 0
 JudgeStays = (profile : Profile) (head : Head) (start : List ℕ) (entries more : List Entry) → JudgedSoFar profile head start (entries ++ more) → JudgedSoFar profile head start entries
 
@@ -199,22 +199,22 @@ abbrev pub BytesGoOn : Type 0
 BytesGoOn = (profile : Profile) (entries : List Entry) (e : Entry)
     → AllMatch profile [] (entries ++ e ∷ []) ↔ (AllMatch profile [] entries × Matches profile (judge_of (reverse (entry_records entries))) e.0 e.1 (elements_at e.0 (reverse (entry_records entries))))
 
--- Where entries match and one more is allowed that draws one element, its bytes are the canonical ones of the form in which
--- that is kept exactly if they are its own canonical bytes and it is in that form. So one comparison decides both.
+-- Where entries match and one more is allowed that draws one element, its bytes are the canonical ones of its kept form
+-- exactly if they are its own canonical bytes and it is in that form. So one comparison decides both.
 abbrev pub KeptBytes : Type 0
 KeptBytes = (limits : Limits) (profile : Profile) (entries : List Entry) (x : Entry) (e : Element)
     → AllByRecursion (λ e. IsSuch IsInner (record_in Any false) e.0 e.1) (entries ++ x ∷ []) → Allowed limits (entry_records (entries ++ x ∷ [])) → AllMatch profile [] entries
     → elements_at x.0 (reverse (entry_records entries)) ≡ Named e ∷ [] → (x.1 ≡ element_bytes (normal profile e)) ↔ ((x.1 ≡ element_bytes e) × IsNormal profile e)
 
--- an accepted file is a canonical form exactly if what it means is in order and its bytes are the canonical ones of that
+-- an accepted file is a canonical form exactly if its meaning is in order and its bytes are the canonical ones of that
 abbrev pub FormIsOrderedBytes : Type 0
 FormIsOrderedBytes = (limits : Limits) (profile : Profile) (b : List ℕ) (m : Meaning) → Accepted limits b → Means b m → CanonicalForm limits profile b
     ↔ (IsOrdered profile m.cells × (b ≡ canonical_bytes m))
 
 -- ---- a judge in code
 
--- It stands for these entries: it holds exactly if they match, and then has the latest name, and the latest element.
-pub record JudgeStands (profile : Profile) (holds : Bool) (name : Option (List ℕ)) (element : Option Element) (entries : List Entry) : Type 0 where
+-- It represents these entries: it holds exactly if they match, and then has the latest name, and the latest element.
+pub record JudgeRepresents (profile : Profile) (holds : Bool) (name : Option (List ℕ)) (element : Option Element) (entries : List Entry) : Type 0 where
   pub holds_is : IsTrue holds ↔ AllMatch profile [] entries
   pub name_is : IsTrue holds → name ≡ (judge_of (reverse (entry_records entries))).name
   pub element_is : IsTrue holds → element ≡ (judge_of (reverse (entry_records entries))).element
@@ -226,37 +226,37 @@ pub record AreRead (limits : Limits) (entries : List Entry) : Type 0 where
 
 -- before the first
 abbrev pub JudgeStandsFirst : Type 0
-JudgeStandsFirst = (profile : Profile) → JudgeStands profile true None None []
+JudgeStandsFirst = (profile : Profile) → JudgeRepresents profile true None None []
 
 -- after a record that draws one element
 abbrev pub JudgeDraws : Type 0
 JudgeDraws = (limits : Limits) (profile : Profile) (entries : List Entry) (x : Entry) (e : Element) (holds now : Bool) (name : Option (List ℕ)) (element : Option Element)
-    → AreRead limits (entries ++ x ∷ []) → elements_at x.0 (reverse (entry_records entries)) ≡ Named e ∷ [] → JudgeStands profile holds name element entries
-    → IsTrue now ↔ (IsTrue holds × (element_bytes (normal profile e) ≡ x.1) × IsNotBelow element (normal profile e)) → JudgeStands profile now name (Some (normal profile e)) (entries ++ x ∷ [])
+    → AreRead limits (entries ++ x ∷ []) → elements_at x.0 (reverse (entry_records entries)) ≡ Named e ∷ [] → JudgeRepresents profile holds name element entries
+    → IsTrue now ↔ (IsTrue holds × (element_bytes (normal profile e) ≡ x.1) × IsNotBelow element (normal profile e)) → JudgeRepresents profile now name (Some (normal profile e)) (entries ++ x ∷ [])
 
 -- after a CELL by its name
 abbrev pub JudgeOpens : Type 0
 JudgeOpens = (profile : Profile) (entries : List Entry) (opened bytes : List ℕ) (holds now : Bool) (name : Option (List ℕ)) (element : Option Element)
-    → JudgeStands profile holds name element entries → IsTrue now ↔ (IsTrue holds × (opening_bytes opened ≡ bytes) × IsAbove name opened)
-    → JudgeStands profile now (Some opened) None (entries ++ (record_of.Cell (cell.Name opened), bytes) ∷ [])
+    → JudgeRepresents profile holds name element entries → IsTrue now ↔ (IsTrue holds × (opening_bytes opened ≡ bytes) × IsAbove name opened)
+    → JudgeRepresents profile now (Some opened) None (entries ++ (record_of.Cell (cell.Name opened), bytes) ∷ [])
 
 -- after a record that can't match
 abbrev pub JudgeRefuses : Type 0
 JudgeRefuses = (profile : Profile) (entries : List Entry) (x : Entry) (holds : Bool) (name other : Option (List ℕ)) (element last : Option Element)
-    → JudgeStands profile holds name element entries → (Matches profile (judge_of (reverse (entry_records entries))) x.0 x.1 (elements_at x.0 (reverse (entry_records entries))) → ⊥)
-    → JudgeStands profile false other last (entries ++ x ∷ [])
+    → JudgeRepresents profile holds name element entries → (Matches profile (judge_of (reverse (entry_records entries))) x.0 x.1 (elements_at x.0 (reverse (entry_records entries))) → ⊥)
+    → JudgeRepresents profile false other last (entries ++ x ∷ [])
 
 -- ---- FormJudge
 
--- what it stands for
+-- what it represents
 abbrev pub Stands : Profile → FormJudge → List Entry → Type 0
-Stands profile j entries = JudgeStands profile j.holds j.name j.element entries
+Stands profile j entries = JudgeRepresents profile j.holds j.name j.element entries
 
--- it stands for this entry too
+-- it represents this entry too
 abbrev pub GoesOn : FormJudge → Entry → FormJudge → Type 0
 GoesOn old x new = (profile : Profile) (entries : List Entry) → Stands profile old entries → Stands profile new (entries ++ x ∷ [])
 
--- and so for each record with these bytes that draws one element, which is kept in this form
+-- and also for each record with these bytes that draws one element, with this kept form
 abbrev pub GoesOnDrawing : FormJudge → Element → List ℕ → FormJudge → Type 0
 GoesOnDrawing old kept bytes new = (limits : Limits) (profile : Profile) (entries : List Entry) (r : Record) (e : Element)
     → AreRead limits (entries ++ (r, bytes) ∷ []) → elements_at r (reverse (entry_records entries)) ≡ Named e ∷ [] → kept ≡ normal profile e

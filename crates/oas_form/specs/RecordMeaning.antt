@@ -13,8 +13,8 @@ use Rattle.oas_layout.specs.declared.limits.Limits.{Limits}
 use Rattle.oas_layout.specs.Grid.{fits_grid}
 use Rattle.oas_layout.specs.Weight.{lacks_points}
 use Rattle.oas_layout.specs.Meaning.{element_count, cells_weight}
-use Rattle.oas_names.specs.Meaning.{has_twice}
-use Rattle.oas_modal.specs.Stands.{records_mean}
+use Rattle.oas_file.specs.oas_names.Meaning.{has_twice}
+use Rattle.oas_file.specs.oas_modal.Stands.{records_mean}
 use Rattle.oas_file.specs.Files.{FileIn}
 use Rattle.oas_file.specs.Acceptance.{Allowed, IsWhole}
 use Rattle.oas_form.specs.Records.{Cells, records_of}
@@ -23,13 +23,13 @@ use Rattle.oas_form.specs.Records.{Cells, records_of}
 abbrev pub HavePoints : Cells → Type 0
 HavePoints cs = AllByRecursion (λ c. AllByRecursion (λ e. lacks_points e ≡ false) c.1) cs
 
--- each element lies within the grid
+-- each element is within the grid
 abbrev pub FitGrid : Cells → Type 0
 FitGrid cs = AllByRecursion (λ c. AllByRecursion (λ e. fits_grid e ≡ true) c.1) cs
 
 -- ---- the laws
 
--- the records of cells and of further cells
+-- the records of cells followed by further cells
 abbrev pub RecordsSplit : Type 0
 RecordsSplit = (cs ds : Cells) → records_of (cs ++ ds) ≡ records_of cs ++ records_of ds
 
@@ -45,18 +45,18 @@ ShortestIsCanonical = (limits : Limits) (head : Head) (rs : List Record) (c : Li
 abbrev pub ShortestHasPoints : Type 0
 ShortestHasPoints = (limits : Limits) (head : Head) (rs : List Record) (c : List ℕ) → FileIn Shortest head rs c → Allowed limits rs → HavePoints (records_mean head.unit rs).cells
 
--- its unit is in lowest terms, and its table-offsets stand in START
+-- its unit is in lowest terms, and its table-offsets are in START
 abbrev pub ShortestHead : Type 0
 ShortestHead = (head : Head) (rs : List Record) (c : List ℕ) → FileIn Shortest head rs c → IsLowest head.unit × (head.flag_in_end ≡ false)
 
--- No record of cells within the limits is refused, where each element has its points and lies within the grid.
+-- No record of cells within the limits is refused, where each element has its points and is within the grid.
 abbrev pub CanonicalAllowed : Type 0
 CanonicalAllowed = (limits : Limits) (cs : Cells) → HavePoints cs → FitGrid cs → element_count cs ≤ limits.elements → cells_weight cs ≤ limits.weight → Allowed limits (records_of cs)
 
--- END doesn't refuse them where no name stands twice
+-- END doesn't refuse them where no name occurs twice
 abbrev pub CanonicalWhole : Type 0
 CanonicalWhole = (limits : Limits) (cs : Cells) → HavePoints cs → has_twice (keys_of cs) ≡ false → cells_weight cs ≤ limits.weight → IsWhole limits (records_of cs)
 
--- as where the names ascend
+-- for example where the names ascend
 abbrev pub AscendingWhole : Type 0
 AscendingWhole = (limits : Limits) (cs : Cells) → HavePoints cs → IsStrictlySortedBy (slice_cmp nat_cmp) (keys_of cs) → cells_weight cs ≤ limits.weight → IsWhole limits (records_of cs)

@@ -17,7 +17,7 @@ use Rattle.oas_layout.specs.declared.element.Element.{Element}
 use Rattle.oas_layout.specs.declared.element.Element.TheVariants.{Placement, Text, Rectangle, Polygon, Path, Circle}
 use Rattle.oas_layout.specs.Element.{turn_count}
 
--- a position, and no repetition
+-- a position, without a repetition
 abbrev pub spot_at : ℤ → ℤ → Spot
 spot_at x y = record { x = Some x; y = Some y; repetition = None }
 
@@ -36,7 +36,7 @@ abbrev pub line_of : List Point → Polyline
 line_of [] = plain_line []
 line_of (p ∷ ps) = plain_line (steps_from p ps)
 
--- where the first point stands
+-- the place of the first point
 abbrev pub spot_of : List Point → Spot
 spot_of points = spot_at (first_of points).x (first_of points).y
 
@@ -59,7 +59,7 @@ element_record (Path layer datatype half_width start end points) =
     })
 element_record (Circle layer datatype radius x y) = record_of.Circle (record { layer = Some layer; datatype = Some datatype; radius = Some radius; spot = spot_at x y })
 
--- by name of a cell, its elements
+-- a CELL by its name, followed by its elements
 abbrev pub Cells : Type 0
 Cells = List (List ℕ × List Element)
 

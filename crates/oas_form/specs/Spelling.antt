@@ -1,4 +1,4 @@
--- The canonical bytes of a layout spell its canonical records, and how many they are.
+-- The canonical bytes of a layout spell its canonical records, and how many bytes there are.
 use Rattle.std.specs.Prelude.{◌+◌, ◌*◌, ◌^◌, ◌<◌, ◌≤◌, false, length}
 use Rattle.std.specs.List.{AllByRecursion}
 use Rattle.oas_num.specs.Style.{Shortest}
@@ -18,17 +18,18 @@ pub record IsSpellable (m : Meaning) : Type 0 where
   pub sound : AllByRecursion (λ c. AllByRecursion IsSound c.1) m.cells
   pub light : cells_weight m.cells ≤ 2 ^ 30
 
--- a path goes somewhere
+-- a path has at least one point
 abbrev pub HasPoint : Element → Type 0
 HasPoint (Path layer datatype half_width start end points) = 0 < length points
 HasPoint e = Unit {0}
 
 -- ---- the laws
 
--- the canonical bytes are the spelling of the canonical records in the shortest style, in a file whose table-offsets stand in START
+-- the canonical bytes are the spelling of the canonical records in the shortest style, in a file with its table-offsets in
+-- START
 abbrev pub CanonicalBytesSpell : Type 0
 CanonicalBytesSpell = (m : Meaning) → IsSpellable m → FileIn Shortest (record { unit = m.unit; flag_in_end = false }) (records_of m.cells) (canonical_bytes m)
 
--- they number at most 320 and 64 for each unit of the weight
+-- there are at most 320, plus 64 for each unit of the weight
 abbrev pub CanonicalLength : Type 0
 CanonicalLength = (m : Meaning) → AllByRecursion (λ c. AllByRecursion HasPoint c.1) m.cells → length (canonical_bytes m) ≤ 320 + 64 * cells_weight m.cells

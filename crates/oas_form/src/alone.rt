@@ -14,11 +14,11 @@ use crate::frames::{put_end, put_head};
 use oas_layout::Layout;
 use oas_num::{Sink, SinkFault};
 
-/// Puts the canonical bytes of a layout's unit and one of its cells alone, and answers how many they are. At a fault a front
-/// of them was put.
+/// Puts the canonical bytes of a layout's unit and one of its cells alone, and returns how many they are. After a fault a
+/// prefix of them was put.
 ///
-/// They are a canonical form within the layout's limits, and mean that cell alone. They number at most 320 and 64 for each
-/// unit of its weight. Neither memory nor a copy is needed. What is required of the layout, `Layout::cells` says.
+/// They are a canonical form within the layout's limits, and mean that cell alone. There are at most 320, plus 64 for each
+/// unit of its weight. It allocates and copies nothing. `Layout::cells` promises what is required of the layout.
 #[tactic(auto, using(crate::proofs::AloneLemmas::alone_form, crate::proofs::AloneLemmas::alone_means, crate::proofs::AloneLemmas::alone_short))]
 pub fn put_cell_alone<K: Sink>(layout: &Layout, cell: usize, sink: &mut K) -> Result<u64, SinkFault>
     requires cell { cell < length layout.now.cells }

@@ -16,7 +16,7 @@ use oas_num::{Sink, SinkFault};
 /// The id of CELL by its name.
 const CELL: [u8; 1] = [14];
 
-/// Puts an element so many times.
+/// Puts an element this many times.
 fn put_copies<K: Sink>(sink: &mut K, element: &Element, times: u64) -> Result<u64, SinkFault>
     requires sound { IsSound element.now }
     requires light { sum_by weight_of (replicate times element.now) ≤ 2 ^ 30 }

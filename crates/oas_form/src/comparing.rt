@@ -11,7 +11,7 @@ pub(crate) struct Comparer<'a> {
 }
 
 impl<'a> Comparer<'a> {
-    /// One that was given nothing.
+    /// A sink that was given nothing.
     pub(crate) fn new(bytes: &'a [u8]) -> Comparer<'a>
         ensures rest { result.rest.now ≡ bytes.now }
         ensures same { result.differs ≡ false }
@@ -22,7 +22,7 @@ impl<'a> Comparer<'a> {
         }
     }
 
-    /// Whether it was given just the bytes that it was made of.
+    /// Whether it was given exactly the bytes that it was made of.
     pub(crate) fn is_done(&self) -> bool
         ensures { IsTrue result ↔ ((self.now.differs ≡ false) × (self.now.rest.now ≡ [])) }
     {

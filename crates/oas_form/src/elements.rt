@@ -22,19 +22,19 @@ const PLACEMENT: u8 = 17;
 /// The info byte of a placement: the cell's name, x and y are given. The turns and the flip are added.
 const PLACEMENT_GIVEN: u8 = 0xB0;
 
-/// The id of TEXT, and the info byte that says that all fields are given.
+/// The id of TEXT, and the info byte for all fields.
 const TEXT: [u8; 2] = [19, 0x5B];
 
-/// Those of RECTANGLE.
+/// The same for RECTANGLE.
 const RECTANGLE: [u8; 2] = [20, 0x7B];
 
-/// Those of POLYGON.
+/// The same for POLYGON.
 const POLYGON: [u8; 2] = [21, 0x3B];
 
-/// Those of PATH.
+/// The same for PATH.
 const PATH: [u8; 2] = [22, 0xFB];
 
-/// The extension-scheme of a path of which both extensions are numbers.
+/// The extension-scheme of a path whose extensions are both numbers.
 const EXPLICIT: [u8; 1] = [0x0F];
 
 /// The id and the info byte of CIRCLE.
@@ -192,7 +192,7 @@ pub fn put_circle<K: Sink>(
     Ok(front + first + second + round + place)
 }
 
-/// Puts the record of an element, and answers its length.
+/// Puts the record of an element, and returns its length.
 pub(crate) fn put_element<K: Sink>(sink: &mut K, element: &Element) -> Result<u64, SinkFault>
     requires sound { IsSound element.now }
     requires light { weight_of element.now ≤ 2 ^ 30 }

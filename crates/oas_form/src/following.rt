@@ -1,4 +1,5 @@
-//! The latest element of a cell, compared with the placement or the text that comes next, and made that in its own memory.
+//! The latest element of a cell, compared with the placement or the text that comes next, and overwritten with it in its own
+//! memory.
 ghost use Rattle.std.specs.Prelude.{◌≡◌, true, false, IfSome};
 ghost use Rattle.oas_num.specs.Texts.{IsName, IsLabel};
 ghost use Rattle.oas_layout.specs.declared.element.Element.TheVariants.{Placement, Text};
@@ -7,7 +8,7 @@ ghost use Rattle.oas_layout.specs.Element.{element_cmp};
 use oas_layout::{Element, Turns};
 use std::cmp::Ordering;
 
-/// How an element compares with a placement of the cell of this name; None where it is no placement.
+/// How an element compares with a placement of the cell with this name; None where it is no placement.
 pub(crate) fn placement_order(
     last: &Element,
     name: &[u8],
@@ -32,7 +33,7 @@ pub(crate) fn placement_order(
     Some(cell.as_bytes().cmp(name).then(there))
 }
 
-/// How an element compares with a text of this string; None where it is no text.
+/// How an element compares with a text with this string; None where it is no text.
 pub(crate) fn text_order(
     last: &Element,
     string: &[u8],
@@ -58,8 +59,8 @@ pub(crate) fn text_order(
     Some(last_string.as_bytes().cmp(string).then(layered))
 }
 
-/// An element made the placement of the cell of this name there, in its own memory, and whether it was. It stays as it is where
-/// it is no placement, or memory is refused.
+/// Overwrites an element with the placement of the cell with this name there, in its own memory, and returns whether it did.
+/// It is unchanged where it is no placement, or if out of memory.
 pub(crate) fn place_over(
     last: Element,
     name: &[u8],
@@ -102,8 +103,8 @@ pub(crate) fn place_over(
     }
 }
 
-/// An element made the text of this string there, in its own memory, and whether it was. It stays as it is where it is no text, or
-/// memory is refused.
+/// Overwrites an element with the text with this string there, in its own memory, and returns whether it did. It is unchanged
+/// where it is no text, or if out of memory.
 pub(crate) fn write_over(
     last: Element,
     string: &[u8],

@@ -1,4 +1,4 @@
-//! What stands before and after the cells: the magic, START and END.
+//! What comes before and after the cells: the magic, START and END.
 
 ghost use Rattle.std.specs.Prelude.{◌∷◌, ◌≤◌, IfOk};
 ghost use Rattle.oas_num.specs.Writing.{shortest};

@@ -1,4 +1,4 @@
-//! Laws of the judgement on a file as it is read, each the contract of a function that does nothing.
+//! Laws of judging a file as it is read. Each is the contract of a function that does nothing.
 ghost use Rattle.oas_form.specs.Judging.{BytesGoOn, BytesJudge, FormIsOrderedBytes, IsReadAsSome, JudgeBegins, JudgeDraws, JudgeGoesOn, JudgeIsRight, JudgeOpens, JudgeRefuses, JudgeStandsFirst, JudgeStays, JudgeSteps, KeptBytes, CellIsBytes, ElementIsBytes, EndIsBytes, HeadIsBytes};
 
 /// An accepted file is a canonical form exactly if it was judged to be one record by record, as it was read; and every
@@ -16,7 +16,7 @@ pub fn judge_goes_on()
     ensures stays { JudgeStays }
 {}
 
-/// What is spelled in the shortest style has the canonical bytes, and no other has.
+/// What is spelled in the shortest style has the canonical bytes, and nothing else has.
 pub fn shortest_bytes()
     ensures head { HeadIsBytes }
     ensures cell { CellIsBytes }
@@ -32,14 +32,14 @@ pub fn judged_by_bytes()
     ensures kept { KeptBytes }
 {}
 
-/// An accepted file is a canonical form exactly if what it means is in order and its bytes are the canonical ones of that.
+/// An accepted file is a canonical form exactly if its meaning is in order and its bytes are the canonical ones of that.
 pub fn form_is_ordered_bytes()
     ensures { FormIsOrderedBytes }
 {}
 
-/// What a judge in code stands for: before the first record, and after one that draws one element, a CELL by its name, or one
+/// What a judge in code represents: before the first record, and after one that draws one element, a CELL by its name, or one
 /// that no canonical file has there.
-pub fn judge_stands()
+pub fn judge_represents()
     ensures first { JudgeStandsFirst }
     ensures draws { JudgeDraws }
     ensures opens { JudgeOpens }

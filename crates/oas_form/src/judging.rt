@@ -1,4 +1,4 @@
-//! Judges a file record by record, with no layout kept.
+//! Judges a file record by record, without keeping a layout.
 ghost use Rattle.std.specs.Prelude.{◌≡◌, List, ℕ, ◌≤◌, ◌^◌, length, true, false, [], IsTrue, ◌↔◌};
 ghost use Rattle.std.specs.Ordering.{is_gt};
 ghost use Rattle.oas_record.specs.declared.records.Record.TheVariants.{Cell};
@@ -108,7 +108,7 @@ impl FormJudge {
         self.holds
     }
 
-    /// Judges a CELL by its name, of which these are the bytes that were read.
+    /// Judges a CELL by its name; these are the bytes that were read.
     pub fn open(&mut self, name: Name, bytes: &[u8])
         requires { length name ≤ 2 ^ 30 }
         ensures { GoesOn self.old (Cell (ByName name), bytes.now) self.new }
@@ -118,7 +118,7 @@ impl FormJudge {
         self.element = None;
     }
 
-    /// Judges a record that draws one element, of which this is the kept form and these the bytes that were read.
+    /// Judges a record that draws one element, from its kept form and the bytes that were read.
     pub fn draw(&mut self, element: Element, bytes: &[u8])
         requires points { lacks_points element ≡ false }
         requires inside { fits_grid element ≡ true }
@@ -130,7 +130,7 @@ impl FormJudge {
         self.element = Some(element);
     }
 
-    /// Judges a record that draws one element, of which this is the kept form, and of which the canonical bytes were read.
+    /// Judges a record that draws one element, from its kept form, where its canonical bytes were read.
     pub fn draw_spelled(&mut self, element: Element)
         ensures { (bytes : List ℕ) → element_bytes element ≡ bytes → GoesOnDrawing self.old element bytes self.new }
     {
@@ -138,8 +138,8 @@ impl FormJudge {
         self.element = Some(element);
     }
 
-    /// Judges a placement of the cell of this name, if the bytes of its record are the canonical ones. It answers false, and does
-    /// nothing, where the latest element is no placement, or memory is refused.
+    /// Judges a placement of the cell with this name, if the bytes of its record are the canonical ones. It returns false,
+    /// and does nothing, where the latest element is no placement, or if out of memory.
     pub fn place_next(&mut self, name: &[u8], at: (i64, i64), turns: Turns, flip: bool) -> bool
         requires { IsName name.now }
         ensures no { result ≡ false → self.new ≡ self.old }
@@ -162,8 +162,8 @@ impl FormJudge {
         made
     }
 
-    /// Judges a text of this string, if the bytes of its record are the canonical ones. It answers false, and does nothing, where
-    /// the latest element is no text, or memory is refused.
+    /// Judges a text with this string, if the bytes of its record are the canonical ones. It returns false, and does nothing,
+    /// where the latest element is no text, or if out of memory.
     pub fn write_next(&mut self, string: &[u8], layers: (u64, u64), at: (i64, i64)) -> bool
         requires { IsLabel string.now }
         ensures no { result ≡ false → self.new ≡ self.old }
@@ -193,7 +193,7 @@ impl FormJudge {
         self.holds = false;
     }
 
-    /// Whether a canonical file may have this CELL next, of which these are the bytes.
+    /// Whether a canonical file may have this CELL next, with these bytes.
     fn may_open(&self, name: &Name, bytes: &[u8]) -> bool
         requires { length name.now ≤ 2 ^ 30 }
         ensures { IsTrue result ↔ (IsTrue self.now.holds × (opening_bytes name.now ≡ bytes.now) × IsAbove self.now.name name.now) }
@@ -201,21 +201,22 @@ impl FormJudge {
         self.holds && is_opening(name, bytes) && is_above(&self.name, name)
     }
 
-    /// Whether a canonical file may have an element next with which the latest one compares so, if it is spelled so.
+    /// Whether a canonical file may have an element next, given how it compares with the latest one, if it is spelled
+    /// canonically.
     fn may_go_on(&self, order: Ordering) -> bool
         ensures { IsTrue result ↔ (IsTrue self.now.holds × (is_gt order ≡ false)) }
     {
         self.holds && !order.is_gt()
     }
 
-    /// Whether a canonical file may have this element next, if it is spelled so.
+    /// Whether a canonical file may have this element next, if it is spelled canonically.
     fn may_follow(&self, element: &Element) -> bool
         ensures { IsTrue result ↔ (IsTrue self.now.holds × IsNotBelow self.now.element element.now) }
     {
         self.holds && is_not_below(&self.element, element)
     }
 
-    /// Whether a canonical file may have this element next, of which these are the bytes.
+    /// Whether a canonical file may have this element next, with these bytes.
     fn may_draw(&self, element: &Element, bytes: &[u8]) -> bool
         requires sound { IsSound element.now }
         requires light { weight_of element.now ≤ 2 ^ 30 }

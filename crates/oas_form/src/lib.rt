@@ -2,30 +2,107 @@
 //!
 //! What this crate promises to the crates above it:
 //!
-//! - A canonical form is judged on finished bytes (`CanonicalForm`, specs/Canonical.antt): an accepted file in the shortest
-//!   style, whose cells ascend by name, and in each of them the elements, each in the form that the profile keeps. It is the
-//!   canonical form of a file (`IsCanonicalOf`) if it means the same layout. Beside it stands a function of the layout
-//!   (`canonical_bytes`, specs/Bytes.antt).
-//! - [`put_canonical`] puts the canonical bytes of a layout into a sink, and answers how many they are; at a fault a front of
-//!   them was put (`Counts`, specs/Putting.antt). [`write_canonical`] has a writer take exactly these bytes; its only refusal
-//!   is `Why::Write`, after a front of them that is as long as its place says (`IsWritten`, `IsCutOff`, oas_num's
-//!   specs/Written.antt). Of both it is said that these bytes are a canonical form and mean the layout. Neither takes memory.
-//!   [`has_canonical_bytes`] says whether bytes are these. [`put_cell_alone`] puts the canonical bytes of one cell of a layout
-//!   alone, under its unit (`cell_alone`, specs/Alone.antt), of which the same is said.
-//! - [`laws`] joins the three, over the definitions alone. Each accepted file has a canonical form, and it is the same under
-//!   all limits that accept the file; what is accepted under limits is accepted under larger ones. One layout has one
-//!   canonical form; it is what is written of each layout that is the same; it is accepted, and its own canonical form; two
-//!   accepted files mean the same layout exactly if they have one. It has as many elements as its file, weighs no more, and its
-//!   length is bounded by that weight and by the limit of an input. A file's canonical form by profile two is that of its
-//!   canonical form by profile one.
-//! - [`judge_laws`] says when an accepted file is a canonical form, record by record as it is read (specs/Judging.antt), and
-//!   [`FormJudge`] judges so: of what was read it keeps the name of the open cell and the latest element. A placement or a
-//!   text that follows another it judges by its fields alone, in the memory of that ([`FormJudge::place_next`]). [`is_head`]
-//!   and [`is_end`] say whether bytes are those before the first record and END.
-//! - The parts of the writer, for one that has its elements in another form: each puts the bytes of a part, and answers how many
-//!   they are ([`put_head`], [`put_opening`], [`put_rectangle`], [`put_step`] and their like, [`put_end`]).
-//! - [`meaning_laws`] and [`spelling_laws`] say of the records of a canonical file (`records_of`, specs/Records.antt) what
+//! - Whether bytes are a canonical form is defined on the finished bytes (`CanonicalForm`, specs/Canonical.antt): an accepted
+//!   file in the shortest style whose cells ascend by name, and within each the elements, each in the form that the profile
+//!   keeps. It is the canonical form of a file (`IsCanonicalOf`) if it means the same layout. There is also a function of the
+//!   layout (`canonical_bytes`, specs/Bytes.antt).
+//! - [`put_canonical`] puts the canonical bytes of a layout into a sink, and returns how many they are; after a fault a
+//!   prefix of them was put (`Counts`, specs/Putting.antt). [`write_canonical`] writes exactly these bytes to a writer. It
+//!   fails only with `Why::Write`, after a prefix of them that is as long as its place says (`IsWritten`, `IsCutOff`,
+//!   oas_num's specs/Written.antt). The contracts of both say that these bytes are a canonical form and mean the layout.
+//!   Neither allocates. [`has_canonical_bytes`] says whether bytes are these. [`put_cell_alone`] puts the canonical bytes of
+//!   one cell of a layout alone, with its unit (`cell_alone`, specs/Alone.antt), with the same promises.
+//! - [`laws`] connects the three, from the definitions alone. Each accepted file has a canonical form, and it is the same
+//!   under all limits that accept the file. What is accepted under limits is accepted under larger ones. One layout has one
+//!   canonical form; it is what is written for each layout that is the same; it is accepted, and its own canonical form. Two
+//!   accepted files mean the same layout exactly if they have one canonical form. It has as many elements as its file, weighs
+//!   no more, and its length is bounded by that weight and by the limit of an input. A file's canonical form by profile two
+//!   is that of its canonical form by profile one.
+//! - [`judge_laws`] says when an accepted file is a canonical form, record by record as it is read (specs/Judging.antt).
+//!   [`FormJudge`] decides this: of what was read it keeps the name of the open cell and the latest element. It judges a
+//!   placement or a text after one of its kind by its fields alone, and reuses that one's memory ([`FormJudge::place_next`]).
+//!   [`is_head`] and [`is_end`] say whether bytes are those before the first record and END.
+//! - The parts of the writer, for a caller that has its elements in another form: each puts the bytes of a part, and returns
+//!   how many they are ([`put_head`], [`put_opening`], [`put_rectangle`], [`put_step`] and their like, [`put_end`]).
+//! - [`meaning_laws`] and [`spelling_laws`] say about the records of a canonical file (`records_of`, specs/Records.antt) what
 //!   they mean, that they are accepted, and how they are spelled.
+//!
+//! # How it is built
+//!
+//! oas_form uses oas_file, which says which files are accepted and what they mean, and what is below that. What it promises
+//! to the crates above: what a canonical form is, its laws, and its writer.
+//!
+//! | specs/ | What |
+//! |---|---|
+//! | Canonical | whether finished bytes are one (`CanonicalForm`), in order (`IsOrdered`), the canonical form of a file
+//! (`IsCanonicalOf`), and what holds for them |
+//! | Records | the records of cells: each CELL by its name, and its elements with all their fields (`records_of`) |
+//! | Bytes | the function from a layout to its bytes (`canonical_bytes`) |
+//! | Alone | one cell of a layout alone |
+//! | Layouts | layouts in order, what is written for a layout, what a canonical form keeps of a file |
+//! | Rekeying | from the canonical form by profile one to that by profile two |
+//! | Boxes | how the profiles differ |
+//! | RecordMeaning, Spelling | what canonical records mean, that they are accepted, and how they are spelled |
+//! | Judging | whether a file is a canonical form, judged record by record as it is read |
+//! | Putting | what is put and counted |
+//!
+//! How the proof goes. The definition on bytes and the function are made independently, and are connected over `records_of`.
+//! What is proved for one kind of element is in a file of that kind (proofs/CircleKind.antt): the fields of its record fit;
+//! its record in the shortest style is one of an element; what it draws fits; and what holds for its canonical record
+//! (`OfElement`: it draws its element and is refused for no reason, its bytes spell it, what spells it fits, and how long
+//! these are). proofs/AllKinds.antt joins the kinds, a line for each; all else is said about `of_element`, or holds for any
+//! kind alike.
+//!
+//! 1. *The shortest style has canonical records only.* A record in that style is a CELL by its name, or the record of an
+//!    element that has its points (`plain_of`, proofs/AllKinds.antt over ShortFields.antt); before the first CELL no element
+//!    is allowed. So the records are those of some cells (`of_cells`, proofs/ShortestLemmas.antt). They are those of the
+//!    cells that they mean: since a canonical record gives all its fields and nothing is relative, it draws its element,
+//!    whatever the variables were (`draws`, `canonical_means`, proofs/MeantLemmas.antt).
+//! 2. *One layout has one form* (`one_canonical_form`, proofs/Forms.antt). Cells in order that are the same by counting are
+//!    equal (`equal_in_order`, proofs/OrderedLayouts.antt): element for element by oas_layout's law of equal counts, since
+//!    the elements are in their kept forms, and cell for cell by their look-ups. By 1 two canonical forms then have one
+//!    record list, and oas_file's `one_spelling` completes it. The other sentences of the headline are equations of meanings,
+//!    connected by `means_one` (a file means one layout) and the equivalence of sameness: `limits_apart`, `forms_equal`,
+//!    `canonical_again`.
+//! 3. *What is written is a canonical form* (`canonical_form`, proofs/Written.antt). The canonical bytes are nested to the
+//!    right as the grammar is, so each level is one literal record with `joined = refl` (Spelling.antt, and each kind's
+//!    file). The records mean their cells by 1; within the limits none is refused (proofs/AllowedLemmas.antt); and what a
+//!    layout holds is in order (`layout_in_order`).
+//! 4. *A canonical form is what is written for its meaning* (`form_is_its_bytes`, proofs/Held.antt), whether or not a
+//!    `Layout` holds that. What a file in the shortest style spells are names, strings and numbers of 64 bits
+//!    (proofs/CellsFit.antt), and what was accepted is within the grid (proofs/InGrid.antt) and the limits, so it can be
+//!    spelled (`form_spellable`). With 3 a canonical form is one under all limits that its meaning keeps (`form_within`).
+//! 5. *What is kept* (proofs/Sizes.antt). Each layout in which no name occurs twice can be put in order in the definitions
+//!    alone: the kept forms of its elements into a tally, its cells into a list by name. That keeps the number of elements
+//!    and what look-ups find, and makes nothing heavier; under profile one it keeps the weight too. Layouts that are the same
+//!    have one order (`one_order`). proofs/FileLengths.antt bounds the bytes by the weight, 64 for each unit.
+//! 6. *Each accepted file has one* (proofs/Existence.antt): its meaning, put in order by 5, and written by 3. For that its
+//!    meaning must be sound. For a file in the shortest style 4 says so. For any accepted file proofs/AllGiven.antt does
+//!    (what a record gives fits), with DrawnSound.antt (so do the modal variables and what they draw; what isn't refused has
+//!    its points within the grid; so do the elements and names of the meaning). With 2 it is the same under all limits that
+//!    accept the file (`limits_together`), and two accepted files mean the same exactly if they have one (`same_exactly`); by
+//!    its length it is within the limit of an input (`form_fits_input`). What is accepted is accepted under larger limits,
+//!    record by record and at END, since only the reasons of number and weight look at limits (proofs/LargerLimits.antt).
+//! 7. *Judged as it is read* (proofs/JudgeRecords.antt, JudgeMatches.antt, JudgeBytes.antt, JudgeStanding.antt). The records
+//!    of cells are in order one by one exactly if the cells are (`judged_if_ordered`, `ordered_if_judged`), since the order
+//!    is transitive. Entries that were read are spelled in the shortest style exactly if the file is (`aligned`). A record
+//!    with the canonical bytes of the element that it draws is that element's record (`matched_drawn`), since no bytes spell
+//!    two. One comparison, with the bytes of the kept form, decides both that an element is spelled canonically and that it
+//!    is in that form (`kept_bytes`). src/judging.rt keeps a name and an element (`FormJudge`), and compares through a sink
+//!    (src/comparing.rt), so no bytes are made.
+//! 8. *From profile one to two* (proofs/Rekeying.antt). Elements that count the same by profile one have the same tally of
+//!    kept forms, as in 5, and by profile two a kept form counts as its element. So what is the same by profile one is the
+//!    same by profile two (`coarser`), and the law of re-keying follows by symmetry and transitivity (`keeps`). The order is
+//!    the same for both profiles, and an element in its kept form by profile two is in that by profile one (`within`). Back
+//!    from two to one it goes where there is no box (proofs/Boxes.antt): whether an element is one is a test that gives the
+//!    same for its kept form by profile one, so of layouts that are the same both have boxes or neither (`counts_alike`), and
+//!    what is no box is kept alike by both profiles.
+//! 9. *The writer* (src/writing.rt over frames.rt, cells.rt, elements.rt, point_lists.rt and parts.rt) needs no sorting: a
+//!    layout's cells and elements come in order, each element with its count. `Counts` (specs/Putting.antt) is every part's
+//!    contract. The proofs carry one record, `PutSoFar whole left` (proofs/PuttingLemmas.antt): a prefix of the whole was put
+//!    and counted, and this is left. It is the invariant of the loops over points (proofs/PointPutting.antt), over equal
+//!    elements, the elements of a cell and the cells (proofs/ElementPutting.antt). A cell alone is a layout too
+//!    (proofs/AloneLemmas.antt), so what is said about a layout's bytes holds for it.
 #![tactic(auto)]
 
 mod alone;
@@ -44,12 +121,15 @@ mod point_lists;
 pub mod spelling_laws;
 mod writing;
 
+// The crates below, for those above.
 pub use alone::put_cell_alone;
 pub use cells::put_opening;
 pub use elements::{put_circle, put_placement, put_rectangle, put_text};
 pub use frames::{put_end, put_head};
 pub use judging::{FormJudge, is_end, is_head};
 pub use matching::has_canonical_bytes;
+pub use oas_file;
+pub use oas_file::{oas_modal, oas_names};
 pub use parts::{put_bytes, put_coordinate, put_number, put_place};
 pub use point_lists::put_step;
 pub use writing::{put_canonical, write_canonical};

@@ -7,7 +7,7 @@ use crate::comparing::Comparer;
 use crate::writing::put_canonical;
 use oas_layout::Layout;
 
-/// Whether these are the canonical bytes of a layout. It takes no memory, and ends at the first byte that differs.
+/// Whether these are the canonical bytes of a layout. It allocates nothing, and stops at the first byte that differs.
 pub fn has_canonical_bytes(layout: &Layout, bytes: &[u8]) -> bool
     ensures bytes { IsTrue result ↔ (canonical_bytes (meaning_of layout.now) ≡ bytes.now) }
     ensures layout { IsLayout layout.now }

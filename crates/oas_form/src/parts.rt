@@ -18,7 +18,7 @@ fn coded(value: i64) -> u64
     if value < 0 { magnitude + 1 } else { magnitude }
 }
 
-/// Puts bytes as they are, and answers how many.
+/// Puts bytes unchanged, and returns how many.
 pub fn put_bytes<K: Sink>(sink: &mut K, bytes: &[u8]) -> Result<u64, SinkFault>
     ensures { Counts K.given K.failures sink.old bytes.now result sink.new }
 {
@@ -26,7 +26,7 @@ pub fn put_bytes<K: Sink>(sink: &mut K, bytes: &[u8]) -> Result<u64, SinkFault>
     Ok(bytes.len() as u64)
 }
 
-/// Puts a number, seven bits a byte, the lowest first, and answers how many bytes these are.
+/// Puts a number, seven bits a byte, the lowest first, and returns how many bytes these are.
 pub fn put_number<K: Sink>(sink: &mut K, value: u64) -> Result<u64, SinkFault>
     ensures counts { Counts K.given K.failures sink.old (shortest value) result sink.new }
     ensures short { IfOk result (λ n. n ≤ 10) }
@@ -42,7 +42,7 @@ pub fn put_number<K: Sink>(sink: &mut K, value: u64) -> Result<u64, SinkFault>
     Ok(count + 1)
 }
 
-/// Puts a coordinate or an extension, and answers its length.
+/// Puts a coordinate or an extension, and returns its length.
 pub fn put_coordinate<K: Sink>(sink: &mut K, value: i64) -> Result<u64, SinkFault>
     requires { is_coordinate value ≡ true }
     ensures counts { Counts K.given K.failures sink.old (shortest_signed value) result sink.new }
@@ -51,7 +51,7 @@ pub fn put_coordinate<K: Sink>(sink: &mut K, value: i64) -> Result<u64, SinkFaul
     put_number(sink, coded(value))
 }
 
-/// Puts x and y, and answers their length.
+/// Puts x and y, and returns their length.
 pub fn put_place<K: Sink>(sink: &mut K, x: i64, y: i64) -> Result<u64, SinkFault>
     requires x { is_coordinate x ≡ true }
     requires y { is_coordinate y ≡ true }

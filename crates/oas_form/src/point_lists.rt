@@ -15,7 +15,7 @@ use oas_ring::Point;
 /// The type of a list of g-deltas.
 const STEPS: [u8; 1] = [4];
 
-/// The step from a point to another. It is twice as long as the grid at most.
+/// The step from one point to another. It is at most twice as long as the grid.
 fn step(from: Point, to: Point) -> GDelta
     requires from { is_grid_point from ≡ true }
     requires to { is_grid_point to ≡ true }
@@ -40,7 +40,7 @@ fn step_len(step: GDelta) -> u64
     unsigned_len(4 * step.dx.unsigned_abs()) + unsigned_len(2 * step.dy.unsigned_abs())
 }
 
-/// Puts the step from a point to another, and answers its length.
+/// Puts the step from one point to another, and returns its length.
 pub fn put_step<K: Sink>(sink: &mut K, from: Point, to: Point) -> Result<u64, SinkFault>
     requires from { is_grid_point from ≡ true }
     requires to { is_grid_point to ≡ true }
@@ -83,7 +83,7 @@ fn put_list<K: Sink>(sink: &mut K, first: Point, rest: &[Point]) -> Result<u64, 
     Ok(kind + size + steps)
 }
 
-/// Puts points: their list, and where the first of them stands.
+/// Puts points: their list, and the place of the first.
 pub(crate) fn put_points<K: Sink>(sink: &mut K, points: &[Point]) -> Result<u64, SinkFault>
     requires some { 0 < length points.now }
     requires few { length points.now ≤ 2 ^ 30 }

@@ -16,10 +16,10 @@ use oas_layout::Layout;
 use oas_num::{Outlet, Refusal, Sink, SinkFault, Why};
 use std::io::Write;
 
-/// Puts the canonical bytes of a layout, and answers how many they are. At a fault a front of them was put.
+/// Puts the canonical bytes of a layout, and returns how many they are. After a fault a prefix of them was put.
 ///
-/// They are a canonical form within the layout's limits, and mean the layout. They number at most 320 and 64 for each unit
-/// of its weight. Neither memory nor a copy is needed.
+/// They are a canonical form within the layout's limits, and mean the layout. There are at most 320, plus 64 for each unit of
+/// its weight. It allocates and copies nothing.
 #[tactic(auto, using(crate::proofs::LayoutForms::layout_form, crate::proofs::LayoutForms::layout_means, crate::proofs::LayoutForms::layout_short))]
 pub fn put_canonical<K: Sink>(layout: &Layout, sink: &mut K) -> Result<u64, SinkFault>
     ensures counts { Counts K.given K.failures sink.old (canonical_bytes (meaning_of layout.now)) result sink.new }
@@ -28,7 +28,7 @@ pub fn put_canonical<K: Sink>(layout: &Layout, sink: &mut K) -> Result<u64, Sink
     ensures short { length (canonical_bytes (meaning_of layout.now)) ≤ 320 + 64 * cells_weight (expanded layout.now.cells) }
     ensures layout { IsLayout layout.now }
 {
-    let cells = layout.cells();
+    let cells = layout.cell_count();
     let unit = layout.unit();
     let head = put_head(sink, unit.num(), unit.den())?;
     let body = put_cells(sink, layout, cells)?;
@@ -36,7 +36,7 @@ pub fn put_canonical<K: Sink>(layout: &Layout, sink: &mut K) -> Result<u64, Sink
     Ok(head + body + end)
 }
 
-/// Puts the canonical bytes of a layout into an outlet, has its writer take all of them, and flushes it.
+/// Puts the canonical bytes of a layout into an outlet, sends all of them to its writer, and flushes it.
 fn put_and_close<W: Write>(layout: &Layout, outlet: &mut Outlet<'_, W>) -> Result<u64, SinkFault>
     ensures counts { Counts (IsGiven W.contents) failures_of outlet.old (canonical_bytes (meaning_of layout.now)) result outlet.new }
     ensures all { OnOk result (IsSent outlet.new) }
@@ -47,11 +47,11 @@ fn put_and_close<W: Write>(layout: &Layout, outlet: &mut Outlet<'_, W>) -> Resul
     Ok(count)
 }
 
-/// Writes the canonical bytes of a layout, and answers how many they are.
+/// Writes the canonical bytes of a layout, and returns how many they are.
 ///
-/// They are a canonical form within the layout's limits, and mean the layout. A fault of the writer is `Why::Write`, and its
-/// place is the number of bytes that the writer took: those are the first of them. Where it is the number of all of them,
-/// the flush failed.
+/// They are a canonical form within the layout's limits, and mean the layout. A fault of the writer is `Why::Write`. Its
+/// place is the number of bytes that the writer took: the first ones of these. Where it is the number of all of them, the
+/// flush failed.
 #[tactic(auto, using(crate::proofs::LayoutForms::layout_form, crate::proofs::LayoutForms::layout_means, crate::proofs::LayoutForms::layout_short))]
 pub fn write_canonical<W: Write>(layout: &Layout, writer: &mut W) -> Result<u64, Refusal>
     ensures written { IfOk result (IsWritten W.contents writer.old (canonical_bytes (meaning_of layout.now)) writer.new) }

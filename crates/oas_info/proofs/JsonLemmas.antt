@@ -1,4 +1,4 @@
--- The data of a layout's facts: lists that grow, and that no float is there.
+-- The data of a layout's facts: lists that grow, and no float.
 use Rattle.std.proofs.Common.{◌≡◌, ℕ, zero, suc, List, [], ◌∷◌, ◌++◌, Bool, true, false, ◌||◌, map, refl, ap, arith}
 use Rattle.std.specs.Prelude.{unwrap_or, IsUtf8, IsAscii}
 use Rattle.std.specs.declared.cmp.Ordering.{Ordering}

@@ -13,7 +13,7 @@ module _ {A : Type 0} (f : A → List ℕ) where
       ∙ ap (λ (t : List ℕ). now ++ t) (sym (next_is xs i d lt))
       ∙ left
 
-  -- the same of what an iterator has left
+  -- the same for what an iterator has left
   pub first_put : (left next : List A) (x : A) (now new all : List ℕ) → left ≡ x ∷ next → now ++ flat_map f left ≡ all → new ≡ now ++ f x → new ++ flat_map f next ≡ all
   first_put left next x now new all is h put =
       ap (λ (t : List ℕ). t ++ flat_map f next) put
@@ -30,7 +30,7 @@ module _ {A : Type 0} (f : A → List ℕ) where
 next : (now new piece left all : List ℕ) → now ++ (piece ++ left) ≡ all → new ≡ now ++ piece → new ++ left ≡ all
 next now new piece left all h put = ap (λ (t : List ℕ). t ++ left) put ∙ append_assoc now piece left ∙ h
 
--- eight pieces, put behind nothing
+-- eight pieces, put after nothing
 pub eight : (a b c d e f g h t0 t1 t2 t3 t4 t5 t6 t7 t8 : List ℕ) → t0 ≡ [] → t1 ≡ t0 ++ a → t2 ≡ t1 ++ b → t3 ≡ t2 ++ c → t4 ≡ t3 ++ d → t5 ≡ t4 ++ e → t6 ≡ t5 ++ f → t7 ≡ t6 ++ g → t8 ≡ t7 ++ h
     → t8 ≡ a ++ (b ++ (c ++ (d ++ (e ++ (f ++ (g ++ h))))))
 eight a b c d e f g h t0 t1 t2 t3 t4 t5 t6 t7 t8 e0 e1 e2 e3 e4 e5 e6 e7 e8 =

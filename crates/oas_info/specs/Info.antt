@@ -1,4 +1,4 @@
--- What is told of a layout.
+-- What is reported about a layout.
 use Rattle.std.specs.Prelude.{◌≡◌, length}
 use Rattle.oas_layout.specs.Meaning.{Meaning}
 use Rattle.oas_facts.specs.Facts.{AreFacts}

@@ -1,4 +1,4 @@
--- The JSON in which a layout's facts are told.
+-- A layout's facts as JSON.
 use Rattle.std.specs.Prelude.{ℕ, List, [], ◌∷◌, map, flat_map, codes}
 use Rattle.oas_num.specs.Ratio.{Ratio}
 use Rattle.oas_facts.specs.declared.group.Group.{Group}
@@ -13,7 +13,7 @@ use Rattle.oas_info.specs.declared.info.Info.{Info}
 abbrev pub counted : List ℕ → ℕ → Members → Members
 counted key n rest = member key (number (unsigned n)) rest
 
--- the strings in their order
+-- the strings in order
 abbrev pub strings : List (List ℕ) → Data
 strings names = array (items_of (map string names))
 
@@ -21,7 +21,7 @@ strings names = array (items_of (map string names))
 abbrev pub unit_data : Ratio → Data
 unit_data unit = object (counted (codes "den") unit.den (counted (codes "num") unit.num no_members))
 
--- how many elements of each kind there are, 0 of a kind that isn't there
+-- how many elements of each kind there are, 0 for a kind that isn't there
 abbrev pub kinds_data : List (Group × ℕ) → Data
 kinds_data groups =
     object
@@ -57,7 +57,7 @@ layers groups = flat_map (λ p. as_layer p.0 p.1) groups
 abbrev pub textlayers : List (Group × ℕ) → List Data
 textlayers groups = flat_map (λ p. as_textlayer p.0 p.1) groups
 
--- all facts; the members stand in the order of their keys
+-- all facts; the members are in the order of their keys
 abbrev pub info_data : Info → Data
 info_data i =
     object
@@ -72,6 +72,6 @@ info_data i =
     (member (codes "unplaced") (strings i.facts.unplaced.items)
     (counted (codes "weight") i.facts.weight no_members))))))))))
 
--- its text, with no space
+-- its text, without spaces
 abbrev pub info_json : Info → List ℕ
 info_json i = compact_text (info_data i)

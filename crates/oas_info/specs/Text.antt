@@ -1,15 +1,15 @@
--- The text in which a layout's facts are told.
+-- A layout's facts as text.
 use Rattle.std.specs.Prelude.{ℕ, List, [], ◌∷◌, ◌++◌, length, flat_map, codes, decimal}
 use Rattle.oas_num.specs.Ratio.{Ratio}
 use Rattle.oas_facts.specs.declared.group.Group.{Group}
 use Rattle.oas_facts.specs.declared.group.Group.TheVariants.{Placements, Texts, Rectangles, Polygons, Paths, Circles, Layer, TextLayer}
 use Rattle.oas_info.specs.declared.info.Info.{Info}
 
--- a field behind a space
+-- a field after a space
 abbrev pub behind_space : List ℕ → List ℕ
 behind_space field = 32 ∷ field
 
--- a number behind a space
+-- a number after a space
 abbrev pub spaced_number : ℕ → List ℕ
 spaced_number n = 32 ∷ decimal n
 
@@ -17,7 +17,7 @@ spaced_number n = 32 ∷ decimal n
 abbrev pub number_line : List ℕ → List ℕ → List ℕ
 number_line word numbers = (10 ∷ word) ++ flat_map spaced_number numbers
 
--- the same, of how many names there are, and then the names
+-- the same, with how many names there are, and then the names
 abbrev pub name_line : List ℕ → List (List ℕ) → List ℕ
 name_line word names = number_line word (length names ∷ []) ++ flat_map behind_space names
 

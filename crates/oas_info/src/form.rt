@@ -1,4 +1,4 @@
-//! The forms in which a layout's facts are told.
+//! The formats of a layout's facts.
 
 ghost use Rattle.std.specs.Prelude.{◌≡◌, IfOk};
 ghost use Rattle.oas_info.specs.Form.{form_text};
@@ -8,7 +8,7 @@ use crate::json::json_of;
 use crate::text::text_of;
 use std::alloc::{AllocError, Global};
 
-/// How a layout's facts are told.
+/// The format of a layout's facts.
 #[derive(Clone, Copy, Debug, PartialEq, Eq)]
 pub enum Form {
     /// A fact a line.
@@ -17,7 +17,7 @@ pub enum Form {
     Json,
 }
 
-/// What is told of a layout, in this form, without the last line's end.
+/// The facts of a layout, in this format, without the last line's end.
 pub fn text_in(alloc: Global, form: Form, info: &Info) -> Result<Vec<u8>, AllocError>
     ensures { IfOk result (λ text. text.items ≡ form_text form info.now) }
 {

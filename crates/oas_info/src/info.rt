@@ -1,4 +1,4 @@
-//! What is told of a layout.
+//! The facts of a layout with its size.
 
 ghost use Rattle.std.specs.Prelude.{◌≡◌, length, IfOk};
 ghost use Rattle.oas_layout.specs.Contents.{meaning_of};
@@ -25,8 +25,8 @@ fn canonical_size(layout: &Layout) -> u64
     put_canonical(layout, &mut Counter::new()).unwrap_or(0)
 }
 
-/// What is told of a layout. It goes over the elements once and over the distinct ones twice, and takes memory for groups and
-/// names.
+/// The facts of a layout, and how many bytes its canonical form has. It goes over the elements once and over the distinct
+/// ones twice, and allocates for groups and names.
 pub fn info_of(alloc: Global, layout: &Layout) -> Result<Info, AllocError>
     ensures { IfOk result (λ info. IsInfo (meaning_of layout.now) info) }
 {

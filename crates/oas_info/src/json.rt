@@ -1,4 +1,4 @@
-//! The JSON in which a layout's facts are told.
+//! A layout's facts as JSON.
 
 ghost use Rattle.std.specs.Prelude.{◌≡◌, ◌++◌, ◌∷◌, [], map, IfOk, OnOk};
 ghost use Rattle.oas_facts.specs.Groups.{number_of};
@@ -142,7 +142,7 @@ fn textlayers_value(alloc: Global, groups: &BTreeMap<Group, u64>) -> Result<Valu
     Ok(Value::Array(list))
 }
 
-/// Puts the members of the object that tells a layout into an empty one.
+/// Puts the members of the object into an empty one.
 fn put_members(
     members: &mut Map<String, Value>,
     alloc: Global,
@@ -170,7 +170,7 @@ fn put_members(
     put(members, alloc, "weight", Value::from(facts.weight))
 }
 
-/// What is told of a layout, as an object.
+/// The facts, as an object.
 fn info_value(alloc: Global, info: &Info) -> Result<Value, AllocError>
     ensures { IfOk result (λ value. view value ≡ info_data info.now) }
 {
@@ -179,7 +179,7 @@ fn info_value(alloc: Global, info: &Info) -> Result<Value, AllocError>
     Ok(Value::Object(members))
 }
 
-/// What is told of a layout, as the compact text of a JSON object.
+/// The facts, as the compact text of a JSON object.
 pub fn json_of(alloc: Global, info: &Info) -> Result<Vec<u8>, AllocError>
     ensures { IfOk result (λ text. text.items ≡ info_json info.now) }
 {

@@ -1,4 +1,4 @@
-//! The text in which a layout's facts are told.
+//! A layout's facts as text.
 
 ghost use Rattle.std.specs.Prelude.{◌≡◌, ◌++◌, [], flat_map, IfOk, OnOk};
 ghost use Rattle.oas_info.specs.Text.{behind_space, spaced_number, number_line, name_line, group_line, group_lines, unit_line, info_text};
@@ -10,7 +10,7 @@ use oas_num::{Fraction, Name};
 use std::alloc::{AllocError, Global};
 use std::collections::BTreeMap;
 
-/// Puts a field behind a space.
+/// Puts a field after a space.
 fn put_field(text: &mut Vec<u8>, field: &[u8]) -> Result<(), AllocError>
     ensures { OnOk result (text.new.items ≡ text.old.items ++ behind_space field.now) }
 {
@@ -18,14 +18,14 @@ fn put_field(text: &mut Vec<u8>, field: &[u8]) -> Result<(), AllocError>
     text.extend_from_slice(field)
 }
 
-/// Puts a number behind a space.
+/// Puts a number after a space.
 fn put_number(text: &mut Vec<u8>, number: u64) -> Result<(), AllocError>
     ensures { OnOk result (text.new.items ≡ text.old.items ++ spaced_number number) }
 {
     put_field(text, Buffer::new().format(number).as_bytes())
 }
 
-/// Puts numbers, each behind a space.
+/// Puts numbers, each after a space.
 fn put_numbers(text: &mut Vec<u8>, numbers: &[u64]) -> Result<(), AllocError>
     ensures { OnOk result (text.new.items ≡ text.old.items ++ flat_map spaced_number numbers.now) }
 {
@@ -35,7 +35,7 @@ fn put_numbers(text: &mut Vec<u8>, numbers: &[u64]) -> Result<(), AllocError>
     Ok(())
 }
 
-/// Puts names, each behind a space.
+/// Puts names, each after a space.
 fn put_names(text: &mut Vec<u8>, names: &[Name]) -> Result<(), AllocError>
     ensures { OnOk result (text.new.items ≡ text.old.items ++ flat_map behind_space names.now) }
 {
@@ -118,7 +118,7 @@ fn put_lines(text: &mut Vec<u8>, info: &Info) -> Result<(), AllocError>
     Ok(())
 }
 
-/// The text of what is told of a layout, without the last line's end.
+/// The facts as text, without the last line's end.
 pub fn text_of(alloc: Global, info: &Info) -> Result<Vec<u8>, AllocError>
     ensures { IfOk result (λ text. text.items ≡ info_text info.now) }
 {

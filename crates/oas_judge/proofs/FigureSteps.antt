@@ -1,4 +1,4 @@
--- How a judge of a file goes on by a polygon or a path that is at hand.
+-- How a judge of a file goes on with a polygon or a path that is at hand.
 use Rattle.std.proofs.Common.{◌≡◌, ℕ, ℤ, IsTrue, false, List, [], ◌∷◌, map, Option, None, Some, refl, sym, ap, subst, ◌∙◌, append-nil, arith}
 use Rattle.std.proofs.lemmas.Int.{ints}
 use Rattle.std.specs.Prelude.{pos, ◌+ℤ◌, ◌-ℤ◌, take}
@@ -13,18 +13,18 @@ use Rattle.oas_record.specs.declared.records.Record.{Record}
 use Rattle.oas_record.specs.declared.paths.Extension.{Extension}
 use Rattle.oas_record.specs.declared.paths.Extension.TheVariants.{Explicit, Modal, Flush, Half}
 use Rattle.oas_record.specs.declared.paths.Extensions.{Extensions}
-use Rattle.oas_ahead.specs.declared.figures.FigureAhead.{FigureAhead}
-use Rattle.oas_ahead.specs.Figures.{IsFigure, IsFigureAhead}
+use Rattle.oas_peek.specs.declared.figures.PeekedFigure.{PeekedFigure}
+use Rattle.oas_peek.specs.Figures.{IsFigure, IsPeekedFigure}
 use Rattle.oas_layout.specs.declared.element.Element.{Element}
 use Rattle.oas_layout.specs.declared.element.Element.TheVariants.{Polygon, Path}
-use Rattle.oas_drawing.specs.declared.drawn.Drawn.TheVariants.{Named}
-use Rattle.oas_drawing.specs.Drawing.{polygon_at, path_at}
-use Rattle.oas_form.specs.Bytes.{element_bytes}
-use Rattle.oas_form.specs.Records.{element_record, line_of, first_of, steps_from}
-use Rattle.oas_form.specs.declared.judging.FormJudge.{FormJudge}
-use Rattle.oas_form.specs.Judging.{GoesOnDrawing}
-use Rattle.oas_judge.specs.Ahead.{IsFigureBy}
-use Rattle.oas_judge.specs.FileJudges.{holds, GoesOnAhead}
+use Rattle.oas_runs.specs.oas_drawing.declared.drawn.Drawn.TheVariants.{Named}
+use Rattle.oas_runs.specs.oas_drawing.Drawing.{polygon_at, path_at}
+use Rattle.oas_runs.specs.oas_form.Bytes.{element_bytes}
+use Rattle.oas_runs.specs.oas_form.Records.{element_record, line_of, first_of, steps_from}
+use Rattle.oas_runs.specs.oas_form.declared.judging.FormJudge.{FormJudge}
+use Rattle.oas_runs.specs.oas_form.Judging.{GoesOnDrawing}
+use Rattle.oas_judge.specs.Peeked.{IsFigureBy}
+use Rattle.oas_judge.specs.FileJudges.{holds, GoesOnPeeked}
 use Rattle.oas_judge.specs.Own.{point_if, drawn_there, number_given, start_given, end_given, own_drawn}
 use Rattle.oas_judge.specs.declared.candidates.Candidate.TheVariants as candidates
 use Rattle.oas_judge.specs.declared.judge.FileJudge.{FileJudge}
@@ -139,28 +139,18 @@ path_so layer datatype half_width start end points None y repetition extensions 
 path_so layer datatype half_width start end points (Some x) None repetition extensions e first second plain is = absurd cc
 path_so layer datatype half_width start end points (Some x) (Some y) (Some repetition) extensions e first second plain is = absurd cc
 
--- ---- of either
+-- ---- for either
 
 figure_is : (r : Record) (e : Element) → IsFigure r → own_drawn r ≡ Some (Named e) → element_record e ≡ r
 figure_is (record_of.Polygon p) e figure is = polygon_so p.layer p.datatype p.points p.spot.x p.spot.y p.spot.repetition e figure.1 is
 figure_is (record_of.Path p) e figure is =
     path_so p.layer p.datatype p.half_width (start_given p.extensions) (end_given p.extensions) p.points p.spot.x p.spot.y p.spot.repetition p.extensions e refl refl figure.1 is
-figure_is record_of.Pad e figure is = absurd figure
-figure_is record_of.End e figure is = absurd figure
-figure_is (record_of.CellName name number) e figure is = absurd figure
-figure_is (record_of.TextString label number) e figure is = absurd figure
-figure_is (record_of.Cell cell) e figure is = absurd figure
-figure_is record_of.XyAbsolute e figure is = absurd figure
-figure_is record_of.XyRelative e figure is = absurd figure
-figure_is (record_of.Placement placed) e figure is = absurd figure
-figure_is (record_of.Text written) e figure is = absurd figure
-figure_is (record_of.Rectangle drawn) e figure is = absurd figure
-figure_is (record_of.Circle drawn) e figure is = absurd figure
+figure_is _ e figure is = absurd figure
 
 -- ---- a judge that holds
 
-pub figure_drawn : (j : FileJudge) (form : FormJudge) (ahead : FigureAhead) (e : Element) (all : List ℕ) → IsTrue (holds j) → IsFigureAhead all ahead → IsFigureBy j.profile ahead e
-    → ((bytes : List ℕ) → element_bytes e ≡ bytes → GoesOnDrawing j.form e bytes form) → GoesOnAhead (take ahead.length all) j ahead.record (record j { form = form })
+pub figure_drawn : (j : FileJudge) (form : FormJudge) (ahead : PeekedFigure) (e : Element) (all : List ℕ) → IsTrue (holds j) → IsPeekedFigure all ahead → IsFigureBy j.profile ahead e
+    → ((bytes : List ℕ) → element_bytes e ≡ bytes → GoesOnDrawing j.form e bytes form) → GoesOnPeeked (take ahead.length all) j ahead.record (record j { form = form })
 figure_drawn j form ahead e all told is by step = record {
   candidate = candidates.Element e;
   says = λ told. record { element = e; drawn = by.drawn; form = by.kept; fit = by.fit };

@@ -1,31 +1,33 @@
 -- A whole file: it is accepted, and the judge says whether it is a canonical form.
-use Rattle.std.proofs.Common.{◌≡◌, ◌↔◌, ℕ, Bool, true, false, IsTrue, List, [], ◌++◌, None, Result, Ok, Err, OnOk, IfOk, refl, sym, ap, subst, ◌∙◌, append_assoc}
+use Rattle.std.proofs.Common.{◌≡◌, ◌↔◌, ℕ, Bool, true, false, IsTrue, List, [], ◌++◌, None, refl, sym, ap, subst, ◌∙◌, append_assoc}
 use Rattle.std.specs.Prelude.{◌&&◌}
 use Rattle.std.proofs.lemmas.List.{append-nil}
 use Rattle.oas_num.specs.declared.refusals.Refusal.{Refusal}
 use Rattle.oas_num.specs.Ratio.{Ratio}
-use Rattle.oas_num.specs.Script.{Script, Takes, IsAtEnd}
-use Rattle.oas_num.proofs.ReadLemmas.{Takes-then}
+use Rattle.oas_num.specs.Script.{Script, Consumed, IsAtEnd}
+use Rattle.oas_num.proofs.ReadLemmas.{Consumed-then}
 use Rattle.oas_record.specs.declared.heads.Head.{Head}
 use Rattle.oas_layout.specs.declared.limits.Limits.{Limits}
 use Rattle.oas_layout.specs.declared.profile.Profile.{Profile}
-use Rattle.oas_layout.specs.Contents.{meaning_of}
+use Rattle.oas_layout.specs.Contents.{Cell, Contents, meaning_of, IsLayout}
 use Rattle.oas_layout.specs.Meaning.{Meaning}
 use Rattle.oas_layout.proofs.LawProofs.{symmetric}
-use Rattle.oas_modal.specs.Stores.{Store}
-use Rattle.oas_modal.specs.Stands.{ReaderState, StandsFor, records_mean, end_refusal}
-use Rattle.oas_file.specs.Acceptance.{Allowed, Accepted}
-use Rattle.oas_file.specs.Files.{FileOf}
-use Rattle.oas_file.specs.Gathering.{HasAll}
-use Rattle.oas_file.proofs.Ending.{file_all}
-use Rattle.oas_form.specs.Bytes.{end_bytes}
-use Rattle.oas_form.specs.Canonical.{CanonicalForm}
-use Rattle.oas_form.specs.Judging.{entry_records, entry_bytes, IsReadAs}
-use Rattle.oas_form.proofs.DrawnSound.{IsSoundMeaning, records_sound}
-use Rattle.oas_form.proofs.JudgeBytes.{bytes_judge}
-use Rattle.oas_runs.specs.declared.layout.CompactLayout.{CompactLayout}
+use Rattle.oas_runs.specs.oas_modal.Stores.{Store}
+use Rattle.oas_runs.specs.oas_modal.Stands.{ReaderState, Represents, records_mean, end_refusal}
+use Rattle.oas_runs.specs.oas_file.Acceptance.{Allowed, Accepted}
+use Rattle.oas_runs.specs.oas_file.Files.{FileOf}
+use Rattle.oas_runs.specs.oas_file.Gathering.{HasAll}
+use Rattle.oas_runs.proofs.oas_file_proofs.Ending.{file_all}
+use Rattle.oas_runs.specs.oas_form.Bytes.{end_bytes}
+use Rattle.oas_runs.specs.oas_form.Canonical.{CanonicalForm}
+use Rattle.oas_runs.specs.oas_form.Judging.{entry_records, entry_bytes, IsReadAs}
+use Rattle.oas_runs.proofs.oas_form_proofs.DrawnSound.{IsSoundMeaning, records_sound}
+use Rattle.oas_runs.proofs.oas_form_proofs.JudgeBytes.{bytes_judge}
+use Rattle.oas_runs.specs.declared.runs.CellRuns.{CellRuns}
+use Rattle.oas_runs.specs.Keyed.{keyed_cells}
+use Rattle.oas_runs.specs.Held.{AreSoundCells, HeldCells, cells_held, contents_of}
 use Rattle.oas_runs.specs.Counting.{AreSound, IsInOrder}
-use Rattle.oas_runs.proofs.OrderLemmas.{layout_of, same_layout, is_keyed}
+use Rattle.oas_runs.proofs.OrderLemmas.{layout_of, is_layout, same_layout, is_held, made_of, can_be_made}
 use Rattle.oas_judge.specs.declared.judge.FileJudge.{FileJudge}
 use Rattle.oas_judge.specs.FileJudges.{holds, BeginsJudging}
 use Rattle.oas_judge.specs.Judged.{HasBegun, HasSeenAll, IsJudged, IsReadAndJudged}
@@ -41,28 +43,23 @@ both_hold : (a b : Bool) → IsTrue (a && b) → IsTrue a × IsTrue b
 both_hold true b h = (refl, h)
 both_hold false b h = absurd cc
 
--- the front was judged, and a reader has no records
+-- the head was judged, and a reader has no records
 abbrev pub has_begun : {C : Type 0} {t : Store C} {profile : Profile} {old now : Script} {head : Head} {first : ReaderState C} {j : FileJudge} → BeginsJudging profile old head j now →
-    StandsFor t first [] → HasBegun t profile head now first j
+    Represents t first [] → HasBegun t profile head now first j
 has_begun {old = old} begun stands = record { origin = old; begun = begun; stands = stands }
 
 -- limits that are the reader's
 pub kept_within : {limits reader : Limits} {old new : Script} {refusal : Refusal} → reader ≡ limits → RefusesKept reader old refusal new → RefusesKept limits old refusal new
 kept_within {old = old} {new = new} {refusal = refusal} same r = subst (λ (l : Limits). RefusesKept l old refusal new) same r
 
--- what two clauses say of a call that succeeded
-pub both_ok : {T E A B : Type 0} {P Q : T → Type 0} (r : Result T E) → OnOk r A → (B → IfOk r P) → ((x : T) → A → (B → P x) → Q x) → IfOk r Q
-both_ok (Ok x) a p f = f x a p
-both_ok (Err e) a p f = tt
-
--- nothing stands behind END
+-- nothing follows END
 pub seen_to_end : {C : Type 0} {t : Store C} {profile : Profile} {head : Head} {start : List ℕ} {origin mid new : Script} {first s : ReaderState C} {k : FileJudge} {at : ℕ} →
-    HasSeenAll t profile head start origin first at mid s k → Takes mid [] new → HasSeenAll t profile head start origin first at new s k
+    HasSeenAll t profile head start origin first at mid s k → Consumed mid [] new → HasSeenAll t profile head start origin first at new s k
 seen_to_end {start = start} {origin = origin} {mid = mid} {new = new} m takes = record {
   entries = m.entries;
   last = m.last;
-  takes = subst (λ (bytes : List ℕ). Takes origin bytes new) (append-nil ((start ++ entry_bytes m.entries) ++ m.last))
-      (Takes-then origin mid new ((start ++ entry_bytes m.entries) ++ m.last) [] m.takes takes);
+  takes = subst (λ (bytes : List ℕ). Consumed origin bytes new) (append-nil ((start ++ entry_bytes m.entries) ++ m.last))
+      (Consumed-then origin mid new ((start ++ entry_bytes m.entries) ++ m.last) [] m.takes takes);
   each = m.each;
   end = m.end;
   place = m.place;
@@ -123,37 +120,51 @@ module _ {C : Type 0} {t : Store C} {profile : Profile} {head : Head} {now mid :
               says.1 (holding, sym parts.last_is ∙ sym (m.tied holding)),
         )
 
-    -- nothing stands behind it
-    module _ {new : Script} (takes : Takes mid [] new) (ended : IsAtEnd new) where
-      all_taken : Takes b.origin ((b.begun.start ++ entry_bytes m.entries) ++ m.last) new
-      all_taken = subst (λ (bytes : List ℕ). Takes b.origin bytes new) (append-nil ((b.begun.start ++ entry_bytes m.entries) ++ m.last))
-          (Takes-then b.origin mid new ((b.begun.start ++ entry_bytes m.entries) ++ m.last) [] m.takes takes)
+    -- nothing follows it
+    module _ {new : Script} (takes : Consumed mid [] new) (ended : IsAtEnd new) where
+      all_taken : Consumed b.origin ((b.begun.start ++ entry_bytes m.entries) ++ m.last) new
+      all_taken = subst (λ (bytes : List ℕ). Consumed b.origin bytes new) (append-nil ((b.begun.start ++ entry_bytes m.entries) ++ m.last))
+          (Consumed-then b.origin mid new ((b.begun.start ++ entry_bytes m.entries) ++ m.last) [] m.takes takes)
 
       pub judged : (answer : Bool) → IsTrue answer ↔ (IsTrue (holds k) × (end_bytes ≡ k.bytes.items)) → IsJudged limits profile b.origin answer new
       judged answer says = record { bytes = (b.begun.start ++ entry_bytes m.entries) ++ m.last; takes = all_taken; ended = ended; accepted = accepted; answer = told answer says }
 
-      -- and its layout, which is held as keys
-      pub read_judged : {kept_by : Profile} (c : CompactLayout) (answer : Bool) → first.unit ≡ head.unit →
-          (AreSound (records_mean s.unit (entry_records m.entries)).cells → IsInOrder kept_by c (records_mean s.unit (entry_records m.entries))) →
-          IsTrue answer ↔ (IsTrue (holds k) × (end_bytes ≡ k.bytes.items)) → IsReadAndJudged limits profile kept_by b.origin c answer new
-      read_judged {kept_by = kept_by} c answer unit order says =
-          let meant : Meaning = records_mean head.unit (entry_records m.entries) in
-          let sound : IsSoundMeaning limits meant = records_sound limits ((b.begun.start ++ entry_bytes m.entries) ++ m.last) accepted in
-          let ordered : AreSound meant.cells → IsInOrder kept_by c meant =
-          subst (λ (u : Ratio). AreSound (records_mean u (entry_records m.entries)).cells → IsInOrder kept_by c (records_mean u (entry_records m.entries))) (m.taken.same.unit ∙ unit) order in
-          record {
-            layout = layout_of kept_by limits meant;
-            keyed = is_keyed kept_by limits meant c sound (ordered sound.spellable.sound);
+    -- and its layout: the runs of its cells are made one by a profile
+    module _ {kept_by q : Profile} (c : CellRuns) (unit : first.unit ≡ head.unit)
+        (order : AreSound (records_mean s.unit (entry_records m.entries)).cells → IsInOrder kept_by c (records_mean s.unit (entry_records m.entries))) (by : q ≡ kept_by) where
+      abbrev meant : Meaning
+      meant = records_mean head.unit (entry_records m.entries)
+
+      sound : IsSoundMeaning limits meant
+      sound = records_sound limits ((b.begun.start ++ entry_bytes m.entries) ++ m.last) accepted
+
+      ordered : IsInOrder kept_by c meant
+      ordered = subst (λ (u : Ratio). AreSound (records_mean u (entry_records m.entries)).cells → IsInOrder kept_by c (records_mean u (entry_records m.entries))) (m.taken.same.unit ∙ unit) order sound.spellable.sound
+
+      pub held : HeldCells c.cells.entries
+      held = is_held kept_by meant c sound.spellable.sound ordered
+
+      pub layout : (h : HeldCells c.cells.entries) → IsLayout (contents_of c.unit limits q (cells_held h))
+      layout h = subst (λ (p : Profile). IsLayout (contents_of c.unit limits p (cells_held h))) (sym by) (can_be_made kept_by limits meant c sound ordered h)
+
+      pub read_judged : {new : Script} → Consumed mid [] new → IsAtEnd new → (l : Contents)
+          → ((cs : List Cell) → AreSoundCells cs → c.cells.entries ≡ keyed_cells cs → l ≡ contents_of c.unit limits q cs)
+          → (answer : Bool) → IsTrue answer ↔ (IsTrue (holds k) × (end_bytes ≡ k.bytes.items)) → IsReadAndJudged limits profile kept_by b.origin l answer new
+      read_judged {new = new} takes ended l made answer says =
+          let is : l ≡ layout_of kept_by limits meant =
+          made_of kept_by limits meant c l sound ordered (λ cs t e. made cs t e ∙ ap (λ (p : Profile). contents_of c.unit limits p cs) by) in
+          subst (λ (l : Contents). IsReadAndJudged limits profile kept_by b.origin l answer new) (sym is) (record {
             read = record {
               bytes = (b.begun.start ++ entry_bytes m.entries) ++ m.last;
-              takes = all_taken;
+              takes = all_taken takes ended;
               ended = ended;
               accepted = accepted;
               meaning = meant;
               means = record { head = head; records = entry_records m.entries; file = file; is = refl };
               same = symmetric kept_by (meaning_of (layout_of kept_by limits meant)) meant (same_layout kept_by limits meant);
+              layout = is_layout kept_by limits meant sound;
               within = refl;
               by = refl;
             };
             answer = told answer says;
-          }
+          })

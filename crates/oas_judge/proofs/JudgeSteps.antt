@@ -1,4 +1,4 @@
--- How a judge of a file goes on by one entry.
+-- How a judge of a file goes on with one entry.
 use Rattle.std.proofs.Common.{◌≡◌, ℕ, Bool, true, false, IsTrue, List, [], ◌∷◌, ◌++◌, reverse, refl, sym, subst, ◌∙◌, true≢false}
 use Rattle.std.specs.Prelude.{◌&&◌, take}
 use Rattle.std.specs.List.{AllByRecursion}
@@ -9,33 +9,33 @@ use Rattle.oas_record.specs.declared.references.CellRef.TheVariants.{Name as ByN
 use Rattle.oas_num.specs.Style.{Shortest}
 use Rattle.oas_record.specs.declared.rectangles.Rectangle.{Rectangle as OneRectangle}
 use Rattle.oas_record.specs.Records.{record_in}
-use Rattle.oas_ahead.specs.declared.rectangles.RectangleAhead.{RectangleAhead}
-use Rattle.oas_ahead.specs.Ahead.{IsAhead}
-use Rattle.oas_ahead.specs.declared.named.NamedAhead.{NamedAhead}
-use Rattle.oas_ahead.specs.declared.named.NamedOnce.{NamedOnce}
-use Rattle.oas_ahead.specs.declared.named.NamedOnce.TheVariants as once
-use Rattle.oas_ahead.specs.Named.{IsNamedAhead, named_record}
+use Rattle.oas_peek.specs.declared.rectangles.PeekedRectangle.{PeekedRectangle}
+use Rattle.oas_peek.specs.Peeked.{IsPeeked}
+use Rattle.oas_peek.specs.declared.named.PeekedNamed.{PeekedNamed}
+use Rattle.oas_peek.specs.declared.named.NamedOnce.{NamedOnce}
+use Rattle.oas_peek.specs.declared.named.NamedOnce.TheVariants as once
+use Rattle.oas_peek.specs.Named.{IsPeekedNamed, named_record}
 use Rattle.oas_layout.specs.declared.element.Element.{Element}
-use Rattle.oas_layout.specs.declared.element.Element.TheVariants.{Placement, Text, Rectangle, Polygon, Path, Circle}
+use Rattle.oas_layout.specs.declared.element.Element.TheVariants.{Placement, Text, Rectangle}
 use Rattle.oas_layout.specs.Same.{normal}
 use Rattle.oas_layout.specs.Sound.{IsSound, Fits}
-use Rattle.oas_form.specs.Bytes.{element_bytes}
-use Rattle.oas_form.specs.Records.{element_record}
-use Rattle.oas_form.proofs.JudgeRecords.{element_is_bytes}
-use Rattle.oas_judge.specs.Ahead.{IsSpelledBy, IsNamedBy}
+use Rattle.oas_runs.specs.oas_form.Bytes.{element_bytes}
+use Rattle.oas_runs.specs.oas_form.Records.{element_record}
+use Rattle.oas_runs.proofs.oas_form_proofs.JudgeRecords.{element_is_bytes}
+use Rattle.oas_judge.specs.Peeked.{IsSpelledBy, IsNamedBy}
 use Rattle.oas_judge.specs.Candidates.{IsDrawable}
 use Rattle.oas_layout.specs.declared.limits.Limits.{Limits}
 use Rattle.oas_layout.specs.declared.profile.Profile.{Profile}
-use Rattle.oas_drawing.specs.declared.drawn.Drawn.TheVariants.{Named}
-use Rattle.oas_drawing.specs.Drawing.{elements_at}
-use Rattle.oas_file.specs.Gathering.{inner_in}
-use Rattle.oas_form.specs.declared.judging.FormJudge.{FormJudge}
-use Rattle.oas_form.specs.Judging.{Entry, entry_records, AllMatch, AreRead, Stands, GoesOn as FormGoesOn, GoesOnDrawing, GoesOnRefusing}
-use Rattle.oas_form.proofs.JudgeBytes.{bytes_go_on}
+use Rattle.oas_runs.specs.oas_drawing.declared.drawn.Drawn.TheVariants.{Named}
+use Rattle.oas_runs.specs.oas_drawing.Drawing.{elements_at}
+use Rattle.oas_runs.specs.oas_file.Gathering.{inner_in}
+use Rattle.oas_runs.specs.oas_form.declared.judging.FormJudge.{FormJudge}
+use Rattle.oas_runs.specs.oas_form.Judging.{Entry, entry_records, AllMatch, AreRead, Stands, GoesOn as FormGoesOn, GoesOnDrawing, GoesOnRefusing}
+use Rattle.oas_runs.proofs.oas_form_proofs.JudgeBytes.{bytes_go_on}
 use Rattle.oas_judge.specs.declared.candidates.Candidate.{Candidate}
 use Rattle.oas_judge.specs.declared.candidates.Candidate.TheVariants as candidates
 use Rattle.oas_judge.specs.declared.judge.FileJudge.{FileJudge}
-use Rattle.oas_judge.specs.FileJudges.{holds, IsJudging, AreEntries, GoesOnBy, GoesOnAhead}
+use Rattle.oas_judge.specs.FileJudges.{holds, IsJudging, AreEntries, GoesOnBy, GoesOnPeeked}
 use Rattle.oas_judge.proofs.OwnLemmas.{own_draws}
 use Rattle.oas_judge.proofs.RightRecords.{RightCell, RightElement, read_front, absolute_so_far, right_next}
 
@@ -69,7 +69,7 @@ goes_on_failed known j candidate failed limits profile head start entries r byte
 
 -- ---- a judge that holds
 
--- where the front is canonical, the table-offsets stand in START
+-- where the head is canonical, the table-offsets are in START
 are_read : (limits : Limits) (head : Head) (entries : List Entry) → head.flag_in_end ≡ false → AreEntries limits head entries → AreRead limits entries
 are_read limits head entries flag read = record { each = subst (λ (in_end : Bool). AllByRecursion (λ e. inner_in in_end e.0 e.1) entries) flag read.each; allowed = read.allowed }
 
@@ -122,27 +122,17 @@ module _ (known : List ℕ) (j : FileJudge) (form : FormJudge) (told : IsTrue (h
 
 -- ---- a rectangle at hand
 
--- the element of a rectangle's record is kept as it is
+-- the element of a rectangle's record is kept unchanged
 kept_so : (e : Element) (r : OneRectangle) → element_record e ≡ record_of.Rectangle r → (profile : Profile) → e ≡ normal profile e
 kept_so (Rectangle layer datatype width height x y) r is profile = refl
-kept_so (Placement name x y turns flip) r is profile = absurd cc
-kept_so (Text string textlayer texttype x y) r is profile = absurd cc
-kept_so (Polygon layer datatype points) r is profile = absurd cc
-kept_so (Path layer datatype half_width start end points) r is profile = absurd cc
-kept_so (Circle layer datatype radius x y) r is profile = absurd cc
+kept_so e r is profile = absurd cc
 
 -- so is that of a placement's or a text's
 named_so : (e : Element) (next : NamedOnce) → element_record e ≡ named_record next → (profile : Profile) → e ≡ normal profile e
 named_so (Placement name x y turns flip) next is profile = refl
 named_so (Text string textlayer texttype x y) next is profile = refl
-named_so (Rectangle layer datatype width height x y) (once.Placement c quarters flip px py) is profile = absurd cc
-named_so (Rectangle layer datatype width height x y) (once.Text s textlayer texttype px py) is profile = absurd cc
-named_so (Polygon layer datatype points) (once.Placement c quarters flip px py) is profile = absurd cc
-named_so (Polygon layer datatype points) (once.Text s textlayer texttype px py) is profile = absurd cc
-named_so (Path layer datatype half_width start end points) (once.Placement c quarters flip px py) is profile = absurd cc
-named_so (Path layer datatype half_width start end points) (once.Text s textlayer texttype px py) is profile = absurd cc
-named_so (Circle layer datatype radius x y) (once.Placement c quarters flip px py) is profile = absurd cc
-named_so (Circle layer datatype radius x y) (once.Text s textlayer texttype px py) is profile = absurd cc
+named_so e (once.Placement c quarters flip px py) is profile = absurd cc
+named_so e (once.Text s textlayer texttype px py) is profile = absurd cc
 
 -- the bytes that spell it in the shortest style are the canonical ones
 pub bytes_so : (e : Element) (r : Record) (bytes : List ℕ) → element_record e ≡ r → IsDrawable e → Fits e → record_in Shortest false r bytes → element_bytes e ≡ bytes
@@ -152,23 +142,23 @@ bytes_so e r bytes is fit fits spelled =
     sym ((element_is_bytes e bytes sound fit.light).0 there)
 
 -- a judge that has failed
-pub ahead_failed : (known : List ℕ) (j : FileJudge) (r : Record) → holds j ≡ false → GoesOnAhead known j r j
-ahead_failed known j r failed = record { candidate = candidates.Other; says = λ told. absurd (true≢false (sym told ∙ failed)); goes_on = goes_on_failed known j candidates.Other failed }
+pub peeked_failed : (known : List ℕ) (j : FileJudge) (r : Record) → holds j ≡ false → GoesOnPeeked known j r j
+peeked_failed known j r failed = record { candidate = candidates.Other; says = λ told. absurd (true≢false (sym told ∙ failed)); goes_on = goes_on_failed known j candidates.Other failed }
 
 -- one that holds
-pub ahead_drawn : (j : FileJudge) (form : FormJudge) (ahead : RectangleAhead) (e : Element) (all : List ℕ) → IsTrue (holds j) → IsAhead all ahead → IsSpelledBy ahead e
-    → ((bytes : List ℕ) → element_bytes e ≡ bytes → GoesOnDrawing j.form e bytes form) → GoesOnAhead (take ahead.length all) j (record_of.Rectangle ahead.rectangle) (record j { form = form })
-ahead_drawn j form ahead e all told is spelled step = record {
+pub peeked_drawn : (j : FileJudge) (form : FormJudge) (ahead : PeekedRectangle) (e : Element) (all : List ℕ) → IsTrue (holds j) → IsPeeked all ahead → IsSpelledBy ahead e
+    → ((bytes : List ℕ) → element_bytes e ≡ bytes → GoesOnDrawing j.form e bytes form) → GoesOnPeeked (take ahead.length all) j (record_of.Rectangle ahead.rectangle) (record j { form = form })
+peeked_drawn j form ahead e all told is spelled step = record {
   candidate = candidates.Element e;
   says = λ told. record { element = e; drawn = spelled.drawn; form = kept_so e ahead.rectangle spelled.is j.profile; fit = spelled.fit };
   goes_on =
       goes_on_drawn (take ahead.length all) j form told e (step (take ahead.length all) (bytes_so e (record_of.Rectangle ahead.rectangle) (take ahead.length all) spelled.is spelled.fit spelled.fits (is.shortest spelled.shortest false)));
 }
 
--- of a placement or a text
-pub named_drawn : (j : FileJudge) (form : FormJudge) (ahead : NamedAhead) (e : Element) (all : List ℕ) → IsTrue (holds j) → IsNamedAhead all ahead → IsTrue ahead.shortest
+-- for a placement or a text
+pub named_drawn : (j : FileJudge) (form : FormJudge) (ahead : PeekedNamed) (e : Element) (all : List ℕ) → IsTrue (holds j) → IsPeekedNamed all ahead → IsTrue ahead.shortest
     → IsNamedBy ahead.element e → ((bytes : List ℕ) → element_bytes e ≡ bytes → GoesOnDrawing j.form e bytes form)
-    → GoesOnAhead (take ahead.length all) j (named_record ahead.element) (record j { form = form })
+    → GoesOnPeeked (take ahead.length all) j (named_record ahead.element) (record j { form = form })
 named_drawn j form ahead e all told is short named step = record {
   candidate = candidates.Element e;
   says = λ told. record { element = e; drawn = named.drawn; form = named_so e ahead.element named.is j.profile; fit = named.fit };

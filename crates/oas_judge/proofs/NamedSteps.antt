@@ -9,11 +9,11 @@ use Rattle.oas_layout.specs.declared.element.Turns.{Turns}
 use Rattle.oas_layout.specs.declared.element.Turns.TheVariants.{T0, T1, T2, T3}
 use Rattle.oas_layout.specs.Element.{turn_count}
 use Rattle.oas_layout.specs.Grid.{is_coordinate}
-use Rattle.oas_drawing.specs.Turns.{turned}
-use Rattle.oas_ahead.specs.declared.named.Given.TheVariants.{Bytes}
-use Rattle.oas_ahead.specs.declared.named.NamedOnce.{NamedOnce}
-use Rattle.oas_ahead.specs.declared.named.NamedOnce.TheVariants as once
-use Rattle.oas_judge.specs.Ahead.{IsNamedBy}
+use Rattle.oas_runs.specs.oas_drawing.Turns.{turned}
+use Rattle.oas_peek.specs.declared.named.Given.TheVariants.{Bytes}
+use Rattle.oas_peek.specs.declared.named.NamedOnce.{NamedOnce}
+use Rattle.oas_peek.specs.declared.named.NamedOnce.TheVariants as once
+use Rattle.oas_judge.specs.Peeked.{IsNamedBy}
 
 turned_back : (turns : Turns) → turned (Quarters (turn_count turns)) ≡ turns
 turned_back T0 = refl

@@ -22,17 +22,17 @@ use Rattle.oas_record.specs.declared.paths.Extensions.{Extensions}
 use Rattle.oas_record.specs.declared.records.Record.{Record}
 use Rattle.oas_record.specs.declared.records.Record.TheVariants as record_of
 use Rattle.oas_layout.specs.declared.element.Element.{Element}
-use Rattle.oas_layout.specs.declared.element.Element.TheVariants.{Placement, Text, Rectangle, Polygon, Path, Circle}
-use Rattle.oas_drawing.specs.declared.positions.Position.{Position}
-use Rattle.oas_drawing.specs.declared.drawn.Drawn.{Drawn}
-use Rattle.oas_drawing.specs.Turns.{turned}
-use Rattle.oas_drawing.specs.Values.{is_relative, extension_number, start_number, end_number}
-use Rattle.oas_drawing.specs.Modal.{ModalState, modal_of, moved_by, stepped}
-use Rattle.oas_drawing.specs.Drawing.{point_from, drawn_at, repeats, placement_at, text_at, rectangle_at, polygon_at, path_at, circle_at, offsets_if, offsets_of, copies_at, elements_at}
+use Rattle.oas_layout.specs.declared.element.Element.TheVariants.{Placement}
+use Rattle.oas_runs.specs.oas_drawing.declared.positions.Position.{Position}
+use Rattle.oas_runs.specs.oas_drawing.declared.drawn.Drawn.{Drawn}
+use Rattle.oas_runs.specs.oas_drawing.Turns.{turned}
+use Rattle.oas_runs.specs.oas_drawing.Values.{is_relative, extension_number, start_number, end_number}
+use Rattle.oas_runs.specs.oas_drawing.Modal.{ModalState, modal_of, moved_by, stepped}
+use Rattle.oas_runs.specs.oas_drawing.Drawing.{point_from, drawn_at, repeats, placement_at, text_at, rectangle_at, polygon_at, path_at, circle_at, offsets_if, offsets_of, copies_at, elements_at}
 use Rattle.oas_layout.specs.Grid.{is_grid_point}
-use Rattle.oas_drawing.proofs.Grids.{vertices_fault}
-use Rattle.oas_drawing.proofs.Steps.{modal_step}
-use Rattle.oas_form.specs.Records.{element_record}
+use Rattle.oas_runs.proofs.oas_drawing_proofs.Grids.{vertices_fault}
+use Rattle.oas_runs.proofs.oas_drawing_proofs.Steps.{modal_step}
+use Rattle.oas_runs.specs.oas_form.Records.{element_record}
 use Rattle.oas_judge.specs.Own.{is_memory, own_drawn, point_if, point_given, drawn_there, placement_if, turn_given, rectangle_if, number_given, start_given, end_given}
 
 plus_zero : (x : ℤ) → x +ℤ pos 0 ≡ x
@@ -55,7 +55,7 @@ there_by None y r at h = absurd cc
 there : (spot : Spot) (at : Point) → point_given spot ≡ Some at → IsThere spot at
 there spot at h = there_by spot.x spot.y spot.repetition at h
 
--- vertices that are refused, and not for want of memory
+-- vertices that are refused, and not out of memory
 pub off_grid : (why : Why) (points : List Point) → VerticesMay why points → is_memory why ≡ false → list_all is_grid_point points ≡ false
 off_grid why points may not = elim (vertices_fault why points may) [ inl e ↦ (let no : ◌≡◌ {A = Bool} false true = sym not ∙ ap is_memory e in absurd cc) | inr p ↦ p.1 ]
 
@@ -141,7 +141,7 @@ path_same None l' t t' w w' s s' e e' given_s given_e p p' at d is_s is_e h = ab
 
 -- ---- a record
 
--- it stands once, and draws this
+-- it has no repetition, and draws this
 record DrawsOnce (m : ModalState) (r : Record) (d : Drawn) : Type 0 where
   once : repeats r ≡ false
   drawn : drawn_at (stepped m r) r still ≡ Some d
@@ -196,13 +196,7 @@ draws_once m (record_of.Circle p) d absolute h =
       drawn = ap (circle_at (option_or p.layer m.layer) (option_or p.datatype m.datatype) (option_or p.radius m.radius)) (lands_in m.relative absolute t m.geometry)
           ∙ circle_same p.layer m.layer p.datatype m.datatype p.radius m.radius q.at d q.drawn;
     }
-draws_once m record_of.Pad d absolute h = absurd cc
-draws_once m record_of.End d absolute h = absurd cc
-draws_once m (record_of.CellName name number) d absolute h = absurd cc
-draws_once m (record_of.TextString label number) d absolute h = absurd cc
-draws_once m (record_of.Cell c) d absolute h = absurd cc
-draws_once m record_of.XyAbsolute d absolute h = absurd cc
-draws_once m record_of.XyRelative d absolute h = absurd cc
+draws_once m _ d absolute h = absurd cc
 
 -- what it draws after any records, where coordinates are absolute
 pub own_draws : (before : List Record) (r : Record) (d : Drawn) → is_relative before ≡ false → own_drawn r ≡ Some d → elements_at r before ≡ d ∷ []
@@ -216,8 +210,4 @@ own_draws before r d absolute h =
 -- the record of an element gives all its fields
 pub element_gives : (e : Element) → is_some (own_drawn (element_record e)) ≡ true
 element_gives (Placement name x y turns flip) = refl
-element_gives (Text string textlayer texttype x y) = refl
-element_gives (Rectangle layer datatype width height x y) = refl
-element_gives (Polygon layer datatype points) = refl
-element_gives (Path layer datatype half_width start end points) = refl
-element_gives (Circle layer datatype radius x y) = refl
+element_gives e = refl

@@ -7,30 +7,31 @@ use Rattle.oas_num.specs.declared.refusals.Why.TheVariants.{Memory}
 use Rattle.oas_num.specs.declared.refusals.Refusal.{Refusal}
 use Rattle.oas_num.specs.Grammar.{IsEach}
 use Rattle.oas_num.specs.Reading.{ReadsValue}
-use Rattle.oas_num.specs.Script.{Script, Takes}
+use Rattle.oas_num.specs.Script.{Script, Consumed}
 use Rattle.oas_num.specs.Style.{Any}
-use Rattle.oas_num.proofs.ReadLemmas.{Takes-then}
+use Rattle.oas_num.proofs.ReadLemmas.{Consumed-then}
 use Rattle.oas_record.specs.declared.heads.Head.{Head}
 use Rattle.oas_record.specs.declared.records.Record.{Record}
 use Rattle.oas_record.specs.Heads.{head_in}
 use Rattle.oas_layout.specs.declared.limits.Limits.{Limits}
 use Rattle.oas_layout.specs.declared.profile.Profile.{Profile}
-use Rattle.oas_modal.specs.Standing.{MayWant}
-use Rattle.oas_modal.specs.Stores.{Store}
-use Rattle.oas_modal.specs.Stands.{ReaderState, StandsFor, refusal as refusal_of}
-use Rattle.oas_file.specs.Files.{FrontOf}
-use Rattle.oas_file.specs.Gathering.{inner_in, HasGathered, HasTaken}
-use Rattle.oas_file.specs.Reading.{Refuses}
-use Rattle.oas_file.proofs.Fronts.{allowed_more}
-use Rattle.oas_file.proofs.SomePlaces.{record_long}
-use Rattle.oas_file.proofs.Taking.{gather_fails, gather_refuses}
+use Rattle.oas_runs.specs.oas_modal.Standing.{MayRunOut}
+use Rattle.oas_runs.specs.oas_modal.Stores.{Store}
+use Rattle.oas_runs.specs.oas_modal.Stands.{ReaderState, Represents, refusal as refusal_of}
+use Rattle.oas_runs.specs.oas_file.Deciding.{ForNext}
+use Rattle.oas_runs.specs.oas_file.Files.{PrefixOf}
+use Rattle.oas_runs.specs.oas_file.Gathering.{inner_in, HasGathered, HasTaken}
+use Rattle.oas_runs.specs.oas_file.Reading.{Refuses}
+use Rattle.oas_runs.proofs.oas_file_proofs.Fronts.{allowed_more}
+use Rattle.oas_runs.proofs.oas_file_proofs.SomePlaces.{record_long}
+use Rattle.oas_runs.proofs.oas_file_proofs.Taking.{gather_fails, gather_refuses}
 use Rattle.oas_record.specs.Records.{record_in, IsInner}
-use Rattle.oas_form.specs.Judging.{Entry, entry_records, entry_bytes}
-use Rattle.oas_form.proofs.JudgeRecords.{all_more}
+use Rattle.oas_runs.specs.oas_form.Judging.{Entry, entry_records, entry_bytes}
+use Rattle.oas_runs.proofs.oas_form_proofs.JudgeRecords.{all_more}
 use Rattle.oas_judge.specs.declared.candidates.Candidate.{Candidate}
 use Rattle.oas_judge.specs.declared.judge.FileJudge.{FileJudge}
 use Rattle.oas_judge.specs.Candidates.{IsCandidate}
-use Rattle.oas_judge.specs.FileJudges.{holds, IsJudging, GoesOn, GoesOnBy, GoesOnAhead}
+use Rattle.oas_judge.specs.FileJudges.{holds, IsJudging, GoesOn, GoesOnBy, GoesOnPeeked}
 use Rattle.oas_judge.specs.Judged.{HasBegun, HasSeen, HasSeenAll, SeesMore, SeesRefused, SeesEnd}
 use Rattle.oas_judge.specs.Kept.{RefusesKept, RefusesNext}
 use Rattle.oas_judge.specs.Spelled.{NextTaken}
@@ -50,9 +51,9 @@ bytes_with : (entries : List Entry) (e : Entry) → entry_bytes (entries ++ e �
 bytes_with [] e = append-nil e.1
 bytes_with (f ∷ fs) e = ap (λ (b : List ℕ). f.1 ++ b) (bytes_with fs e) ∙ sym (append_assoc f.1 (entry_bytes fs) e.1)
 
--- the front of a file, of its entries
+-- a prefix of a file, from its entries
 pub front_of : {head : Head} {start : List ℕ} (entries : List Entry) → head_in Any head start → AllByRecursion (λ e. inner_in head.flag_in_end e.0 e.1) entries →
-    FrontOf head (entry_records entries) (start ++ entry_bytes entries)
+    PrefixOf head (entry_records entries) (start ++ entry_bytes entries)
 front_of {head = head} {start = start} entries begun each = record {
   start = start;
   body = entry_bytes entries;
@@ -69,7 +70,7 @@ module _ {C : Type 0} {t : Store C} {profile : Profile} {head : Head} {now : Scr
   pub seen_none : HasSeen t profile head b.begun.start b.origin first now first j
   seen_none = record {
     entries = [];
-    takes = subst (λ (bytes : List ℕ). Takes b.origin bytes now) (sym (append-nil b.begun.start)) b.begun.takes;
+    takes = subst (λ (bytes : List ℕ). Consumed b.origin bytes now) (sym (append-nil b.begun.start)) b.begun.takes;
     each = tt;
     taken = record { stands = b.stands; allowed = tt; same = record { unit = refl; limits = refl; profile = refl } };
     judging = b.begun.judging;
@@ -85,16 +86,23 @@ module _ {C : Type 0} {t : Store C} {profile : Profile} {head : Head} {now : Scr
       taken = m.taken;
     }
 
-    -- neither a record nor END can be read, or memory is wanted
+    -- out of memory at what comes next
+    next_wants : {new : Script} (more : List ℕ) (refusal : Refusal) → refusal.why ≡ Memory → refusal.at ≡ mid.given → Consumed mid more new → RefusesKept first.limits b.origin refusal new
+    next_wants {new = new} more refusal is at takes =
+        let before = b.begun.start ++ entry_bytes m.entries in
+        let front = front_of m.entries b.begun.spelled m.each in
+        subst (λ (why : Why). RefusesKept first.limits b.origin (record { at = refusal.at; why = why }) new) (sym is)
+        (wants_memory first.limits b.origin new (before ++ more) refusal.at (Consumed-then b.origin mid new before more m.takes takes)
+        (λ fresh. ForNext more head (entry_records m.entries)
+        (record { before = before; front = front; allowed = m.taken.allowed; place = omega (arith, at, m.takes.given, fresh); joined = refl })))
+
+    -- neither a record nor END can be read, or out of memory
     pub next_fails : {new : Script} (refusal : Refusal) → RefusesNext head.flag_in_end mid refusal new → RefusesKept first.limits b.origin refusal new
     next_fails {new = new} refusal f =
         elim f.1 [
-          | inl wants ↦ memory_refuses refusal wants.0 (Takes-then b.origin mid new (b.begun.start ++ entry_bytes m.entries) wants.1.bytes m.takes wants.1.takes)
+          | inl wants ↦ next_wants wants.1.bytes refusal wants.0 f.0 wants.1.takes
           | inr fails ↦ as_kept (gather_fails gathered refusal f.0 fails)
-        ] where
-          memory_refuses : {bytes : List ℕ} (refusal : Refusal) → refusal.why ≡ Memory → Takes b.origin bytes new → RefusesKept first.limits b.origin refusal new
-          memory_refuses {bytes = bytes} refusal is takes =
-              subst (λ (why : Why). RefusesKept first.limits b.origin (record { at = refusal.at; why = why }) new) (sym is) (wants_memory first.limits b.origin new bytes refusal.at takes)
+        ]
 
     -- the judge after its bytes were taken anew
     module _ {l : FileJudge} (same : l ≡ record k { bytes = l.bytes }) where
@@ -109,7 +117,7 @@ module _ {C : Type 0} {t : Store C} {profile : Profile} {head : Head} {now : Scr
       seen_all {new = new} at is next = record {
         entries = m.entries;
         last = next.bytes;
-        takes = Takes-then b.origin mid new (b.begun.start ++ entry_bytes m.entries) next.bytes m.takes next.takes;
+        takes = Consumed-then b.origin mid new (b.begun.start ++ entry_bytes m.entries) next.bytes m.takes next.takes;
         each = m.each;
         end = next.spelled;
         place = is ∙ m.takes.given;
@@ -123,24 +131,22 @@ module _ {C : Type 0} {t : Store C} {profile : Profile} {head : Head} {now : Scr
         abbrev read : ReadsValue (inner_in head.flag_in_end) mid r new
         read = record { bytes = next.bytes; spelled = next.spelled; takes = next.takes }
 
-        both : Takes b.origin ((b.begun.start ++ entry_bytes m.entries) ++ next.bytes) new
-        both = Takes-then b.origin mid new (b.begun.start ++ entry_bytes m.entries) next.bytes m.takes next.takes
+        both : Consumed b.origin ((b.begun.start ++ entry_bytes m.entries) ++ next.bytes) new
+        both = Consumed-then b.origin mid new (b.begun.start ++ entry_bytes m.entries) next.bytes m.takes next.takes
 
-        -- memory is wanted for what it may be
-        pub candidate_fails : (refusal : Refusal) → refusal.why ≡ Memory → RefusesKept first.limits b.origin refusal new
-        candidate_fails refusal is =
-            subst (λ (why : Why). RefusesKept first.limits b.origin (record { at = refusal.at; why = why }) new) (sym is)
-            (wants_memory first.limits b.origin new ((b.begun.start ++ entry_bytes m.entries) ++ next.bytes) refusal.at both)
+        -- out of memory for what it may be
+        pub candidate_fails : (refusal : Refusal) → refusal.why ≡ Memory → refusal.at ≡ mid.given → RefusesKept first.limits b.origin refusal new
+        candidate_fails refusal is at = next_wants next.bytes refusal is at next.takes
 
         -- it is refused
         pub take_refused : (at : ℕ) (refusal : Refusal) → at ≡ mid.given →
-            (refusal.at ≡ at) × (((refusal.why ≡ Memory) × MayWant (refusal_of s.limits (entry_records m.entries) r)) ⊎ (refusal_of s.limits (entry_records m.entries) r ≡ Some refusal.why)) →
+            (refusal.at ≡ at) × (((refusal.why ≡ Memory) × MayRunOut (refusal_of s.limits (entry_records m.entries) r)) ⊎ (refusal_of s.limits (entry_records m.entries) r ≡ Some refusal.why)) →
             RefusesKept first.limits b.origin refusal new
         take_refused at refusal is e = as_kept (gather_refuses gathered read at refusal is e)
 
         -- it is taken and judged
         module _ (after : ReaderState C) (judged : FileJudge) (candidate : Candidate)
-            (taken : (refusal_of s.limits (entry_records m.entries) r ≡ None) × StandsFor t after (entry_records m.entries ++ r ∷ []))
+            (taken : (refusal_of s.limits (entry_records m.entries) r ≡ None) × Represents t after (entry_records m.entries ++ r ∷ []))
             (unit : after.unit ≡ s.unit) (limits : after.limits ≡ s.limits) (by : after.profile ≡ s.profile)
             (says : IsTrue (holds l) → IsCandidate l.profile candidate r) (goes_on : GoesOnBy known l candidate judged) where
           all_taken : HasTaken t first after (entry_records (m.entries ++ (r, next.bytes) ∷ []))
@@ -158,7 +164,7 @@ module _ {C : Type 0} {t : Store C} {profile : Profile} {head : Head} {now : Scr
           pub seen_more : HasSeen t profile head b.begun.start b.origin first new after judged
           seen_more = record {
             entries = m.entries ++ (r, next.bytes) ∷ [];
-            takes = subst (λ (bytes : List ℕ). Takes b.origin bytes new)
+            takes = subst (λ (bytes : List ℕ). Consumed b.origin bytes new)
                 (append_assoc b.begun.start (entry_bytes m.entries) next.bytes ∙ ap (λ (bytes : List ℕ). b.begun.start ++ bytes) (sym (bytes_with m.entries (r, next.bytes)))) both;
             each = all_each;
             taken = all_taken;
@@ -166,34 +172,34 @@ module _ {C : Type 0} {t : Store C} {profile : Profile} {head : Head} {now : Scr
                 (λ told. subst (λ (p : Profile). IsCandidate p candidate r) judging_so.by (says told)) (λ told. next.tied (sym holds_so ∙ told)) judging_so;
           }
 
--- ---- a record takes a byte at least
+-- ---- a record takes at least one byte
 
 pub next_grows : {keeps in_end : Bool} {mid new : Script} {r : Record} {kept : List ℕ} → NextTaken keeps in_end mid (Some r) kept new → mid.given < new.given
 next_grows next = omega (arith, record_long _ _ _ next.spelled.spelled, next.takes.given)
 
 -- ---- a record at hand
 
-module _ {mid new : Script} {known : List ℕ} {r : Record} (inner : IsInner r) (spelled : (in_end : Bool) → record_in Any in_end r known) (takes : Takes mid known new) where
-  next_ahead : (keeps in_end : Bool) → NextTaken keeps in_end mid (Some r) known new
-  next_ahead keeps in_end = record { bytes = known; spelled = record { holds = inner; spelled = spelled in_end }; takes = takes; tied = λ told. refl }
+module _ {mid new : Script} {known : List ℕ} {r : Record} (inner : IsInner r) (spelled : (in_end : Bool) → record_in Any in_end r known) (takes : Consumed mid known new) where
+  peek_next : (keeps in_end : Bool) → NextTaken keeps in_end mid (Some r) known new
+  peek_next keeps in_end = record { bytes = known; spelled = record { holds = inner; spelled = spelled in_end }; takes = takes; tied = λ told. refl }
 
-  pub ahead_grows : mid.given < new.given
-  ahead_grows = next_grows (next_ahead true true)
+  pub peeked_grows : mid.given < new.given
+  peeked_grows = next_grows (peek_next true true)
 
   module _ {C : Type 0} {t : Store C} {head : Head} {s : ReaderState C} {k : FileJudge} where
     -- it is refused
-    pub ahead_refused : (at : ℕ) (refusal : Refusal) → at ≡ mid.given
-        → ((rs : List Record) → StandsFor t s rs → (refusal.at ≡ at) × (((refusal.why ≡ Memory) × MayWant (refusal_of s.limits rs r)) ⊎ (refusal_of s.limits rs r ≡ Some refusal.why)))
+    pub peeked_refused : (at : ℕ) (refusal : Refusal) → at ≡ mid.given
+        → ((rs : List Record) → Represents t s rs → (refusal.at ≡ at) × (((refusal.why ≡ Memory) × MayRunOut (refusal_of s.limits rs r)) ⊎ (refusal_of s.limits rs r ≡ Some refusal.why)))
         → SeesRefused t head mid s k refusal new
-    ahead_refused at refusal place refused profile now first judge b m =
-        take_refused b m {l = k} refl (next_ahead (holds k) head.flag_in_end) at refusal place (refused _ m.taken.stands)
+    peeked_refused at refusal place refused profile now first judge b m =
+        take_refused b m {l = k} refl (peek_next (holds k) head.flag_in_end) at refusal place (refused _ m.taken.stands)
 
     -- it is taken and judged
-    pub ahead_seen : {after : ReaderState C} {judged : FileJudge}
-        → ((rs : List Record) → StandsFor t s rs → (refusal_of s.limits rs r ≡ None) × StandsFor t after (rs ++ r ∷ []))
-        → after.unit ≡ s.unit → after.limits ≡ s.limits → after.profile ≡ s.profile → GoesOnAhead known k r judged → SeesMore t head mid s k new after judged
-    ahead_seen {after} {judged} taken unit limits by g profile now first judge b m =
-        seen_more b m {l = k} refl (next_ahead (holds k) head.flag_in_end) after judged g.candidate (taken _ m.taken.stands) unit limits by g.says g.goes_on
+    pub peeked_seen : {after : ReaderState C} {judged : FileJudge}
+        → ((rs : List Record) → Represents t s rs → (refusal_of s.limits rs r ≡ None) × Represents t after (rs ++ r ∷ []))
+        → after.unit ≡ s.unit → after.limits ≡ s.limits → after.profile ≡ s.profile → GoesOnPeeked known k r judged → SeesMore t head mid s k new after judged
+    peeked_seen {after} {judged} taken unit limits by g profile now first judge b m =
+        seen_more b m {l = k} refl (peek_next (holds k) head.flag_in_end) after judged g.candidate (taken _ m.taken.stands) unit limits by g.says g.goes_on
 
 -- ---- one record
 
@@ -208,19 +214,19 @@ module _ {C : Type 0} {t : Store C} {head : Head} {mid new : Script} {s : Reader
   one_ends next profile now first judge b m = seen_all b m same mid.given refl next
 
   module _ {r : Record} (next : NextTaken (holds k) head.flag_in_end mid (Some r) l.bytes.items new) where
-    -- memory is wanted for what it may be
-    pub one_wants : (refusal : Refusal) → refusal.why ≡ Memory → SeesRefused t head mid s k refusal new
-    one_wants refusal is profile now first judge b m = candidate_fails b m same next refusal is
+    -- out of memory for what it may be
+    pub one_wants : (refusal : Refusal) → refusal.why ≡ Memory → refusal.at ≡ mid.given → SeesRefused t head mid s k refusal new
+    one_wants refusal is at profile now first judge b m = candidate_fails b m same next refusal is at
 
     -- it is refused
     pub one_refused : (at : ℕ) (refusal : Refusal) → at ≡ mid.given
-        → ((rs : List Record) → StandsFor t s rs → (refusal.at ≡ at) × (((refusal.why ≡ Memory) × MayWant (refusal_of s.limits rs r)) ⊎ (refusal_of s.limits rs r ≡ Some refusal.why)))
+        → ((rs : List Record) → Represents t s rs → (refusal.at ≡ at) × (((refusal.why ≡ Memory) × MayRunOut (refusal_of s.limits rs r)) ⊎ (refusal_of s.limits rs r ≡ Some refusal.why)))
         → SeesRefused t head mid s k refusal new
     one_refused at refusal place refused profile now first judge b m = take_refused b m same next at refusal place (refused _ m.taken.stands)
 
     -- it is taken and judged
     pub one_seen : {after : ReaderState C} {judged : FileJudge} (candidate : Candidate)
-        → ((rs : List Record) → StandsFor t s rs → (refusal_of s.limits rs r ≡ None) × StandsFor t after (rs ++ r ∷ []))
+        → ((rs : List Record) → Represents t s rs → (refusal_of s.limits rs r ≡ None) × Represents t after (rs ++ r ∷ []))
         → after.unit ≡ s.unit → after.limits ≡ s.limits → after.profile ≡ s.profile → (IsTrue (holds l) → IsCandidate l.profile candidate r) → GoesOn l candidate judged
         → SeesMore t head mid s k new after judged
     one_seen {after} {judged} candidate taken unit limits by says goes_on profile now first judge b m =

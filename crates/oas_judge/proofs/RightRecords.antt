@@ -11,27 +11,28 @@ use Rattle.oas_record.specs.declared.records.Record.TheVariants as record_of
 use Rattle.oas_record.specs.declared.references.CellRef.TheVariants as cell
 use Rattle.oas_record.specs.Records.{record_in, IsInner}
 use Rattle.oas_layout.specs.declared.element.Element.{Element}
-use Rattle.oas_layout.specs.declared.element.Element.TheVariants.{Placement, Text, Rectangle, Polygon, Path, Circle}
+use Rattle.oas_layout.specs.declared.element.Element.TheVariants.{Placement}
 use Rattle.oas_layout.specs.declared.limits.Limits.{Limits}
 use Rattle.oas_layout.specs.declared.profile.Profile.{Profile}
 use Rattle.oas_layout.specs.Same.{IsNormal}
 use Rattle.oas_layout.specs.Weight.{lacks_points}
-use Rattle.oas_drawing.specs.declared.drawn.Drawn.{Drawn}
-use Rattle.oas_drawing.specs.declared.drawn.Drawn.TheVariants.{Named}
-use Rattle.oas_drawing.specs.Drawing.{elements_at}
-use Rattle.oas_drawing.specs.Reasons.{first_of}
-use Rattle.oas_modal.specs.Stands as stands
-use Rattle.oas_modal.specs.Stands.{refused_after, weight_so_far_of}
-use Rattle.oas_form.specs.Records.{element_record}
-use Rattle.oas_form.specs.Judging.{Entry, entry_records, Judge, judge_of, Matches, AllMatch, AreRead}
-use Rattle.oas_form.proofs.FieldsGiven.{GivesFit}
-use Rattle.oas_form.proofs.DrawsSound.{IsSoundDrawn, draws_sound}
-use Rattle.oas_form.proofs.DrawnSound.{drawn_sound}
-use Rattle.oas_form.proofs.JudgeBytes.{bytes_go_on}
-use Rattle.oas_form.proofs.JudgeMatches.{all_shortest, AreShortestInOrder}
-use Rattle.oas_form.proofs.JudgeRecords.{all_more, records_more}
-use Rattle.oas_form.proofs.KindLemmas.{IsDrawn, plain_of}
-use Rattle.oas_form.proofs.MeantLemmas.{reverse-is, IsAbsolute, draws}
+use Rattle.oas_runs.specs.oas_drawing.declared.drawn.Drawn.{Drawn}
+use Rattle.oas_runs.specs.oas_drawing.declared.drawn.Drawn.TheVariants.{Named}
+use Rattle.oas_runs.specs.oas_drawing.Drawing.{elements_at}
+use Rattle.oas_runs.specs.oas_drawing.Reasons.{first_of}
+use Rattle.oas_runs.specs.oas_modal.Stands as stands
+use Rattle.oas_runs.specs.oas_modal.Stands.{refused_after, weight_so_far_of}
+use Rattle.oas_runs.specs.oas_form.Records.{element_record}
+use Rattle.oas_runs.specs.oas_form.Judging.{Entry, entry_records, Judge, judge_of, Matches, AllMatch, AreRead}
+use Rattle.oas_runs.proofs.oas_form_proofs.FieldsGiven.{GivenFieldsFit}
+use Rattle.oas_runs.proofs.oas_form_proofs.DrawsSound.{IsSoundDrawn, draws_sound}
+use Rattle.oas_runs.proofs.oas_form_proofs.DrawnSound.{drawn_sound}
+use Rattle.oas_runs.proofs.oas_form_proofs.JudgeBytes.{bytes_go_on}
+use Rattle.oas_runs.proofs.oas_form_proofs.JudgeMatches.{all_shortest, AreShortestInOrder}
+use Rattle.oas_runs.proofs.oas_form_proofs.JudgeRecords.{all_more, records_more}
+use Rattle.oas_runs.proofs.oas_form_proofs.KindLemmas.{IsDrawn}
+use Rattle.oas_runs.proofs.oas_form_proofs.AllKinds.{plain_of}
+use Rattle.oas_runs.proofs.oas_form_proofs.MeantLemmas.{reverse-is, IsAbsolute, draws}
 use Rattle.oas_judge.specs.Candidates.{IsShort, IsDrawable}
 use Rattle.oas_judge.specs.Own.{own_drawn}
 use Rattle.oas_judge.proofs.OwnLemmas.{own_draws, element_gives}
@@ -86,11 +87,7 @@ record_gives before e absolute points = by (own_drawn (element_record e)) refl (
 -- it is in its kept form
 matched_normal : (profile : Profile) (j : Judge) (bytes : List ℕ) (e : Element) → Matches profile j (element_record e) bytes (Named e ∷ []) → IsNormal profile e
 matched_normal profile j bytes (Placement name x y turns flip) m = m.1
-matched_normal profile j bytes (Text string textlayer texttype x y) m = m.1
-matched_normal profile j bytes (Rectangle layer datatype width height x y) m = m.1
-matched_normal profile j bytes (Polygon layer datatype points) m = m.1
-matched_normal profile j bytes (Path layer datatype half_width start end points) m = m.1
-matched_normal profile j bytes (Circle layer datatype radius x y) m = m.1
+matched_normal profile j bytes e m = m.1
 
 -- ---- the record
 
@@ -100,8 +97,8 @@ module _ (limits : Limits) (profile : Profile) (entries : List Entry) (x : Entry
   all = shortest limits profile (entries ++ x ∷ []) read ((bytes_go_on profile entries x).1 (m, here))
 
   -- newest first
-  given : AllByRecursion GivesFit (x.0 ∷ reverse (entry_records entries))
-  given = subst (AllByRecursion GivesFit) (sym (reverse-is (entry_records (entries ++ x ∷ []))) ∙ records_more entries x) all.given
+  given : AllByRecursion GivenFieldsFit (x.0 ∷ reverse (entry_records entries))
+  given = subst (AllByRecursion GivenFieldsFit) (sym (reverse-is (entry_records (entries ++ x ∷ []))) ∙ records_more entries x) all.given
 
   allowed : stands.Allowed limits (x.0 ∷ reverse (entry_records entries))
   allowed = subst (stands.Allowed limits) (records_more entries x) read.allowed

@@ -1,17 +1,17 @@
--- What a judge of a file stands for.
+-- What a judge of a file represents.
 use Rattle.std.specs.Prelude.{◌≡◌, ◌↔◌, ℕ, Bool, false, ◌&&◌, IsTrue, List, [], ◌∷◌, ◌++◌}
 use Rattle.std.specs.List.{AllByRecursion}
-use Rattle.oas_num.specs.Script.{Script, Takes}
+use Rattle.oas_num.specs.Script.{Script, Consumed}
 use Rattle.oas_num.specs.Style.{Any}
 use Rattle.oas_record.specs.declared.heads.Head.{Head}
 use Rattle.oas_record.specs.declared.records.Record.{Record}
 use Rattle.oas_record.specs.Heads.{head_in}
 use Rattle.oas_layout.specs.declared.limits.Limits.{Limits}
 use Rattle.oas_layout.specs.declared.profile.Profile.{Profile}
-use Rattle.oas_file.specs.Acceptance.{Allowed}
-use Rattle.oas_file.specs.Gathering.{inner_in}
-use Rattle.oas_form.specs.Bytes.{head_bytes}
-use Rattle.oas_form.specs.Judging.{Entry, entry_records, Stands}
+use Rattle.oas_runs.specs.oas_file.Acceptance.{Allowed}
+use Rattle.oas_runs.specs.oas_file.Gathering.{inner_in}
+use Rattle.oas_runs.specs.oas_form.Bytes.{head_bytes}
+use Rattle.oas_runs.specs.oas_form.Judging.{Entry, entry_records, Stands}
 use Rattle.oas_judge.specs.declared.candidates.Candidate.{Candidate}
 use Rattle.oas_judge.specs.declared.judge.FileJudge.{FileJudge}
 use Rattle.oas_judge.specs.Candidates.{IsCandidate}
@@ -20,30 +20,30 @@ use Rattle.oas_judge.specs.Candidates.{IsCandidate}
 abbrev pub holds : FileJudge → Bool
 holds j = j.begins && j.form.holds
 
--- the front has the canonical bytes
+-- the head has the canonical bytes
 pub record IsFront (head : Head) (start : List ℕ) : Type 0 where
   pub flag : head.flag_in_end ≡ false
   pub bytes : head_bytes head.unit ≡ start
 
--- it judges by this profile, and stands for a file that begins so, with these entries
+-- it judges by this profile, and represents a file with this head and these entries
 pub record IsJudging (profile : Profile) (j : FileJudge) (head : Head) (start : List ℕ) (entries : List Entry) : Type 0 where
   pub by : j.profile ≡ profile
   pub begins : IsTrue j.begins ↔ IsFront head start
   pub stands : IsTrue j.begins → Stands profile j.form entries
 
--- the front of a file was taken, and it stands for that alone
+-- the head of a file was taken, and it represents that alone
 pub record BeginsJudging (profile : Profile) (old : Script) (head : Head) (j : FileJudge) (new : Script) : Type 0 where
   pub start : List ℕ
   pub spelled : head_in Any head start
-  pub takes : Takes old start new
+  pub takes : Consumed old start new
   pub judging : IsJudging profile j head start []
 
--- these entries were read, of a file with this START, and are allowed
+-- these entries were read, in a file with this START, and are allowed
 pub record AreEntries (limits : Limits) (head : Head) (entries : List Entry) : Type 0 where
   pub each : AllByRecursion (λ e. inner_in head.flag_in_end e.0 e.1) entries
   pub allowed : Allowed limits (entry_records entries)
 
--- It stands for one entry more: a record of which the candidate was told, with these bytes.
+-- It represents one more entry: a record whose candidate it was given, with these bytes.
 abbrev pub GoesOnBy : List ℕ → FileJudge → Candidate → FileJudge → Type 0
 GoesOnBy known old candidate new = (limits : Limits) (profile : Profile) (head : Head) (start : List ℕ) (entries : List Entry) (r : Record) (bytes : List ℕ) →
     AreEntries limits head (entries ++ (r, bytes) ∷ []) → (IsTrue (holds old) → IsCandidate profile candidate r) → (IsTrue (holds old) → known ≡ bytes) →
@@ -53,8 +53,8 @@ GoesOnBy known old candidate new = (limits : Limits) (profile : Profile) (head :
 abbrev pub GoesOn : FileJudge → Candidate → FileJudge → Type 0
 GoesOn old candidate new = GoesOnBy old.bytes.items old candidate new
 
--- it stands for a record too that is at hand
-pub record GoesOnAhead (known : List ℕ) (old : FileJudge) (r : Record) (new : FileJudge) : Type 0 where
+-- it also represents a record that is at hand
+pub record GoesOnPeeked (known : List ℕ) (old : FileJudge) (r : Record) (new : FileJudge) : Type 0 where
   pub candidate : Candidate
   pub says : IsTrue (holds old) → IsCandidate old.profile candidate r
   pub goes_on : GoesOnBy known old candidate new

@@ -2,7 +2,7 @@
 use Rattle.std.specs.Prelude.{◌≡◌, ◌↔◌, ℕ, ◌+◌, ◌<◌, Bool, true, false, IsTrue, List, [], ◌++◌, length, Result, Ok, Err}
 use Rattle.std.specs.List.{AllByRecursion}
 use Rattle.oas_num.specs.declared.refusals.Refusal.{Refusal}
-use Rattle.oas_num.specs.Script.{Script, Takes, IsAtEnd}
+use Rattle.oas_num.specs.Script.{Script, Consumed, IsAtEnd}
 use Rattle.oas_num.specs.Style.{Any}
 use Rattle.oas_record.specs.declared.heads.Head.{Head}
 use Rattle.oas_record.specs.declared.records.Record.TheVariants.{End}
@@ -10,15 +10,13 @@ use Rattle.oas_record.specs.Records.{record_in}
 use Rattle.oas_layout.specs.declared.limits.Limits.{Limits}
 use Rattle.oas_layout.specs.declared.profile.Profile.{Profile}
 use Rattle.oas_layout.specs.Contents.{Contents}
-use Rattle.oas_modal.specs.Stores.{Store}
-use Rattle.oas_modal.specs.Stands.{ReaderState, StandsFor}
-use Rattle.oas_file.specs.Acceptance.{Accepted}
-use Rattle.oas_file.specs.Gathering.{inner_in, HasTaken}
-use Rattle.oas_file.specs.Reading.{IsRead}
-use Rattle.oas_form.specs.Canonical.{CanonicalForm}
-use Rattle.oas_form.specs.Judging.{Entry, entry_records, entry_bytes}
-use Rattle.oas_runs.specs.declared.layout.CompactLayout.{CompactLayout}
-use Rattle.oas_runs.specs.Keyed.{IsKeyed}
+use Rattle.oas_runs.specs.oas_modal.Stores.{Store}
+use Rattle.oas_runs.specs.oas_modal.Stands.{ReaderState, Represents}
+use Rattle.oas_runs.specs.oas_file.Acceptance.{Accepted}
+use Rattle.oas_runs.specs.oas_file.Gathering.{inner_in, HasTaken}
+use Rattle.oas_runs.specs.oas_file.Reading.{IsRead}
+use Rattle.oas_runs.specs.oas_form.Canonical.{CanonicalForm}
+use Rattle.oas_runs.specs.oas_form.Judging.{Entry, entry_records, entry_bytes}
 use Rattle.oas_judge.specs.declared.judge.FileJudge.{FileJudge}
 use Rattle.oas_judge.specs.FileJudges.{holds, IsJudging, BeginsJudging}
 use Rattle.oas_judge.specs.Kept.{RefusesKept}
@@ -26,25 +24,25 @@ use Rattle.oas_judge.specs.Kept.{RefusesKept}
 -- ---- all records
 
 module _ {C : Type 0} where
-  -- the front of a file that was judged, and a reader with no records
+  -- the head of a file that was judged, and a reader with no records
   pub record HasBegun (t : Store C) (profile : Profile) (head : Head) (now : Script) (s : ReaderState C) (j : FileJudge) : Type 0 where
     pub origin : Script
     pub begun : BeginsJudging profile origin head j now
-    pub stands : StandsFor t s []
+    pub stands : Represents t s []
 
-  -- the front and some entries were taken, and the judge stands for them
+  -- the head and some entries were taken, and the judge represents them
   pub record HasSeen (t : Store C) (profile : Profile) (head : Head) (start : List ℕ) (origin : Script) (first : ReaderState C) (now : Script) (s : ReaderState C) (j : FileJudge) : Type 0 where
     pub entries : List Entry
-    pub takes : Takes origin (start ++ entry_bytes entries) now
+    pub takes : Consumed origin (start ++ entry_bytes entries) now
     pub each : AllByRecursion (λ e. inner_in head.flag_in_end e.0 e.1) entries
     pub taken : HasTaken t first s (entry_records entries)
     pub judging : IsJudging profile j head start entries
 
-  -- the front, all entries and END were taken, which begins at that offset
+  -- the head, all entries and END were taken; END begins at that offset
   pub record HasSeenAll (t : Store C) (profile : Profile) (head : Head) (start : List ℕ) (origin : Script) (first : ReaderState C) (at : ℕ) (now : Script) (s : ReaderState C) (j : FileJudge) : Type 0 where
     pub entries : List Entry
     pub last : List ℕ
-    pub takes : Takes origin ((start ++ entry_bytes entries) ++ last) now
+    pub takes : Consumed origin ((start ++ entry_bytes entries) ++ last) now
     pub each : AllByRecursion (λ e. inner_in head.flag_in_end e.0 e.1) entries
     pub end : record_in Any head.flag_in_end End last
     pub place : at ≡ origin.given + length (start ++ entry_bytes entries)
@@ -59,7 +57,7 @@ module _ {C : Type 0} where
 -- ---- one record
 
 module _ {C : Type 0} where
-  -- in a read that has seen some entries it is one entry more
+  -- in a read that has seen some entries it is one more entry
   abbrev pub SeesMore : Store C → Head → Script → ReaderState C → FileJudge → Script → ReaderState C → FileJudge → Type 0
   SeesMore t head old s j new s' j' = (profile : Profile) (now : Script) (first : ReaderState C) (judge : FileJudge) (b : HasBegun t profile head now first judge)
       → HasSeen t profile head b.begun.start b.origin first old s j → HasSeen t profile head b.begun.start b.origin first new s' j'
@@ -81,24 +79,22 @@ module _ {C : Type 0} where
   JudgesOne t head old s j (Err refusal) new s' j' = SeesRefused t head old s j refusal new
 
   -- the next record was seen, which is at hand, or nothing was done
-  abbrev pub JudgesAhead : Store C → Head → Script → ReaderState C → FileJudge → Result Bool Refusal → Script → ReaderState C → FileJudge → Type 0
-  JudgesAhead t head old s j (Ok true) new s' j' = (old.given < new.given) × SeesMore t head old s j new s' j'
-  JudgesAhead t head old s j (Ok false) new s' j' = (new ≡ old) × (s' ≡ s) × (j' ≡ j)
-  JudgesAhead t head old s j (Err refusal) new s' j' = SeesRefused t head old s j refusal new
+  abbrev pub JudgesPeeked : Store C → Head → Script → ReaderState C → FileJudge → Result Bool Refusal → Script → ReaderState C → FileJudge → Type 0
+  JudgesPeeked t head old s j (Ok true) new s' j' = (old.given < new.given) × SeesMore t head old s j new s' j'
+  JudgesPeeked t head old s j (Ok false) new s' j' = (new ≡ old) × (s' ≡ s) × (j' ≡ j)
+  JudgesPeeked t head old s j (Err refusal) new s' j' = SeesRefused t head old s j refusal new
 
 -- ---- a file
 
--- an accepted file was taken to its end, and the answer is whether it is a canonical form
+-- an accepted file was taken to its end, and the result is whether it is a canonical form
 pub record IsJudged (limits : Limits) (profile : Profile) (old : Script) (yes : Bool) (new : Script) : Type 0 where
   pub bytes : List ℕ
-  pub takes : Takes old bytes new
+  pub takes : Consumed old bytes new
   pub ended : IsAtEnd new
   pub accepted : Accepted limits bytes
   pub answer : IsTrue yes ↔ CanonicalForm limits profile bytes
 
--- its layout was read too, and is held as keys
-pub record IsReadAndJudged (limits : Limits) (judged_by kept_by : Profile) (old : Script) (k : CompactLayout) (yes : Bool) (new : Script) : Type 0 where
-  pub layout : Contents
-  pub keyed : IsKeyed k layout
-  pub read : IsRead limits kept_by old layout new
+-- its layout was read too
+pub record IsReadAndJudged (limits : Limits) (judged_by kept_by : Profile) (old : Script) (l : Contents) (yes : Bool) (new : Script) : Type 0 where
+  pub read : IsRead limits kept_by old l new
   pub answer : IsTrue yes ↔ CanonicalForm limits judged_by read.bytes

@@ -1,10 +1,10 @@
 -- What is kept of a source.
-use Rattle.std.specs.Prelude.{◌≡◌, ◌≢◌, ◌≤◌, ℕ, Bool, List, Option, None, Some}
+use Rattle.std.specs.Prelude.{◌≡◌, ◌≢◌, ◌≤◌, ℕ, List}
 use Rattle.std.proofs.Props.{props}
 use base.Fml.{GName}
 use Rattle.oas_num.specs.declared.refusals.Why.{Why}
 use Rattle.oas_num.specs.declared.refusals.Why.TheVariants.{Read, Memory}
-use Rattle.oas_num.specs.Script.{Script, Rest, Gave, Takes, NoneLeft, IsAtEnd, HasFailed, IsTooLong}
+use Rattle.oas_num.specs.Script.{Script, Consumed, IsAtEnd, HasFailed, IsTooLong, Consumed-prop, IsAtEnd-prop, HasFailed-prop, IsTooLong-prop}
 use Rattle.oas_judge.specs.declared.keeping.Ending.{Ending}
 use Rattle.oas_judge.specs.declared.keeping.Ending.TheVariants as endings
 
@@ -19,32 +19,23 @@ EndsSo endings.TooLong s = IsTooLong s
 -- the source is the one that was handed in, and all that it gave since then is kept
 pub record IsKeeping (start : Script) (name same : GName) (now : Script) (kept : List ℕ) (ending : Ending) : Type 0 where
   pub same_source : same ≡ name
-  pub takes : Takes start kept now
+  pub takes : Consumed start kept now
   pub within : ending ≢ endings.Open → now.given ≤ now.limit
   pub ends : EndsSo ending now
 
--- a read that was refused for want of a byte, for which there was no room
+-- a read that failed for lack of a byte, for which there was no room
 abbrev pub reason_by : Ending → Why → Why
 reason_by endings.NoRoom Read = Memory
 reason_by ending why = why
 
--- ---- each of these has one proof at most
-
-Gave-prop : (old : Option Rest) (bytes : List ℕ) (new : Option Rest) → IsProp (Gave old bytes new)
-Gave-prop None bytes new = Prim.hlevel props
-Gave-prop (Some old) bytes None = Prim.hlevel props
-Gave-prop (Some old) bytes (Some new) = Prim.hlevel props
-
-NoneLeft-prop : (rest : Option Rest) (goes_on : Bool) → IsProp (NoneLeft rest goes_on)
-NoneLeft-prop None goes_on = Prim.hlevel props
-NoneLeft-prop (Some rest) goes_on = Prim.hlevel props
+-- ---- each of these has at most one proof
 
 EndsSo-prop : (ending : Ending) (s : Script) → IsProp (EndsSo ending s)
 EndsSo-prop endings.Open s = Prim.hlevel props
 EndsSo-prop endings.NoRoom s = Prim.hlevel props
-EndsSo-prop endings.Ended s = Prim.hlevel (NoneLeft-prop, props)
-EndsSo-prop endings.Failed s = Prim.hlevel (NoneLeft-prop, props)
-EndsSo-prop endings.TooLong s = Prim.hlevel (NoneLeft-prop, props)
+EndsSo-prop endings.Ended s = IsAtEnd-prop s
+EndsSo-prop endings.Failed s = HasFailed-prop s
+EndsSo-prop endings.TooLong s = IsTooLong-prop s
 
 pub IsKeeping-prop : (start : Script) (name same : GName) (now : Script) (kept : List ℕ) (ending : Ending) → IsProp (IsKeeping start name same now kept ending)
-IsKeeping-prop start name same now kept ending = Prim.hlevel (Gave-prop, EndsSo-prop, props)
+IsKeeping-prop start name same now kept ending = Prim.hlevel (Consumed-prop, EndsSo-prop, props)

@@ -3,7 +3,7 @@ use Rattle.std.specs.Prelude.{◌≡◌, ◌⊎◌, ℕ, Bool, List, Option, Ok}
 use Rattle.oas_num.specs.declared.refusals.Why.TheVariants.{Memory}
 use Rattle.oas_num.specs.declared.refusals.Refusal.{Refusal}
 use Rattle.oas_num.specs.Reading.{ReadsValue, FailsPiece}
-use Rattle.oas_num.specs.Script.{Script, Takes}
+use Rattle.oas_num.specs.Script.{Script, Consumed}
 use Rattle.oas_num.specs.Style.{Any}
 use Rattle.oas_record.specs.declared.heads.Head.{Head}
 use Rattle.oas_record.specs.declared.records.Record.{Record}
@@ -11,27 +11,27 @@ use Rattle.oas_record.specs.Heads.{head_in}
 use Rattle.oas_record.specs.Records.{record_in}
 use Rattle.oas_record.specs.Refusals.{RecordTook}
 use Rattle.oas_layout.specs.declared.limits.Limits.{Limits}
-use Rattle.oas_file.specs.Deciding.{IsReasoned}
-use Rattle.oas_file.specs.Gathering.{TakesNext}
-use Rattle.oas_file.specs.Reading.{IsRefused, IsPlaced}
+use Rattle.oas_runs.specs.oas_file.Deciding.{HasNoMemory, IsReasoned}
+use Rattle.oas_runs.specs.oas_file.Gathering.{ConsumesNext}
+use Rattle.oas_runs.specs.oas_file.Reading.{IsRefused, IsPlaced}
 
--- as reading refuses; but memory may be wanted for any byte, and so at a place that no bytes decide
+-- as reading refuses; but memory may run out for any byte, also where no bytes decide it
 abbrev pub RefusesKept : Limits → Script → Refusal → Script → Type 0
-RefusesKept limits old refusal new = IsRefused limits old refusal.why new × IsPlaced limits old refusal new × ((refusal.why ≡ Memory) ⊎ IsReasoned limits old refusal new)
+RefusesKept limits old refusal new = IsRefused limits old refusal.why new × IsPlaced limits old refusal new × (HasNoMemory limits old refusal new ⊎ IsReasoned limits old refusal new)
 
 -- the magic and START were read, and these bytes were taken
 abbrev pub HeadKept : Script → Head → List ℕ → Script → Type 0
-HeadKept old head kept new = ReadsValue (head_in Any) old head new × Takes old kept new
+HeadKept old head kept new = ReadsValue (head_in Any) old head new × Consumed old kept new
 
 -- a record was read, or END, and these bytes were taken
 abbrev pub NextKept : Bool → Script → Option Record → List ℕ → Script → Type 0
-NextKept in_end old next kept new = TakesNext in_end old (Ok next) new × Takes old kept new
+NextKept in_end old next kept new = ConsumesNext in_end old (Ok next) new × Consumed old kept new
 
 -- some bytes were taken
-pub record TakesSome (old new : Script) : Type 0 where
+pub record ConsumesSome (old new : Script) : Type 0 where
   pub bytes : List ℕ
-  pub takes : Takes old bytes new
+  pub takes : Consumed old bytes new
 
--- neither can be read, or memory is wanted
+-- neither can be read, or out of memory
 abbrev pub RefusesNext : Bool → Script → Refusal → Script → Type 0
-RefusesNext in_end old refusal new = (refusal.at ≡ old.given) × (((refusal.why ≡ Memory) × TakesSome old new) ⊎ FailsPiece (record_in Any in_end) (RecordTook in_end) old refusal.why new)
+RefusesNext in_end old refusal new = (refusal.at ≡ old.given) × (((refusal.why ≡ Memory) × ConsumesSome old new) ⊎ FailsPiece (record_in Any in_end) (RecordTook in_end) old refusal.why new)

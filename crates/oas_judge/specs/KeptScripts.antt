@@ -6,7 +6,7 @@ use Rattle.oas_num.specs.Script.{Script}
 use Rattle.oas_judge.specs.declared.keeping.Ending.{Ending}
 use Rattle.oas_judge.specs.declared.keeping.Ending.TheVariants as endings
 
--- what every call answers once there is an ending
+-- what every call returns once an ending is found
 abbrev pub settled_by : Ending → Option (Result (Option ℕ) SourceFault)
 settled_by endings.Open = None
 settled_by endings.Ended = Some (Ok None)
@@ -14,14 +14,15 @@ settled_by endings.Failed = Some (Err Device)
 settled_by endings.NoRoom = Some (Err Device)
 settled_by endings.TooLong = Some (Err TooLong)
 
--- a growth that was refused is a failure too
+-- an allocation that failed is a failure too
 abbrev pub refused_by : Ending → ℕ
 refused_by endings.NoRoom = 1
 refused_by _ = 0
 
--- it gives what the source gives, and fails where there is no memory, too
+-- it gives what the source gives, and also fails where there is no memory
 abbrev pub kept_script : Script → Ending → Script
 kept_script s ending = record {
+  history = s.history;
   given = s.given;
   limit = s.limit;
   reliable = false;

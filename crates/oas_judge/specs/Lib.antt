@@ -6,4 +6,7 @@ pub mod Spelled
 pub mod Candidates
 pub mod FileJudges
 pub mod Judged
-pub mod Ahead
+pub mod Peeked
+pub use Rattle.oas_runs.specs.oas_file
+pub use Rattle.oas_runs.specs.oas_form
+pub use Rattle.oas_runs.specs as oas_runs

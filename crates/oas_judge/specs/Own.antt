@@ -1,5 +1,5 @@
--- What an element record draws by its own fields alone: a record that takes a value from a modal variable, or stands more than
--- once, draws nothing so.
+-- What an element record draws by its own fields alone: a record that takes a value from a modal variable, or has a
+-- repetition, draws nothing in this way.
 use Rattle.std.specs.Prelude.{◌≡◌, ℕ, ℤ, Bool, true, false, List, Option, None, Some}
 use Rattle.std.specs.List.{list_all}
 use Rattle.oas_num.specs.declared.refusals.Why.{Why}
@@ -18,10 +18,10 @@ use Rattle.oas_record.specs.declared.records.Record.TheVariants as record_of
 use Rattle.oas_layout.specs.declared.element.Turns.{Turns}
 use Rattle.oas_layout.specs.declared.element.Element.{Element}
 use Rattle.oas_layout.specs.Grid.{is_grid_point, fits_grid}
-use Rattle.oas_drawing.specs.declared.drawn.Drawn.{Drawn}
-use Rattle.oas_drawing.specs.declared.drawn.Drawn.TheVariants.{Named}
-use Rattle.oas_drawing.specs.Turns.{turned}
-use Rattle.oas_drawing.specs.Drawing.{placement_at, text_at, rectangle_at, polygon_at, path_at, circle_at}
+use Rattle.oas_runs.specs.oas_drawing.declared.drawn.Drawn.{Drawn}
+use Rattle.oas_runs.specs.oas_drawing.declared.drawn.Drawn.TheVariants.{Named}
+use Rattle.oas_runs.specs.oas_drawing.Turns.{turned}
+use Rattle.oas_runs.specs.oas_drawing.Drawing.{placement_at, text_at, rectangle_at, polygon_at, path_at, circle_at}
 
 -- a place that is given whole, without a repetition
 abbrev pub point_if : Option ℤ → Option ℤ → Option RepField → Option Point
@@ -72,12 +72,12 @@ own_drawn (record_of.Path p) = drawn_there (point_given p.spot) (path_at p.layer
 own_drawn (record_of.Circle c) = drawn_there (point_given c.spot) (circle_at c.layer c.datatype c.radius)
 own_drawn _ = None
 
--- it is this element; or it is none that lies within the grid
+-- it is this element; or it is none within the grid
 abbrev pub IsOwn : Option Element → Option Drawn → Type 0
 IsOwn (Some e) drawn = drawn ≡ Some (Named e)
 IsOwn None drawn = (e : Element) → drawn ≡ Some (Named e) → fits_grid e ≡ true → ⊥
 
--- these are the vertices, or one of them lies outside the grid
+-- these are the vertices, or one of them is outside the grid
 abbrev pub AreVertices : Option (List Point) → List Point → Type 0
 AreVertices (Some points) vertices = points ≡ vertices
 AreVertices None vertices = list_all is_grid_point vertices ≡ false
@@ -87,7 +87,7 @@ abbrev pub ArePair : Option (ℤ × ℤ) → Option ℤ → Option ℤ → Type 
 ArePair (Some both) start end = (start ≡ Some both.0) × (end ≡ Some both.1)
 ArePair None start end = (s e : ℤ) → start ≡ Some s → end ≡ Some e → ⊥
 
--- memory is wanted
+-- out of memory
 abbrev pub is_memory : Why → Bool
 is_memory Memory = true
 is_memory _ = false

@@ -1,4 +1,4 @@
-//! What a record may be in a canonical file, seen from the record alone.
+//! What a record may be in a canonical file, from the record alone.
 ghost use Rattle.std.specs.Prelude.{◌↔◌, IsTrue, IfOk};
 ghost use Rattle.oas_record.specs.declared.records.Record.TheVariants.{Cell as OneCell};
 ghost use Rattle.oas_layout.specs.declared.profile.Profile.{Profile as OneProfile};
@@ -18,20 +18,20 @@ pub(crate) const HEAVIEST: u64 = 1 << 30;
 pub(crate) enum Candidate {
     /// A CELL by its name.
     Cell(Name),
-    /// One that draws an element, of which this is the form in which the profile keeps it.
+    /// A record that draws an element; this is the form in which the profile keeps it.
     Element(Element),
     /// No canonical file has such a record.
     Other,
 }
 
-/// Whether any limits allow so long a name.
+/// Whether any limits allow a name this long.
 fn is_short(name: &Name) -> bool
     ensures { IsTrue result ↔ IsShort name.now }
 {
     name.as_bytes().len() as u64 <= HEAVIEST
 }
 
-/// Whether an element has its points, lies within the grid, and weighs no more than any limits allow.
+/// Whether an element has its points, is within the grid, and weighs no more than any limits allow.
 pub(crate) fn is_drawable(element: &Element) -> bool
     ensures { IsTrue result ↔ IsDrawable element.now }
 {

@@ -1,24 +1,24 @@
-//! Whether a file is canonical, and reading one that is judged as it is read.
+//! Whether a file is canonical, and reading a file that is judged as it is read.
 ghost use Rattle.std.specs.Prelude.{◌≡◌, ◌↔◌, Bool, IsTrue, OnOk, IfOk, IfErr};
 ghost use Rattle.oas_num.specs.Script.{Script, IsAtEnd};
 ghost use Rattle.oas_layout.specs.declared.profile.Profile.{Profile as OneProfile};
-ghost use Rattle.oas_form.specs.Bytes.{end_bytes};
+ghost use Rattle.oas_runs.specs.oas_form.Bytes.{end_bytes};
 ghost use Rattle.oas_judge.specs.FileJudges.{holds, BeginsJudging};
 ghost use Rattle.oas_judge.specs.Judged.{JudgesRecords, IsJudged, IsReadAndJudged};
 ghost use Rattle.oas_judge.specs.Kept.{RefusesKept};
 
 use crate::judge::FileJudge;
 use crate::records::judge_records;
-use oas_compact::{CompactCell, KeptBy};
-use oas_file::find_end_of_input;
 use oas_layout::{Limits, Profile};
-use oas_modal::{CellStore, CountedCell, Reader};
 use oas_num::{Refusal, Source};
 use oas_record::Head;
+use oas_runs::oas_compact::{CompactCell, KeptBy};
+use oas_runs::oas_file::find_end_of_input;
+use oas_runs::oas_modal::{CellStore, CountedCell, Reader};
 use oas_runs::{CompactLayout, finish_compact};
 use std::alloc::Global;
 
-/// Has the reader take the records up to END, and the judge see them, and finds the end of the input. Answers END's offset.
+/// Gives the reader, and shows the judge, the records up to END, and finds the end of the input. Returns END's offset.
 fn judge_to_end<S: Source, C: CellStore>(
     alloc: Global,
     source: &mut S,
@@ -34,7 +34,7 @@ fn judge_to_end<S: Source, C: CellStore>(
     Ok(end)
 }
 
-/// Accepts what stands behind the front of a file, which the judge sees.
+/// Accepts what follows the head of a file, which the judge sees.
 fn accept_behind<S: Source>(
     alloc: Global,
     source: &mut S,
@@ -52,7 +52,7 @@ fn accept_behind<S: Source>(
     reader.finish_counting(end)
 }
 
-/// Reads what stands behind the front of a file, which the judge sees.
+/// Reads what follows the head of a file, which the judge sees.
 fn read_behind<S: Source, P: KeptBy>(
     alloc: Global,
     source: &mut S,
@@ -60,20 +60,23 @@ fn read_behind<S: Source, P: KeptBy>(
     limits: Limits,
     judge: &mut FileJudge,
 ) -> Result<CompactLayout, Refusal>
+    requires { (judged_by : OneProfile) × (origin : Script) × BeginsJudging judged_by origin head judge.old (S.script source.old) }
     ensures read { (judged_by : OneProfile) (origin : Script) → BeginsJudging judged_by origin head judge.old (S.script source.old) →
         IfOk result (λ k. (yes : Bool) → IsTrue yes ↔ (IsTrue (holds judge.new) × (end_bytes ≡ judge.new.bytes.items)) → IsReadAndJudged limits judged_by P.profile origin k yes (S.script source.new)) }
     ensures refused { (judged_by : OneProfile) (origin : Script) → BeginsJudging judged_by origin head judge.old (S.script source.old) → IfErr result (λ refusal. RefusesKept limits origin refusal (S.script source.new)) }
 {
     let mut reader: Reader<CompactCell<P>> = Reader::new(alloc, head.unit, limits, P::profile());
     let end = judge_to_end(alloc, source, head, &mut reader, judge)?;
-    finish_compact(alloc, reader, end)
+    let runs = finish_compact(alloc, reader, end)?;
+    Ok(CompactLayout::of(runs, limits, P::profile()))
 }
 
 /// Whether what a source gives is an accepted file that is canonical by the profile.
 ///
-/// Each record is accepted and judged as it is read: nothing of the file is kept but names, numbers, and of each cell how often
-/// it uses a number; and while the file may be canonical the latest name, element and record. So memory does not grow with the
-/// elements. A file is refused as [`accept_file`](oas_file::accept_file) refuses it, but that memory may be wanted at any byte.
+/// Each record is accepted and judged as it is read. Of the file only names, numbers, and for each cell how often it uses a
+/// number are kept; and, while the file may be canonical, the latest name, element and record. So memory does not grow with
+/// the elements. A file is refused as [`accept_file`](oas_file::accept_file) refuses it, except that memory may run out at
+/// any byte.
 pub fn is_canonical<S: Source>(
     alloc: Global,
     source: &mut S,
@@ -91,8 +94,8 @@ pub fn is_canonical<S: Source>(
 /// Reads the layout of what a source gives, as keys of elements as the profile of `P` keeps them, and whether the file is
 /// canonical by the profile `judged_by`.
 ///
-/// The bytes are not kept. A file is refused as [`read_compact`](oas_runs::read_compact) refuses it, but that memory may be
-/// wanted at any byte.
+/// The bytes are not kept. A file is refused as [`read_compact`](oas_runs::read_compact) refuses it, except that memory may
+/// run out at any byte.
 pub fn read_judged<S: Source, P: KeptBy>(
     alloc: Global,
     source: &mut S,

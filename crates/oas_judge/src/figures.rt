@@ -2,15 +2,15 @@
 ghost use Rattle.std.specs.Prelude.{◌≡◌, true, false, IfSome};
 ghost use Rattle.oas_layout.specs.Same.{normal};
 ghost use Rattle.oas_layout.specs.Weight.{lacks_points};
-ghost use Rattle.oas_judge.specs.Ahead.{IsFigureBy};
+ghost use Rattle.oas_judge.specs.Peeked.{IsFigureBy};
 
 use crate::candidates::is_drawable;
 use crate::own::own_element;
-use oas_ahead::FigureAhead;
 use oas_layout::{Element, Profile};
+use oas_peek::PeekedFigure;
 use std::alloc::Global;
 
-/// Whether the profile keeps an element as it stands; false, too, where memory is refused.
+/// Whether the profile keeps an element unchanged; false also if out of memory.
 fn is_kept(alloc: Global, profile: Profile, element: &Element) -> bool
     requires { lacks_points element.now ≡ false }
     ensures { result ≡ true → element.now ≡ normal profile element.now }
@@ -18,12 +18,12 @@ fn is_kept(alloc: Global, profile: Profile, element: &Element) -> bool
     matches!(element.kept_form(alloc, profile), Ok(None))
 }
 
-/// The element of a polygon or a path that is at hand, where its bytes are the canonical ones of that; None, too, where memory is
-/// refused.
+/// The element of a polygon or a path that is at hand, where its bytes are the canonical ones of that; None also if out of
+/// memory.
 pub(crate) fn spelled_figure(
     alloc: Global,
     profile: Profile,
-    ahead: &FigureAhead,
+    ahead: &PeekedFigure,
 ) -> Option<Element>
     ensures { IfSome result (λ element. IsFigureBy profile ahead.now element) }
 {

@@ -2,13 +2,13 @@
 ghost use Rattle.std.specs.Prelude.{◌≡◌, ◌↔◌, IsTrue, true, false, take, [], ℕ, List, IfSome, OnOk, IfOk, IfErr};
 ghost use Rattle.oas_num.specs.declared.refusals.Why.TheVariants.{Memory as NoMemory};
 ghost use Rattle.oas_layout.specs.declared.limits.Limits.{Limits};
-ghost use Rattle.oas_form.specs.Bytes.{end_bytes};
+ghost use Rattle.oas_runs.specs.oas_form.Bytes.{end_bytes};
 ghost use Rattle.oas_judge.specs.Candidates.{IsCandidate, IsFitting};
-ghost use Rattle.oas_judge.specs.FileJudges.{holds, BeginsJudging, GoesOn, IsFront, IsJudging, GoesOnAhead};
-ghost use Rattle.oas_judge.specs.Ahead.{IsSpelledBy};
-ghost use Rattle.oas_ahead.specs.Ahead.{IsAhead};
-ghost use Rattle.oas_ahead.specs.Named.{IsNamedAhead, GivesName, named_record};
-ghost use Rattle.oas_ahead.specs.Figures.{IsFigureAhead};
+ghost use Rattle.oas_judge.specs.FileJudges.{holds, BeginsJudging, GoesOn, IsFront, IsJudging, GoesOnPeeked};
+ghost use Rattle.oas_judge.specs.Peeked.{IsSpelledBy};
+ghost use Rattle.oas_peek.specs.Peeked.{IsPeeked};
+ghost use Rattle.oas_peek.specs.Named.{IsPeekedNamed, HasValidName, named_record};
+ghost use Rattle.oas_peek.specs.Figures.{IsPeekedFigure};
 ghost use Rattle.oas_record.specs.declared.records.Record.TheVariants.{Rectangle as OneRectangle};
 ghost use Rattle.oas_judge.specs.Kept.{RefusesKept, RefusesNext};
 ghost use Rattle.oas_judge.specs.Spelled.{NextTaken};
@@ -18,30 +18,30 @@ use crate::figures::spelled_figure;
 use crate::named::draw_named;
 use crate::own::own_rectangle;
 use crate::spelled::{read_head_spelled, take_record_spelled};
-use oas_ahead::{FigureAhead, NamedAhead, RectangleAhead};
-use oas_file::take_record;
-use oas_form::{FormJudge, is_end, is_head};
 use oas_layout::{Element, Profile};
 use oas_num::{Fraction, Refusal, Source, Why};
+use oas_peek::{PeekedFigure, PeekedNamed, PeekedRectangle};
 use oas_record::{Head, Record};
+use oas_runs::oas_file::take_record;
+use oas_runs::oas_form::{FormJudge, is_end, is_head};
 use std::alloc::Global;
 use std::mem;
 
 /// Judges whether a file is canonical by a profile, part by part as these are read.
 ///
 /// It keeps the name of the open cell and the latest element in it, and the bytes of one part at a time. Once a part isn't as
-/// in a canonical file it keeps no bytes more.
+/// in a canonical file it keeps no more bytes.
 #[derive(Drop)]
 pub(crate) struct FileJudge {
     profile: Profile,
-    /// Whether the front of the file is as in a canonical one.
+    /// Whether the head of the file is as in a canonical one.
     begins: bool,
     form: FormJudge,
     /// The bytes of the latest part.
     bytes: Vec<u8>,
 }
 
-/// Whether these are the canonical bytes of the front of a file.
+/// Whether these are the canonical bytes of the head of a file.
 fn is_front(unit: Fraction, flag_in_end: bool, bytes: &[u8]) -> bool
     ensures { IsTrue result ↔ IsFront (record { unit = unit; flag_in_end = flag_in_end }) bytes.now }
 {
@@ -49,7 +49,7 @@ fn is_front(unit: Fraction, flag_in_end: bool, bytes: &[u8]) -> bool
 }
 
 /// The element of a rectangle that is at hand, where its bytes are the canonical ones of that.
-fn spelled_element(ahead: &RectangleAhead) -> Option<Element>
+fn spelled_element(ahead: &PeekedRectangle) -> Option<Element>
     ensures { IfSome result (λ element. IsSpelledBy ahead.now element) }
 {
     if !ahead.shortest {
@@ -61,7 +61,7 @@ fn spelled_element(ahead: &RectangleAhead) -> Option<Element>
 }
 
 impl FileJudge {
-    /// Reads the front of a file, and begins to judge it.
+    /// Reads the head of a file, and begins to judge it.
     pub(crate) fn begin<S: Source>(
         alloc: Global,
         source: &mut S,
@@ -137,11 +137,11 @@ impl FileJudge {
         }
     }
 
-    /// Judges a rectangle that is at hand, if it is accepted. It answers false, and does nothing, where the bytes have to be
-    /// compared with the canonical ones to know.
-    pub(crate) fn judge_rectangle(&mut self, ahead: &RectangleAhead) -> bool
+    /// Judges a rectangle that is at hand, if it is accepted. It returns false, and does nothing, where it would have to
+    /// compare the bytes with the canonical ones.
+    pub(crate) fn judge_rectangle(&mut self, ahead: &PeekedRectangle) -> bool
         ensures no { result ≡ false → self.new ≡ self.old }
-        ensures yes { result ≡ true → (all : List ℕ) → IsAhead all ahead.now → GoesOnAhead (take ahead.now.length all) self.old (OneRectangle ahead.now.rectangle) self.new }
+        ensures yes { result ≡ true → (all : List ℕ) → IsPeeked all ahead.now → GoesOnPeeked (take ahead.now.length all) self.old (OneRectangle ahead.now.rectangle) self.new }
     {
         if !self.holds() {
             return true;
@@ -153,12 +153,12 @@ impl FileJudge {
         true
     }
 
-    /// Judges a placement or a text that is at hand, if it is accepted. It answers false, and does nothing, where the bytes have to
-    /// be compared with the canonical ones to know.
-    pub(crate) fn judge_named(&mut self, ahead: &NamedAhead<'_>) -> bool
-        requires { GivesName ahead.now.element }
+    /// Judges a placement or a text that is at hand, if it is accepted. It returns false, and does nothing, where it would
+    /// have to compare the bytes with the canonical ones.
+    pub(crate) fn judge_named(&mut self, ahead: &PeekedNamed<'_>) -> bool
+        requires { HasValidName ahead.now.element }
         ensures no { result ≡ false → self.new ≡ self.old }
-        ensures yes { result ≡ true → (all : List ℕ) → IsNamedAhead all ahead.now → GoesOnAhead (take ahead.now.length all) self.old (named_record ahead.now.element) self.new }
+        ensures yes { result ≡ true → (all : List ℕ) → IsPeekedNamed all ahead.now → GoesOnPeeked (take ahead.now.length all) self.old (named_record ahead.now.element) self.new }
     {
         if !self.holds() {
             return true;
@@ -166,11 +166,11 @@ impl FileJudge {
         ahead.shortest && draw_named(&mut self.form, &ahead.element)
     }
 
-    /// Judges a polygon or a path that is at hand, if it is accepted. It answers false, and does nothing, where the bytes have to be
-    /// compared with the canonical ones to know, or memory is refused.
-    pub(crate) fn judge_figure(&mut self, alloc: Global, ahead: &FigureAhead) -> bool
+    /// Judges a polygon or a path that is at hand, if it is accepted. It returns false, and does nothing, where it would have
+    /// to compare the bytes with the canonical ones, or if out of memory.
+    pub(crate) fn judge_figure(&mut self, alloc: Global, ahead: &PeekedFigure) -> bool
         ensures no { result ≡ false → self.new ≡ self.old }
-        ensures yes { result ≡ true → (all : List ℕ) → IsFigureAhead all ahead.now → GoesOnAhead (take ahead.now.length all) self.old ahead.now.record self.new }
+        ensures yes { result ≡ true → (all : List ℕ) → IsPeekedFigure all ahead.now → GoesOnPeeked (take ahead.now.length all) self.old ahead.now.record self.new }
     {
         if !self.holds() {
             return true;

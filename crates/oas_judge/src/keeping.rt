@@ -5,13 +5,13 @@ ghost use Rattle.oas_judge.specs.Keeping.{IsKeeping, IsKeeping-prop, reason_by};
 ghost use Rattle.oas_layout.specs.declared.limits.Limits.{Limits};
 ghost use Rattle.oas_judge.specs.Kept.{HeadKept, NextKept, RefusesKept, RefusesNext};
 
-use oas_file::take_record;
 use oas_num::{Refusal, Source, SourceFault, Why};
 use oas_record::{Head, Record, read_head};
+use oas_runs::oas_file::take_record;
 use std::alloc::{AllocError, Global};
 use std::marker::{Brand, PhantomData};
 
-/// Which source it is whose bytes are kept, and where it stood before the first of them. Each use picks it.
+/// Which source's bytes are kept, and where it was before the first of them. Each use chooses it.
 trait Start {
     ghost use Rattle.oas_num.specs.Script.{Script};
     ghost use base.Fml.{GName};
@@ -35,17 +35,17 @@ impl Start for Brand {
 enum Ending {
     /// They have not ended.
     Open,
-    /// The source had no byte more.
+    /// The source had no more bytes.
     Ended,
     /// The source's device failed.
     Failed,
-    /// A byte stands after the source's limit.
+    /// There is a byte after the source's limit.
     TooLong,
-    /// No memory was there to keep a byte more.
+    /// There was no memory to keep one more byte.
     NoRoom,
 }
 
-/// The bytes of a borrowed source, which are kept. Where one more can't be kept its device has failed.
+/// The bytes of a borrowed source, which are kept. Where one more can't be kept it fails like a device.
 #[derive(Drop)]
 struct KeepingSource<'a, S: Source, K: Start> {
     source: &'a mut S,
@@ -99,8 +99,8 @@ impl<'a, S: Source, K: Start> Source for KeepingSource<'a, S, K> {
     fn skip(&mut self, _count: usize) {}
 }
 
-/// Why a read was refused, in place of what the reader of such a source says: where a byte couldn't be kept it was for want
-/// of memory, and not by the device.
+/// Why a read was refused, in place of what the reader of such a source says: where a byte couldn't be kept it was out of
+/// memory, and not the device.
 fn reason(ending: Ending, why: Why) -> Why
     ensures { result ≡ reason_by ending why }
 {
@@ -124,7 +124,8 @@ fn emptied(mut room: Vec<u8>) -> Result<Vec<u8>, AllocError>
     Ok(room)
 }
 
-/// Reads the front of a file, and answers its bytes too, in the memory that it is handed.
+/// Reads the head of a file, and returns its bytes too, in the memory that it is handed.
+#[tactic(auto, using(crate::proofs::KeptLemmas::wants_first))]
 pub(crate) fn read_head_kept<S: Source>(
     alloc: Global,
     source: &mut S,
@@ -145,7 +146,7 @@ pub(crate) fn read_head_kept<S: Source>(
     }
 }
 
-/// The same, of the source that is named. It hands the borrow back, so that its lender knows it for its own.
+/// The same, for the source that is named. It hands the borrow back, so that its lender knows it as its own.
 fn read_head_named<'a, S: Source, K: Start>(
     alloc: Global,
     source: &'a mut S,
@@ -182,7 +183,7 @@ fn read_head_named<'a, S: Source, K: Start>(
     (read, source)
 }
 
-/// Takes the next record, or END, and answers its bytes too, in the memory that it is handed.
+/// Takes the next record, or END, and returns its bytes too, in the memory that it is handed.
 pub(crate) fn take_record_kept<S: Source>(
     alloc: Global,
     source: &mut S,
@@ -204,7 +205,7 @@ pub(crate) fn take_record_kept<S: Source>(
     }
 }
 
-/// The same, of the source that is named.
+/// The same, for the source that is named.
 fn take_record_named<'a, S: Source, K: Start>(
     alloc: Global,
     source: &'a mut S,

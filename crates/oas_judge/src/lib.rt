@@ -2,17 +2,55 @@
 //!
 //! What this crate promises to the crates above it:
 //!
-//! - [`is_canonical`] answers whether an accepted file is a canonical form by the profile that it is handed, whatever the source
-//!   (`IsJudged`, specs/Judged.antt). It makes no layout, and keeps names, numbers and counts, and one record at a time.
-//! - [`read_judged`] answers that and, in the same pass, the layout as runs of keys (oas_runs), as another profile keeps it
+//! - [`is_canonical`] returns whether an accepted file is a canonical form by the profile that it is handed, whatever the
+//!   source (`IsJudged`, specs/Judged.antt). It builds no layout, and keeps names, numbers and counts, and one record at a
+//!   time.
+//! - [`read_judged`] returns that and, in the same pass, the layout as runs of keys (oas_runs), as another profile keeps it
 //!   (`IsReadAndJudged`).
-//! - Both refuse as `read_layout` of oas_file does, but that memory may be wanted at any byte (`RefusesKept`, specs/Kept.antt).
+//! - Both refuse as `read_layout` of oas_file does, except that memory may run out at any byte (`RefusesKept`,
+//!   specs/Kept.antt), at the offset of the current part (`HasNoMemory` of oas_file).
 //!
 //! A record in the shortest style gives all its fields, so what it draws is a function of the record alone (`own_drawn`,
-//! specs/Own.antt), and what it may be in a canonical file is too (`IsCandidate`, specs/Candidates.antt). Where coordinates are
-//! absolute it is what the record draws after any records (`own_draws`, proofs/OwnLemmas.antt). The bytes that spell a record
-//! are read with it (`NextIs`, specs/Spelled.antt), and a judge of oas_form compares them with the canonical ones
+//! specs/Own.antt), and so is what it may be in a canonical file (`IsCandidate`, specs/Candidates.antt). Where coordinates
+//! are absolute it is what the record draws after any records (`own_draws`, proofs/OwnLemmas.antt). The bytes that spell a
+//! record are read with it (`NextIs`, specs/Spelled.antt), and a judge of oas_form compares them with the canonical ones
 //! (`IsJudging`, specs/FileJudges.antt).
+//!
+//! # How it is built
+//!
+//! - src/own.rt, specs/Own.antt: the element that a record gives by its own fields. proofs/OwnLemmas.antt: where
+//!   coordinates are absolute it is what the record draws after any records (`own_draws`), and the record of each element
+//!   gives all its fields (`element_gives`).
+//! - src/candidates.rt: what a record may be in a canonical file: a CELL by its name, an element in its kept form, or
+//!   nothing.
+//! - src/keeping.rt: the bytes of a part of the file, by a source that keeps the bytes of another as it gives them. If there
+//!   is no memory for one more byte it fails like a device, and `reason` then returns `Memory` in place of `Read`. Its script
+//!   is that of the source below (`kept_script`, specs/KeptScripts.antt), except that it may fail. Its invariant is that the
+//!   source took just the bytes that are kept (`IsKeeping`), and that there is room for the next one. A contract can't name
+//!   what a borrow pointed to when the wrapper was made, so the wrapper has a type parameter (`Start`) that says which source
+//!   it is and where it was.
+//! - src/spelled.rt: the bytes that spell a record. For an unknown source `Consumed` gives a reader only the number of its
+//!   bytes; those of a slice are known, so they spell what is read from them. So a record is read from the slice of what the
+//!   source has at hand (`read_at_hand`, `ahead` of oas_bytes), and then as many bytes of it are taken (`skip`). Where it
+//!   can't be read there, mostly since the slice ends within it, the source gives its bytes through src/keeping.rt, and those
+//!   that were kept are read once more (`take_record_reread`); so is the head of a file. A try reads no byte after the
+//!   record, and no record is tried twice. So however little a source has at hand, the tries read no more bytes than the file
+//!   has.
+//! - src/judge.rt: the judge of a file, a `FormJudge` of oas_form with the bytes of the latest part. src/records.rt: the
+//!   loop, over any stores. An element at hand is taken the faster way (`next_at_hand`): where it is spelled in the shortest
+//!   style its bytes are the canonical ones of its element, by a law of oas_form, so none is compared or kept; where it
+//!   isn't, it is read and judged like every record. So is a placement or a text that follows an element of another kind
+//!   (src/named.rt), and a polygon that the profile keeps in another form (src/figures.rt; proofs/FigureSteps.antt: the steps
+//!   between the vertices of a plain list are that list). src/checking.rt: the two calls.
+//!
+//! How the proof goes. `HasSeen` (specs/Judged.antt) is the loop's invariant: the entries so far, that the reader represents
+//! their records, and that the judge represents them (`IsJudging`, specs/FileJudges.antt). A step of the judge is one of
+//! oas_form's laws (`judge_represents`). In a file that is canonical so far coordinates are absolute, so a record draws what it
+//! gives (proofs/JudgeSteps.antt). A record that matches is a CELL by its name or gives an element in its kept form
+//! (`right_next`, proofs/RightRecords.antt), so one for which neither holds fails. A judge that has failed stays failed
+//! (`stays_failed`). At the end the entries are the whole file, which by oas_form's `BytesJudge` is a canonical form exactly
+//! if the judge holds (proofs/FileLemmas.antt). The layout that is held as keys beside that result is that of the same bytes,
+//! by the lemmas with which oas_runs proves it for `read_compact` (`read_judged`, in the same file).
 #![tactic(auto)]
 
 mod candidates;
@@ -25,4 +63,7 @@ mod own;
 mod records;
 mod spelled;
 
+// The crates below, for those above.
 pub use checking::{is_canonical, read_judged};
+pub use oas_runs;
+pub use oas_runs::{oas_compact, oas_file, oas_form};

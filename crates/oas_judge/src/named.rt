@@ -1,20 +1,20 @@
 //! A placement or a text that is at hand, in the cell that is judged.
 ghost use Rattle.std.specs.Prelude.{◌≡◌, true, false, List, ℕ, Some, IfSome};
-ghost use Rattle.oas_ahead.specs.Named.{GivesName};
+ghost use Rattle.oas_peek.specs.Named.{HasValidName};
 ghost use Rattle.oas_layout.specs.Element.{turn_count};
 ghost use Rattle.oas_layout.specs.Grid.{is_coordinate};
 ghost use Rattle.oas_layout.specs.declared.element.Element.{Element as OneElement};
-ghost use Rattle.oas_form.specs.Bytes.{element_bytes};
-ghost use Rattle.oas_form.specs.Judging.{GoesOnDrawing};
-ghost use Rattle.oas_judge.specs.Ahead.{IsNamedBy};
+ghost use Rattle.oas_runs.specs.oas_form.Bytes.{element_bytes};
+ghost use Rattle.oas_runs.specs.oas_form.Judging.{GoesOnDrawing};
+ghost use Rattle.oas_judge.specs.Peeked.{IsNamedBy};
 
 use crate::candidates::HEAVIEST;
 use crate::own::FURTHEST;
-use oas_ahead::{Given, NamedOnce};
-use oas_form::FormJudge;
 use oas_layout::Turns;
+use oas_peek::{Given, NamedOnce};
+use oas_runs::oas_form::FormJudge;
 
-/// So many quarter turns, below four.
+/// This many quarter turns, below four.
 fn turns_by(quarters: u8) -> Option<Turns>
     ensures { IfSome result (λ turns. turn_count turns ≡ quarters) }
 {
@@ -38,10 +38,10 @@ fn place_given(x: Option<i64>, y: Option<i64>) -> Option<(i64, i64)>
     Some((x, y))
 }
 
-/// Judges the element that such a record gives by its own fields, of which the canonical bytes were read. Answers false, and does
-/// nothing, where the latest element is of another kind, or the record gives no such element.
+/// Judges the element that such a record gives by its own fields, where its canonical bytes were read. Returns false, and
+/// does nothing, where the latest element is of another kind, or the record gives no such element.
 pub(crate) fn draw_named(form: &mut FormJudge, next: &NamedOnce<'_>) -> bool
-    requires { GivesName next.now }
+    requires { HasValidName next.now }
     ensures no { result ≡ false → form.new ≡ form.old }
     ensures yes { result ≡ true → (e : OneElement) × IsNamedBy next.now e × ((bytes : List ℕ) → element_bytes e ≡ bytes → GoesOnDrawing form.old e bytes form.new) }
 {

@@ -4,7 +4,7 @@ ghost use Rattle.std.specs.Prelude.{◌≡◌, IfSome, IfOk};
 ghost use Rattle.oas_shape.specs.Polylines.{vertices_of};
 ghost use Rattle.oas_layout.specs.Grid.{is_grid_point};
 ghost use Rattle.oas_record.specs.declared.records.Record.{Record as OneRecord};
-ghost use Rattle.oas_form.specs.Records.{element_record};
+ghost use Rattle.oas_runs.specs.oas_form.Records.{element_record};
 ghost use Rattle.oas_judge.specs.Own.{AreVertices, ArePair, is_memory, IsOwn, own_drawn, point_given, turn_given, number_given, start_given, end_given};
 
 use oas_layout::{Element, Turns};
@@ -17,10 +17,10 @@ use oas_ring::{Point, Points};
 use oas_shape::PointList;
 use std::alloc::{AllocError, Global};
 
-/// The largest coordinate, and the smallest with its sign turned (own rule).
+/// The largest coordinate, and the smallest with its sign reversed (own rule).
 pub(crate) const FURTHEST: i64 = 1 << 60;
 
-/// The place of an element that stands once, where both coordinates are given.
+/// The place of an element without a repetition, where both coordinates are given.
 fn point_given(spot: &Spot) -> Option<Point>
     ensures { result ≡ point_given spot.now }
 {
@@ -148,21 +148,21 @@ fn own_circle(drawn: &Circle) -> Option<Element>
     })
 }
 
-/// Whether a point lies within the grid.
+/// Whether a point is within the grid.
 fn is_on_grid(point: Point) -> bool
     ensures { result ≡ is_grid_point point }
 {
     -FURTHEST <= point.x && point.x <= FURTHEST && -FURTHEST <= point.y && point.y <= FURTHEST
 }
 
-/// Whether memory is wanted.
+/// Whether the reason is out of memory.
 fn is_memory(why: Why) -> bool
     ensures { result ≡ is_memory why }
 {
     matches!(why, Why::Memory)
 }
 
-/// The vertices of a point list that begins there; None where one of them lies outside the grid.
+/// The vertices of a point list that begins there; None where one of them is outside the grid.
 #[tactic(auto, using(crate::proofs::OwnLemmas::off_grid))]
 fn vertices(alloc: Global, points: &PointList, at: Point) -> Result<Option<Points>, AllocError>
     ensures { IfOk result (λ own. AreVertices own (vertices_of points.now at)) }

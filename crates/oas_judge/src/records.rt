@@ -1,15 +1,15 @@
 //! The records of a file, accepted and judged one after another.
 ghost use Rattle.std.specs.Prelude.{◌≡◌};
-ghost use Rattle.oas_judge.specs.Judged.{JudgesRecords, JudgesOne, JudgesAhead};
+ghost use Rattle.oas_judge.specs.Judged.{JudgesRecords, JudgesOne, JudgesPeeked};
 
 use crate::judge::FileJudge;
-use oas_ahead::{figure_ahead, named_ahead, rectangle_ahead};
-use oas_modal::{CellStore, Reader};
 use oas_num::{Refusal, Source};
+use oas_peek::{peek_figure, peek_named, peek_rectangle};
 use oas_record::Head;
+use oas_runs::oas_modal::{CellStore, Reader};
 use std::alloc::Global;
 
-/// Has the reader take a rectangle that is at hand, and the judge see it, where that needs nothing more to know. Answers false
+/// Gives the reader, and shows the judge, a rectangle that is at hand, where the judge can decide at once. Returns false
 /// where it does nothing.
 fn next_rectangle<S: Source, C: CellStore>(
     source: &mut S,
@@ -19,9 +19,9 @@ fn next_rectangle<S: Source, C: CellStore>(
     judge: &mut FileJudge,
 ) -> Result<bool, Refusal>
     requires { at ≡ (S.script source.old).given }
-    ensures { JudgesAhead C.store head.now (S.script source.old) reader.old judge.old result (S.script source.new) reader.new judge.new }
+    ensures { JudgesPeeked C.store head.now (S.script source.old) reader.old judge.old result (S.script source.new) reader.new judge.new }
 {
-    let Some(found) = rectangle_ahead(source.ahead()) else {
+    let Some(found) = peek_rectangle(source.ahead()) else {
         return Ok(false);
     };
     if !judge.judge_rectangle(&found) {
@@ -32,8 +32,8 @@ fn next_rectangle<S: Source, C: CellStore>(
     Ok(true)
 }
 
-/// Has the reader take a placement or a text that is at hand, and the judge see it, where that needs nothing more to
-/// know. Answers false where it does nothing.
+/// Gives the reader, and shows the judge, a placement or a text that is at hand, where the judge can decide at once. Returns
+/// false where it does nothing.
 fn next_named<S: Source, C: CellStore>(
     source: &mut S,
     head: &Head,
@@ -42,9 +42,9 @@ fn next_named<S: Source, C: CellStore>(
     judge: &mut FileJudge,
 ) -> Result<bool, Refusal>
     requires { at ≡ (S.script source.old).given }
-    ensures { JudgesAhead C.store head.now (S.script source.old) reader.old judge.old result (S.script source.new) reader.new judge.new }
+    ensures { JudgesPeeked C.store head.now (S.script source.old) reader.old judge.old result (S.script source.new) reader.new judge.new }
 {
-    let Some(found) = named_ahead(source.ahead()) else {
+    let Some(found) = peek_named(source.ahead()) else {
         return Ok(false);
     };
     if !judge.judge_named(&found) {
@@ -57,8 +57,8 @@ fn next_named<S: Source, C: CellStore>(
     Ok(true)
 }
 
-/// Has the reader take a polygon or a path that is at hand, and the judge see it, where that needs nothing more to know. Answers false
-/// where it does nothing.
+/// Gives the reader, and shows the judge, a polygon or a path that is at hand, where the judge can decide at once. Returns
+/// false where it does nothing.
 fn next_figure<S: Source, C: CellStore>(
     alloc: Global,
     source: &mut S,
@@ -68,9 +68,9 @@ fn next_figure<S: Source, C: CellStore>(
     judge: &mut FileJudge,
 ) -> Result<bool, Refusal>
     requires { at ≡ (S.script source.old).given }
-    ensures { JudgesAhead C.store head.now (S.script source.old) reader.old judge.old result (S.script source.new) reader.new judge.new }
+    ensures { JudgesPeeked C.store head.now (S.script source.old) reader.old judge.old result (S.script source.new) reader.new judge.new }
 {
-    let Some(found) = figure_ahead(alloc, source.ahead()) else {
+    let Some(found) = peek_figure(alloc, source.ahead()) else {
         return Ok(false);
     };
     if !judge.judge_figure(alloc, &found) {
@@ -81,7 +81,7 @@ fn next_figure<S: Source, C: CellStore>(
     Ok(true)
 }
 
-/// Has the reader take the next record, and the judge see it, where it is at hand and that needs nothing more to know. Answers
+/// Gives the reader, and shows the judge, the next record, where it is at hand and the judge can decide at once. Returns
 /// false where it does nothing.
 fn next_at_hand<S: Source, C: CellStore>(
     alloc: Global,
@@ -92,7 +92,7 @@ fn next_at_hand<S: Source, C: CellStore>(
     judge: &mut FileJudge,
 ) -> Result<bool, Refusal>
     requires { at ≡ (S.script source.old).given }
-    ensures { JudgesAhead C.store head.now (S.script source.old) reader.old judge.old result (S.script source.new) reader.new judge.new }
+    ensures { JudgesPeeked C.store head.now (S.script source.old) reader.old judge.old result (S.script source.new) reader.new judge.new }
 {
     if next_rectangle(source, head, at, reader, judge)? {
         return Ok(true);
@@ -103,10 +103,10 @@ fn next_at_hand<S: Source, C: CellStore>(
     next_figure(alloc, source, head, at, reader, judge)
 }
 
-/// Has the reader take the next record, which starts at byte `at`, as one that is read, and the judge see it. Answers false where it
-/// is END.
+/// Gives the reader the next record, which starts at byte `at`, as it is read, and shows it to the judge. Returns false where
+/// it is END.
 ///
-/// It stands apart since whole records are moved here, and a call begins by clearing room for each of them.
+/// It is a function of its own since whole records are moved here, and a call begins by clearing room for each of them.
 fn judge_read<S: Source, C: CellStore>(
     alloc: Global,
     source: &mut S,
@@ -127,7 +127,7 @@ fn judge_read<S: Source, C: CellStore>(
     Ok(true)
 }
 
-/// The same, by which a record that is at hand goes the short way.
+/// The same, where a record that is at hand is taken the faster way.
 fn judge_next<S: Source, C: CellStore>(
     alloc: Global,
     source: &mut S,
@@ -145,7 +145,7 @@ fn judge_next<S: Source, C: CellStore>(
     judge_read(alloc, source, head, at, reader, judge)
 }
 
-/// Has the reader take the records up to END, and the judge see them. Answers END's offset.
+/// Gives the reader, and shows the judge, the records up to END. Returns END's offset.
 pub(crate) fn judge_records<S: Source, C: CellStore>(
     alloc: Global,
     source: &mut S,

@@ -1,9 +1,9 @@
--- One digit more.
+-- One more digit.
 use Rattle.std.proofs.Common.{◌≡◌, ℕ, suc, ◌+◌, ◌*◌, ◌/◌, ◌%◌, ◌^◌, ◌<◌, List, [], ◌∷◌, ◌++◌, refl, sym, ap, ◌∙◌, append_assoc, arith}
 use Rattle.std.proofs.lemmas.Nat.{pow_pos, mod_below, mod-mul-add, div-mul-add, mod-pow-add}
 use Rattle.oas_keys.specs.Numbers.{digits}
 
--- a rest by one weight more, in parts
+-- a rest by one more weight, in parts
 rest_parts : (n k : ℕ) → n % 2 ^ (8 * suc k) ≡ (n / 2 ^ (8 * k) % 256) * 2 ^ (8 * k) + n % 2 ^ (8 * k)
 rest_parts n k =
     let e : 8 * suc k ≡ 8 + 8 * k = omega arith in

@@ -38,7 +38,7 @@ below_fours = full 16 3 ∷ below_threes
 abbrev pub farthest : Class
 farthest = record { size = 2 ^ 62; firsts = 1; more = 8 }
 
--- the least number of these classes that begins with a byte, and how many bytes stand behind it
+-- the least number of these classes that begins with a byte, and how many bytes follow it
 pub record Begin (cs : List Class) (base first least more : ℕ) : Type 0 where
   pub least_is : least_with cs base first ≡ least
   pub more_is : more_with cs base first ≡ more
@@ -55,7 +55,7 @@ here c cs base first h =
       more_is = cond-true _ _ _ (lt-ltb first (base + c.firsts) h);
     }
 
--- in those behind it
+-- in those after it
 past : (c : Class) (cs : List Class) (base first least more : ℕ) → base + c.firsts ≤ first → Begin cs (base + c.firsts) first least more → Begin (c ∷ cs) base first (c.size + least) more
 past c cs base first least more h b =
     record {
@@ -84,7 +84,7 @@ first_four first l h =
 
 -- ---- signed ones
 
--- behind the classes of nine and five bytes
+-- after the classes of nine and five bytes
 first_past_five : (first least more : ℕ) → 9 ≤ first → Begin below_fours 9 first least more → Begin signed_classes 1 first (2 ^ 62 + 7 * 2 ^ 32 + least) more
 first_past_five first least more l b =
     begin_as _ _ _ _ _ _ (past farthest (full 7 4 ∷ below_fours) 1 first _ _ (omega arith) (past (full 7 4) below_fours 2 first _ _ l b)) (omega arith)
@@ -92,28 +92,28 @@ first_past_five first least more l b =
 pub first_below_four : (first : ℕ) → 9 ≤ first → first < 25 → Begin signed_classes 1 first (2 ^ 62 + 7 * 2 ^ 32 + (first - 9) * 16777216) 3
 first_below_four first l h = first_past_five first _ _ l (here (full 16 3) below_threes 9 first h)
 
--- behind that of four
+-- after that of four
 first_past_four : (first least more : ℕ) → 25 ≤ first → Begin below_threes 25 first least more → Begin signed_classes 1 first (2 ^ 62 + 7 * 2 ^ 32 + 16 * 2 ^ 24 + least) more
 first_past_four first least more l b = begin_as _ _ _ _ _ _ (first_past_five first _ _ (omega arith) (past (full 16 3) below_threes 9 first _ _ l b)) (omega arith)
 
 pub first_below_three : (first : ℕ) → 25 ≤ first → first < 57 → Begin signed_classes 1 first (2 ^ 62 + 7 * 2 ^ 32 + 16 * 2 ^ 24 + (first - 25) * 65536) 2
 first_below_three first l h = first_past_four first _ _ l (here (full 32 2) below_twos 25 first h)
 
--- behind that of three
+-- after that of three
 first_past_three : (first least more : ℕ) → 57 ≤ first → Begin below_twos 57 first least more → Begin signed_classes 1 first (2 ^ 62 + 7 * 2 ^ 32 + 16 * 2 ^ 24 + 2097152 + least) more
 first_past_three first least more l b = begin_as _ _ _ _ _ _ (first_past_four first _ _ (omega arith) (past (full 32 2) below_twos 25 first _ _ l b)) (omega arith)
 
 pub first_below_two : (first : ℕ) → 57 ≤ first → first < 97 → Begin signed_classes 1 first (2 ^ 62 + 7 * 2 ^ 32 + 16 * 2 ^ 24 + 2097152 + (first - 57) * 256) 1
 first_below_two first l h = first_past_three first _ _ l (here (full 40 1) ones 57 first h)
 
--- behind that of two
+-- after that of two
 first_past_two : (first least more : ℕ) → 97 ≤ first → Begin ones 97 first least more → Begin signed_classes 1 first (2 ^ 62 + 7 * 2 ^ 32 + 16 * 2 ^ 24 + 2097152 + 10240 + least) more
 first_past_two first least more l b = begin_as _ _ _ _ _ _ (first_past_three first _ _ (omega arith) (past (full 40 1) ones 57 first _ _ l b)) (omega arith)
 
 pub first_about : (first : ℕ) → 97 ≤ first → first < 160 → Begin signed_classes 1 first (2 ^ 62 + 7 * 2 ^ 32 + 16 * 2 ^ 24 + 2097152 + 10240 + (first - 97)) 0
 first_about first l h = begin_as _ _ _ _ _ _ (first_past_two first _ _ l (here (single 63) above_twos 97 first h)) (omega arith)
 
--- behind that of one
+-- after that of one
 first_past_one : (first least more : ℕ) → 160 ≤ first → Begin above_twos 160 first least more → Begin signed_classes 1 first (2 ^ 62 + 7 * 2 ^ 32 + 16 * 2 ^ 24 + 2097152 + 10240 + 63 + least) more
 first_past_one first least more l b = begin_as _ _ _ _ _ _ (first_past_two first _ _ (omega arith) (past (single 63) above_twos 97 first _ _ l b)) (omega arith)
 
@@ -134,7 +134,7 @@ first_above_four first l h =
 
 -- ---- what is read
 
--- what stands behind a first byte is there, and no more than fits
+-- what comes after a first byte is there, and no more than fits
 pub record Behind (least more n : ℕ) (rest after : List ℕ) : Type 0 where
   pub some : (more ≤ 8) × (more ≤ length after) × (least + joined_digits 0 (take more after) < 2 ^ 64)
   pub number : least + joined_digits 0 (take more after) ≡ n

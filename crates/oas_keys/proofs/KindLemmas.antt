@@ -24,7 +24,7 @@ pub record AreSteps (x y : ℤ) : Type 0 where
 steps : (x y : ℤ) → (is_coordinate x && is_coordinate y) ≡ true → AreSteps x y
 steps x y h = let b = both (is_coordinate x) (is_coordinate y) h in record { across = coordinate_fits x b.0; up = coordinate_fits y b.1 }
 
--- nothing stands behind the second
+-- nothing follows the second
 pub ends : (a b : List ℕ) → a ++ b ≡ a ++ (b ++ [])
 ends a b = ap (λ (t : List ℕ). a ++ t) (sym (append-nil b))
 
@@ -58,7 +58,7 @@ path_steps layer datatype half_width start end points h =
 pub polygon_within : (layer datatype : ℕ) (points : List Point) → IsSound (Polygon layer datatype points) → AreWithin points
 polygon_within layer datatype points h = all_within points h.inside
 
--- a step as it is handed on
+-- a step as it is passed on
 pub step_is : (r x : ℤ) → IsStep x → r ≡ x → to_z w64 (of_z w64 r) ≡ x
 step_is r x step e =
     let low = step.above in

@@ -25,7 +25,7 @@ len_is (b ∷ bs) rest h =
     some_byte : (n : ℕ) → 0 < n → nat_eq n 0 ≡ false
     some_byte n h = grind (arith, nat_tests)
 
--- a string, its end, and what stands behind it
+-- a string, its end, and what follows it
 pub record TextRead (all bytes rest : List ℕ) : Type 0 where
   pub fits : text_len all ≤ length all
   pub front : take (text_len all) all ≡ bytes
@@ -89,7 +89,7 @@ next_is before (p ∷ qs) all rest h w is =
       begins = split ∙ ap (λ (t : List ℕ). t ++ (y ++ (points_key p qs ++ rest))) b.is;
     })
 
--- where a 0 stands, there is none
+-- where there is a 0, there is none
 pub at_end : (before : Point) (ps : List Point) (all rest new : List ℕ) (b : ℕ) → is_grid_point before ≡ true → AreWithin ps → all ≡ points_key before ps ++ rest
     → all ≡ b ∷ new → b ≡ 0 → (ps ≡ []) × (new ≡ rest)
 at_end before ps all rest new b h w is was null = by (next_is before ps all rest h w is)
@@ -102,7 +102,7 @@ at_end before ps all rest new b h w is was null = by (next_is before ps all rest
         let some = g.some in
         absurd (omega arith)
 
--- the same of the byte that stands first
+-- the same for the byte that comes first
 pub ended : (before : Point) (ps : List Point) (left all rest : List ℕ) → left ≡ all → get_or left 0 0 ≡ 0 → is_grid_point before ≡ true → AreWithin ps
     → all ≡ points_key before ps ++ rest → ps ≡ []
 ended before ps left all rest same null h w is = by (next_is before ps all rest h w is)
@@ -123,7 +123,7 @@ not_ended before ps all rest b bs h w is was some = by (next_is before ps all re
     by (inl e) = let both : b ∷ bs ≡ 0 ∷ rest = sym was ∙ e.is in let zero : b ≡ 0 = cc in absurd (some zero)
     by (inr g) = g
 
--- something stands there
+-- there is something
 pub some_byte : (before : Point) (ps : List Point) (all rest : List ℕ) → is_grid_point before ≡ true → AreWithin ps → all ≡ points_key before ps ++ rest
     → (byte : ℕ) × (bytes : List ℕ) × (all ≡ byte ∷ bytes)
 some_byte before ps all rest h w is = by (next_is before ps all rest h w is)
@@ -152,7 +152,7 @@ shorter before ps all rest new g e =
     let same : length new ≡ length behind = ap length e in
     omega arith
 
--- a coordinate and the way to another
+-- a coordinate and the step to another
 pub sum_is : (b p d : ℤ) → is_coordinate b ≡ true → is_coordinate p ≡ true → d ≡ p -ℤ b → to_z w64 (of_z w64 (to_z w64 (of_z w64 b) +ℤ to_z w64 (of_z w64 d))) ≡ p
 sum_is b p d h k e =
     let u : (negsuc (2 ^ 60 - 1) ≤ℤ b) × (b ≤ℤ pos (2 ^ 60)) = coordinate_bounds b h in

@@ -18,7 +18,7 @@ has_points s ps within is from = record {
   is = is ∙ sym (append-nil (points_key origin ps)) ∙ ap (λ (p : Point). points_key p ps ++ []) (sym from);
 }
 
--- of the points that were there so many were passed over, and these are left
+-- of the points that were there this many were skipped, and these are left
 pub record Left (all : SpelledPoints) (left : List ℕ) (count : ℕ) (ps : List Point) : Type 0 where
   pub before : Point
   pub qs : List Point
@@ -28,7 +28,7 @@ pub record Left (all : SpelledPoints) (left : List ℕ) (count : ℕ) (ps : List
   pub is : left ≡ points_key before qs ++ rest
   pub sum : count + length qs ≡ length ps
 
--- the same of whichever points were there
+-- the same for whichever points were there
 pub record Counting (all : SpelledPoints) (left : List ℕ) (count : ℕ) : Type 0 where
   pub each : (ps : List Point) → HasPoints all ps → Left all left count ps
   pub few : count + length left ≤ length all.left

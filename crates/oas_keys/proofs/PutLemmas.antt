@@ -7,7 +7,7 @@ use Rattle.oas_keys.specs.Numbers.{signed_key}
 pub puts : (new x was bytes more : List ℕ) → new ≡ x ++ more → x ≡ was ++ bytes → new ≡ was ++ (bytes ++ more)
 puts new x was bytes more h k = h ∙ ap (λ (t : List ℕ). t ++ more) k ∙ append_assoc was bytes more
 
--- a pair, and what is behind it
+-- a pair, and what follows it
 pub after_pair : (old x new a b r : List ℕ) → new ≡ x ++ r → x ≡ old ++ (a ++ b) → new ≡ old ++ (a ++ (b ++ r))
 after_pair old x new a b r h k = puts new x old (a ++ b) r h k ∙ ap (λ (t : List ℕ). old ++ t) (append_assoc a b r)
 

@@ -18,7 +18,7 @@ pub length-digits : (k n : ℕ) → length (digits k n) ≡ k
 length-digits zero n = refl
 length-digits (suc k) n = ap suc (length-digits k (n % 2 ^ (8 * k)))
 
--- a weight more
+-- one more weight
 weight_more : (k : ℕ) → 2 ^ (8 * suc k) ≡ 256 * 2 ^ (8 * k)
 weight_more k = let e : 8 * suc k ≡ 8 + 8 * k = omega arith in ap (λ (t : ℕ). 2 ^ t) e ∙ pow-add 2 8 (8 * k)
 
@@ -28,7 +28,7 @@ regroup acc q r n w e =
     let b : acc * 256 * w ≡ acc * (256 * w) = grind arith in
     omega arith
 
--- digits are joined to the number that they are of
+-- digits are joined to their number
 pub joined_more : (k n acc : ℕ) → n < 2 ^ (8 * k) → joined_digits acc (digits k n) ≡ acc * 2 ^ (8 * k) + n
 joined_more zero n acc h = omega arith
 joined_more (suc k) n acc h =
@@ -39,14 +39,14 @@ joined_more (suc k) n acc h =
 
 -- ---- the first byte
 
--- the number stands among those that begin with its first byte, and what stands behind that byte tells which it is
+-- the number is among those that begin with its first byte, and what follows that byte says which it is
 pub record Stands (least more n : ℕ) (bytes : List ℕ) : Type 0 where
   pub low : least ≤ n
   pub within : n - least < 2 ^ (8 * more)
   pub written : bytes ≡ digits more (n - least)
   pub few : more ≤ 8
 
--- the same of equal numbers
+-- the same for equal numbers
 stands_as : (a b k l n : ℕ) (bytes : List ℕ) → a ≡ b → k ≡ l → Stands b l n bytes → Stands a k n bytes
 stands_as a b k l n bytes e f h = subst (λ (t : ℕ). Stands t k n bytes) (sym e) (subst (λ (t : ℕ). Stands b t n bytes) (sym f) h)
 
@@ -90,7 +90,7 @@ stands (c ∷ cs) base n fits h =
 
 -- ---- a number
 
--- a first byte and what stands behind it are this number and a rest
+-- a first byte and what follows it are this number and a rest
 pub record Reads (cs : List Class) (n first : ℕ) (rest after : List ℕ) : Type 0 where
   pub some : 1 ≤ first
   pub low : least_with cs 1 first ≤ n
@@ -134,7 +134,7 @@ reads cs n first bytes rest after fits small is was =
     read_by cs _ _ n first rest after (ap (least_with cs 1) (sym e)) (ap (more_with cs 1) (sym e)) (omega arith)
     (subst (Stands _ _ n) h.written h) (f ∙ ap (λ (t : List ℕ). t ++ rest) h.written)
 
--- no number is of no bytes
+-- no number is spelled by no bytes
 pub never_empty : (cs : List Class) (n : ℕ) (bytes rest : List ℕ) → bytes ≡ number_in cs 1 n ++ rest → bytes ≡ [] → ⊥
 never_empty cs n bytes rest is none =
     let both : [] ≡ first_of cs 1 n ∷ (more_of cs n ++ rest) = sym none ∙ is ∙ ap (λ (t : List ℕ). t ++ rest) (begins cs 1 n) in
@@ -142,7 +142,7 @@ never_empty cs n bytes rest is none =
 
 -- ---- joining digits
 
--- a number below so many digits has room for one more
+-- a number with fewer digits has room for one more
 pub joins : (n i b : ℕ) → n < 2 ^ (8 * i) → b < 256 → n * 256 + b < 2 ^ (8 * (i + 1))
 joins n i b h small =
     let e : 8 * (i + 1) ≡ 8 * suc i = omega arith in

@@ -1,4 +1,4 @@
--- What is read, or passed over, of a signed number.
+-- What is read or skipped of a signed number.
 use Rattle.std.proofs.Common.{◌≡◌, ℕ, ◌+◌, ◌<◌, ◌≤◌, ◌^◌, ℤ, pos, ◌+ℤ◌, List, [], ◌∷◌, ◌++◌, length, drop, ap, ◌∙◌, arith}
 use Rattle.std.proofs.lemmas.Int.{ints}
 use Rattle.oas_keys.specs.Numbers.{number_in, signed_classes, signed_key, signed_start, place, IsStep}
@@ -15,20 +15,20 @@ placed x step = omega (arith, ints, (place_is x step).0, step.below)
 pub by_place : (x : ℤ) (bytes rest : List ℕ) → bytes ≡ signed_key x ++ rest → bytes ≡ number_in signed_classes 1 (place x) ++ rest
 by_place x bytes rest is = is ∙ ap (λ (t : List ℕ). t ++ rest) (signed_is x)
 
--- so they are some
+-- so there are some
 pub signed_some : (x : ℤ) (bytes rest : List ℕ) → bytes ≡ signed_key x ++ rest → bytes ≡ [] → ⊥
 signed_some x bytes rest is = never_empty signed_classes (place x) bytes rest (by_place x bytes rest is)
 
--- what stands behind its first byte
-pub signed_behind : (x : ℤ) (first least more : ℕ) (rest after : List ℕ) → IsStep x → first ∷ after ≡ signed_key x ++ rest
+-- what comes after its first byte
+pub signed_rest : (x : ℤ) (first least more : ℕ) (rest after : List ℕ) → IsStep x → first ∷ after ≡ signed_key x ++ rest
     → Begin signed_classes 1 first least more → Behind least more (place x) rest after
-signed_behind x first least more rest after step is b = behind signed_classes (place x) first least more rest after signed_fit (placed x step) (by_place x _ rest is) b
+signed_rest x first least more rest after step is b = behind signed_classes (place x) first least more rest after signed_fit (placed x step) (by_place x _ rest is) b
 
--- the number, from the least that begins so
+-- the number, from the least with that first byte
 pub at_least : (x least : ℤ) (l j : ℕ) → IsStep x → l + j ≡ place x → pos l ≡ least +ℤ pos signed_start → least +ℤ pos j ≡ x
 at_least x least l j step sum from = omega (arith, ints, (place_is x step).0)
 
--- that is as many bytes as the first tells, and then the rest
+-- these are as many bytes as the first says, and then the rest
 pub record Passed (more : ℕ) (rest after : List ℕ) : Type 0 where
   pub long : more ≤ length after
   pub rest_is : drop more after ≡ rest

@@ -1,5 +1,5 @@
--- The key of an element: bytes whose order is the elements' order (own rule). It is a byte for the kind, and then the
--- fields in the order in which elements are compared, each as bytes that no other's begin.
+-- The key of an element: bytes that are ordered as the elements are (own rule). It is a byte for the kind, and then the
+-- fields in the order in which elements are compared, each as bytes that are no prefix of another's.
 use Rattle.std.specs.Prelude.{ℕ, ◌+◌, ◌*◌, ◌-ℤ◌, Bool, true, false, List, [], ◌∷◌, ◌++◌, length}
 use Rattle.oas_ring.specs.declared.point.Point.{Point}
 use Rattle.oas_ring.specs.Points.{origin}
@@ -9,20 +9,20 @@ use Rattle.oas_layout.specs.declared.element.Element.TheVariants.{Placement, Tex
 use Rattle.oas_layout.specs.Element.{turn_count, kind}
 use Rattle.oas_keys.specs.Numbers.{unsigned_key, signed_key}
 
--- a name's or a label's bytes, of which none is 0, and then 0
+-- a name's or a label's bytes, none of which is 0, and then 0
 abbrev pub text_key : List ℕ → List ℕ
 text_key bytes = bytes ++ 0 ∷ []
 
--- the way from one point to another
+-- the step from one point to another
 abbrev pub step_key : Point → Point → List ℕ
 step_key before p = signed_key (p.x -ℤ before.x) ++ signed_key (p.y -ℤ before.y)
 
--- each point as the way to it from the one before, and then 0
+-- each point as the step to it from the one before, and then 0
 abbrev pub points_key : Point → List Point → List ℕ
 points_key before [] = 0 ∷ []
 points_key before (p ∷ ps) = step_key before p ++ points_key p ps
 
--- where a flip stands
+-- the rank of a flip
 abbrev pub flip_count : Bool → ℕ
 flip_count false = 0
 flip_count true = 1

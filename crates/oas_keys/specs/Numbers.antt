@@ -1,10 +1,10 @@
--- Numbers as bytes whose order is the numbers' order (own rule). The numbers are divided into classes, ascending. A number is
--- a first byte, which tells its class and the highest part of its place in the class, and as many bytes more as its class
+-- Numbers as bytes that are ordered as the numbers are (own rule). The numbers are divided into classes, ascending. A number
+-- is a first byte, which gives its class and the highest part of its place in the class, and as many more bytes as its class
 -- has, which are the rest of its place, highest first.
 use Rattle.std.specs.Prelude.{ℕ, zero, suc, ◌+◌, ◌-◌, ◌*◌, ◌/◌, ◌%◌, ◌^◌, ◌≤◌, nat_lt, cond, ℤ, pos, negsuc, ◌≤ℤ◌, ◌+ℤ◌, unsigned_abs, List, [], ◌∷◌}
 use Rattle.oas_keys.specs.declared.classes.Class.{Class}
 
--- so many numbers have a byte of their own
+-- this many numbers have a byte of their own
 abbrev pub single : ℕ → Class
 single size = record { size = size; firsts = size; more = 0 }
 
@@ -12,18 +12,18 @@ single size = record { size = size; firsts = size; more = 0 }
 abbrev pub full : ℕ → ℕ → Class
 full firsts more = record { size = firsts * 2 ^ (8 * more); firsts = firsts; more = more }
 
--- the so many lowest digits to base 256, highest first
+-- this many of the lowest digits to base 256, highest first
 abbrev pub digits : ℕ → ℕ → List ℕ
 digits zero n = []
 digits (suc k) n = (n / 2 ^ (8 * k)) ∷ digits k (n % 2 ^ (8 * k))
 
--- The number at a place counted from where these classes begin, whose first bytes begin at `first`. Behind the last class
--- stand the numbers of one first byte more, with eight bytes after it.
+-- The number at a place counted from where these classes begin, whose first bytes begin at `first`. After the last class come
+-- the numbers of one more first byte, with eight bytes after it.
 abbrev pub number_in : List Class → ℕ → ℕ → List ℕ
 number_in [] first n = first ∷ digits 8 n
 number_in (c ∷ cs) first n = cond (nat_lt n c.size) ((first + n / 2 ^ (8 * c.more)) ∷ digits c.more (n % 2 ^ (8 * c.more))) (number_in cs (first + c.firsts) (n - c.size))
 
--- a class has no more numbers than its bytes can tell apart, and at most eight bytes after the first
+-- a class has no more numbers than its bytes can distinguish, and at most eight bytes after the first
 abbrev pub AreClasses : List Class → Type 0
 AreClasses [] = Unit {0}
 AreClasses (c ∷ cs) = (c.size ≤ c.firsts * 2 ^ (8 * c.more)) × ((c.more ≤ 8) × AreClasses cs)
@@ -33,7 +33,7 @@ abbrev pub firsts_of : List Class → ℕ
 firsts_of [] = 0
 firsts_of (c ∷ cs) = c.firsts + firsts_of cs
 
--- how many numbers the classes have, with those behind the last
+-- how many numbers the classes have, with those after the last
 abbrev pub room : List Class → ℕ
 room [] = 2 ^ 64
 room (c ∷ cs) = c.size + room cs
@@ -43,7 +43,7 @@ abbrev pub first_of : List Class → ℕ → ℕ → ℕ
 first_of [] first n = first
 first_of (c ∷ cs) first n = cond (nat_lt n c.size) (first + n / 2 ^ (8 * c.more)) (first_of cs (first + c.firsts) (n - c.size))
 
--- what stands behind it
+-- what follows it
 abbrev pub more_of : List Class → ℕ → List ℕ
 more_of [] n = digits 8 n
 more_of (c ∷ cs) n = cond (nat_lt n c.size) (digits c.more (n % 2 ^ (8 * c.more))) (more_of cs (n - c.size))
@@ -52,7 +52,7 @@ more_of (c ∷ cs) n = cond (nat_lt n c.size) (digits c.more (n % 2 ^ (8 * c.mor
 abbrev pub unsigned_classes : List Class
 unsigned_classes = single 128 ∷ full 64 1 ∷ full 32 2 ∷ full 16 3 ∷ full 13 4 ∷ []
 
--- those of signed ones: below 0, about it, and above
+-- those of signed ones: below 0, around it, and above
 abbrev pub signed_classes : List Class
 signed_classes =
     record { size = 2 ^ 62; firsts = 1; more = 8 }

@@ -1,4 +1,4 @@
--- What bytes stand for, read from the front.
+-- What bytes encode, read from the start.
 use Rattle.std.specs.Prelude.{◌≡◌, ℕ, ◌+◌, ◌-◌, ◌*◌, ◌^◌, ◌<◌, nat_lt, nat_eq, cond, Bool, true, false, ℤ, List, [], ◌∷◌, ◌++◌, Option, None, Some}
 use Rattle.oas_ring.specs.declared.point.Point.{Point}
 use Rattle.oas_layout.specs.declared.element.Element.{Element}
@@ -23,30 +23,30 @@ abbrev pub least_with : List Class → ℕ → ℕ → ℕ
 least_with [] base first = 0
 least_with (c ∷ cs) base first = cond (nat_lt first (base + c.firsts)) ((first - base) * 2 ^ (8 * c.more)) (c.size + least_with cs (base + c.firsts) first)
 
--- how many bytes stand after the first
+-- how many bytes come after the first
 abbrev pub more_with : List Class → ℕ → ℕ → ℕ
 more_with [] base first = 8
 more_with (c ∷ cs) base first = cond (nat_lt first (base + c.firsts)) c.more (more_with cs (base + c.firsts) first)
 
--- a first byte, and behind it what makes it a number of these classes
+-- a first byte, and after it what makes it a number of these classes
 abbrev pub Stand : List Class → ℕ → List ℕ → Type 0
 Stand cs first bytes = (n : ℕ) × (rest : List ℕ) × (n < 2 ^ 64) × (first ∷ bytes ≡ number_in cs 1 n ++ rest)
 
--- a first byte, and behind it what makes it a signed number
+-- a first byte, and after it what makes it a signed number
 abbrev pub StandSigned : ℕ → List ℕ → Type 0
 StandSigned first bytes = (x : ℤ) × (rest : List ℕ) × IsStep x × (first ∷ bytes ≡ signed_key x ++ rest)
 
--- where the first 0 stands
+-- the place of the first 0
 abbrev pub text_len : List ℕ → ℕ
 text_len [] = 0
 text_len (b ∷ bs) = cond (nat_eq b 0) 0 (1 + text_len bs)
 
 -- a list of points whose first is p, or none
 abbrev pub NextPoint : Option Point → List Point → List ℕ → List ℕ → Type 0
-NextPoint None ps rest new = (ps ≡ []) × (new ≡ rest)
+NextPoint None ps rest new = (ps ≡ []) × (new ≡ 0 ∷ rest)
 NextPoint (Some p) ps rest new = (qs : List Point) × (ps ≡ p ∷ qs) × (new ≡ points_key p qs ++ rest)
 
--- the way to the first of these points was passed over, or there was none
+-- the step to the first of these points was skipped, or there was none
 abbrev pub PassedPoint : Bool → List Point → List ℕ → List ℕ → Type 0
 PassedPoint false ps rest new = ps ≡ []
 PassedPoint true ps rest new = (p : Point) × (qs : List Point) × (ps ≡ p ∷ qs) × (is_grid_point p ≡ true) × AreWithin qs × (new ≡ points_key p qs ++ rest)
@@ -64,9 +64,9 @@ pub record HasPoints (s : SpelledPoints) (ps : List Point) : Type 0 where
   pub is : s.left ≡ points_key s.before ps ++ rest
 
 -- the first of these points was read, or there was none
-abbrev pub GivesPoint : Option Point → List Point → SpelledPoints → Type 0
-GivesPoint None ps new = ps ≡ []
-GivesPoint (Some p) ps new = (qs : List Point) × (ps ≡ p ∷ qs) × (is_grid_point p ≡ true) × HasPoints new qs
+abbrev pub YieldsPoint : Option Point → List Point → SpelledPoints → Type 0
+YieldsPoint None ps new = (ps ≡ []) × HasPoints new []
+YieldsPoint (Some p) ps new = (qs : List Point) × (ps ≡ p ∷ qs) × (is_grid_point p ≡ true) × HasPoints new qs
 
 -- this element is spelled
 abbrev pub Spells : SpelledElement → Element → Type 0

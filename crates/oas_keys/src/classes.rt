@@ -1,20 +1,20 @@
-//! The classes of numbers, and which a number is of.
+//! The classes of numbers, and the class of a number.
 
 ghost use Rattle.std.specs.Prelude.{◌≡◌, ◌+◌, ◌%◌, ◌/◌, ◌*◌, ◌^◌, ◌<◌, ◌≤◌, ◌∷◌};
 ghost use Rattle.oas_keys.specs.Numbers.{number_in, digits, firsts_of, AreClasses};
 
-/// Numbers that stand side by side and take equally many bytes (own rule).
+/// Successive numbers that take equally many bytes (own rule).
 #[derive(Clone, Copy)]
 pub(crate) struct Class {
     /// How many numbers.
     pub(crate) size: u64,
-    /// How many first bytes they have among them.
+    /// How many first bytes they have together.
     pub(crate) firsts: u64,
     /// How many bytes each has after the first.
     pub(crate) more: u64,
 }
 
-/// The classes of unsigned numbers, ascending. Behind them stand the numbers of nine bytes.
+/// The classes of unsigned numbers, ascending. After them come the numbers of nine bytes.
 pub(crate) const UNSIGNED: [Class; 5] = [
     Class {
         size: 128,
@@ -43,7 +43,7 @@ pub(crate) const UNSIGNED: [Class; 5] = [
     },
 ];
 
-/// Those of signed numbers: below 0, about it, and above.
+/// The classes of signed numbers: below 0, around it, and above.
 pub(crate) const SIGNED: [Class; 10] = [
     Class {
         size: 1 << 62,
@@ -100,7 +100,8 @@ pub(crate) const SIGNED: [Class; 10] = [
 /// How far 0 is from the first number that has a class.
 pub(crate) const START: i64 = (1 << 62) + (7 << 32) + (16 << 24) + (32 << 16) + (40 << 8) + 31;
 
-/// How a number is written: its first byte, how many bytes stand after it, and the number whose lowest digits they are.
+/// How a number is written: its first byte, how many bytes come after it, and the number with those bytes as its lowest
+/// digits.
 #[derive(Clone, Copy)]
 pub(crate) struct Written {
     pub(crate) first: u8,
@@ -108,7 +109,7 @@ pub(crate) struct Written {
     pub(crate) digits: u64,
 }
 
-/// A number without its so many lowest digits to base 256.
+/// A number without this many of its lowest digits to base 256.
 fn without_digits(number: u64, count: u64) -> u64
     requires { count ≤ 8 }
     ensures { result ≡ number / 2 ^ (8 * count) }

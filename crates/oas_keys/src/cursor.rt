@@ -1,4 +1,4 @@
-//! What is left of a key, read from its front.
+//! What is left of a key, read from the start.
 
 ghost use Rattle.std.specs.Prelude.{◌≡◌, ◌≤◌, ◌<◌, ◌∷◌, ◌++◌, ◌^◌, ◌*◌, ◌+◌, ◌+ℤ◌, [], ℕ, ℤ, pos, List, length, take, drop};
 ghost use Rattle.oas_keys.specs.Numbers.{number_in, unsigned_key, signed_key, signed_classes, place, AreClasses, firsts_of, IsStep};
@@ -14,7 +14,7 @@ use crate::starts::{
 };
 use std::marker::Model;
 
-/// What is left of a key, seen as its bytes.
+/// What is left of a key; contracts see its bytes.
 #[derive(Debug, Drop)]
 pub(crate) struct Cursor<'a> {
     bytes: &'a [u8],
@@ -40,15 +40,15 @@ fn joined_digits(bytes: &[u8]) -> u64
     number
 }
 
-/// A number, and how many bytes stand behind its first.
+/// A number, and how many bytes come after its first.
 #[derive(Clone, Copy, Debug)]
 struct Long {
     number: u64,
     more: usize,
 }
 
-/// The number that begins with a byte, by its classes. It stands by itself and takes nothing, so that where numbers of few bytes
-/// are read, what is left of a key need not lie in memory for it.
+/// The number that begins with a byte, by its classes. It is a function of its own and takes nothing, so that where numbers
+/// of few bytes are read, what is left of a key need not be in memory for it.
 #[inline(never)]
 #[cold]
 fn long_number(classes: &[Class], first: u64, behind: &[u8]) -> Long
@@ -74,8 +74,8 @@ fn signed_at(at: u64) -> i64
     at as i64 - START
 }
 
-/// How many bytes stand behind the first of a signed number. The first bytes of fewer bytes stand between those of more, so the
-/// most frequent are found first.
+/// How many bytes come after the first of a signed number. The first bytes of short numbers are between those of longer ones,
+/// so the most frequent are found first.
 fn more_behind(first: u64) -> usize
     ensures { first < 256 → result ≡ more_with signed_classes 1 first }
 {
@@ -112,7 +112,7 @@ impl<'a> Cursor<'a> {
         self.bytes
     }
 
-    /// Takes so many bytes.
+    /// Takes this many bytes.
     pub(crate) fn part(&mut self, count: usize) -> &'a [u8]
         requires { count ≤ length self.old }
         ensures part { result.now ≡ take count self.old }
@@ -133,7 +133,7 @@ impl<'a> Cursor<'a> {
         byte
     }
 
-    /// Takes the bytes that stand behind the first of a number, and answers the number.
+    /// Takes the bytes that come after the first of a number, and returns the number.
     fn behind(&mut self, found: Found) -> u64
         requires { (found.more ≤ 8) × (found.more ≤ length self.old) × (found.least + joined_digits 0 (take found.more self.old) < 2 ^ 64) }
         ensures number { result ≡ found.least + joined_digits 0 (take found.more self.old) }
@@ -142,7 +142,7 @@ impl<'a> Cursor<'a> {
         found.least + joined_digits(self.part(found.more as usize))
     }
 
-    /// Takes what stands behind a number's first byte, by its classes.
+    /// Takes what comes after a number's first byte, by its classes.
     fn number(&mut self, classes: &[Class], first: u64) -> u64
         requires classes { AreClasses classes.now }
         requires firsts { firsts_of classes.now ≤ 254 }
@@ -154,7 +154,7 @@ impl<'a> Cursor<'a> {
         long.number
     }
 
-    /// Takes an unsigned number. Those of one to four bytes, which most are, are taken with no search for their class.
+    /// Takes an unsigned number. Those of one to four bytes, which most are, are taken without a search for their class.
     pub(crate) fn unsigned(&mut self) -> u64
         requires { (n : ℕ) × (rest : List ℕ) × (n < 2 ^ 64) × (self.old ≡ unsigned_key n ++ rest) }
         ensures { (n : ℕ) (rest : List ℕ) → n < 2 ^ 64 → self.old ≡ unsigned_key n ++ rest → (result ≡ n) × (self.new ≡ rest) }
@@ -184,9 +184,9 @@ impl<'a> Cursor<'a> {
         self.number(&UNSIGNED, first)
     }
 
-    /// Takes so many bytes that stand behind the first of a signed number, and answers the number, of which this is the least one
-    /// that begins so.
-    fn signed_behind(&mut self, least: i64, more: usize) -> i64
+    /// Takes this many bytes that come after the first of a signed number, and returns the number. This is the least one with
+    /// that first byte.
+    fn signed_rest(&mut self, least: i64, more: usize) -> i64
         requires least { IsStep least }
         requires number { (x : ℤ) × IsStep x × (least +ℤ pos (joined_digits 0 (take more self.old)) ≡ x) }
         requires more { (more ≤ 8) × (more ≤ length self.old) }
@@ -196,7 +196,7 @@ impl<'a> Cursor<'a> {
         least + joined_digits(self.part(more)) as i64
     }
 
-    /// Takes what stands behind the first byte of a signed number that is below those of one byte, and answers the number.
+    /// Takes what comes after the first byte of a signed number that is below those of one byte, and returns the number.
     #[inline(always)]
     fn signed_below(&mut self, first: u64) -> i64
         requires below { first < 97 }
@@ -204,16 +204,16 @@ impl<'a> Cursor<'a> {
         ensures { (x : ℤ) (rest : List ℕ) → IsStep x → first ∷ self.old ≡ signed_key x ++ rest → (result ≡ x) × (self.new ≡ rest) }
     {
         if first >= BELOW_TWO_BYTE {
-            return self.signed_behind(LEAST_TWO + ((first - BELOW_TWO_BYTE) * TWO_EACH) as i64, 1);
+            return self.signed_rest(LEAST_TWO + ((first - BELOW_TWO_BYTE) * TWO_EACH) as i64, 1);
         }
         if first >= BELOW_THREE_BYTE {
-            return self.signed_behind(
+            return self.signed_rest(
                 LEAST_THREE + ((first - BELOW_THREE_BYTE) * THREE_EACH) as i64,
                 2,
             );
         }
         if first >= BELOW_FOUR_BYTE {
-            return self.signed_behind(
+            return self.signed_rest(
                 LEAST_FOUR + ((first - BELOW_FOUR_BYTE) * FOUR_EACH) as i64,
                 3,
             );
@@ -221,7 +221,7 @@ impl<'a> Cursor<'a> {
         signed_at(self.number(&SIGNED, first))
     }
 
-    /// Takes what stands behind the first byte of a signed number that is above those of one byte, and answers the number.
+    /// Takes what comes after the first byte of a signed number that is above those of one byte, and returns the number.
     #[inline(always)]
     fn signed_above(&mut self, first: u64) -> i64
         requires above { 160 ≤ first }
@@ -229,19 +229,19 @@ impl<'a> Cursor<'a> {
         ensures { (x : ℤ) (rest : List ℕ) → IsStep x → first ∷ self.old ≡ signed_key x ++ rest → (result ≡ x) × (self.new ≡ rest) }
     {
         if first < ABOVE_THREE_BYTE {
-            return self.signed_behind(
+            return self.signed_rest(
                 LEAST_ABOVE_TWO + ((first - ABOVE_TWO_BYTE) * TWO_EACH) as i64,
                 1,
             );
         }
         if first < ABOVE_FOUR_BYTE {
-            return self.signed_behind(
+            return self.signed_rest(
                 LEAST_ABOVE_THREE + ((first - ABOVE_THREE_BYTE) * THREE_EACH) as i64,
                 2,
             );
         }
         if first < ABOVE_FIVE_BYTE {
-            return self.signed_behind(
+            return self.signed_rest(
                 LEAST_ABOVE_FOUR + ((first - ABOVE_FOUR_BYTE) * FOUR_EACH) as i64,
                 3,
             );
@@ -249,7 +249,8 @@ impl<'a> Cursor<'a> {
         signed_at(self.number(&SIGNED, first))
     }
 
-    /// Takes a signed number. It stands where it is called, so that what is left of a list of points need not lie in memory.
+    /// Takes a signed number. It is inlined where it is called, so that what is left of a list of points need not be in
+    /// memory.
     #[inline(always)]
     pub(crate) fn signed(&mut self) -> i64
         requires { (x : ℤ) × (rest : List ℕ) × IsStep x × (self.old ≡ signed_key x ++ rest) }
@@ -265,7 +266,7 @@ impl<'a> Cursor<'a> {
         self.signed_above(first)
     }
 
-    /// Takes a signed number without making it: its first byte tells how many stand behind.
+    /// Skips a signed number: its first byte says how many follow.
     pub(crate) fn pass_signed(&mut self)
         requires { (x : ℤ) × (rest : List ℕ) × IsStep x × (self.old ≡ signed_key x ++ rest) }
         ensures { (x : ℤ) (rest : List ℕ) → IsStep x → self.old ≡ signed_key x ++ rest → self.new ≡ rest }

@@ -3,7 +3,7 @@
 ghost use Rattle.std.specs.Prelude.{◌≡◌, ◌+◌, ◌%◌, ◌*◌, ◌^◌, ◌≤◌, ◌++◌, vec_len, vec_capacity};
 ghost use Rattle.oas_keys.specs.Numbers.{digits};
 
-/// Puts the so many lowest digits of a number.
+/// Puts this many of the lowest digits of a number.
 pub(crate) fn put_digits(number: u64, count: u64, out: &mut Vec<u8>)
     requires few { count ≤ 8 }
     requires room { vec_len out.old + count ≤ vec_capacity out.old }

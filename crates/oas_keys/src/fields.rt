@@ -1,4 +1,4 @@
-//! The other fields as bytes whose order is theirs.
+//! The other fields as bytes in their order.
 
 ghost use Rattle.std.specs.Prelude.{◌≡◌, ◌+◌, ◌*◌, ◌≤◌, ◌++◌, ◌∷◌, [], true, length, vec_len, vec_capacity};
 ghost use Rattle.std.specs.List.{list_all};
@@ -36,7 +36,7 @@ pub(crate) fn turned(turns: Turns, flip: bool) -> u8
     if flip { doubled + 2 } else { doubled + 1 }
 }
 
-/// Puts the way from one point to another.
+/// Puts the step from one point to another.
 fn put_step(before: Point, point: Point, out: &mut Vec<u8>)
     requires from { is_grid_point before ≡ true }
     requires to { is_grid_point point ≡ true }

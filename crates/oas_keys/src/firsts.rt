@@ -6,14 +6,14 @@ ghost use Rattle.oas_keys.specs.Reading.{least_with, more_with};
 
 use crate::classes::Class;
 
-/// The least number that begins with a byte, and how many bytes stand after it.
+/// The least number that begins with a byte, and how many bytes come after it.
 #[derive(Clone, Copy)]
 pub(crate) struct Found {
     pub(crate) least: u64,
     pub(crate) more: u64,
 }
 
-/// A number with so many zeros behind it, to base 256.
+/// A number followed by this many zeros, to base 256.
 fn with_zeros(number: u64, count: u64) -> u64
     requires few { count ≤ 8 }
     requires small { number * 2 ^ (8 * count) < 2 ^ 64 }

@@ -1,22 +1,36 @@
-//! An element as bytes whose order is the elements' order, so that what stores, merges and compares elements need not read
-//! them (own rule).
+//! An element as bytes that are ordered as the elements are. What stores, merges and compares elements need not read them
+//! (own rule).
 //!
 //! What this crate promises to the crates above it:
 //!
 //! - [`put_key`] puts an element's key: a byte for its kind, and then its fields in the order in which elements are compared,
-//!   each as bytes that no other's begin (`key_of`, specs/Keys.antt). Want of memory leaves what was there. [`put_placement_key`]
-//!   and [`put_text_key`] put the same from the fields, so that a name or a string need not be copied into an element first.
-//! - [`read_key`] answers the element that a key spells, as a [`SpelledElement`]: a name or a string is those bytes of the key,
-//!   and points are read one by one ([`SpelledPoints`]), so no memory is wanted. What is read is the element of which the key is
-//!   (`Spells`, specs/Reading.antt), for there is one.
-//! - Numbers are divided into classes, ascending (specs/Numbers.antt). A number's first byte tells its class and the highest
-//!   part of its place there, the bytes after it the rest, highest first. An unsigned number takes one byte below 128, two
-//!   below 16,512, three below 2,113,664; a signed one takes one byte up to 31 from 0, two up to 10,271, three up to
-//!   2,107,423; none takes more than nine. No number begins with the byte 0.
-//! - A string is its bytes and then 0; a list of points the way to each from the one before, the first from the origin,
+//!   each as bytes that are no prefix of another's (`key_of`, specs/Keys.antt). If out of memory it changes nothing.
+//!   [`put_placement_key`] and [`put_text_key`] put the same from the fields, so that a name or a string need not be copied
+//!   into an element first.
+//! - [`read_key`] returns the element that a key spells, as a [`SpelledElement`]: a name or a string is those bytes of the
+//!   key, and points are read one by one ([`SpelledPoints`]), so nothing is allocated. It returns the one element with this
+//!   key (`Spells`, specs/Reading.antt).
+//! - Numbers are divided into classes, ascending (specs/Numbers.antt). A number's first byte gives its class and the highest
+//!   part of its place in the class; the bytes after it give the rest, highest first. An unsigned number takes one byte below
+//!   128, two below 16,512, three below 2,113,664. A signed one takes one byte up to 31 from 0, two up to 10,271, three up to
+//!   2,107,423. None takes more than nine. No number begins with the byte 0.
+//! - A string is its bytes and then 0. A list of points is the step to each from the one before, the first from the origin,
 //!   and then 0.
-//! - [`laws`] says that keys, compared byte by byte, are ordered as their elements, that equal keys are of equal elements, and
-//!   that no key begins another: bytes that begin with a key have one reading.
+//! - [`laws`] says that keys, compared byte by byte, are ordered as their elements, that elements with equal keys are equal,
+//!   and that no key is a prefix of another: bytes that begin with a key have one reading.
+//!
+//! # How it is built
+//!
+//! - specs/Numbers.antt, Keys.antt: what a key is. src/classes.rt, digits.rt, numbers.rt, fields.rt, named.rt, putting.rt put
+//!   it. Keys of placements and texts are put only in named.rt, which `put_key` calls.
+//! - specs/Reading.antt: what a first byte means (`least_with`, `more_with`), and which element is spelled
+//!   (`spelled_element`). src/cursor.rt takes numbers from what is left of a key, parts.rt strings, turns and points,
+//!   reading.rt the fields of each kind. Each such function requires that its field comes first. It promises, for whatever
+//!   field and rest are there, that it returns that field and leaves that rest; so calls follow one another without a law of
+//!   their own. proofs/ReadingLemmas.antt (`stands`, `reads`) has the step from the classes to a number, by the induction in
+//!   which `number_order` goes through them.
+//! - Numbers of one to four bytes, which most are, are put and taken without a search for their class. src/starts.rt has
+//!   where their classes begin, and proofs/FirstLemmas.antt proves that a search by their first byte would find the same.
 #![tactic(auto)]
 
 mod classes;

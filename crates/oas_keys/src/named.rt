@@ -33,8 +33,8 @@ fn put_string(string: &Label, textlayer: u64, texttype: u64, x: i64, y: i64, out
     put_signed_pair(x, y, out);
 }
 
-/// Puts the key of a placement with these fields behind what `out` has, as [`put_key`](crate::put_key) puts the element's. Where
-/// memory is refused, `out` has what it had.
+/// Puts the key of a placement with these fields after what `out` has, as [`put_key`](crate::put_key) puts the element's. If
+/// out of memory, `out` has what it had.
 pub fn put_placement_key(
     cell: &Name,
     x: i64,
@@ -53,8 +53,8 @@ pub fn put_placement_key(
     Ok(())
 }
 
-/// Puts the key of a text with these fields behind what `out` has, as [`put_key`](crate::put_key) puts the element's. Where
-/// memory is refused, `out` has what it had.
+/// Puts the key of a text with these fields after what `out` has, as [`put_key`](crate::put_key) puts the element's. If out
+/// of memory, `out` has what it had.
 pub fn put_text_key(
     string: &Label,
     textlayer: u64,

@@ -1,4 +1,4 @@
-//! Numbers as bytes whose order is theirs.
+//! Numbers as bytes in their order.
 
 ghost use Rattle.std.specs.Prelude.{◌≡◌, ◌+◌, ◌%◌, ◌/◌, ◌*◌, ◌^◌, ◌<◌, ◌≤◌, ◌++◌, ◌∷◌, ◌<ℤ◌, ◌≤ℤ◌, pos, negsuc, vec_len, vec_capacity};
 ghost use Rattle.oas_keys.specs.Numbers.{number_in, digits, unsigned_key, signed_key, signed_classes, place, AreClasses, firsts_of, IsStep};
@@ -64,7 +64,8 @@ fn put_four(base: u64, number: u64, out: &mut Vec<u8>)
     out.push_reserved((number % TWO_EACH) as u8);
 }
 
-/// Puts the number at a place in the classes. It stands by itself, so that numbers of few bytes need no room for what it keeps.
+/// Puts the number at a place in the classes. It is a function of its own, so that numbers of few bytes need no room for what
+/// it keeps.
 #[inline(never)]
 #[cold]
 fn put_long(classes: &[Class], place: u64, out: &mut Vec<u8>)
@@ -78,7 +79,7 @@ fn put_long(classes: &[Class], place: u64, out: &mut Vec<u8>)
     put_written(written_in(classes, place), out);
 }
 
-/// Puts an unsigned number. Those of one to four bytes, which most are, are put with no search for their class.
+/// Puts an unsigned number. Those of one to four bytes, which most are, are put without a search for their class.
 #[tactic(auto, unfolding(crate::specs::Numbers::unsigned_key))]
 pub(crate) fn put_unsigned(number: u64, out: &mut Vec<u8>)
     requires { vec_len out.old + 9 ≤ vec_capacity out.old }
@@ -99,7 +100,7 @@ pub(crate) fn put_unsigned(number: u64, out: &mut Vec<u8>)
     }
 }
 
-/// Where a number stands among those that have a class.
+/// The place of a number among those that have a class.
 fn place_of(number: i64) -> u64
     requires { IsStep number }
     ensures { result ≡ place number }
@@ -149,8 +150,8 @@ fn put_above(number: i64, out: &mut Vec<u8>)
     }
 }
 
-/// Puts a signed number, of which none is farther from 0 than two coordinates are from each other. Those of one to four bytes are
-/// put with no search for their class.
+/// Puts a signed number, which is at most as far from 0 as two coordinates are from each other. Those of one to four bytes
+/// are put without a search for their class.
 pub(crate) fn put_signed(number: i64, out: &mut Vec<u8>)
     requires step { IsStep number }
     requires room { vec_len out.old + 9 ≤ vec_capacity out.old }

@@ -21,7 +21,7 @@ pub(crate) struct Turned {
     pub(crate) flip: bool,
 }
 
-/// How many bytes stand before the first 0.
+/// How many bytes come before the first 0.
 fn text_len(bytes: &[u8]) -> usize
     ensures len { result ≡ text_len bytes.now }
 {
@@ -35,7 +35,7 @@ fn text_len(bytes: &[u8]) -> usize
     len
 }
 
-/// The turns that a byte tells.
+/// The turns of a byte.
 fn turns_of(byte: u8) -> Turns
     ensures { (turns : SomeTurns) (flip : Bool) → byte ≡ 1 + (turn_count turns * 2 + flip_count flip) → result ≡ turns }
 {
@@ -51,7 +51,7 @@ fn turns_of(byte: u8) -> Turns
     Turns::T3
 }
 
-/// The flip that a byte tells.
+/// The flip of a byte.
 fn flip_of(byte: u8) -> bool
     ensures { (turns : SomeTurns) (flip : Bool) → byte ≡ 1 + (turn_count turns * 2 + flip_count flip) → result ≡ flip }
 {
@@ -104,7 +104,7 @@ impl<'a> Cursor<'a> {
         (first, second)
     }
 
-    /// Takes the way to the next point, and answers that; or takes the end of the list.
+    /// Takes the step to the next point, and returns that point. The end of the list is left.
     #[inline(always)]
     pub(crate) fn next_point(&mut self, before: Point) -> Option<Point>
         requires from { is_grid_point before ≡ true }
@@ -113,7 +113,6 @@ impl<'a> Cursor<'a> {
         ensures shorter { IfSome result (λ p. length self.new < length self.old) }
     {
         if self.left()[0] == 0 {
-            let _end = self.byte();
             return None;
         }
         let dx = self.signed();
@@ -123,7 +122,7 @@ impl<'a> Cursor<'a> {
             y: before.y + dy,
         })
     }
-    /// Takes the way to the next point without making that, and answers whether there was one. The end of the list is left.
+    /// Skips the step to the next point, and returns whether there was one. The end of the list is left.
     pub(crate) fn pass_point(&mut self) -> bool
         requires { (before : OnePoint) × (ps : List OnePoint) × (rest : List ℕ) × (is_grid_point before ≡ true) × AreWithin ps × (self.old ≡ points_key before ps ++ rest) }
         ensures passed { (before : OnePoint) (ps : List OnePoint) (rest : List ℕ) → is_grid_point before ≡ true → AreWithin ps → self.old ≡ points_key before ps ++ rest → PassedPoint result ps rest self.new }

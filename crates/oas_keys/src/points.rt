@@ -3,21 +3,21 @@
 ghost use Rattle.std.specs.Prelude.{◌≡◌, ◌<◌, List, length, IfSome};
 ghost use Rattle.oas_ring.specs.declared.point.Point.{Point as OnePoint};
 ghost use Rattle.oas_ring.specs.Points.{origin};
-ghost use Rattle.oas_keys.specs.Reading.{HasPoints, GivesPoint};
+ghost use Rattle.oas_keys.specs.Reading.{HasPoints, YieldsPoint};
 
 use crate::cursor::Cursor;
 use oas_ring::Point;
 
-/// The points of a polygon or a path that are still to be read from its key. No memory is wanted for them.
+/// The points of a polygon or a path that are still to be read from its key. They need no memory.
 #[derive(Debug, Drop)]
 pub struct SpelledPoints<'a> {
     left: Cursor<'a>,
-    /// The point before the first of them, from which the way to it leads.
+    /// The point before the first of them.
     before: Point,
 }
 
 impl<'a> SpelledPoints<'a> {
-    /// All points of a key, of which their list and its end are left.
+    /// All points of a key, where their list and its end are left.
     pub(crate) fn of(left: Cursor<'a>) -> SpelledPoints<'a>
         ensures left { result.left ≡ left.entry }
         ensures before { result.before ≡ origin }
@@ -28,12 +28,12 @@ impl<'a> SpelledPoints<'a> {
         }
     }
 
-    /// Takes the next point, where one is left. It stands in the loops that call it, so that what is left need not be kept in
-    /// memory between two points.
+    /// Takes the next point, where one is left. It is inlined in the loops that call it, so that what is left need not be
+    /// kept in memory between two points.
     #[inline(always)]
     pub fn next(&mut self) -> Option<Point>
         requires { (ps : List OnePoint) × HasPoints self.old ps }
-        ensures next { (ps : List OnePoint) → HasPoints self.old ps → GivesPoint result ps self.new }
+        ensures next { (ps : List OnePoint) → HasPoints self.old ps → YieldsPoint result ps self.new }
         ensures shorter { IfSome result (λ p. length self.new.left < length self.old.left) }
     {
         let point = self.left.next_point(self.before)?;

@@ -11,7 +11,7 @@ use crate::numbers::{put_signed_pair, put_unsigned, put_unsigned_pair};
 use oas_layout::Element;
 use std::alloc::AllocError;
 
-/// Room for the key of an element that is no placement and no text.
+/// Reserves room for the key of an element that is no placement and no text.
 fn room_for(element: &Element) -> usize
     requires { 1 < kind element.now }
     ensures { result ≡ room_of element.now }
@@ -121,7 +121,7 @@ fn put_geometry_key(element: &Element, out: &mut Vec<u8>) -> Result<(), AllocErr
     Ok(())
 }
 
-/// Puts an element's key behind what `out` has (own rule, specs/Keys.antt). Where memory is refused, `out` has what it had.
+/// Puts an element's key after what `out` has (own rule, specs/Keys.antt). If out of memory, `out` has what it had.
 pub fn put_key(element: &Element, out: &mut Vec<u8>) -> Result<(), AllocError>
     requires { IsSound element.now }
     ensures ok { OnOk result (out.new.items ≡ out.old.items ++ key_of element.now) }

@@ -1,10 +1,10 @@
-//! An element as its key has it.
+//! An element as its key spells it.
 
 use crate::points::SpelledPoints;
 use oas_layout::Turns;
 
-/// An element as its key has it: names and strings are those bytes of the key, and points are read from it one by one, so that
-/// no memory is wanted. Lengths and places are in steps of the grid.
+/// An element as its key spells it: names and strings are those bytes of the key, and points are read from it one by one, so
+/// nothing is allocated. Lengths and places are in grid steps.
 #[derive(Debug, Drop)]
 pub enum SpelledElement<'a> {
     /// Another cell, placed.
@@ -23,7 +23,7 @@ pub enum SpelledElement<'a> {
         x: i64,
         y: i64,
     },
-    /// A rectangle, of which x and y is the lower left corner.
+    /// A rectangle; x and y is the lower left corner.
     Rectangle {
         layer: u64,
         datatype: u64,
@@ -47,7 +47,7 @@ pub enum SpelledElement<'a> {
         end: i64,
         points: SpelledPoints<'a>,
     },
-    /// A circle, of which x and y is the centre.
+    /// A circle; x and y is the centre.
     Circle {
         layer: u64,
         datatype: u64,

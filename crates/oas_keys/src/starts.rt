@@ -1,4 +1,4 @@
-//! Where the classes of short numbers begin, so that these are written and read with no search for their class.
+//! Where the classes of short numbers begin, so that these are written and read without a search for their class.
 
 /// How many numbers of two bytes have the same first byte.
 pub(crate) const TWO_EACH: u64 = 1 << 8;

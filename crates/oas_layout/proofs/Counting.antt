@@ -1,4 +1,4 @@
--- Counts in lists of keys beside how often they are there.
+-- Counts in lists of keys with counts.
 use Rattle.std.proofs.Common.{◌≡◌, ℕ, ◌+◌, ◌*◌, ◌<◌, List, [], ◌∷◌, Bool, true, false, cond, Some, unwrap_or, refl, sym, ◌∙◌, ap, subst, arith}
 use Rattle.std.specs.Prelude.{count_by}
 use Rattle.std.specs.Cmp.{IsTotalOrder, tied_itself, alike_right}
@@ -17,7 +17,7 @@ use Rattle.std.proofs.lemmas.List.Sums.{sum_by-cons}
 use Rattle.oas_layout.specs.Laws.BagLaws.{total}
 use Rattle.oas_layout.specs.Ascending.{Ascends}
 
--- E is the test of equivalence, which ties keys in normal form as the order does
+-- E is the test of equivalence; on keys in normal form it agrees with ties in the order
 module _ {K : Type 0} {R : K → K → Ordering} (o : IsTotalOrder R) (exact : CmpEqualImpliesEq R) (E : K → K → Bool) (N : K → Type 0) (agrees : (x y : K) → N x → N y → E x y ≡ eq_by_cmp R x y) where
   -- all keys are normal
   abbrev pub AllNormal : List (K × ℕ) → Type 0
@@ -27,11 +27,11 @@ module _ {K : Type 0} {R : K → K → Ordering} (o : IsTotalOrder R) (exact : C
   abbrev pub Positive : List (K × ℕ) → Type 0
   Positive es = AllByRecursion (λ p. 0 < p.1) es
 
-  -- how many are equivalent with q
+  -- how many are equivalent to q
   abbrev pub share : K → List (K × ℕ) → ℕ
   share q es = total (λ x. cond (E q x) 1 0) es
 
-  -- none is equivalent with a key that is below all
+  -- none is equivalent to a key that is below all
   share-below : (q : K) (es : List (K × ℕ)) → N q → AllNormal es → AllByRecursion (λ y. R q y ≡ Less) (keys_of es) → share q es ≡ 0
   share-below q [] m n h = refl
   share-below q (p ∷ ps) m n h =
@@ -39,13 +39,13 @@ module _ {K : Type 0} {R : K → K → Ordering} (o : IsTotalOrder R) (exact : C
       let rest = share-below q ps m n.1 h.1 in
       rw apart (omega (arith, rest))
 
-  -- those that are equivalent with the first key, which ties with q, are its count and those of the rest
+  -- those that are equivalent to the first key, which ties with q, are its count and those of the rest
   share-same : (q : K) (p : K × ℕ) (ps : List (K × ℕ)) → N q → N p.0 → R q p.0 ≡ Equal → share q (p ∷ ps) ≡ p.1 + share q ps
   share-same q p ps m n e =
       let yes : E q p.0 ≡ true = agrees q p.0 m n ∙ ap is_eq e in
       rw yes (omega arith)
 
-  -- none is equivalent with a key that is below the first
+  -- none is equivalent to a key that is below the first
   share-less : (q : K) (p : K × ℕ) (ps : List (K × ℕ)) → N q → AllNormal (p ∷ ps) → IsStrictlySortedBy R (keys_of (p ∷ ps)) → R q p.0 ≡ Less → share q (p ∷ ps) ≡ 0
   share-less q p ps m n s e = share-below q (p ∷ ps) m n (e, chain (keys_of ps) (sorted_head R p.0 (keys_of ps) s)) where
     chain : (ks : List K) → AllByRecursion (λ y. R p.0 y ≡ Less) ks → AllByRecursion (λ y. R q y ≡ Less) ks
@@ -82,7 +82,7 @@ module _ {K : Type 0} {R : K → K → Ordering} (o : IsTotalOrder R) (exact : C
         cancel : (e f : K × ℕ) (x y : ℕ) (k : K) → e ≡ f → e.1 * cond (E k e.0) 1 0 + x ≡ f.1 * cond (E k f.0) 1 0 + y → x ≡ y
         cancel e f x y k same h = let w = ap (λ (p : K × ℕ). p.1 * cond (E k p.0) 1 0) same in omega (arith, w, h)
 
-  -- how many are equivalent with a normal key is the count beside it
+  -- how many are equivalent to a normal key is the count beside it
   pub share-is : (q : K) (es : List (K × ℕ)) → N q → AllNormal es → IsStrictlySortedBy R (keys_of es) → share q es ≡ unwrap_or (lookup (is_at (R q)) es) 0
   share-is q [] m n s = refl
   share-is q (p ∷ ps) m n s =
@@ -101,22 +101,22 @@ module _ {K : Type 0} {R : K → K → Ordering} (o : IsTotalOrder R) (exact : C
 
   -- ---- lists of keys, each as often as it is there
 
-  -- how many are equivalent with q
+  -- how many are equivalent to q
   abbrev pub count : K → List K → ℕ
   count q xs = count_by (E q) xs
 
-  -- one key more
+  -- one more key
   pub count-cons : (q x : K) (xs : List K) → count q (x ∷ xs) ≡ cond (E q x) 1 0 + count q xs
   count-cons q x xs = sum_by-cons (λ y. cond (E q y) 1 0) x xs
 
-  -- none is equivalent with a key that is below all
+  -- none is equivalent to a key that is below all
   count-above : (q : K) (xs : List K) → N q → AllByRecursion N xs → AllByRecursion (λ y. R q y ≡ Less) xs → count q xs ≡ 0
   count-above q [] m n h = refl
   count-above q (x ∷ xs) m n h =
       let apart : E q x ≡ false = agrees q x m n.0 ∙ ap is_eq h.0 in
       count-cons q x xs ∙ rw apart (omega (arith, count-above q xs m n.1 h.1))
 
-  -- none is equivalent with a key that is below the first of an ascending list
+  -- none is equivalent to a key that is below the first of an ascending list
   count-less : (q x : K) (xs : List K) → N q → AllByRecursion N (x ∷ xs) → Ascends R (x ∷ xs) → R q x ≡ Less → count q (x ∷ xs) ≡ 0
   count-less q x xs m n a l = count-above q (x ∷ xs) m n (l, chain xs a.0) where
     chain : (ks : List K) → AllByRecursion (λ y. is_gt (R x y) ≡ false) ks → AllByRecursion (λ y. R q y ≡ Less) ks
@@ -127,7 +127,7 @@ module _ {K : Type 0} {R : K → K → Ordering} (o : IsTotalOrder R) (exact : C
       up Equal e g = sym (alike_right o x k q e) ∙ l
       up Greater e g = cc
 
-  -- a key is equivalent with itself
+  -- a key is equivalent to itself
   count-self : (x : K) (xs : List K) → N x → count x (x ∷ xs) ≡ 1 + count x xs
   count-self x xs n = count-cons x x xs ∙ ap (λ b. cond b 1 0 + count x xs) (agrees x x n n ∙ ap is_eq (tied_itself o x))
 

@@ -18,7 +18,7 @@ use Rattle.oas_layout.proofs.SoundLemmas.{lacks_points-normal, fits_grid-normal}
 use Rattle.std.proofs.lemmas.List.{append-nil}
 use Rattle.std.proofs.lemmas.Nat.{mul-le}
 
--- from its first point on in its order, a list is read as it is
+-- a reading from the first point on, in order, is the list itself
 reading_of-first : (p : List Point) (r : Reading) → r.start ≡ 0 → r.backwards ≡ false → reading_of p r ≡ p
 reading_of-first p r start forwards =
     ap (λ (t : Reading). reading_of p t) (λ i. record { start = start i; backwards = forwards i }) ∙ append-nil p
@@ -28,13 +28,13 @@ module _ (profile : Profile) (layer datatype : ℕ) (p ring : List Point) (o : O
   drawn : drawn_box profile p ≡ o
   drawn = ap (drawn_box profile) (sym there) ∙ sym box
 
-  -- a polygon that is drawn round no rectangle, read otherwise
+  -- a polygon that is drawn round no rectangle, in another reading
   pub kept_turned : (q : List Point) (r : Reading) → o ≡ None → IsLeastReadingOf ring (reading_of ring r) → q ≡ reading_of ring r →
       Polygon layer datatype q ≡ normal_polygon layer datatype (least_of p) (drawn_box profile p)
   kept_turned q r none least is =
       λ i. normal_polygon layer datatype ((is ∙ least_of-is ring (reading_of ring r) least ∙ ap least_of there) i) (sym (drawn ∙ none) i)
 
-  -- or as it is
+  -- or unchanged
   pub kept_as_it_is : (r : Reading) → o ≡ None → IsLeastReadingOf ring (reading_of ring r) → r.start ≡ 0 → r.backwards ≡ false →
       Polygon layer datatype p ≡ normal_polygon layer datatype (least_of p) (drawn_box profile p)
   kept_as_it_is r none least start forwards = kept_turned p r none least (sym there ∙ sym (reading_of-first ring r start forwards))
@@ -49,7 +49,7 @@ module _ (profile own : Profile) (e kept : Element) (same : profile ≡ own) (is
   pub kept_points : lacks_points e ≡ false → lacks_points kept ≡ false
   kept_points h = ap lacks_points is ∙ lacks_points-normal profile e h
 
-  -- it lies within the grid
+  -- it is within the grid
   pub kept_inside : fits_grid e ≡ true → fits_grid kept ≡ true
   kept_inside h = ap fits_grid is ∙ fits_grid-normal profile e h
 

@@ -33,7 +33,7 @@ kept_equal profile a b = (normal-alike profile a b, same_from_normal profile a b
 pub kept_kept : (profile : Profile) → KeptIsKept profile
 kept_kept profile = normal-normal profile
 
--- which polygons are kept as they are
+-- which polygons are kept unchanged
 pub kept_polygons : (profile : Profile) → KeptPolygons profile
 kept_polygons One layer datatype points = (λ h. (normal-least One layer datatype points h, λ corners no. no), λ h. normal-polygon One layer datatype points h.0 h.1)
 kept_polygons Two layer datatype points =
@@ -45,7 +45,7 @@ held profile es q b =
     sum_by-items _ es ∙ ap (λ (E : Element → Bool). total (λ x. cond (E x) 1 0) es) (λ i x. sym (same_from-normal profile q x) i)
     ∙ share-is element_total exact_elements (same_element profile) (IsNormal profile) (same_normal profile) (normal profile q) es (normal-normal profile q) b.normal b.tally.ascending
 
--- a key that is at a place of the list is above the keys that all in it are above
+-- a key at a place of the list is above any key that all in the list are above
 above_at : (k : Element) (es : List (Element × ℕ)) (j : ℕ) (q : Element × ℕ) → AllByRecursion (λ y. element_cmp k y ≡ Less) (keys_of es) → slice_get es j ≡ Some q → element_cmp k q.0 ≡ Less
 above_at k [] j q h at = let none : ⊥ = cc in absurd none
 above_at k (e ∷ es) zero q h at = ap (λ o. element_cmp k (unwrap_or o e).0) (sym at) ∙ h.0
@@ -54,7 +54,7 @@ above_at k (e ∷ es) (suc j) q h at = above_at k es j q h.1 at
 below_itself : (a b : Element) → a ≡ b → element_cmp a b ≡ Less → ⊥
 below_itself a b e h = let tied : element_cmp a b ≡ Equal = ap (element_cmp a) (sym e) ∙ tied_itself element_total a in cc
 
--- keys that strictly ascend are apart
+-- keys that strictly ascend are different
 keys_apart : (es : List (Element × ℕ)) (i j : ℕ) (p q : Element × ℕ) → IsStrictlySortedBy element_cmp (keys_of es) → slice_get es i ≡ Some p → slice_get es j ≡ Some q → p.0 ≡ q.0 → i ≡ j
 keys_apart [] i j p q s at bt e = let none : ⊥ = cc in absurd none
 keys_apart (x ∷ xs) zero zero p q s at bt e = refl

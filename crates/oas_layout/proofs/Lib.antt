@@ -1,4 +1,4 @@
-pub mod Cells
+pub mod CellLemmas
 pub mod Counting
 pub mod KeptForms
 pub mod LawProofs

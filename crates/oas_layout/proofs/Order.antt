@@ -1,4 +1,4 @@
--- What std's clauses say of the derived order, said of the stated one.
+-- What std's clauses say about the derived order, for the stated one.
 use Rattle.std.proofs.Common.{◌≡◌, ℕ, ◌+◌, ◌<◌, List, [], ◌∷◌, unwrap_or, sym, ◌∙◌, ap, subst}
 use Rattle.std.specs.Ordering.{match_ordering}
 use Rattle.std.specs.declared.cmp.Ordering.{Ordering}

@@ -1,4 +1,4 @@
--- Elements that every profile keeps as they stand, and the draft that takes a cell of them as a whole.
+-- Elements that every profile keeps unchanged, and the draft that takes a cell of them as a whole.
 use Rattle.std.proofs.Common.{◌≡◌, ℕ, ◌+◌, ◌*◌, ◌<◌, ◌≤◌, List, [], ◌∷◌, ◌++◌, true, false, None, length, refl, sym, ◌∙◌, ap, subst, arith, mul_comm}
 use Rattle.std.specs.Prelude.{sum_by, ◌^◌}
 use Rattle.std.specs.Ordering.{match_ordering}
@@ -29,7 +29,7 @@ product_fits w n a b =
     let most : w * n ≤ (2 ^ 64) * n = mul-le w n (2 ^ 64) n (omega (arith, a)) (omega arith) in
     (omega (arith, most), omega (arith, most, b))
 
--- each profile keeps it as it stands
+-- each profile keeps it unchanged
 normal_plain : (profile : Profile) (e : Element) → is_plain e ≡ true → IsNormal profile e
 normal_plain profile (Polygon layer datatype points) h = cc
 normal_plain profile e h = refl
@@ -74,7 +74,7 @@ ArePlain-more es fs count weight e n w k is tally plain sound product light =
       sound = subst AllSound (sym is) (sound-put_more es e n sound k.sound);
     }
 
--- a sound cell more
+-- one more sound cell
 cells-append : (profile : Profile) (cs : List Cell) (c : Cell) → IsCell profile c → AllByRecursion (IsCell profile) cs → AllByRecursion (IsCell profile) (cs ++ c ∷ [])
 cells-append profile [] c good all = (good, tt)
 cells-append profile (x ∷ xs) c good all = (all.0, cells-append profile xs c good all.1)

@@ -58,7 +58,7 @@ sorted_below : (x : List ℕ) (cs : List Cell) → AllByRecursion (λ k. name_cm
 sorted_below x [] h = tt
 sorted_below x (c ∷ cs) h = rw h.0 (sorted_below x cs h.1)
 
--- names that ascend pass the test of it
+-- names that ascend pass the test for it
 sorted_list : (cs : List Cell) → IsStrictlySortedBy name_cmp (keys_of cs) → T (is_sorted name_cmp cs)
 sorted_list [] s = tt
 sorted_list (c ∷ cs) s = both _ _ (sorted_below c.0 cs (sorted_head name_cmp c.0 (keys_of cs) s)) (sorted_list cs (sorted_tail name_cmp c.0 (keys_of cs) s)) where
@@ -103,7 +103,7 @@ same_reads (c ∷ cs) (d ∷ ds) e h =
     let head : c ≡ d = ap (λ o. unwrap_or o c) (h 0 (omega arith)) in
     λ i. head i ∷ same_reads cs ds (omega (arith, e)) (λ k below. h (suc k) (omega (arith, below))) i
 
--- layouts of which the units or the cells differ are not the same
+-- layouts whose units or cells differ are not the same
 pub differ : (u v a b : Contents) → u ≡ a → v ≡ b → a.profile ≡ b.profile → IsLayout u → IsLayout v → (a.unit ≡ b.unit → a.cells ≡ b.cells → ⊥) →
     (IsTrue false → SameLayout a.profile (meaning_of a) (meaning_of b)) × (SameLayout a.profile (meaning_of a) (meaning_of b) → IsTrue false)
 differ u v a b e f alike k l apart =
@@ -117,7 +117,7 @@ one_entry o p c d e f g = ap (λ q. unwrap_or q c) (sym f ∙ e ∙ g)
 pub same_at : (cs ds : List Cell) (i : ℕ) (c d : Cell) → slice_get cs i ≡ Some c → slice_get ds i ≡ Some d → cs ≡ ds → c ≡ d
 same_at cs ds i c d f g e = one_entry (slice_get cs i) (slice_get ds i) c d (ap (λ (es : List Cell). slice_get es i) e) f g
 
--- equal cells have no unlike names
+-- equal cells have no different names
 pub unlike_itself : (c d : Cell) → c ≡ d → true ≡ not (pointwise ◌==◌ c.0 d.0) → ⊥
 unlike_itself c d e h =
     let alike : pointwise ◌==◌ c.0 d.0 ≡ true = ap (λ k. pointwise ◌==◌ c.0 k) (sym (ap (λ (p : Cell). p.0) e)) ∙ nat_list_eq_equiv.refl c.0 in

@@ -24,7 +24,7 @@ use Rattle.oas_layout.specs.Contents.{Cell, Contents, names, expanded, IsCell, I
 abbrev pub name_cmp : List ℕ → List ℕ → Ordering
 name_cmp = slice_cmp nat_cmp
 
--- of two names in order that are not equal the first is below the second
+-- where two names in order are not equal, the first is below the second
 less : (a b : List ℕ) → is_lt (name_cmp b a) ≡ false → pointwise ◌==◌ a b ≡ false → name_cmp a b ≡ Less
 less a b up apart =
     let tie : is_eq (name_cmp a b) ≡ false = sym (texts_ties a b) ∙ apart in
@@ -46,7 +46,7 @@ cells_sum-is : (f : List ℕ × List Element → ℕ) (cs : List Cell) → cells
 cells_sum-is f [] = refl
 cells_sum-is f (c ∷ cs) = ap (λ (n : ℕ). f (c.0, items c.1) + n) (cells_sum-is f cs) ∙ sym (sum_by-cons (λ (c : Cell). f (c.0, items c.1)) c cs)
 
--- a sum over the cells knows no order of them
+-- a sum over the cells doesn't depend on their order
 cells_sum-permutation : (f : List ℕ × List Element → ℕ) (cs ds : List Cell) → IsPermutation cs ds → cells_sum f (expanded ds) ≡ cells_sum f (expanded cs)
 cells_sum-permutation f cs ds p = cells_sum-is f ds ∙ sum_by-IsPermutation (λ (c : Cell). f (c.0, items c.1)) cs ds p ∙ sym (cells_sum-is f cs)
 

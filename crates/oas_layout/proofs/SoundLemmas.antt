@@ -1,4 +1,4 @@
--- The kept form of an element has its points and lies within the grid, where the element does.
+-- The kept form of an element has its points and is within the grid, where the element is.
 use Rattle.std.proofs.Common.{◌≡◌, ℕ, Bool, true, false, ◌&&◌, List, [], ◌∷◌, length, Option, None, Some, refl, sym, ◌∙◌, ap, inl, inr}
 use Rattle.std.specs.Prelude.{reverse, nat_lt}
 use Rattle.std.specs.List.{list_all}
@@ -38,7 +38,7 @@ both true b h = record { left = refl; right = h }
 both false b h = cc
 
 module _ (test : Point → Bool) where
-  -- what holds of each point does so in each rotation
+  -- what holds for each point does so in each rotation
   all-rotation : (p q : List Point) → IsRotation p q → list_all test q ≡ list_all test p
   all-rotation p q h =
       let t = parts_of_rotation p q h in
@@ -83,14 +83,14 @@ box_inside layer datatype points c b h =
     let y = ap (λ (d : Corners). is_coordinate d.high.y) back ∙ high.right in
     λ i. (low.left i && x i) && (low.right i && y i)
 
--- a kept polygon lies within the grid
+-- a kept polygon is within the grid
 kept_inside : (profile : Profile) (layer datatype : ℕ) (points : List Point) (o : Option Corners) → drawn_box profile points ≡ o → list_all is_grid_point points ≡ true →
     fits_grid (normal_polygon layer datatype (least_of points) o) ≡ true
 kept_inside profile layer datatype points None e h = all-same_ring is_grid_point points (least_of points) (least_of-IsLeastReadingOf points).same ∙ h
 kept_inside One layer datatype points (Some c) e h = let no : ⊥ = cc in absurd no
 kept_inside Two layer datatype points (Some c) e h = box_inside layer datatype points c (box_of-box points c e) h
 
--- the kept form lies within the grid
+-- the kept form is within the grid
 pub fits_grid-normal : (profile : Profile) (e : Element) → fits_grid e ≡ true → fits_grid (normal profile e) ≡ true
 fits_grid-normal profile (Polygon layer datatype points) h = kept_inside profile layer datatype points (drawn_box profile points) refl h
 fits_grid-normal profile e h = h

@@ -1,4 +1,4 @@
--- Elements in ascending order, each beside how often it is there.
+-- Elements in ascending order, each with its count.
 use Rattle.std.specs.Prelude.{ℕ, ◌+◌, ◌<◌, List, [], ◌∷◌, ◌++◌, replicate, unwrap_or}
 use Rattle.std.specs.Borrow.{Bor}
 use Rattle.std.specs.List.{AllByRecursion}

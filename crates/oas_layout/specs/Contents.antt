@@ -25,8 +25,8 @@ use Rattle.oas_layout.specs.Meaning.{Meaning, element_count, cells_weight}
 abbrev pub Cell : Type 0
 Cell = List ℕ × List (Element × ℕ)
 
--- The cells stand in order of definition in a draft, by ascending names in a layout. `spelled` is what all that was
--- taken weighs as it was given, where a rectangle that was given as a polygon weighs as that polygon.
+-- The cells are in order of definition in a draft, and by ascending names in a layout. `spelled` is the weight of all that
+-- was taken as it was given, where a rectangle that was given as a polygon weighs as that polygon.
 pub record Contents : Type 0 where
   pub unit : Ratio
   pub limits : Limits
@@ -47,7 +47,7 @@ abbrev pub expanded : List Cell → List (List ℕ × List Element)
 expanded [] = []
 expanded (c ∷ cs) = (c.0, items c.1) ∷ expanded cs
 
--- what is held means
+-- the meaning of what is held
 abbrev pub meaning_of : Contents → Meaning
 meaning_of d = record { unit = d.unit; cells = expanded d.cells }
 
@@ -55,14 +55,14 @@ meaning_of d = record { unit = d.unit; cells = expanded d.cells }
 abbrev pub has_cell : List Cell → List ℕ → Bool
 has_cell cs name = is_some (lookup (pointwise ◌==◌ name) cs)
 
--- why a cell of that name is refused
+-- why a cell with that name is refused
 abbrev pub cell_refusal : Contents → List ℕ → Option Why
 cell_refusal d name =
     if has_cell d.cells name then Some DuplicateCell
     else if nat_lt d.limits.weight (d.spelled + (1 + length name)) then Some TooHeavy
     else None
 
--- why so many of the element are refused
+-- why this many of the element are refused
 abbrev pub refusal : Contents → Element → ℕ → Option Why
 refusal d e n =
     if lacks_points e then Some PointCount
@@ -75,7 +75,7 @@ refusal d e n =
 abbrev pub nothing : Ratio → Limits → Profile → Contents
 nothing unit limits profile = record { unit = unit; limits = limits; profile = profile; cells = []; spelled = 0 }
 
--- one more cell, with no elements
+-- one more cell, without elements
 abbrev pub with_cell : Contents → List ℕ → Contents
 with_cell d name = record d { cells = d.cells ++ (name, []) ∷ []; spelled = d.spelled + (1 + length name) }
 
@@ -85,7 +85,7 @@ cells_with_more [] i e n = []
 cells_with_more (c ∷ cs) zero e n = (c.0, with_more c.1 e n) ∷ cs
 cells_with_more (c ∷ cs) (suc i) e n = c ∷ cells_with_more cs i e n
 
--- n more of e in the cell, which is in its kept form and was spelled with this weight
+-- n more of e in the cell, where e is in its kept form and was spelled with this weight
 abbrev pub holding : Contents → ℕ → Element → ℕ → ℕ → Contents
 holding d cell e n weight = record d { cells = cells_with_more d.cells cell e n; spelled = d.spelled + weight }
 
@@ -103,8 +103,8 @@ pub record IsCell (profile : Profile) (c : Cell) : Type 0 where
   pub bag : IsBag profile c.1
   pub sound : AllSound c.1
 
--- The counters are those of the cells and within the limits. What is held weighs at most what was spelled, and under
--- profile one as much.
+-- The counters are those of the cells and within the limits. What is held weighs at most what was spelled, and under profile
+-- one exactly as much.
 pub record IsCounted (limits : Limits) (profile : Profile) (cells : List Cell) (count weight spelled : ℕ) : Type 0 where
   pub count_is : count ≡ element_count (expanded cells)
   pub weight_is : weight ≡ cells_weight (expanded cells)
@@ -114,8 +114,8 @@ pub record IsCounted (limits : Limits) (profile : Profile) (cells : List Cell) (
   pub as_spelled : profile ≡ One → weight ≡ spelled
   pub are_cells : AllByRecursion (IsCell profile) cells
 
--- What every layout is, whatever was asked of its draft. Each cell is one, the names strictly ascend, and elements and
--- weight are within limits that a layout may have.
+-- What every layout is, whatever its draft was given. Each cell is sound, the names strictly ascend, and elements and weight
+-- are within limits that a layout may have.
 pub record IsLayout (l : Contents) : Type 0 where
   pub unit : IsUnit l.unit
   pub limits : IsLimits l.limits.elements l.limits.weight l.limits.input
@@ -129,7 +129,7 @@ pub record IsFinished (l : Contents) (count weight : ℕ) : Type 0 where
   pub counted : IsCounted l.limits l.profile l.cells count weight l.spelled
   pub layout : IsLayout l
 
--- b holds what a does, its cells by ascending names
+-- b holds what a does, with its cells by ascending names
 pub record IsSealed (a b : Contents) : Type 0 where
   pub unit : b.unit ≡ a.unit
   pub limits : b.limits ≡ a.limits

@@ -16,7 +16,7 @@ turn_count T1 = 1
 turn_count T2 = 2
 turn_count T3 = 3
 
--- where a kind stands
+-- the number of a kind
 abbrev pub kind : Element → ℕ
 kind (Placement cell x y turns flip) = 0
 kind (Text string textlayer texttype x y) = 1

@@ -1,4 +1,4 @@
--- Which elements lie within the grid.
+-- Which elements are within the grid.
 use Rattle.std.specs.Prelude.{ℕ, ℤ, pos, negsuc, ◌-◌, ◌^◌, ◌+ℤ◌, Bool, ◌&&◌, nat_le, not}
 use Rattle.std.specs.Prelude.{int_lt}
 use Rattle.std.specs.List.{list_all}

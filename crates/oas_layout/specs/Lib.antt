@@ -10,3 +10,4 @@ pub mod Same
 pub mod Sound
 pub mod Weight
 pub mod Laws
+pub mod Refused

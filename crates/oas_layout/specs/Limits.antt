@@ -1,8 +1,8 @@
--- How much a layout may be asked to hold.
+-- How much a layout may hold.
 use Rattle.std.specs.Prelude.{◌≡◌, ℕ, ◌+◌, ◌*◌, ◌^◌, ◌≤◌}
 use Rattle.oas_layout.specs.declared.limits.Limits.{Limits}
 
--- there are such limits: so many elements, such a weight, and room in the input for every canonical file of that weight
+-- there are such limits: this many elements, this weight, and enough input for every canonical file of that weight
 pub record IsLimits (elements weight input : ℕ) : Type 0 where
   pub few : elements ≤ 2 ^ 26
   pub light : weight ≤ 2 ^ 30

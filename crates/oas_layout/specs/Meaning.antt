@@ -1,4 +1,4 @@
--- What a layout means: its unit, and by cell name a multiset of elements.
+-- The meaning of a layout: its unit, and for each cell name a multiset of elements.
 use Rattle.std.specs.Prelude.{◌≡◌, ℕ, ◌+◌, List, [], ◌∷◌, length, sum_by, count_by, Option, is_some, unwrap_or, ◌==◌}
 use Rattle.std.specs.Cmp.Lexicographic.{pointwise}
 use Rattle.std.specs.Map.{lookup}
@@ -8,12 +8,12 @@ use Rattle.oas_layout.specs.declared.element.Element.{Element}
 use Rattle.oas_layout.specs.Weight.{weight_of}
 use Rattle.oas_layout.specs.Same.{same_element}
 
--- The unit, and beside each cell's name the list of its elements, an equal one as often as it is there.
+-- The unit, and beside each cell's name the list of its elements, where an equal one occurs as often as it is there.
 pub record Meaning : Type 0 where
   pub unit : Ratio
   pub cells : List (List ℕ × List Element)
 
--- what f gives of each cell, added up
+-- the sum of f over the cells
 abbrev pub cells_sum : (List ℕ × List Element → ℕ) → List (List ℕ × List Element) → ℕ
 cells_sum f [] = 0
 cells_sum f (c ∷ cs) = f c + cells_sum f cs
@@ -22,11 +22,11 @@ cells_sum f (c ∷ cs) = f c + cells_sum f cs
 abbrev pub element_count : List (List ℕ × List Element) → ℕ
 element_count cs = cells_sum (λ c. length c.1) cs
 
--- for each cell one and the bytes of its name, and what its elements weigh
+-- one for each cell, plus the bytes of its name and the weight of its elements
 abbrev pub cells_weight : List (List ℕ × List Element) → ℕ
 cells_weight cs = cells_sum (λ c. (1 + length c.0) + sum_by weight_of c.1) cs
 
--- the elements of the cell of that name
+-- the elements of the cell with that name
 abbrev pub elements_of : List ℕ → List (List ℕ × List Element) → Option (List Element)
 elements_of name cs = lookup (pointwise ◌==◌ name) cs
 

@@ -1,4 +1,4 @@
--- Elements that every profile keeps as they stand, and the draft that takes a cell of them as a whole.
+-- Elements that every profile keeps unchanged, and the draft that takes a cell of them as a whole.
 use Rattle.std.specs.Prelude.{◌≡◌, ℕ, ◌+◌, ◌*◌, ◌≤◌, ◌^◌, nat_lt, Bool, true, false, List, [], ◌∷◌, ◌++◌, length, sum_by, Option, None, Some, if◌then◌else◌}
 use Rattle.std.specs.List.{AllByRecursion}
 use Rattle.oas_num.specs.declared.refusals.Why.{Why}
@@ -10,12 +10,12 @@ use Rattle.oas_layout.specs.Bag.{items, IsTally}
 use Rattle.oas_layout.specs.Meaning.{element_count}
 use Rattle.oas_layout.specs.Contents.{Contents, expanded, has_cell, AllSound}
 
--- all but polygons
+-- all except polygons
 abbrev pub is_plain : Element → Bool
 is_plain (Polygon layer datatype points) = false
 is_plain e = true
 
--- each of the elements is
+-- each of the elements is plain
 abbrev pub AllPlain : List (Element × ℕ) → Type 0
 AllPlain es = AllByRecursion (λ p. is_plain p.0 ≡ true) es
 
@@ -28,7 +28,7 @@ pub record ArePlain (es : List (Element × ℕ)) (count weight : ℕ) : Type 0 w
   pub plain : AllPlain es
   pub sound : AllSound es
 
--- what a cell of that name with these elements weighs
+-- the weight of a cell with that name and these elements
 abbrev pub weight_with : List ℕ → List (Element × ℕ) → ℕ
 weight_with name es = (1 + length name) + sum_by weight_of (items es)
 

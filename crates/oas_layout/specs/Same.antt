@@ -21,8 +21,8 @@ abbrev pub IsDrawn : Profile → List Point → Corners → Type 0
 IsDrawn One points corners = ⊥
 IsDrawn Two points corners = IsBox points corners
 
--- Equal kind and fields, where the points of polygons are the same ring; and under profile two a polygon that
--- goes round a rectangle is that rectangle.
+-- Equal kind and fields, where the points of polygons are the same ring; under profile two a polygon that goes round a
+-- rectangle is also that rectangle.
 abbrev pub SameElement : Profile → Element → Element → Type 0
 SameElement profile (Polygon layer datatype points) (Polygon layer' datatype' points') = (layer ≡ layer') × (datatype ≡ datatype') × SameRing points points'
 SameElement profile (Polygon layer datatype points) (Rectangle layer' datatype' width height x y) =
@@ -55,7 +55,7 @@ abbrev pub rectangle_of : ℕ → ℕ → Corners → Element
 rectangle_of layer datatype corners =
     Rectangle layer datatype (unsigned_abs (corners.high.x -ℤ corners.low.x)) (unsigned_abs (corners.high.y -ℤ corners.low.y)) corners.low.x corners.low.y
 
--- the rectangle if there is one, else the polygon of these points
+-- the rectangle if there is one, or else the polygon of these points
 abbrev pub normal_polygon : ℕ → ℕ → List Point → Option Corners → Element
 normal_polygon layer datatype points None = Polygon layer datatype points
 normal_polygon layer datatype points (Some corners) = rectangle_of layer datatype corners

@@ -1,4 +1,4 @@
--- What every element of a layout is: it has its points, lies within the grid, and a file can spell its fields.
+-- What every element of a layout is: it has its points, is within the grid, and has fields that a file can spell.
 use Rattle.std.specs.Prelude.{◌≡◌, ℕ, ◌<◌, ◌^◌, true, false, List}
 use Rattle.oas_num.specs.Ratio.{Ratio, IsLowest}
 use Rattle.oas_num.specs.Texts.{IsName, IsLabel}
@@ -7,13 +7,13 @@ use Rattle.oas_layout.specs.declared.element.Element.TheVariants.{Placement, Tex
 use Rattle.oas_layout.specs.Weight.{lacks_points}
 use Rattle.oas_layout.specs.Grid.{fits_grid}
 
--- a text's string is an a-string, and its numbers are of 64 bits
+-- a text's string is an a-string, and its numbers have 64 bits
 pub record FitsText (string : List ℕ) (textlayer texttype : ℕ) : Type 0 where
   pub string_fits : IsLabel string
   pub textlayer_fits : textlayer < 2 ^ 64
   pub texttype_fits : texttype < 2 ^ 64
 
--- a rectangle's numbers are of 64 bits
+-- a rectangle's numbers have 64 bits
 pub record FitsRectangle (layer datatype width height : ℕ) : Type 0 where
   pub layer_fits : layer < 2 ^ 64
   pub datatype_fits : datatype < 2 ^ 64
@@ -46,13 +46,13 @@ Fits (Polygon layer datatype points) = FitsPolygon layer datatype
 Fits (Path layer datatype half_width start end points) = FitsPath layer datatype half_width
 Fits (Circle layer datatype radius x y) = FitsCircle layer datatype radius
 
--- an element that has its points, lies within the grid, and can be spelled
+-- an element that has its points, is within the grid, and can be spelled
 pub record IsSound (e : Element) : Type 0 where
   pub points : lacks_points e ≡ false
   pub inside : fits_grid e ≡ true
   pub fits : Fits e
 
--- a unit in lowest terms, of two numbers of 64 bits
+-- a unit in lowest terms, with two numbers of 64 bits
 pub record IsUnit (unit : Ratio) : Type 0 where
   pub lowest : IsLowest unit
   pub num : unit.num < 2 ^ 64

@@ -1,4 +1,4 @@
--- What an element weighs, and the points that it needs.
+-- The weight of an element, and the points that it needs.
 use Rattle.std.specs.Prelude.{ℕ, ◌+◌, nat_lt, Bool, false, length}
 use Rattle.oas_layout.specs.declared.element.Element.{Element}
 use Rattle.oas_layout.specs.declared.element.Element.TheVariants.{Placement, Text, Rectangle, Polygon, Path, Circle}

@@ -1,4 +1,4 @@
-//! The elements of a cell, each held once beside its count.
+//! The elements of a cell, each held once with its count.
 
 ghost use Rattle.std.specs.Prelude.{◌≡◌, ◌+◌, ◌<◌, ◌^◌, [], unwrap_or, OnOk, OnErr, IfErr, IsTrue, ◌↔◌};
 ghost use Rattle.std.specs.BTreeMap.{get, insert_entry, IsOrdered, IsUnchanged};
@@ -11,7 +11,7 @@ use std::alloc::Global;
 use std::collections::BTreeMap;
 use std::marker::Model;
 
-/// Elements with their counts, seen as the ascending list of both.
+/// Elements with their counts; contracts see the ascending list of both.
 #[derive(Drop)]
 pub(crate) struct Bag {
     held: BTreeMap<Element, u64>,
@@ -48,14 +48,14 @@ impl Bag {
         }
     }
 
-    /// Whether both hold the same elements, each as often.
+    /// Whether both hold the same elements with the same counts.
     pub(crate) fn same(&self, other: &Bag) -> bool
         ensures { IsTrue result ↔ (self.now ≡ other.now) }
     {
         self.held == other.held
     }
 
-    /// Adds an element so many times, or hands it back.
+    /// Adds an element this many times, or hands it back.
     pub(crate) fn add(&mut self, element: Element, times: u64) -> Result<(), Element>
         requires some { 0 < times }
         requires room { count_at self.old element + times < 2 ^ 64 }
@@ -71,7 +71,7 @@ impl Bag {
     }
 }
 
-/// Adds an element so many times to those that are there, in one search for its place, or hands it back.
+/// Adds an element this many times to those that are there, in one search for its place, or hands it back.
 fn count_up(held: &mut BTreeMap<Element, u64>, element: Element, times: u64) -> Result<(), Element>
     requires { unwrap_or (get derived_cmp held.old element) 0 + times < 2 ^ 64 }
     ensures entries { OnOk result (held.new.entries ≡ insert_entry derived_cmp held.old.entries element (unwrap_or (get derived_cmp held.old element) 0 + times)) }

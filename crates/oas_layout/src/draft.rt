@@ -1,4 +1,4 @@
-//! A layout in the making.
+//! A layout under construction.
 
 ghost use Rattle.std.specs.Prelude.{◌≡◌, ◌≤◌, ◌+◌, ◌*◌, ◌<◌, ◌⊎◌, true, false, length, None, Some, OnOk, OnErr, IfErr, IfOk};
 ghost use Rattle.std.specs.Option.{SomeIff};
@@ -17,13 +17,14 @@ use crate::layout::Layout;
 use crate::limits::Limits;
 use crate::plain::PlainElements;
 use crate::profile::Profile;
+use crate::refused::Refused;
 use crate::sound::unit_fits;
 use indexmap::IndexMap;
 use oas_num::{Fraction, Name, Why};
 use std::alloc::{AllocError, Global};
 use std::marker::Model;
 
-/// A layout in the making: a unit, limits and a profile, and cells in order of definition.
+/// A layout under construction: a unit, limits and a profile, and cells in order of definition.
 #[derive(Drop)]
 pub struct Draft {
     unit: Fraction,
@@ -32,9 +33,9 @@ pub struct Draft {
     cells: IndexMap<Name, Bag>,
     /// How many elements are held, equal ones each counted.
     count: u64,
-    /// What is held weighs this.
+    /// The weight of what is held.
     weight: u64,
-    /// What was given weighed this: at least as much as what is held.
+    /// The weight of what was given: at least that of what is held.
     spelled: u64,
     alloc: Global,
 }
@@ -50,7 +51,7 @@ impl Model for Draft {
 }
 
 impl Draft {
-    /// A draft of no cells, with room for one, or want of memory.
+    /// A draft without cells, with room for one; or out of memory.
     pub fn new(
         alloc: Global,
         unit: Fraction,
@@ -73,44 +74,54 @@ impl Draft {
     }
 
     /// How many cells there are.
-    pub fn cells(&self) -> usize
+    pub fn cell_count(&self) -> usize
         ensures { result ≡ length self.now.cells }
     {
         self.cells.len()
     }
 
-    /// Adds a cell with no elements, and answers how many cells stand before it. Such a place is what `add` takes.
+    /// Adds a cell without elements, and returns how many cells come before it. `add` takes this number.
     ///
-    /// It hands the name back, and the draft is as it was, for the first of these that holds: a cell of that name
-    /// (`DuplicateCell`), more weight than the limit (`TooHeavy`), want of memory (`Memory`).
-    pub fn add_cell(&mut self, name: Name) -> Result<usize, (Why, Name)>
+    /// It hands the name back, and the draft is unchanged, for the first of these that holds: there is a cell with that name
+    /// (`DuplicateCell`), more weight than the limit (`TooHeavy`), out of memory (`Memory`).
+    pub fn add_cell(&mut self, name: Name) -> Result<usize, Refused<Name>>
         ensures ok { IfOk result (λ i. (cell_refusal self.old name ≡ None) × (i ≡ length self.old.cells) × (self.new ≡ with_cell self.old name)) }
-        ensures why { IfErr result (λ e. ((e.0 ≡ Memory) × (cell_refusal self.old name ≡ None)) ⊎ (cell_refusal self.old name ≡ Some e.0)) }
-        ensures back { IfErr result (λ e. e.1 ≡ name) }
+        ensures place { IfOk result (λ i. length self.new.cells ≡ i + 1) }
+        ensures why { IfErr result (λ e. ((e.why ≡ Memory) × (cell_refusal self.old name ≡ None)) ⊎ (cell_refusal self.old name ≡ Some e.why)) }
+        ensures back { IfErr result (λ e. e.value ≡ name) }
         ensures err { OnErr result (self.new ≡ self.old) }
     {
         if self.cells.contains_key(&name) {
-            return Err((Why::DuplicateCell, name));
+            return Err(Refused {
+                why: Why::DuplicateCell,
+                value: name,
+            });
         }
         let weight = name.as_bytes().len() as u64;
         if weight >= self.limits.weight() - self.spelled {
-            return Err((Why::TooHeavy, name));
+            return Err(Refused {
+                why: Why::TooHeavy,
+                value: name,
+            });
         }
-        let before = self.cells();
+        let before = self.cell_count();
         let bag = Bag::new(self.alloc);
         if let Err(e) = self.cells.insert(name, bag) {
-            return Err((Why::Memory, e.value.0));
+            return Err(Refused {
+                why: Why::Memory,
+                value: e.value.0,
+            });
         }
         self.weight += 1 + weight;
         self.spelled += 1 + weight;
         Ok(before)
     }
 
-    /// Adds a cell with these elements, and answers how many cells stand before it.
+    /// Adds a cell with these elements, and returns how many cells come before it.
     ///
-    /// It is refused, and the draft is as it was, for the first of these that holds: there is a cell of that name
-    /// (`DuplicateCell`), more elements or weight than the limits allow (`TooManyElements`, `TooHeavy`), want of memory
-    /// (`Memory`). The name and the elements are gone then.
+    /// It fails, and the draft is unchanged, for the first of these that holds: there is a cell with that name
+    /// (`DuplicateCell`), more elements or weight than the limits allow (`TooManyElements`, `TooHeavy`), out of memory
+    /// (`Memory`). The name and the elements are then dropped.
     pub fn add_plain(&mut self, name: Name, elements: PlainElements) -> Result<usize, Why>
         ensures ok { IfOk result (λ i. (plain_refusal self.old name elements ≡ None) × (i ≡ length self.old.cells) × (self.new ≡ with_plain self.old name elements)) }
         ensures why { IfErr result (λ why. ((why ≡ Memory) × (plain_refusal self.old name elements ≡ None)) ⊎ (plain_refusal self.old name elements ≡ Some why)) }
@@ -128,7 +139,7 @@ impl Draft {
             return Err(Why::TooHeavy);
         }
         let more = (1 + own + weight) as u64;
-        let before = self.cells();
+        let before = self.cell_count();
         if let Err(_) = self.cells.insert(name, bag) {
             return Err(Why::Memory);
         }
@@ -139,63 +150,86 @@ impl Draft {
     }
 
     /// Adds an element to the cell at that place, or hands it back, as `add_many` does.
-    pub fn add(&mut self, cell: usize, element: Element) -> Result<(), (Why, Element)>
+    pub fn add(&mut self, cell: usize, element: Element) -> Result<(), Refused<Element>>
         requires { cell < length self.old.cells }
         ensures ok { OnOk result ((refusal self.old element 1 ≡ None) × (self.new ≡ added self.old cell element 1)) }
-        ensures why { IfErr result (λ e. ((e.0 ≡ Memory) × (refusal self.old element 1 ≡ None)) ⊎ (refusal self.old element 1 ≡ Some e.0)) }
-        ensures back { IfErr result (λ e. e.1 ≡ element) }
+        ensures cells { length self.new.cells ≡ length self.old.cells }
+        ensures why { IfErr result (λ e. ((e.why ≡ Memory) × (refusal self.old element 1 ≡ None)) ⊎ (refusal self.old element 1 ≡ Some e.why)) }
+        ensures back { IfErr result (λ e. e.value ≡ element) }
         ensures err { OnErr result (self.new ≡ self.old) }
     {
         self.add_many(cell, element, 1)
     }
 
-    /// Adds so many equal elements to the cell at that place.
+    /// Adds this many equal elements to the cell at that place.
     ///
-    /// It hands the element back, and the draft is as it was, for the first of these that holds: too few points
-    /// (`PointCount`), more elements or weight than the limits allow (`TooManyElements`, `TooHeavy`), a part outside the
-    /// grid (`CoordinateRange`), want of memory (`Memory`).
+    /// It hands the element back, and the draft is unchanged, for the first of these that holds: too few points
+    /// (`PointCount`), more elements or weight than the limits allow (`TooManyElements`, `TooHeavy`), a part outside the grid
+    /// (`CoordinateRange`), out of memory (`Memory`).
     pub fn add_many(
         &mut self,
         cell: usize,
         element: Element,
         times: u64,
-    ) -> Result<(), (Why, Element)>
+    ) -> Result<(), Refused<Element>>
         requires cell { cell < length self.old.cells }
         requires some { 0 < times }
         ensures ok { OnOk result ((refusal self.old element times ≡ None) × (self.new ≡ added self.old cell element times)) }
-        ensures why { IfErr result (λ e. ((e.0 ≡ Memory) × (refusal self.old element times ≡ None)) ⊎ (refusal self.old element times ≡ Some e.0)) }
-        ensures back { IfErr result (λ e. e.1 ≡ element) }
+        ensures cells { length self.new.cells ≡ length self.old.cells }
+        ensures why { IfErr result (λ e. ((e.why ≡ Memory) × (refusal self.old element times ≡ None)) ⊎ (refusal self.old element times ≡ Some e.why)) }
+        ensures back { IfErr result (λ e. e.value ≡ element) }
         ensures err { OnErr result (self.new ≡ self.old) }
     {
         if element.lacks_points() {
-            return Err((Why::PointCount, element));
+            return Err(Refused {
+                why: Why::PointCount,
+                value: element,
+            });
         }
         if times > self.limits.elements() - self.count {
-            return Err((Why::TooManyElements, element));
+            return Err(Refused {
+                why: Why::TooManyElements,
+                value: element,
+            });
         }
         let room = self.limits.weight() - self.spelled;
         let Some(spelled) = product_within(element.weight(), times, room) else {
-            return Err((Why::TooHeavy, element));
+            return Err(Refused {
+                why: Why::TooHeavy,
+                value: element,
+            });
         };
         if !element.fits_grid() {
-            return Err((Why::CoordinateRange, element));
+            return Err(Refused {
+                why: Why::CoordinateRange,
+                value: element,
+            });
         }
         let Ok(kept) = element.kept_form(self.alloc, self.profile) else {
-            return Err((Why::Memory, element));
+            return Err(Refused {
+                why: Why::Memory,
+                value: element,
+            });
         };
         let Some(kept) = kept else {
             if let Err(element) = self.hold(cell, element, times, spelled) {
-                return Err((Why::Memory, element));
+                return Err(Refused {
+                    why: Why::Memory,
+                    value: element,
+                });
             }
             return Ok(());
         };
         if let Err(_) = self.hold(cell, kept, times, spelled) {
-            return Err((Why::Memory, element));
+            return Err(Refused {
+                why: Why::Memory,
+                value: element,
+            });
         }
         Ok(())
     }
 
-    /// Adds an element in its kept form to a cell so many times, spelled with this weight, or hands it back.
+    /// Adds an element in its kept form to a cell this many times, spelled with this weight, or hands it back.
     fn hold(
         &mut self,
         cell: usize,
@@ -227,7 +261,7 @@ impl Draft {
         Ok(())
     }
 
-    /// The layout of what is held, its cells by ascending names, or want of memory, and then the draft is gone.
+    /// The layout of what is held, its cells by ascending names. If out of memory the draft is dropped.
     pub fn seal(self) -> Result<Layout, AllocError>
         ensures { IfOk result (λ l. IsSealed self l) }
     {

@@ -1,4 +1,4 @@
-//! What stands in a cell.
+//! The elements of cells.
 
 ghost use Rattle.std.specs.Prelude.{◌≡◌};
 ghost use Rattle.oas_layout.specs.Weight.{weight_of, lacks_points};
@@ -21,8 +21,8 @@ pub enum Turns {
 
 /// An element of a cell, with all its fields: lengths and places in steps of the grid.
 ///
-/// Elements are ordered by kind and then by their fields, both as they stand here (own rule): numbers by value, strings
-/// by their bytes, lists of points point by point, a proper prefix first. The definition is `element_cmp`
+/// Elements are ordered by kind and then by their fields, both in the order of this declaration (own rule): numbers by value,
+/// strings by their bytes, lists of points point by point, a proper prefix first. The definition is `element_cmp`
 /// (specs/Element.antt), and no two elements tie.
 #[derive(Debug, PartialEq, Eq, PartialOrd, Ord, Drop)]
 pub enum Element {
@@ -43,7 +43,7 @@ pub enum Element {
         x: i64,
         y: i64,
     },
-    /// A rectangle (SEMI P39, RECTANGLE record), of which x and y is the lower left corner.
+    /// A rectangle (SEMI P39, RECTANGLE record); x and y is the lower left corner.
     Rectangle {
         layer: u64,
         datatype: u64,
@@ -68,7 +68,7 @@ pub enum Element {
         end: i64,
         points: Points,
     },
-    /// A circle (SEMI P39, CIRCLE record), of which x and y is the centre.
+    /// A circle (SEMI P39, CIRCLE record); x and y is the centre.
     Circle {
         layer: u64,
         datatype: u64,
@@ -79,7 +79,7 @@ pub enum Element {
 }
 
 impl Element {
-    /// What it weighs (own rule): one, the points of a polygon or a path, and the bytes of a placed cell's name or of a
+    /// Its weight (own rule): one, plus the points of a polygon or a path, and the bytes of a placed cell's name or of a
     /// text's string.
     pub fn weight(&self) -> u64
         ensures { result ≡ weight_of self.now }

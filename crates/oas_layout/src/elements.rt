@@ -8,7 +8,7 @@ use crate::element::Element;
 use std::collections::btree_map::Iter;
 use std::marker::Model;
 
-/// The distinct elements ascending, each with how often it is there; seen as the list of those to come.
+/// The distinct elements ascending, each with its count; contracts see the list of those to come.
 #[derive(Drop)]
 pub struct Elements<'a> {
     pub(crate) pairs: Iter<'a, Element, u64>,

@@ -1,4 +1,4 @@
-//! The part of the grid in which elements lie.
+//! The grid, and which elements are within it.
 
 ghost use Rattle.std.specs.Prelude.{◌≡◌};
 ghost use Rattle.std.specs.List.{list_all};
@@ -11,8 +11,8 @@ use oas_ring::Point;
 const GRID: u64 = 1 << 60;
 
 impl Element {
-    /// Whether all of it lies within the grid (own rule): positions, points, far corners of rectangles and extensions
-    /// from -2^60 to 2^60, half-widths and radii at most 2^60.
+    /// Whether all of it is within the grid (own rule): positions, points, far corners of rectangles and extensions from
+    /// -2^60 to 2^60, half-widths and radii at most 2^60.
     pub fn fits_grid(&self) -> bool
         ensures { result ≡ fits_grid self.now }
     {

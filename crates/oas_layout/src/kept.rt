@@ -12,8 +12,8 @@ use oas_ring::{Corners, Point, Points, apply, as_box, least_reading};
 use std::alloc::{AllocError, Global};
 
 impl Element {
-    /// The form in which the profile keeps the element: a polygon in its least reading, under profile two as its
-    /// rectangle if it goes round one. None where that is the element as it stands.
+    /// The form in which the profile keeps the element: a polygon in its least reading, or under profile two as its rectangle
+    /// if it goes round one. None where that is the element unchanged.
     pub fn kept_form(&self, alloc: Global, profile: Profile) -> Result<Option<Element>, AllocError>
         requires { lacks_points self.now ≡ false }
         ensures { IfOk result (λ o. unwrap_or o self.now ≡ normal profile self.now) }

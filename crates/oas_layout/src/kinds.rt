@@ -1,98 +1,105 @@
 //! Elements by the names of their fields.
 //!
-//! The definitions write the fields of a kind one after the other, with no names. These contracts say which field stands
-//! where, so the prover refuses a declaration in which two fields of one type have changed places.
+//! The definitions write the fields of a kind one after the other, without names. These contracts say which field is where,
+//! so the prover refuses a declaration in which two fields of one type have changed places.
 
 ghost use Rattle.std.specs.Prelude.{◌≡◌};
 ghost use Rattle.oas_layout.specs.declared.element.Element.TheVariants.{Placement, Text, Rectangle, Polygon, Path, Circle};
 
 use crate::element::{Element, Turns};
 use oas_num::{Label, Name};
-use oas_ring::Points;
+use oas_ring::{Point, Points};
+
+/// What a shape is drawn on: a layer and a datatype; of a text its textlayer and its texttype.
+#[derive(Clone, Copy, Debug, PartialEq, Eq)]
+pub struct Layer {
+    pub layer: u64,
+    pub datatype: u64,
+}
+
+/// How far a path goes on beyond its first and its last point, in grid steps.
+#[derive(Clone, Copy, Debug, PartialEq, Eq)]
+pub struct Extensions {
+    pub start: i64,
+    pub end: i64,
+}
 
 impl Element {
-    /// A placement of the cell of that name, at x and y in grid steps.
-    pub fn placement(cell: Name, x: i64, y: i64, turns: Turns, flip: bool) -> Element
-        ensures { result ≡ Placement cell x y turns flip }
+    /// A placement of the cell with that name, at a point of the grid.
+    pub fn placement(cell: Name, at: Point, turns: Turns, flip: bool) -> Element
+        ensures { result ≡ Placement cell at.x at.y turns flip }
     {
         Element::Placement {
             cell,
-            x,
-            y,
+            x: at.x,
+            y: at.y,
             turns,
             flip,
         }
     }
 
-    /// A text, at x and y in grid steps.
-    pub fn text(string: Label, textlayer: u64, texttype: u64, x: i64, y: i64) -> Element
-        ensures { result ≡ Text string textlayer texttype x y }
+    /// A text, at a point of the grid.
+    pub fn text(string: Label, layer: Layer, at: Point) -> Element
+        ensures { result ≡ Text string layer.layer layer.datatype at.x at.y }
     {
         Element::Text {
             string,
-            textlayer,
-            texttype,
-            x,
-            y,
+            textlayer: layer.layer,
+            texttype: layer.datatype,
+            x: at.x,
+            y: at.y,
         }
     }
 
-    /// A rectangle of that width and height, with its lower left corner at x and y, all in grid steps.
-    pub fn rectangle(layer: u64, datatype: u64, width: u64, height: u64, x: i64, y: i64) -> Element
-        ensures { result ≡ Rectangle layer datatype width height x y }
+    /// A rectangle with that width and height in grid steps, with its lower left corner there.
+    pub fn rectangle(layer: Layer, width: u64, height: u64, at: Point) -> Element
+        ensures { result ≡ Rectangle layer.layer layer.datatype width height at.x at.y }
     {
         Element::Rectangle {
-            layer,
-            datatype,
+            layer: layer.layer,
+            datatype: layer.datatype,
             width,
             height,
-            x,
-            y,
+            x: at.x,
+            y: at.y,
         }
     }
 
-    /// A polygon round these points, in grid steps.
-    pub fn polygon(layer: u64, datatype: u64, points: Points) -> Element
-        ensures { result ≡ Polygon layer datatype points }
+    /// A polygon round these points.
+    pub fn polygon(layer: Layer, points: Points) -> Element
+        ensures { result ≡ Polygon layer.layer layer.datatype points }
     {
         Element::Polygon {
-            layer,
-            datatype,
+            layer: layer.layer,
+            datatype: layer.datatype,
             points,
         }
     }
 
-    /// A path along these points, with its half-width and its extensions at the start and the end, all in grid steps.
-    pub fn path(
-        layer: u64,
-        datatype: u64,
-        half_width: u64,
-        start: i64,
-        end: i64,
-        points: Points,
-    ) -> Element
-        ensures { result ≡ Path layer datatype half_width start end points }
+    /// A path along these points, with its half-width in grid steps.
+    pub fn path(layer: Layer, half_width: u64, extensions: Extensions, points: Points) -> Element
+        ensures { result ≡ Path layer.layer layer.datatype half_width extensions.start extensions.end points }
     {
         Element::Path {
-            layer,
-            datatype,
+            layer: layer.layer,
+            datatype: layer.datatype,
             half_width,
-            start,
-            end,
+            start: extensions.start,
+            end: extensions.end,
             points,
         }
     }
 
-    /// A circle of that radius, with its centre at x and y, all in grid steps.
-    pub fn circle(layer: u64, datatype: u64, radius: u64, x: i64, y: i64) -> Element
-        ensures { result ≡ Circle layer datatype radius x y }
+    /// A circle with that radius in grid steps, with its centre there.
+    pub fn circle(layer: Layer, radius: u64, at: Point) -> Element
+        ensures { result ≡ Circle layer.layer layer.datatype radius at.x at.y }
     {
         Element::Circle {
-            layer,
-            datatype,
+            layer: layer.layer,
+            datatype: layer.datatype,
             radius,
-            x,
-            y,
+            x: at.x,
+            y: at.y,
         }
     }
 }

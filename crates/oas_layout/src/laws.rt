@@ -1,4 +1,4 @@
-//! Laws over the definitions alone.
+//! Laws, from the definitions alone.
 
 ghost use Rattle.std.specs.Prelude.{◌≡◌, ◌↔◌, IsTrue};
 ghost use Rattle.std.specs.Cmp.{IsTotalOrder};
@@ -10,8 +10,8 @@ ghost use Rattle.oas_layout.specs.Laws.ElementLaws.{derived_cmp, derived_eq, der
 ghost use Rattle.oas_layout.specs.declared.profile.Profile.{Profile};
 ghost use Rattle.oas_layout.specs.Laws.LayoutLaws.{TestsSame, KeptIsSame, SameIfKeptEqual, KeptIsKept, KeptPolygons, AddingCounts, HeldApart, HeldCounts, EqualCounts, IsReflexive, IsSymmetric, IsTransitive};
 
-/// Elements are compared as `element_cmp` says, which is a total order in which no two tie, and `==` says that they are
-/// equal. Quarter turns are compared by their numbers.
+/// Elements are compared as `element_cmp` says, which is a total order in which no two tie; `==` says whether they are equal.
+/// Quarter turns are compared by their numbers.
 pub fn element_order()
     ensures stated { (a b : Element) → derived_cmp a b ≡ element_cmp a b }
     ensures total { IsTotalOrder element_cmp }
@@ -20,7 +20,8 @@ pub fn element_order()
     ensures turns { (s t : Turns) → derived_turns_cmp s t ≡ turns_cmp s t }
 {}
 
-/// An element is the same as the form in which it is kept, and two elements are the same exactly if these are equal.
+/// An element is the same as the form in which it is kept, and two elements are the same exactly if their kept forms are
+/// equal.
 pub fn kept_forms()
     ensures test { (profile : Profile) → TestsSame profile }
     ensures same { (profile : Profile) → KeptIsSame profile }
@@ -29,18 +30,18 @@ pub fn kept_forms()
     ensures polygons { (profile : Profile) → KeptPolygons profile }
 {}
 
-/// More of an element adds to the count of what is the same, and to no other.
+/// More of an element adds to the count of what is the same, and to no other count.
 pub fn adding_counts()
     ensures { (profile : Profile) → AddingCounts profile }
 {}
 
-/// Of what a bag holds no two are the same element, and the number beside each is its count.
+/// A bag holds no two elements that are the same, and the number beside each is its count.
 pub fn held_counts()
     ensures apart { (profile : Profile) → HeldApart profile }
     ensures counts { (profile : Profile) → HeldCounts profile }
 {}
 
-/// Two ascending lists of elements in their kept forms, in which every element counts the same, are equal.
+/// Two ascending lists of elements in their kept forms, in which every element has the same count, are equal.
 pub fn equal_counts()
     ensures { (profile : Profile) → EqualCounts profile }
 {}

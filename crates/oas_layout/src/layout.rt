@@ -7,6 +7,7 @@ ghost use Rattle.oas_layout.specs.Contents.{expanded, names, bags, meaning_of, I
 ghost use Rattle.oas_layout.specs.Bag.{IsBag};
 
 use crate::bag::Bag;
+use crate::cells::Cells;
 use crate::elements::Elements;
 use crate::limits::Limits;
 use crate::profile::Profile;
@@ -14,7 +15,7 @@ use indexmap::IndexMap;
 use oas_num::{Fraction, Name};
 use std::marker::Model;
 
-/// A finished layout: a unit, and cells by ascending names. No call on it takes memory.
+/// A finished layout: a unit, and cells by ascending names. No call on it allocates.
 #[derive(Drop)]
 pub struct Layout {
     pub(crate) unit: Fraction,
@@ -58,8 +59,18 @@ impl Layout {
         self.limits
     }
 
-    /// How many cells there are. Their names ascend, and a file can spell all that is in them (`IsLayout`).
-    pub fn cells(&self) -> usize
+    /// The cells. Their names ascend, and a file can spell all that is in them (`IsLayout`).
+    pub fn cells(&self) -> Cells<'_>
+        ensures cells { result ≡ self.now.cells }
+        ensures layout { IsLayout self.now }
+    {
+        Cells {
+            pairs: self.cells.iter(),
+        }
+    }
+
+    /// How many cells there are. Of them is known what `cells` says.
+    pub fn cell_count(&self) -> usize
         ensures count { result ≡ length self.now.cells }
         ensures layout { IsLayout self.now }
     {
@@ -74,7 +85,7 @@ impl Layout {
         self.count
     }
 
-    /// What the layout weighs as it is held.
+    /// The weight of the layout as it is held.
     pub fn weight(&self) -> u64
         ensures weight { result ≡ cells_weight (expanded self.now.cells) }
         ensures lighter { result ≤ self.now.spelled }
@@ -101,7 +112,7 @@ impl Layout {
         self.cell(i).0
     }
 
-    /// The distinct elements of a cell ascending, each with how often it is there.
+    /// The distinct elements of a cell ascending, each with its count.
     pub fn elements(&self, i: usize) -> Elements<'_>
         requires { i < length self.now.cells }
         ensures pairs { slice_get (bags self.now.cells) i ≡ Some result }
@@ -110,7 +121,7 @@ impl Layout {
         self.cell(i).1.elements()
     }
 
-    /// Whether both have the same unit and the same cells, with the same count of each element. Both are of one profile.
+    /// Whether both have the same unit and the same cells, with the same count of each element. Both have one profile.
     pub fn same(&self, other: &Layout) -> bool
         requires { self.now.profile ≡ other.now.profile }
         ensures { IsTrue result ↔ SameLayout self.now.profile (meaning_of self.now) (meaning_of other.now) }
@@ -118,8 +129,8 @@ impl Layout {
         if self.unit != other.unit {
             return false;
         }
-        let count = self.cells();
-        if count != other.cells() {
+        let count = self.cell_count();
+        if count != other.cell_count() {
             return false;
         }
         for i in 0..count {

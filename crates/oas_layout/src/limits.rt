@@ -2,10 +2,10 @@
 
 ghost use Rattle.std.specs.Prelude.{◌≡◌, ◌≤◌, ◌↔◌, ◌+◌, ◌*◌, ◌^◌, IsSome, IfSome};
 
-/// How many elements a layout may hold and what it may weigh as it was given, and how long its file may be (own rule).
+/// How many elements a layout may hold, what it may weigh as it was given, and how long its file may be (own rule).
 ///
-/// No limits allow more than 2^26 elements, a weight of 2^30 or an input of 2^38 bytes, and the input is always long
-/// enough for the canonical file of each layout within the other two.
+/// No limits allow more than 2^26 elements, a weight of 2^30 or an input of 2^38 bytes. The input is always long enough for
+/// the canonical file of each layout within the other two.
 #[derive(Clone, Copy, Debug, PartialEq, Eq)]
 pub struct Limits {
     elements: u64,
@@ -20,7 +20,7 @@ pub struct Limits {
 impl Limits {
     ghost use Rattle.oas_layout.specs.Limits.{IsLimits, AreLimits};
 
-    /// These limits; None exactly where they are beyond those that any layout may have.
+    /// These limits; None exactly where they exceed those that any layout may have.
     pub fn new(elements: u64, weight: u64, input: u64) -> Option<Limits>
         ensures some { IsSome result ↔ IsLimits elements weight input }
         ensures limits { IfSome result (λ limits. AreLimits limits elements weight input) }

@@ -1,4 +1,4 @@
-//! The elements of a cell that every profile keeps as they stand, apart from any draft.
+//! The elements of a cell that every profile keeps unchanged, apart from any draft.
 
 ghost use Rattle.std.specs.Prelude.{◌≡◌, ◌≤◌, ◌+◌, ◌*◌, ◌<◌, ◌^◌, [], false, true, length, OnOk, OnErr, IfErr};
 ghost use Rattle.oas_layout.specs.Weight.{lacks_points};
@@ -12,7 +12,7 @@ use std::alloc::Global;
 use std::marker::Model;
 
 impl Element {
-    /// Whether every profile keeps the element as it stands: it is no polygon.
+    /// Whether every profile keeps the element unchanged: it is no polygon.
     pub fn is_plain(&self) -> bool
         ensures { result ≡ is_plain self.now }
     {
@@ -20,14 +20,14 @@ impl Element {
     }
 }
 
-/// Elements of a cell whose name need not be known yet, each once beside how often it is there, seen as the ascending list
-/// of both. None is a polygon. [`crate::Draft::add_plain`] takes them as a whole.
+/// Elements of a cell whose name need not be known yet, each once with its count; contracts see the ascending list of both.
+/// None is a polygon. [`crate::Draft::add_plain`] takes them as a whole.
 #[derive(Drop)]
 pub struct PlainElements {
     pub(crate) bag: Bag,
     /// How many elements are held, equal ones each counted.
     pub(crate) count: u64,
-    /// What is held weighs this. There is room for the weight of 2^64 elements.
+    /// The weight of what is held. There is room for the weight of 2^64 elements.
     pub(crate) weight: u128,
 }
 
@@ -55,7 +55,7 @@ impl PlainElements {
         }
     }
 
-    /// Adds so many equal elements, or hands the element back where memory is refused, and all is as it was.
+    /// Adds this many equal elements. If out of memory it hands the element back and is unchanged.
     pub fn add(&mut self, element: Element, times: u64) -> Result<(), Element>
         requires some { 0 < times }
         requires plain { is_plain element ≡ true }
@@ -78,7 +78,7 @@ impl PlainElements {
     }
 }
 
-/// What so many elements weigh.
+/// The weight of this many elements.
 #[tactic(auto, using(crate::proofs::PlainLemmas::product_fits))]
 fn product(weight: u64, times: u64) -> u128
     ensures product { result ≡ weight * times }

@@ -1,6 +1,6 @@
-//! What is taken for the same element.
+//! Which elements are the same.
 
-/// What is taken for the same element (own rule).
+/// Which elements are the same (own rule).
 ///
 /// A polygon is the same in each of its readings, under both profiles. Under profile two a polygon that goes round a
 /// rectangle with positive sides is also the same as that rectangle.

@@ -1,6 +1,6 @@
 //! What the fields of elements and of units can hold, as contracts.
 //!
-//! A proof knows the range of a field only where a body has read it. These bodies read, and do nothing else.
+//! A proof knows the range of a field only where a body has read it. These bodies read the fields, and do nothing else.
 
 ghost use Rattle.oas_layout.specs.Sound.{Fits, IsUnit};
 
@@ -8,7 +8,7 @@ use crate::element::Element;
 use oas_num::Fraction;
 
 impl Element {
-    /// Its name and its string are of their classes, and its numbers of 64 bits.
+    /// Its name and its string are of their classes, and its numbers have 64 bits.
     pub fn fits(&self)
         ensures { Fits self.now }
     {
@@ -61,7 +61,7 @@ impl Element {
     }
 }
 
-/// A unit is in lowest terms, of two numbers of 64 bits.
+/// A unit is in lowest terms, with two numbers of 64 bits.
 pub(crate) fn unit_fits(unit: Fraction)
     ensures { IsUnit unit }
 {

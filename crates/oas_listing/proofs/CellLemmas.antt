@@ -2,7 +2,7 @@
 use Rattle.std.proofs.Common.{◌≡◌, ℕ, zero, suc, ◌+◌, ◌<◌, ◌≤◌, List, [], ◌∷◌, ◌++◌, length, drop, get_or, flat_map, replicate, Some, slice_get, refl, sym, ap, subst, ◌∙◌, arith}
 use Rattle.std.proofs.lemmas.Grind.{flat_map-append}
 use Rattle.std.proofs.lemmas.Option.{get_or_from_slice_get}
-use Rattle.oas_num.specs.Writing.{Puts, PutsFront}
+use Rattle.oas_num.specs.Writing.{Puts, PutsPrefix}
 use Rattle.oas_layout.specs.declared.element.Element.{Element}
 use Rattle.oas_layout.specs.Bag.{items}
 use Rattle.oas_layout.specs.Contents.{Cell, names, bags, expanded}
@@ -29,7 +29,7 @@ module _ {K : Type 0} {given : K → List ℕ → K → Type 0} {failures : K �
     pub copies_put : {new : K} → Puts given failures mid (flat_map element_line (replicate n e)) new → PutSoFar given failures whole (flat_map element_line (items rest)) old new
     copies_put q = copies_left ▸ q
 
-    pub copies_fail : {new : K} → PutsFront given failures mid (flat_map element_line (replicate n e)) new → PutsFront given failures old whole new
+    pub copies_fail : {new : K} → PutsPrefix given failures mid (flat_map element_line (replicate n e)) new → PutsPrefix given failures old whole new
     copies_fail q = fails_at _ copies_left q
 
   -- ---- cells
@@ -45,8 +45,8 @@ module _ {K : Type 0} {given : K → List ℕ → K → Type 0} {failures : K �
     pub cell_put : {new : K} → Puts given failures mid (cell_lines (name, items es)) new → PutSoFar given failures whole (flat_map cell_lines (drop (i + 1) (expanded cs))) old new
     cell_put {new} q = item_put cell_lines (expanded cs) i (name, items es) below p (subst (λ (c : List ℕ × List Element). Puts given failures mid (cell_lines c) new) (sym here) q)
 
-    pub cell_fails : {new : K} → PutsFront given failures mid (cell_lines (name, items es)) new → PutsFront given failures old whole new
-    cell_fails {new} q = item_fails cell_lines (expanded cs) i (name, items es) below p (subst (λ (c : List ℕ × List Element). PutsFront given failures mid (cell_lines c) new) (sym here) q)
+    pub cell_fails : {new : K} → PutsPrefix given failures mid (cell_lines (name, items es)) new → PutsPrefix given failures old whole new
+    cell_fails {new} q = item_fails cell_lines (expanded cs) i (name, items es) below p (subst (λ (c : List ℕ × List Element). PutsPrefix given failures mid (cell_lines c) new) (sym here) q)
 
   pub cells_put : (cs : List Cell) (i : ℕ) → length cs ≤ i → PutSoFar given failures whole (flat_map cell_lines (drop i (expanded cs))) old mid → Puts given failures old whole mid
   cells_put cs i le p = items_put cell_lines (expanded cs) i (omega (arith, le, length-expanded cs)) p

@@ -128,7 +128,7 @@ length-cells (c ∷ cs) =
       length-cells cs,
     )
 
--- the listing of a layout is not much longer than what the layout weighs
+-- the listing of a layout is not much longer than the layout's weight
 length-listing : (m : Meaning) → length (listing m) ≤ 136 + 512 * cells_weight m.cells
 length-listing m =
     omega (

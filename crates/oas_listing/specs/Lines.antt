@@ -1,11 +1,11 @@
 -- Lines of fields.
 use Rattle.std.specs.Prelude.{ℕ, List, [], ◌∷◌, ◌++◌, flat_map}
 
--- each field behind a space
+-- each field after a space
 abbrev pub behind_spaces : List (List ℕ) → List ℕ
 behind_spaces fields = flat_map (λ field. 32 ∷ field) fields
 
--- the fields, with one space between any two that are neighbours
+-- the fields, with one space between neighbours
 abbrev pub spaced : List (List ℕ) → List ℕ
 spaced [] = []
 spaced (field ∷ fields) = field ++ behind_spaces fields

@@ -1,4 +1,4 @@
--- The listing of a layout: the text in which the command shows it.
+-- The listing of a layout: the text that the command prints.
 use Rattle.std.specs.Prelude.{ℕ, Bool, true, false, List, [], ◌∷◌, ◌++◌, map, flat_map, codes, decimal}
 use Rattle.std.specs.Fmt.{signed_decimal}
 use Rattle.oas_num.specs.Ratio.{Ratio}
@@ -17,7 +17,7 @@ fraction unit = decimal unit.num ++ (47 ∷ decimal unit.den)
 abbrev pub pair : Point → List ℕ
 pair p = signed_decimal p.x ++ (44 ∷ signed_decimal p.y)
 
--- 1 for an element that is flipped, and else 0
+-- 1 for an element that is flipped, or else 0
 abbrev pub flip_count : Bool → ℕ
 flip_count true = 1
 flip_count false = 0

@@ -51,12 +51,12 @@ fn put_cell<K: Sink>(sink: &mut K, name: &[u8], elements: Elements<'_>) -> Resul
     put_elements(sink, elements)
 }
 
-/// Puts the listing of a layout into a sink. At a fault a front of it was put.
+/// Puts the listing of a layout into a sink. After a fault a prefix of it was put.
 pub fn put_listing<K: Sink>(layout: &Layout, sink: &mut K) -> Result<(), SinkFault>
     ensures writes { Writes K.given K.failures sink.old (listing (meaning_of layout.now)) result sink.new }
     ensures short { length (listing (meaning_of layout.now)) ≤ 136 + 512 * 2 ^ 30 }
 {
-    let count = layout.cells();
+    let count = layout.cell_count();
     put_unit(sink, layout.unit())?;
     for i in 0..count {
         put_cell(sink, layout.cell_name(i).as_bytes(), layout.elements(i))?;

@@ -24,7 +24,7 @@ fn turn_number(turns: Turns) -> u64
     }
 }
 
-/// 1 for a flip, and else 0.
+/// 1 for a flip, or else 0.
 fn flip_number(flip: bool) -> u64
     ensures { result ≡ flip_count flip }
 {
@@ -159,7 +159,7 @@ pub fn put_element<K: Sink>(sink: &mut K, element: &Element) -> Result<(), SinkF
     sink.put(b'\n')
 }
 
-/// Puts the line of an element so many times.
+/// Puts the line of an element this many times.
 pub(crate) fn put_copies<K: Sink>(
     sink: &mut K,
     element: &Element,

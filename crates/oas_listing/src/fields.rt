@@ -10,7 +10,7 @@ use itoa::Buffer;
 use oas_num::{Sink, SinkFault};
 use oas_ring::Point;
 
-/// Puts a field behind a space.
+/// Puts a field after a space.
 pub(crate) fn put_field<K: Sink>(sink: &mut K, field: &[u8]) -> Result<(), SinkFault>
     ensures { Writes K.given K.failures sink.old (32 ∷ field.now) result sink.new }
 {
@@ -18,7 +18,7 @@ pub(crate) fn put_field<K: Sink>(sink: &mut K, field: &[u8]) -> Result<(), SinkF
     sink.put_all(field)
 }
 
-/// Puts numbers, each behind a space.
+/// Puts numbers, each after a space.
 pub(crate) fn put_numbers<K: Sink>(sink: &mut K, values: &[u64]) -> Result<(), SinkFault>
     ensures { Writes K.given K.failures sink.old (flat_map (λ n. 32 ∷ decimal n) values.now) result sink.new }
 {
@@ -28,7 +28,7 @@ pub(crate) fn put_numbers<K: Sink>(sink: &mut K, values: &[u64]) -> Result<(), S
     Ok(())
 }
 
-/// Puts numbers with a sign, each behind a space.
+/// Puts signed numbers, each after a space.
 pub(crate) fn put_signed_numbers<K: Sink>(sink: &mut K, values: &[i64]) -> Result<(), SinkFault>
     ensures { Writes K.given K.failures sink.old (flat_map (λ z. 32 ∷ signed_decimal z) values.now) result sink.new }
 {
@@ -38,7 +38,7 @@ pub(crate) fn put_signed_numbers<K: Sink>(sink: &mut K, values: &[i64]) -> Resul
     Ok(())
 }
 
-/// Puts the word with which a line begins, and numbers behind it, those without a sign first.
+/// Puts the first word of a line, and numbers after it, the unsigned ones first.
 pub fn put_start<K: Sink>(
     sink: &mut K,
     word: &[u8],
@@ -53,7 +53,7 @@ pub fn put_start<K: Sink>(
     put_signed_numbers(sink, signed)
 }
 
-/// Puts a point behind a space.
+/// Puts a point after a space.
 pub fn put_point<K: Sink>(sink: &mut K, point: &Point) -> Result<(), SinkFault>
     ensures { Writes K.given K.failures sink.old (32 ∷ pair point.now) result sink.new }
 {
@@ -62,7 +62,7 @@ pub fn put_point<K: Sink>(sink: &mut K, point: &Point) -> Result<(), SinkFault>
     sink.put_all(Buffer::new().format(point.y).as_bytes())
 }
 
-/// Puts points, each behind a space.
+/// Puts points, each after a space.
 pub(crate) fn put_points<K: Sink>(sink: &mut K, points: &[Point]) -> Result<(), SinkFault>
     ensures { Writes K.given K.failures sink.old (flat_map (λ p. 32 ∷ pair p) points.now) result sink.new }
 {

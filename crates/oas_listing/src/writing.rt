@@ -12,7 +12,7 @@ use oas_layout::Layout;
 use oas_num::{Outlet, Refusal, SinkFault, Why};
 use std::io::Write;
 
-/// Puts the listing of a layout into an outlet, and has its writer take all of it.
+/// Puts the listing of a layout into an outlet, and sends all of it to the writer.
 fn put_and_close<W: Write>(layout: &Layout, outlet: &mut Outlet<'_, W>) -> Result<(), SinkFault>
     ensures writes { Writes (IsGiven W.contents) failures_of outlet.old (listing (meaning_of layout.now)) result outlet.new }
     ensures all { OnOk result (IsSent outlet.new) }
@@ -22,10 +22,10 @@ fn put_and_close<W: Write>(layout: &Layout, outlet: &mut Outlet<'_, W>) -> Resul
     outlet.close()
 }
 
-/// Writes the listing of a layout, and answers how many bytes it has. It takes no memory.
+/// Writes the listing of a layout, and returns how many bytes it has. It allocates nothing.
 ///
-/// A fault of the writer is `Why::Write`, and its place is the number of bytes that the writer took: those are the first
-/// of the listing. Where it is the number of all of them, the flush failed.
+/// A fault of the writer is `Why::Write`. Its place is the number of bytes that the writer took: the first ones of the
+/// listing. Where it is the number of all of them, the flush failed.
 pub fn write_listing<W: Write>(layout: &Layout, writer: &mut W) -> Result<u64, Refusal>
     ensures written { IfOk result (IsWritten W.contents writer.old (listing (meaning_of layout.now)) writer.new) }
     ensures refused { IfErr result (IsCutOff W.contents writer.old (listing (meaning_of layout.now)) writer.new) }

@@ -1,4 +1,4 @@
--- The fields of records are given as they stand: strings, deltas, point lists, repetitions.
+-- The fields of records are given unchanged: strings, deltas, point lists, repetitions.
 use Rattle.std.proofs.Common.{◌≡◌, ℕ, ◌+◌, ◌<◌, Bool, true, false, List, [], ◌∷◌, length, inl, sym, subst, arith}
 use Rattle.std.specs.Prelude.{◌==◌}
 use Rattle.std.specs.List.{AllByRecursion}
@@ -8,7 +8,7 @@ use Rattle.oas_num.specs.declared.deltas.GDelta.{GDelta}
 use Rattle.oas_num.specs.Deltas.{SpellsDelta1, SpellsGDelta, GDeltaTook, delta2_of, delta3_of, gdelta_of, has_second}
 use Rattle.oas_num.specs.Grammar.{IsPair, IsSuch, IsImage, IsThere, IsEach, IsCount, IsByte}
 use Rattle.oas_num.specs.Integers.{IsUnsigned, IsSigned, signed_of}
-use Rattle.oas_num.specs.Pieces.{IsBehind, PairTook, ThereTook, SuchTook}
+use Rattle.oas_num.specs.Pieces.{IsAfter, PairTook, ThereTook, SuchTook}
 use Rattle.oas_num.specs.Reading.{IntegerMay, TextMay, NameLengthMay, NameTook, LabelTook}
 use Rattle.oas_num.specs.Style.{Any}
 use Rattle.oas_num.specs.Texts.{IsNameByte, IsLabelByte, IsPositive, name_in, label_in}
@@ -106,7 +106,7 @@ module _ (spells : GDelta → List ℕ → Type 0) (took : Why → List ℕ → 
 
   abbrev OffsetsMay : ℕ → ℕ → Why → List ℕ → Type 0
   OffsetsMay grid count why bytes =
-      IsBehind (IsEach spells) (λ before last. (length before < count) × AllByRecursion IsPartialSum (offsets_by grid before) × SuchTook spells took (RefusesNext grid before) why last) bytes
+      IsAfter (IsEach spells) (λ before last. (length before < count) × AllByRecursion IsPartialSum (offsets_by grid before) × SuchTook spells took (RefusesNext grid before) why last) bytes
 
   next_of : (grid : ℕ) (before : List GDelta) → Tame spells (SuchTook spells took (RefusesNext grid before))
   next_of grid before = tame_refused (λ v h. h) t

@@ -1,4 +1,4 @@
--- What is spelled with integers of ten bytes at most is given as it stands.
+-- What is spelled with integers of at most ten bytes is given unchanged.
 use Rattle.std.proofs.Common.{◌≡◌, ℕ, ◌+◌, ◌<◌, ◌≤◌, Bool, true, false, List, [], ◌∷◌, ◌++◌, length, Option, Some, None, ◌⊎◌, inl, inr, refl, sym, ap, subst, ◌∙◌, arith}
 use Rattle.std.proofs.lemmas.Bool.{cases_lt, lt-ltb, le-ltb}
 use Rattle.std.proofs.lemmas.List.{length-append}
@@ -18,11 +18,11 @@ use Rattle.oas_shortened.specs.Laws.PlaceLaws.{shortened-append, after-append}
 abbrev pub start : Place
 start = Groups 0
 
--- all is given as it stands, and no integer goes on
+-- all is given unchanged, and no integer goes on
 abbrev pub IsWhole : List ℕ → Type 0
 IsWhole bytes = (shortened start bytes ≡ bytes) × (after start bytes ≡ start)
 
--- all is given as it stands, or they end with an integer that is refused
+-- all is given unchanged, or they end with an integer that is refused
 abbrev pub IsPart : Why → List ℕ → Type 0
 IsPart why bytes = (shortened start bytes ≡ bytes) ⊎ ((why ≡ IntegerRange) × (10 ≤ length bytes))
 
@@ -136,7 +136,7 @@ open_kept k (b ∷ bs) h few =
     let e : k + 1 + length bs ≡ k + length (b ∷ bs) = omega arith in
     ((λ i. put (g.0 i) (shortened (g.1 i) bs)) ∙ ap (λ (c : List ℕ). b ∷ c) r.0, ap (λ (place : Place). after place bs) g.1 ∙ r.1 ∙ ap Groups e)
 
--- any byte that stands in no integer is given
+-- any byte that is in no integer is given
 pub one_kept : (b : ℕ) → shortened start (b ∷ []) ≡ b ∷ []
 one_kept b = elim (cases_lt b 128) [
   | inl small ↦ ap (λ (g : Option ℕ). put g []) (last_given 0 b small).0
@@ -160,10 +160,10 @@ range_part front tenth o nine = elim (cases_lt tenth 128) [
 ]
 
 integer_part : (why : Why) (bytes : List ℕ) → IntegerMay why bytes → IsPart why bytes
-integer_part Truncated bytes h = few_part Truncated bytes h.open_front h.few
-integer_part Read bytes h = few_part Read bytes h.open_front h.few
-integer_part InputTooLong bytes h = few_part InputTooLong bytes h.open_front h.few
-integer_part IntegerRange bytes h = subst (IsPart IntegerRange) (sym h.joined) (range_part h.front h.tenth h.open_front h.nine)
+integer_part Truncated bytes h = few_part Truncated bytes h.open_prefix h.few
+integer_part Read bytes h = few_part Read bytes h.open_prefix h.few
+integer_part InputTooLong bytes h = few_part InputTooLong bytes h.open_prefix h.few
+integer_part IntegerRange bytes h = subst (IsPart IntegerRange) (sym h.joined) (range_part h.front h.tenth h.open_prefix h.nine)
 integer_part _ bytes h = absurd h
 
 pub tame_number : Tame IsUnsigned IntegerMay

@@ -1,4 +1,4 @@
--- What follows an id of the profile is given as it stands, where its integers have ten bytes at most.
+-- What follows an id of the profile is given unchanged, where its integers have at most ten bytes.
 use Rattle.std.proofs.Common.{◌≡◌, ◌≢◌, ℕ, ◌/◌, ◌%◌, ◌≤◌, Bool, true, false, List, [], ◌∷◌, ◌++◌, length, ◌⊎◌, inl, inr, refl, sym, ap, subst, arith}
 use Rattle.std.specs.Prelude.{◌==◌}
 use Rattle.std.proofs.lemmas.Bool.Decides.{eqb_tells}
@@ -71,9 +71,9 @@ tame_path info =
 tame_circle : (info : ℕ) → Tame (circle_parts info).any (circle_parts info).took
 tame_circle info = tame_pair (tame_layers info) (λ v. tame_pair (tame_there (has info 32) tame_number) (λ w. tame_spot (has info 16) (has info 8) (has info 4)))
 
--- ---- behind an id
+-- ---- after an id
 
--- all is given as it stands, from that place on, and nothing is held back behind it
+-- all is given unchanged, from that place on, and nothing is held back after it
 pub record TameFrom {V : Type 0} (first : Place) (any : V → List ℕ → Type 0) (took : Why → List ℕ → Type 0) : Type 0 where
   pub whole : (v : V) (bytes : List ℕ) → any v bytes → (shortened first bytes ≡ bytes) × IsSettled (places.after first bytes)
   pub part : (why : Why) (bytes : List ℕ) → took why bytes → (shortened first bytes ≡ bytes) ⊎ ((why ≡ IntegerRange) × (10 ≤ length bytes))

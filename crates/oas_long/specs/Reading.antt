@@ -1,11 +1,11 @@
 -- What a read through a shortened source does to the source beneath.
-use Rattle.std.specs.Prelude.{◌≡◌, ℕ, ◌≤◌, Bool, List, length, Option, Some, None, Result, Ok, Err, IsTrue, ◌⊎◌}
+use Rattle.std.specs.Prelude.{◌≡◌, ℕ, Bool, List, Result, Ok, Err, IsTrue, ◌⊎◌}
 use Rattle.oas_num.specs.declared.refusals.Why.{Why}
 use Rattle.oas_num.specs.declared.refusals.Why.TheVariants.{Truncated, Read, InputTooLong, Memory}
 use Rattle.oas_bytes.specs.declared.readers.Ending.{Ending}
 use Rattle.oas_bytes.specs.declared.readers.Ending.TheVariants as ending_of
 use Rattle.oas_num.specs.Reading.{is_format, is_cut, NoneFits, NoneWithin}
-use Rattle.oas_num.specs.Script.{Script, Rest, Takes, IsAtEnd, HasFailed, IsTooLong}
+use Rattle.oas_num.specs.Script.{Script, Consumed, IsAtEnd, HasFailed, IsTooLong}
 use Rattle.oas_num.specs.Style.{Any}
 use Rattle.oas_record.specs.declared.records.Record.{Record}
 use Rattle.oas_record.specs.Records.{after_id}
@@ -14,31 +14,21 @@ use Rattle.oas_shortened.specs.declared.places.Place.{Place}
 use Rattle.oas_shortened.specs.Places.{shortened, after, IsSettled}
 use Rattle.oas_long.specs.AnyLength.{first_of}
 
--- These bytes were taken, and shortened they are those: of bytes that no contract knows, these are as many or more.
-abbrev pub IsShortOf : Place → Option Rest → List ℕ → List ℕ → Type 0
-IsShortOf first None bytes short = length short ≤ length bytes
-IsShortOf first (Some rest) bytes short = short ≡ shortened first bytes
-
--- nothing is held back behind them, where they are known
-abbrev pub IsSettledOf : Place → Option Rest → List ℕ → Type 0
-IsSettledOf first None bytes = Unit {0}
-IsSettledOf first (Some rest) bytes = IsSettled (after first bytes)
-
--- a value was read: a spelling of it, once it is shortened
+-- a value was read: the shortened bytes are a spelling of it
 pub record ReadsLong {V : Type 0} (first : Place) (spells : V → List ℕ → Type 0) (old : Script) (v : V) (new : Script) : Type 0 where
   pub bytes : List ℕ
   pub short : List ℕ
-  pub takes : Takes old bytes new
-  pub is_short : IsShortOf first old.rest bytes short
-  pub settled : IsSettledOf first old.rest bytes
+  pub takes : Consumed old bytes new
+  pub is_short : short ≡ shortened first bytes
+  pub settled : IsSettled (after first bytes)
   pub spelled : spells v short
 
--- a read failed: of the shortened bytes that holds
+-- a read failed: this holds for the shortened bytes
 pub record FailsLong {V : Type 0} (first : Place) (spells : V → List ℕ → Type 0) (took : Why → List ℕ → Type 0) (old : Script) (why : Why) (new : Script) : Type 0 where
   pub bytes : List ℕ
   pub short : List ℕ
-  pub takes : Takes old bytes new
-  pub is_short : IsShortOf first old.rest bytes short
+  pub takes : Consumed old bytes new
+  pub is_short : short ≡ shortened first bytes
   pub reason : took why short ⊎ ((why ≡ Memory) × ((v : V) × spells v short))
   pub format : IsTrue (is_format why) → NoneFits spells short
   pub cut : IsTrue (is_cut why) → NoneWithin spells short
@@ -51,17 +41,18 @@ abbrev pub ReadsAnyLength : {V : Type 0} → Place → (V → List ℕ → Type 
 ReadsAnyLength first spells took old (Ok v) new = ReadsLong first spells old v new
 ReadsAnyLength first spells took old (Err why) new = FailsLong first spells took old why new
 
--- what a read does of what follows an id of the profile
+-- what a read does with what follows an id of the profile
 pub record ReadsRecord (id : ℕ) (old : Script) (result : Result Record Why) (new : Script) : Type 0 where
   pub reads : (in_end : Bool) → ReadsAnyLength (first_of id) (after_id Any in_end id) (AfterTook in_end id) old result new
 
--- ---- what comes of a read through a shortened source
+-- ---- the result of a read through a shortened source
 
 abbrev pub why_of : Why → Ending → Why
 why_of Read ending_of.TooLong = InputTooLong
 why_of why ending = why
 
--- as it is, but that a device's fault is that of a source that was too long, and a record behind which a byte is held back is let go
+-- unchanged, except that a device's fault is that of a source that was too long, and a record after which a byte is held back
+-- is dropped
 abbrev pub Judges : {V : Type 0} → Result V Why → Place → Ending → Result V Why → Type 0
 Judges (Ok v) place ending (Ok w) = (w ≡ v) × IsSettled place
 Judges (Ok v) place ending (Err why) = why ≡ Memory

@@ -1,4 +1,4 @@
-//! Records of the profile with integers in any number of bytes.
+//! Records of the profile with integers of any number of bytes.
 ghost use Rattle.std.specs.Prelude.{◌≡◌, ◌≢◌};
 ghost use Rattle.oas_record.specs.Refusals.{IsKnown};
 ghost use Rattle.oas_long.specs.AnyLength.{first_of};
@@ -10,7 +10,7 @@ use oas_shortened::{Place, ShortenedSource, Start};
 use std::alloc::Global;
 use std::marker::Brand;
 
-/// Where the first byte behind an id stands: an info byte is in no integer.
+/// The place of the first byte after an id: an info byte is in no integer.
 fn first_of(id: u64) -> Place
     ensures { result ≡ first_of id }
 {
@@ -21,8 +21,8 @@ fn first_of(id: u64) -> Place
     }
 }
 
-/// What comes of a read, by where it ended. No read goes on behind a record and ends within an integer; of one that did the
-/// record would be let go, as where there is no memory for it.
+/// The result of a read, by where it ended. No read ends within an integer after a record; if one did, the record would be
+/// dropped, as if out of memory.
 fn judged(outcome: Result<Record, Why>, place: Place, ending: Ending) -> Result<Record, Why>
     ensures { Judges outcome place ending result }
 {
@@ -39,7 +39,7 @@ fn judged(outcome: Result<Record, Why>, place: Place, ending: Ending) -> Result<
     }
 }
 
-/// The same as `read_after`, of the source that is named. It hands the borrow back, so that its lender knows it for its own.
+/// The same as `read_after`, for the source that is named. It hands the borrow back, so that its lender knows it as its own.
 fn read_named<'a, S: Source, K: Start>(
     alloc: Global,
     id: u64,
@@ -66,7 +66,7 @@ fn read_named<'a, S: Source, K: Start>(
     (judged(outcome, place, ending), source)
 }
 
-/// What follows an id that the profile has, but END's and that of placements by reals, with integers in any number of bytes.
+/// What follows an id of the profile, except that of END and of placements by reals, with integers of any number of bytes.
 pub fn read_after<S: Source>(alloc: Global, id: u64, source: &mut S) -> Result<Record, Why>
     requires known { IsKnown id }
     requires inner { id ≢ 2 }

@@ -47,7 +47,7 @@ entries_held cs ds =
     (λ i. flat_map cell_entry (ascending (slice_cmp nat_cmp) (keys_held cs i ++ keys_held ds i)))
     ∙ sym (flat_map-map held_entry (λ name. (name, (found (slice_cmp nat_cmp) cs name, found (slice_cmp nat_cmp) ds name))) (ascending (slice_cmp nat_cmp) (keys_of cs ++ keys_of ds)))
 
--- what stands between the entries and the items, and behind these
+-- what is between the entries and the items, and after these
 abbrev pub between : List ℕ
 between = codes " </cells>\n <items>\n"
 

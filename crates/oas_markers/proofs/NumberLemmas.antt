@@ -21,7 +21,7 @@ pointed_digits den rest some =
     let e : decimals den 64 rest ≡ (48 + (10 * rest) / den) ∷ decimals den 63 ((10 * rest) % den) = one_digit den 64 63 rest refl some in
     ap pointed e ∙ ap (λ (ds : List ℕ). 46 ∷ ds) (sym e)
 
--- the same, of what stands for the parts
+-- the same, for what the parts denote
 pub digit_of : (den k j rest m d e : ℕ) → k ≡ suc j → 0 < rest → m ≡ rest → d ≡ den → e ≡ den → decimals den k rest ≡ (48 + (10 * m) / d) ∷ decimals den j ((10 * m) % e)
 digit_of den k j rest m d e less some p q r = one_digit den k j rest less some ∙ (λ i. (48 + (10 * sym p i) / sym q i) ∷ decimals den j ((10 * sym p i) % sym r i))
 

@@ -38,7 +38,7 @@ item_front way = codes "  <item><category>" ++ (way_name way ++ (46 ∷ []))
 abbrev pub category_front : Way → List ℕ
 category_front way = codes "  <category><name>" ++ (way_name way ++ (codes "</name><description>more often in " ++ (way_file way ++ codes ", by ")))
 
--- behind a unit
+-- after a unit
 abbrev pub kinds : List ℕ
 kinds = codes " grid steps in a micron</description><categories><category><name>cell</name></category><category><name>placement</name></category><category><name>text</name></category><category><name>rectangle</name></category><category><name>polygon</name></category><category><name>path</name></category><category><name>circle</name></category></categories></category>\n"
 

@@ -2,7 +2,7 @@
 use Rattle.std.proofs.Common.{◌≡◌, ℕ, ◌^◌, ◌<◌, List, length, Option, length-append, refl, ap, ◌∙◌, arith, MutBor}
 use Rattle.oas_num.specs.Outlet.{Outlet}
 use Rattle.oas_num.specs.declared.refusals.Why.TheVariants.{Write as NotWritten}
-use Rattle.oas_num.specs.Writing.{Puts, PutsFront}
+use Rattle.oas_num.specs.Writing.{Puts, PutsPrefix}
 use Rattle.oas_num.specs.Outlets.{failures_of, unsent, Opens, IsGiven, IsSent}
 use Rattle.oas_num.specs.OutletLaws.{given_since, writer_took}
 use Rattle.oas_num.specs.Laws.WrittenLaws.{took_all}
@@ -18,8 +18,8 @@ module _ {W : Type 0} (contents : W → Option (List ℕ)) {writer : MutBor W} {
       let all : length bytes ≡ length g.sent = omega (arith, ap length g.split, ap length h.none_unsent, none, length-append (unsent o) bytes, length-append g.sent g.kept) in
       record { count_is = omega (arith, counted, g.counted, h.none_taken, all); took = took_all contents h puts sent follows }
 
-  -- a fault was met, and the outlet has counted what the writer took
-  pub marked_up_to : {at : ℕ} → Opens writer o → PutsFront (IsGiven contents) failures_of o bytes p
+  -- a fault occurred, and the outlet has counted what the writer took
+  pub marked_up_to : {at : ℕ} → Opens writer o → PutsPrefix (IsGiven contents) failures_of o bytes p
       → (writer.ghost_name ≡ p.writer.ghost_name → last ≡ p.writer.now) → at ≡ p.taken → IsMarkedUpTo contents writer.now bytes last (record { at = at; why = NotWritten })
   marked_up_to h puts follows counted =
       let t = writer_took contents writer o p bytes last h puts follows in

@@ -1,4 +1,4 @@
--- The markers of what two layouts hold: cells and elements beside their counts.
+-- The markers of what two layouts hold: cells and elements with their counts.
 use Rattle.std.specs.Prelude.{ℕ, List, [], ◌++◌, flat_map, Option, is_some, unwrap_or}
 use Rattle.std.specs.Ordering.{nat_cmp}
 use Rattle.std.specs.Cmp.Lexicographic.{slice_cmp}

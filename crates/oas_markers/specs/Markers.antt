@@ -49,7 +49,7 @@ head u v =
 abbrev pub cell_entry : List ℕ → List ℕ
 cell_entry name = codes "  <cell><name>" ++ (escaped name ++ codes "</name></cell>\n")
 
--- the item of an element of that cell, which is there so many times more
+-- the item of an element of that cell, which is there this many more times
 abbrev pub item : Ratio → Way → List ℕ → ℕ → Element → List ℕ
 item unit way name count e =
     codes "  <item><category>" ++ (way_name way
@@ -57,7 +57,7 @@ item unit way name count e =
     ++ (escaped name ++ (codes "</cell><multiplicity>"
     ++ (decimal count ++ (codes "</multiplicity><values><value>" ++ (shape unit e ++ (codes "</value>" ++ (layer_value (layer_of e) ++ codes "</values></item>\n")))))))))))
 
--- the item of an element that is not as often in both, beside how often it is in either
+-- the item of an element that is not as often in both, with how often it is in either
 abbrev pub change_item : Ratio → Ratio → List ℕ → Element × (ℕ × ℕ) → List ℕ
 change_item u v name c =
     if nat_lt c.1.1 c.1.0 then item u Removed name (c.1.0 - c.1.1) c.0
@@ -69,14 +69,14 @@ cell_item way name =
     codes "  <item><category>" ++ (way_name way
     ++ (codes ".cell</category><cell>" ++ (escaped name ++ codes "</cell><multiplicity>1</multiplicity><values><value>text: 'cell'</value></values></item>\n")))
 
--- where it is said whether the cell is there before and after
+-- given whether the cell is there before and after
 abbrev pub alone : Bool → Bool → List ℕ → List ℕ
 alone true true name = []
 alone true false name = cell_item Removed name
 alone false true name = cell_item Added name
 alone false false name = []
 
--- the items of a cell, of which the elements are given where it is there
+-- the items of a cell; its elements are given where it is there
 abbrev pub cell_items : Ratio → Ratio → Profile → List ℕ → Option (List Element) → Option (List Element) → List ℕ
 cell_items u v profile name before after =
     alone (is_some before) (is_some after) name ++ flat_map (change_item u v name) (changed profile (unwrap_or before []) (unwrap_or after []))

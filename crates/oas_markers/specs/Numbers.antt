@@ -4,8 +4,8 @@ use Rattle.std.specs.Int.Signed.{lt_z}
 use Rattle.oas_num.specs.Ratio.{Ratio}
 use Rattle.oas_ring.specs.declared.point.Point.{Point}
 
--- The digits behind the point of rest / den, where rest is below den: by long division, up to the last one that isn't zero,
--- and at most so many. A finite decimal whose denominator is below 2^64 has no more than 63.
+-- The digits after the point of rest / den, where rest is below den: by long division, up to the last one that isn't zero,
+-- and at most this many. A finite decimal with a denominator below 2^64 has no more than 63.
 abbrev pub decimals : ℕ → ℕ → ℕ → List ℕ
 decimals den zero rest = []
 decimals den (suc k) zero = []
@@ -16,15 +16,15 @@ abbrev pub pointed : List ℕ → List ℕ
 pointed [] = []
 pointed (d ∷ ds) = 46 ∷ d ∷ ds
 
--- num / den as a decimal number: exactly if it is a finite one, and else its first 64 digits behind the point
+-- num / den as a decimal number: exact if it is a finite one, or else with its first 64 digits after the point
 abbrev pub quotient : ℕ → ℕ → List ℕ
 quotient num den = decimal (num / den) ++ pointed (decimals den 64 (num % den))
 
--- As far as 64 bits count: every length of a layout is below 2^62.
+-- Capped to 64 bits: every length of a layout is below 2^62.
 abbrev pub counted : ℕ → ℕ
 counted n = min n (2 ^ 64 - 1)
 
--- a length of so many grid steps, of which there are num / den in a micron
+-- a length of this many grid steps, where a micron has num / den
 abbrev pub length_in : Ratio → ℕ → List ℕ
 length_in unit n = quotient (counted n * unit.den) unit.num
 

@@ -12,7 +12,7 @@ escape b =
 abbrev pub escaped : List ℕ → List ℕ
 escaped bytes = flat_map escape bytes
 
--- a byte of a string that stands there between single quotes, as KLayout reads it
+-- a byte of a string between single quotes, as KLayout reads it
 abbrev pub quote : ℕ → List ℕ
 quote b =
     if b == 39 then codes "\\'"

@@ -5,12 +5,12 @@ use Rattle.oas_num.specs.declared.refusals.Refusal.{Refusal}
 use Rattle.oas_num.specs.declared.refusals.Why.TheVariants.{Write as NotWritten}
 use Rattle.oas_markers.specs.Numbers.{counted}
 
--- it took all of the bytes, so many as far as 64 bits count
+-- it took all of the bytes, this many, capped to 64 bits
 pub record IsMarked {W : Type 0} (contents : W → Option (List ℕ)) (old : W) (bytes : List ℕ) (new : W) (count : ℕ) : Type 0 where
   pub count_is : count ≡ counted (length bytes)
   pub took : Appends (contents old) (contents new) bytes
 
--- it failed after it took a front of the bytes, as long as the refusal's place says, as far as 64 bits count
+-- it failed after it took a prefix of the bytes, as long as the refusal's place says, capped to 64 bits
 pub record IsMarkedUpTo {W : Type 0} (contents : W → Option (List ℕ)) (old : W) (bytes : List ℕ) (new : W) (refusal : Refusal) : Type 0 where
   pub reason : refusal.why ≡ NotWritten
   pub front : List ℕ

@@ -47,7 +47,7 @@ fn put_alone<K: Sink>(
     }
 }
 
-/// Puts the items of what has changed in a cell, by the units of what is gone and of what has come.
+/// Puts the items of what has changed in a cell, by the units of what is gone and of what is new.
 fn put_changes<'a, K: Sink>(
     sink: &mut K,
     gone: Fraction,

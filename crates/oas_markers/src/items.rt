@@ -22,7 +22,7 @@ pub(crate) enum Way {
     Added,
 }
 
-/// The category's name and what it is about, up to the unit of the layout that has more.
+/// The category's name and its description, up to the unit of the layout that has more.
 fn category_front(way: Way) -> &'static [u8]
     ensures { result.now ≡ codes "  <category><name>" ++ (way_name way ++ (codes "</name><description>more often in " ++ (way_file way ++ codes ", by "))) }
 {
@@ -42,7 +42,7 @@ fn item_front(way: Way) -> &'static [u8]
     }
 }
 
-/// The categories of the kinds, behind a unit.
+/// The categories of the kinds, after a unit.
 const KINDS: &[u8] =
     b" grid steps in a micron</description><categories><category><name>cell</name></category><category><name>placement</name></category><category><name>text</name></category><category><name>rectangle</name></category><category><name>polygon</name></category><category><name>path</name></category><category><name>circle</name></category></categories></category>\n";
 
@@ -57,7 +57,7 @@ fn put_category<K: Sink>(sink: &mut K, unit: Fraction, way: Way) -> Result<(), S
     sink.put_all(KINDS)
 }
 
-/// Puts what the database is about.
+/// Puts the description of the database.
 fn put_about<K: Sink>(sink: &mut K, same: bool) -> Result<(), SinkFault>
     ensures { Writes K.given K.failures sink.old (about same) result sink.new }
 {
@@ -70,7 +70,7 @@ fn put_about<K: Sink>(sink: &mut K, same: bool) -> Result<(), SinkFault>
     }
 }
 
-/// Puts the categories of both layouts, and what stands between them and the cells.
+/// Puts the categories of both layouts, and what comes between them and the cells.
 fn put_categories<K: Sink>(sink: &mut K, before: Fraction, after: Fraction) -> Result<(), SinkFault>
     ensures { Writes K.given K.failures sink.old (category before Removed ++ (category after Added ++ codes " </categories>\n <cells>\n")) result sink.new }
 {
@@ -79,7 +79,7 @@ fn put_categories<K: Sink>(sink: &mut K, before: Fraction, after: Fraction) -> R
     sink.put_all(b" </categories>\n <cells>\n")
 }
 
-/// Puts what stands above the cells.
+/// Puts what comes above the cells.
 pub(crate) fn put_head<K: Sink>(
     sink: &mut K,
     before: Fraction,
@@ -112,7 +112,7 @@ fn put_values<K: Sink>(sink: &mut K, unit: Fraction, element: &Element) -> Resul
     sink.put_all(b"</values></item>\n")
 }
 
-/// Puts the item of an element that is there so many times more.
+/// Puts the item of an element that is there this many more times.
 fn put_item<K: Sink>(
     sink: &mut K,
     unit: Fraction,

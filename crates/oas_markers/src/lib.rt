@@ -5,12 +5,20 @@
 //! <item><category>removed.rectangle</category><cell>A</cell><multiplicity>2</multiplicity><values><value>box: (0,0;0.01,0.02)</value><value>text: 'layer 1/0'</value></values></item>
 //! ```
 //!
-//! Each element that is not as often in both layouts is an item, in the category `removed` for what the first has so many
-//! times more, and `added` for what the second has; below these there is a category for each kind. Coordinates are in
-//! microns by the unit of the layout that has it more often. A cell that only one of them has is an item too.
+//! Each element that is not as often in both layouts is an item, in the category `removed` for what the first has more often,
+//! and `added` for what the second has; below these there is a category for each kind. Coordinates are in microns, by the
+//! unit of the layout that has it more often. A cell that only one of them has is an item too.
 //!
-//! What this crate promises to the crates above it: a writer takes exactly the bytes of `markers` (specs/Markers.antt) of
-//! what the layouts mean, or it fails, and then it took a front of them ([`write_markers`]). No memory is taken.
+//! What this crate promises to the crates above it: a writer takes exactly the bytes of `markers` (specs/Markers.antt) of the
+//! layouts' meanings, or it fails, and then it took a prefix of them ([`write_markers`]). It allocates nothing.
+//!
+//! # How it is built
+//!
+//! oas_markers stands on oas_difference, whose walks over cells and over elements it uses (`next_cell`, `next_change`).
+//! Promise upwards: `write_markers`, whose clauses speak of `markers`, a function of what two layouts mean.
+//! specs/Markers.antt has the text: categories, then the cells by name, then the items; specs/Shapes.antt an element as a
+//! value, specs/Numbers.antt grid steps in microns, specs/Texts.antt names in XML. src/numbers.rt divides digit by digit,
+//! so a finite decimal number stands as it is. specs/Held.antt is the word between, as that of oas_difference.
 #![tactic(auto)]
 
 mod cells;
@@ -20,4 +28,6 @@ mod shapes;
 mod texts;
 mod writing;
 
+// The crates below, for those above.
+pub use oas_difference;
 pub use writing::write_markers;

@@ -15,7 +15,7 @@ pub(crate) fn put_number<K: Sink>(sink: &mut K, number: u64) -> Result<(), SinkF
     sink.put_all(Buffer::new().format(number).as_bytes())
 }
 
-/// Puts digits of a remainder that stand behind the point, of a fraction with that denominator: 64 at most.
+/// Puts the digits of a remainder after the point, for a fraction with that denominator: at most 64.
 fn put_decimals<K: Sink>(sink: &mut K, den: u64, mut rest: u64) -> Result<(), SinkFault>
     requires { rest < den }
     ensures { Writes K.given K.failures sink.old (decimals den 64 rest) result sink.new }
@@ -34,7 +34,7 @@ fn put_decimals<K: Sink>(sink: &mut K, den: u64, mut rest: u64) -> Result<(), Si
     Ok(())
 }
 
-/// Puts a point and the digits behind it, if there are any.
+/// Puts a point and the digits after it, if there are any.
 fn put_pointed<K: Sink>(sink: &mut K, den: u64, rest: u64) -> Result<(), SinkFault>
     requires { rest < den }
     ensures { Writes K.given K.failures sink.old (pointed (decimals den 64 rest)) result sink.new }
@@ -57,7 +57,7 @@ fn put_quotient<K: Sink>(sink: &mut K, num: u128, den: u64) -> Result<(), SinkFa
     put_pointed(sink, den, rest)
 }
 
-/// Puts a length of so many grid steps, in microns.
+/// Puts a length of this many grid steps, in microns.
 fn put_length<K: Sink>(sink: &mut K, unit: Fraction, steps: u128) -> Result<(), SinkFault>
     ensures { Writes K.given K.failures sink.old (length_in unit steps) result sink.new }
 {
@@ -65,7 +65,7 @@ fn put_length<K: Sink>(sink: &mut K, unit: Fraction, steps: u128) -> Result<(), 
     put_quotient(sink, counted * u128::from(unit.den()), unit.num())
 }
 
-/// Puts a coordinate of so many grid steps, in microns.
+/// Puts a coordinate of this many grid steps, in microns.
 fn put_microns<K: Sink>(sink: &mut K, unit: Fraction, steps: i128) -> Result<(), SinkFault>
     ensures { Writes K.given K.failures sink.old (microns unit steps) result sink.new }
 {
@@ -98,7 +98,7 @@ pub(crate) fn put_coordinate<K: Sink>(sink: &mut K, unit: Fraction, x: i64) -> R
     put_microns(sink, unit, i128::from(x))
 }
 
-/// Puts the coordinate at which a side from `x` on ends, in microns.
+/// Puts the coordinate where a side from `x` on ends, in microns.
 pub(crate) fn put_far<K: Sink>(
     sink: &mut K,
     unit: Fraction,
@@ -124,7 +124,7 @@ pub(crate) fn put_place<K: Sink>(
     put_coordinate(sink, unit, y)
 }
 
-/// Puts a point behind a semicolon.
+/// Puts a point after a semicolon.
 fn put_next<K: Sink>(sink: &mut K, unit: Fraction, point: &Point) -> Result<(), SinkFault>
     ensures { Writes K.given K.failures sink.old (59 ∷ place unit point.now.x point.now.y) result sink.new }
 {
@@ -132,7 +132,7 @@ fn put_next<K: Sink>(sink: &mut K, unit: Fraction, point: &Point) -> Result<(), 
     put_place(sink, unit, point.x, point.y)
 }
 
-/// Puts points, each behind a semicolon.
+/// Puts points, each after a semicolon.
 fn put_rest<K: Sink>(sink: &mut K, unit: Fraction, points: &[Point]) -> Result<(), SinkFault>
     ensures { Writes K.given K.failures sink.old (flat_map (λ p. 59 ∷ place unit p.x p.y) points.now) result sink.new }
 {
@@ -142,7 +142,7 @@ fn put_rest<K: Sink>(sink: &mut K, unit: Fraction, points: &[Point]) -> Result<(
     Ok(())
 }
 
-/// Puts points, with a semicolon between any two that are neighbours.
+/// Puts points, with a semicolon between neighbours.
 pub(crate) fn put_places<K: Sink>(
     sink: &mut K,
     unit: Fraction,

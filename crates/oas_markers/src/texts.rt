@@ -43,7 +43,7 @@ fn put_quote<K: Sink>(sink: &mut K, byte: u8) -> Result<(), SinkFault>
     }
 }
 
-/// Puts a string that stands between quotes in XML.
+/// Puts a string between quotes in XML.
 pub(crate) fn put_quoted<K: Sink>(sink: &mut K, bytes: &[u8]) -> Result<(), SinkFault>
     ensures { Writes K.given K.failures sink.old (quoted bytes.now) result sink.new }
 {

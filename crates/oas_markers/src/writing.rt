@@ -19,7 +19,7 @@ use oas_layout::Layout;
 use oas_num::{Fraction, Outlet, Refusal, Sink, SinkFault, Why};
 use std::io::Write;
 
-/// Puts the items of all cells, and what stands around them.
+/// Puts the items of all cells, and what surrounds them.
 fn put_body<'a, K: Sink>(
     sink: &mut K,
     gone: Fraction,
@@ -52,7 +52,7 @@ fn put_markers<K: Sink>(sink: &mut K, before: &Layout, after: &Layout) -> Result
     put_body(sink, gone, come, items_before, items_after)
 }
 
-/// Puts the markers of two layouts into an outlet, and has its writer take all of them.
+/// Puts the markers of two layouts into an outlet, and sends all of them to its writer.
 fn put_and_close<W: Write>(
     before: &Layout,
     after: &Layout,
@@ -66,11 +66,11 @@ fn put_and_close<W: Write>(
     outlet.close()
 }
 
-/// Writes the markers of two layouts of one profile, and answers how many bytes that is; at `u64::MAX` the count stays. It
-/// takes no memory. Where the layouts are the same there is no item.
+/// Writes the markers of two layouts of one profile, and returns how many bytes that is; the count stops at `u64::MAX`. It
+/// allocates nothing. Where the layouts are the same there is no item.
 ///
-/// A fault of the writer is `Why::Write`, and its place is the number of bytes that the writer took: those are the first
-/// of the markers. Where it is the number of all of them, the flush failed.
+/// A fault of the writer is `Why::Write`. Its place is the number of bytes that the writer took: the first ones of the
+/// markers. Where it is the number of all of them, the flush failed.
 pub fn write_markers<W: Write>(
     before: &Layout,
     after: &Layout,

@@ -10,17 +10,17 @@ use Rattle.oas_num.specs.declared.refusals.Why.TheVariants.{Memory, UnknownRefer
 use Rattle.oas_record.specs.declared.records.Record.{Record}
 use Rattle.oas_layout.specs.declared.limits.Limits.{Limits}
 use Rattle.oas_layout.specs.Meaning.{cells_weight}
-use Rattle.oas_drawing.specs.Drawing.{elements_at}
+use Rattle.oas_names.specs.oas_drawing.Drawing.{elements_at}
 use Rattle.oas_modal.specs.declared.parts.Parts.{Parts}
 use Rattle.oas_names.specs.Names.{named, cell_names, text_strings}
 use Rattle.oas_names.specs.References.{cell_by}
-use Rattle.oas_names.specs.Meaning.{DrawnCell, elements_meant, with_named, cells_meant, lacks_name, has_twice, end_reason, cells_drawn}
+use Rattle.oas_names.specs.Meaning.{DrawnCell, elements_by_name, with_named, cells_by_name, lacks_name, has_twice, end_reason, cells_drawn}
 use Rattle.oas_modal.specs.Finish.{names_held, with_name_held}
 use Rattle.oas_modal.specs.Stores.{HoldCells, bare}
 use Rattle.oas_names.specs.Weights.{capped, AllUsed}
 use Rattle.oas_modal.specs.Counted.{Counted, counted_store, all_weight}
 use Rattle.oas_modal.specs.Parts.{cells}
-use Rattle.oas_modal.specs.Stands.{ReaderState, StandsFor, end_refusal}
+use Rattle.oas_modal.specs.Stands.{ReaderState, Represents, end_refusal}
 use Rattle.oas_modal.proofs.WeighLemmas.{all_known}
 use Rattle.oas_modal.proofs.FinishLemmas.{end_same}
 use Rattle.oas_modal.proofs.ReaderLemmas.{seen_as, KeptFor, kept_of}
@@ -46,41 +46,41 @@ lighter m v w s h e = let few : w ≤ m = grind arith in grind (arith, nat_tests
 
 -- ---- cells that are counted
 
--- they have the names of those that they stand for
+-- they have the names of those that they represent
 counted_names : (names strings : List (ℕ × List ℕ)) (cs : List Counted) (ds : List DrawnCell) → HoldCells counted_store cs ds →
-    names_held names (bare counted_store cs) ≡ keys_of (cells_meant names strings ds)
+    names_held names (bare counted_store cs) ≡ keys_of (cells_by_name names strings ds)
 counted_names names strings [] [] h = refl
 counted_names names strings [] (d ∷ ds) h = absurd h
 counted_names names strings (c ∷ cs) [] h = absurd h
 counted_names names strings (c ∷ cs) (d ∷ ds) h =
     ap (λ r. with_name_held (cell_by names r) (names_held names (bare counted_store cs))) h.0 ∙ by (cell_by names d.0) (counted_names names strings cs ds h.2) where
-      by : (o : Option (List ℕ)) → names_held names (bare counted_store cs) ≡ keys_of (cells_meant names strings ds) →
-          with_name_held o (names_held names (bare counted_store cs)) ≡ keys_of (with_named o (elements_meant names strings d.1) (cells_meant names strings ds))
+      by : (o : Option (List ℕ)) → names_held names (bare counted_store cs) ≡ keys_of (cells_by_name names strings ds) →
+          with_name_held o (names_held names (bare counted_store cs)) ≡ keys_of (with_named o (elements_by_name names strings d.1) (cells_by_name names strings ds))
       by None e = e
       by (Some name) e = ap (λ (ns : List (List ℕ)). name ∷ ns) e
 
 module _ (names strings : List (ℕ × List ℕ)) (limits : Limits) (cs : List Counted) (ds : List DrawnCell)
     (a : AllByRecursion (λ c. AllUsed c.placed × AllUsed c.written) cs) (h : HoldCells counted_store cs ds) where
   abbrev whole : ℕ
-  whole = cells_weight (cells_meant names strings ds)
+  whole = cells_weight (cells_by_name names strings ds)
 
   weighs : all_weight names strings cs ≡ cond (lacks_name names strings ds) None (Some (capped whole))
   weighs = all_known names strings cs ds a h
 
   pub counted_lacks : None ≡ all_weight names strings cs → end_reason names strings limits ds ≡ Some UnknownReference
-  counted_lacks e = why_lacks (lacks_name names strings ds) (has_twice (keys_of (cells_meant names strings ds))) (nat_lt limits.weight whole) (capped whole) (e ∙ weighs)
+  counted_lacks e = why_lacks (lacks_name names strings ds) (has_twice (keys_of (cells_by_name names strings ds))) (nat_lt limits.weight whole) (capped whole) (e ∙ weighs)
 
   pub counted_twice : (v : ℕ) → Some v ≡ all_weight names strings cs → has_twice (names_held names (bare counted_store cs)) ≡ true → end_reason names strings limits ds ≡ Some DuplicateCell
   counted_twice v e t =
       let known = why_known (lacks_name names strings ds) v (capped whole) (e ∙ weighs) in
-      let twice : has_twice (keys_of (cells_meant names strings ds)) ≡ true = sym (ap has_twice (counted_names names strings cs ds h)) ∙ t in
+      let twice : has_twice (keys_of (cells_by_name names strings ds)) ≡ true = sym (ap has_twice (counted_names names strings cs ds h)) ∙ t in
       λ i. first_why (known.0 i) (twice i) (nat_lt limits.weight whole)
 
   pub counted_heavy : (v : ℕ) → Some v ≡ all_weight names strings cs → has_twice (names_held names (bare counted_store cs)) ≡ false → limits.weight < v →
       end_reason names strings limits ds ≡ Some TooHeavy
   counted_heavy v e t w =
       let known = why_known (lacks_name names strings ds) v (capped whole) (e ∙ weighs) in
-      let once : has_twice (keys_of (cells_meant names strings ds)) ≡ false = sym (ap has_twice (counted_names names strings cs ds h)) ∙ t in
+      let once : has_twice (keys_of (cells_by_name names strings ds)) ≡ false = sym (ap has_twice (counted_names names strings cs ds h)) ∙ t in
       let heavy = heavier limits.weight v whole w known.1 in
       λ i. first_why (known.0 i) (once i) (heavy i)
 
@@ -88,14 +88,14 @@ module _ (names strings : List (ℕ × List ℕ)) (limits : Limits) (cs : List C
       ≤ limits.weight → end_reason names strings limits ds ≡ None
   counted_none v e t s w =
       let known = why_known (lacks_name names strings ds) v (capped whole) (e ∙ weighs) in
-      let once : has_twice (keys_of (cells_meant names strings ds)) ≡ false = sym (ap has_twice (counted_names names strings cs ds h)) ∙ t in
+      let once : has_twice (keys_of (cells_by_name names strings ds)) ≡ false = sym (ap has_twice (counted_names names strings cs ds h)) ∙ t in
       let light = lighter limits.weight v whole s w known.1 in
       λ i. first_why (known.0 i) (once i) (light i)
 
 -- ---- a reader that counts
 
 module _ (failed : Option OneRefusal) (p : Parts Counted) (t : ReaderState Counted) (rs : List Record)
-    (view : ◌≡◌ {A = ReaderState Counted} (seen_as failed p) t) (h : StandsFor counted_store t rs) where
+    (view : ◌≡◌ {A = ReaderState Counted} (seen_as failed p) t) (h : Represents counted_store t rs) where
   kept : KeptFor counted_store p (reverse rs)
   kept = kept_of counted_store failed p t rs view h
 

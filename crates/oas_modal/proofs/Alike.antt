@@ -12,9 +12,9 @@ use Rattle.oas_layout.specs.declared.profile.Profile.{Profile}
 use Rattle.oas_layout.specs.Same.{same_element}
 use Rattle.oas_layout.specs.Weight.{weight_of}
 use Rattle.oas_layout.specs.Meaning.{elements_of, count_of, cells_weight}
-use Rattle.oas_drawing.specs.declared.drawn.Drawn.{Drawn}
+use Rattle.oas_names.specs.oas_drawing.declared.drawn.Drawn.{Drawn}
 use Rattle.oas_names.specs.References.{cell_by}
-use Rattle.oas_names.specs.Meaning.{DrawnCell, element_by, with_element, elements_meant, with_named, cells_meant, is_unnamed, cell_lacks, lacks_name, has_twice}
+use Rattle.oas_names.specs.Meaning.{DrawnCell, element_by, with_element, elements_by_name, with_named, cells_by_name, is_unnamed, cell_lacks, lacks_name, has_twice}
 use Rattle.oas_modal.specs.Alike.{SameDrawn, AlikeCells, AlikeMeanings}
 
 -- a test passes where the sum of those that pass is above 0
@@ -25,23 +25,23 @@ any-sum f (x ∷ xs) = by (f x) (any-sum f xs) ∙ ap (nat_lt 0) (sym (sum_by-co
   by true later = grind (arith, nat_tests)
   by false later = let same : sum_by (λ y. cond (f y) 1 0) xs ≡ 0 + sum_by (λ y. cond (f y) 1 0) xs = omega arith in later ∙ ap (nat_lt 0) same
 
--- what an element weighs that may be there
+-- the weight of an element that may be there
 abbrev pub weighed : (Element → ℕ) → Option Element → ℕ
 weighed g None = 0
 weighed g (Some e) = g e
 
 module _ (names strings : List (ℕ × List ℕ)) where
   -- a sum over the elements that are meant
-  pub sum-meant : (g : Element → ℕ) (xs : List Drawn) → sum_by g (elements_meant names strings xs) ≡ sum_by (λ d. weighed g (element_by names strings d)) xs
+  pub sum-meant : (g : Element → ℕ) (xs : List Drawn) → sum_by g (elements_by_name names strings xs) ≡ sum_by (λ d. weighed g (element_by names strings d)) xs
   sum-meant g [] = refl
   sum-meant g (x ∷ xs) = by (element_by names strings x) ∙ ap (λ (k : ℕ). weighed g (element_by names strings x) + k) (sum-meant g xs)
       ∙ sym (sum_by-cons (λ d. weighed g (element_by names strings d)) x xs) where
-        by : (o : Option Element) → sum_by g (with_element o (elements_meant names strings xs)) ≡ weighed g o + sum_by g (elements_meant names strings xs)
+        by : (o : Option Element) → sum_by g (with_element o (elements_by_name names strings xs)) ≡ weighed g o + sum_by g (elements_by_name names strings xs)
         by None = omega arith
-        by (Some e) = sum_by-cons g e (elements_meant names strings xs)
+        by (Some e) = sum_by-cons g e (elements_by_name names strings xs)
 
   -- is the same where they are drawn alike
-  sum-alike : (g : Element → ℕ) (xs ys : List Drawn) → SameDrawn xs ys → sum_by g (elements_meant names strings xs) ≡ sum_by g (elements_meant names strings ys)
+  sum-alike : (g : Element → ℕ) (xs ys : List Drawn) → SameDrawn xs ys → sum_by g (elements_by_name names strings xs) ≡ sum_by g (elements_by_name names strings ys)
   sum-alike g xs ys s = sum-meant g xs ∙ s.sums (λ d. weighed g (element_by names strings d)) ∙ sym (sum-meant g ys)
 
   -- they lack the same
@@ -58,63 +58,63 @@ module _ (names strings : List (ℕ × List ℕ)) where
   all-lack (c ∷ cs) (d ∷ ds) a = λ i. lacks-alike c d a.0 a.1 i || all-lack cs ds a.2 i
 
   -- have the same names
-  names-alike : (cs ds : List DrawnCell) → AlikeCells cs ds → keys_of (cells_meant names strings cs) ≡ keys_of (cells_meant names strings ds)
+  names-alike : (cs ds : List DrawnCell) → AlikeCells cs ds → keys_of (cells_by_name names strings cs) ≡ keys_of (cells_by_name names strings ds)
   names-alike [] [] a = refl
   names-alike [] (d ∷ ds) a = absurd a
   names-alike (c ∷ cs) [] a = absurd a
   names-alike (c ∷ cs) (d ∷ ds) a =
-      by (cell_by names c.0) (names-alike cs ds a.2) ∙ ap (λ r. keys_of (with_named (cell_by names r) (elements_meant names strings d.1) (cells_meant names strings ds))) a.0 where
-        by : (o : Option (List ℕ)) → keys_of (cells_meant names strings cs) ≡ keys_of (cells_meant names strings ds)
-            → keys_of (with_named o (elements_meant names strings c.1) (cells_meant names strings cs)) ≡ keys_of (with_named o (elements_meant names strings d.1) (cells_meant names strings ds))
+      by (cell_by names c.0) (names-alike cs ds a.2) ∙ ap (λ r. keys_of (with_named (cell_by names r) (elements_by_name names strings d.1) (cells_by_name names strings ds))) a.0 where
+        by : (o : Option (List ℕ)) → keys_of (cells_by_name names strings cs) ≡ keys_of (cells_by_name names strings ds)
+            → keys_of (with_named o (elements_by_name names strings c.1) (cells_by_name names strings cs)) ≡ keys_of (with_named o (elements_by_name names strings d.1) (cells_by_name names strings ds))
         by None h = h
         by (Some name) h = ap (λ (ns : List (List ℕ)). name ∷ ns) h
 
   -- weigh the same
-  weight-alike : (cs ds : List DrawnCell) → AlikeCells cs ds → cells_weight (cells_meant names strings cs) ≡ cells_weight (cells_meant names strings ds)
+  weight-alike : (cs ds : List DrawnCell) → AlikeCells cs ds → cells_weight (cells_by_name names strings cs) ≡ cells_weight (cells_by_name names strings ds)
   weight-alike [] [] a = refl
   weight-alike [] (d ∷ ds) a = absurd a
   weight-alike (c ∷ cs) [] a = absurd a
   weight-alike (c ∷ cs) (d ∷ ds) a =
       by (cell_by names c.0) (weight-alike cs ds a.2) (sum-alike weight_of c.1 d.1 a.1)
-      ∙ ap (λ r. cells_weight (with_named (cell_by names r) (elements_meant names strings d.1) (cells_meant names strings ds))) a.0 where
-        by : (o : Option (List ℕ)) → cells_weight (cells_meant names strings cs) ≡ cells_weight (cells_meant names strings ds) → sum_by weight_of (elements_meant names strings c.1)
-            ≡ sum_by weight_of (elements_meant names strings d.1) → cells_weight (with_named o (elements_meant names strings c.1) (cells_meant names strings cs))
-            ≡ cells_weight (with_named o (elements_meant names strings d.1) (cells_meant names strings ds))
+      ∙ ap (λ r. cells_weight (with_named (cell_by names r) (elements_by_name names strings d.1) (cells_by_name names strings ds))) a.0 where
+        by : (o : Option (List ℕ)) → cells_weight (cells_by_name names strings cs) ≡ cells_weight (cells_by_name names strings ds) → sum_by weight_of (elements_by_name names strings c.1)
+            ≡ sum_by weight_of (elements_by_name names strings d.1) → cells_weight (with_named o (elements_by_name names strings c.1) (cells_by_name names strings cs))
+            ≡ cells_weight (with_named o (elements_by_name names strings d.1) (cells_by_name names strings ds))
         by None h w = h
         by (Some name) h w = omega (arith, h, w)
 
   -- and hold the same of each element
-  there-alike : (name : List ℕ) (cs ds : List DrawnCell) → AlikeCells cs ds → is_some (elements_of name (cells_meant names strings cs)) ≡ is_some (elements_of name (cells_meant names strings ds))
+  there-alike : (name : List ℕ) (cs ds : List DrawnCell) → AlikeCells cs ds → is_some (elements_of name (cells_by_name names strings cs)) ≡ is_some (elements_of name (cells_by_name names strings ds))
   there-alike name [] [] a = refl
   there-alike name [] (d ∷ ds) a = absurd a
   there-alike name (c ∷ cs) [] a = absurd a
   there-alike name (c ∷ cs) (d ∷ ds) a =
       by (cell_by names c.0) (there-alike name cs ds a.2)
-      ∙ ap (λ r. is_some (elements_of name (with_named (cell_by names r) (elements_meant names strings d.1) (cells_meant names strings ds)))) a.0 where
-        by : (o : Option (List ℕ)) → is_some (elements_of name (cells_meant names strings cs)) ≡ is_some (elements_of name (cells_meant names strings ds))
-            → is_some (elements_of name (with_named o (elements_meant names strings c.1) (cells_meant names strings cs)))
-            ≡ is_some (elements_of name (with_named o (elements_meant names strings d.1) (cells_meant names strings ds)))
+      ∙ ap (λ r. is_some (elements_of name (with_named (cell_by names r) (elements_by_name names strings d.1) (cells_by_name names strings ds)))) a.0 where
+        by : (o : Option (List ℕ)) → is_some (elements_of name (cells_by_name names strings cs)) ≡ is_some (elements_of name (cells_by_name names strings ds))
+            → is_some (elements_of name (with_named o (elements_by_name names strings c.1) (cells_by_name names strings cs)))
+            ≡ is_some (elements_of name (with_named o (elements_by_name names strings d.1) (cells_by_name names strings ds)))
         by None h = h
-        by (Some n) h = elim (pointwise ◌==◌ name n) as (λ b. is_some (cond b (Some (elements_meant names strings c.1)) (elements_of name (cells_meant names strings cs)))
-            ≡ is_some (cond b (Some (elements_meant names strings d.1)) (elements_of name (cells_meant names strings ds)))) [ true ↦ refl | false ↦ h ]
+        by (Some n) h = elim (pointwise ◌==◌ name n) as (λ b. is_some (cond b (Some (elements_by_name names strings c.1)) (elements_of name (cells_by_name names strings cs)))
+            ≡ is_some (cond b (Some (elements_by_name names strings d.1)) (elements_of name (cells_by_name names strings ds)))) [ true ↦ refl | false ↦ h ]
 
   counts-alike : (profile : Profile) (name : List ℕ) (q : Element) (cs ds : List DrawnCell) → AlikeCells cs ds
-      → count_of profile q (unwrap_or (elements_of name (cells_meant names strings cs)) []) ≡ count_of profile q (unwrap_or (elements_of name (cells_meant names strings ds)) [])
+      → count_of profile q (unwrap_or (elements_of name (cells_by_name names strings cs)) []) ≡ count_of profile q (unwrap_or (elements_of name (cells_by_name names strings ds)) [])
   counts-alike profile name q [] [] a = refl
   counts-alike profile name q [] (d ∷ ds) a = absurd a
   counts-alike profile name q (c ∷ cs) [] a = absurd a
   counts-alike profile name q (c ∷ cs) (d ∷ ds) a =
       by (cell_by names c.0) (counts-alike profile name q cs ds a.2) (sum-alike (λ x. cond (same_element profile q x) 1 0) c.1 d.1 a.1)
-      ∙ ap (λ r. count_of profile q (unwrap_or (elements_of name (with_named (cell_by names r) (elements_meant names strings d.1) (cells_meant names strings ds))) [])) a.0 where
-        by : (o : Option (List ℕ)) → count_of profile q (unwrap_or (elements_of name (cells_meant names strings cs)) [])
-            ≡ count_of profile q (unwrap_or (elements_of name (cells_meant names strings ds)) []) → count_of profile q (elements_meant names strings c.1)
-            ≡ count_of profile q (elements_meant names strings d.1)
-            → count_of profile q (unwrap_or (elements_of name (with_named o (elements_meant names strings c.1) (cells_meant names strings cs))) [])
-            ≡ count_of profile q (unwrap_or (elements_of name (with_named o (elements_meant names strings d.1) (cells_meant names strings ds))) [])
+      ∙ ap (λ r. count_of profile q (unwrap_or (elements_of name (with_named (cell_by names r) (elements_by_name names strings d.1) (cells_by_name names strings ds))) [])) a.0 where
+        by : (o : Option (List ℕ)) → count_of profile q (unwrap_or (elements_of name (cells_by_name names strings cs)) [])
+            ≡ count_of profile q (unwrap_or (elements_of name (cells_by_name names strings ds)) []) → count_of profile q (elements_by_name names strings c.1)
+            ≡ count_of profile q (elements_by_name names strings d.1)
+            → count_of profile q (unwrap_or (elements_of name (with_named o (elements_by_name names strings c.1) (cells_by_name names strings cs))) [])
+            ≡ count_of profile q (unwrap_or (elements_of name (with_named o (elements_by_name names strings d.1) (cells_by_name names strings ds))) [])
         by None h w = h
         by (Some n) h w = elim (pointwise ◌==◌ name n) as
-            (λ b. count_of profile q (unwrap_or (cond b (Some (elements_meant names strings c.1)) (elements_of name (cells_meant names strings cs))) [])
-            ≡ count_of profile q (unwrap_or (cond b (Some (elements_meant names strings d.1)) (elements_of name (cells_meant names strings ds))) [])) [ true ↦ w | false ↦ h ]
+            (λ b. count_of profile q (unwrap_or (cond b (Some (elements_by_name names strings c.1)) (elements_of name (cells_by_name names strings cs))) [])
+            ≡ count_of profile q (unwrap_or (cond b (Some (elements_by_name names strings d.1)) (elements_of name (cells_by_name names strings ds))) [])) [ true ↦ w | false ↦ h ]
 
 -- so END refuses them alike, and they mean the same
 pub alike_meanings : AlikeMeanings

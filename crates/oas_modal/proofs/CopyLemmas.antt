@@ -3,7 +3,7 @@ use Rattle.std.proofs.Common.{◌≡◌, ℕ, zero, suc, ◌+◌, ◌*◌, ◌<�
 use Rattle.std.specs.Prelude.{Option, None, Some, replicate, nat_lt, sum_by, ◌^◌}
 use Rattle.std.proofs.lemmas.Nat.{mul-le}
 use Rattle.std.proofs.lemmas.Bool.Decides.{nat_tests}
-use Rattle.oas_drawing.specs.Reasons.{weight_if, fault_of}
+use Rattle.oas_names.specs.oas_drawing.Reasons.{weight_if, fault_of}
 use Rattle.std.specs.Option.{option_to_list}
 use Rattle.std.specs.List.{range_with_len}
 use Rattle.std.proofs.lemmas.List.{length-replicate}
@@ -17,17 +17,17 @@ use Rattle.oas_shape.specs.Steps.{still}
 use Rattle.oas_shape.specs.declared.places.Places.{Places}
 use Rattle.oas_shape.specs.Places.{ArePlaces}
 use Rattle.oas_record.specs.declared.records.Record.{Record}
-use Rattle.oas_drawing.specs.declared.drawn.Drawn.{Drawn}
-use Rattle.oas_drawing.specs.declared.kinds.Kind.{Kind}
-use Rattle.oas_drawing.specs.Modal.{ModalState}
-use Rattle.oas_drawing.specs.Drawn.{weight_so_far}
-use Rattle.oas_drawing.specs.Drawing.{kind_of, repeats, drawn_if, copies_at, offset_if, number_if, places_if, offsets_of, drawn_by}
-use Rattle.oas_drawing.proofs.Copies.{on_places}
+use Rattle.oas_names.specs.oas_drawing.declared.drawn.Drawn.{Drawn}
+use Rattle.oas_names.specs.oas_drawing.declared.kinds.Kind.{Kind}
+use Rattle.oas_names.specs.oas_drawing.Modal.{ModalState}
+use Rattle.oas_names.specs.oas_drawing.Drawn.{weight_so_far}
+use Rattle.oas_names.specs.oas_drawing.Drawing.{kind_of, repeats, drawn_if, copies_at, offset_if, number_if, places_if, offsets_of, drawn_by}
+use Rattle.oas_names.proofs.oas_drawing_proofs.Copies.{on_places}
 use Rattle.oas_modal.specs.Standing.{drawn_of}
 use Rattle.oas_modal.specs.Stores.{Store, Draws}
 use Rattle.oas_modal.specs.Alike.{SameDrawn}
 use Rattle.oas_modal.specs.Copying.{copies_by, first_copies, drawn_times, stacks_by, place_offset, first_stacks}
-use Rattle.oas_modal.proofs.PlaceLemmas.{drawn_alike}
+use Rattle.oas_names.proofs.oas_drawing_proofs.AllKinds.{drawn_alike}
 use Rattle.oas_modal.proofs.StoreLemmas.{draws_then, draws_same}
 
 copies_by-append : (m : ModalState) (kind : Kind) (xs ys : List GDelta) → copies_by m kind (xs ++ ys) ≡ copies_by m kind xs ++ copies_by m kind ys
@@ -39,7 +39,7 @@ append_nil : {A : Type 0} (xs : List A) → xs ++ [] ≡ xs
 append_nil [] = refl
 append_nil (x ∷ xs) = ap (λ ys. x ∷ ys) (append_nil xs)
 
--- one copy more
+-- one more copy
 pub next_copy : (m : ModalState) (kind : Kind) (repeated : Bool) (n : ℕ) → first_copies m kind repeated (n + 1) ≡ first_copies m kind repeated n
     ++ option_to_list (drawn_by m kind (offset_if repeated m.repetition n))
 next_copy m kind repeated n =
@@ -86,7 +86,7 @@ sum_copies m kind g (d ∷ ds) =
     ∙ ap (λ (k : ℕ). counts_for m kind g d + k) (sum_copies m kind g ds)
     ∙ sym (sum_by-cons (counts_for m kind g) d ds)
 
--- numbers that are none together are none each
+-- numbers whose sum is none are none each
 sum_none : {A : Type 0} (g : A → ℕ) (f : ℕ → A) (n : ℕ) → ((j : ℕ) → j < n → g (f j) ≡ 0) → sum_by g (map f (range_with_len 0 n)) ≡ 0
 sum_none g f zero h = refl
 sum_none g f (suc n) h =
@@ -114,16 +114,16 @@ no_fault_none : (o : Option Why) → faults o ≡ 0 → o ≡ None
 no_fault_none None e = refl
 no_fault_none (Some why) e = cc
 
--- the copies of a record stand on its places
+-- the copies of a record are on its places
 pub here : (m : ModalState) (repeated : Bool) (p : Places) → p ≡ places_if repeated m.repetition → ArePlaces (number_if repeated m.repetition) (offset_if repeated m.repetition) p
 here m repeated p e = subst (ArePlaces (number_if repeated m.repetition) (offset_if repeated m.repetition)) (sym e) (on_places repeated m.repetition)
 
--- of so many copies, by the places on which they stand
+-- this many copies, by their places
 module _ (m : ModalState) (kind : Kind) (repeated : Bool) (p : Places) where
   abbrev AreHere : ℕ → Type 0
   AreHere number = ArePlaces number (offset_if repeated m.repetition) p
 
-  -- the copies on one place more
+  -- the copies on one more place
   pub next_stack : (n : ℕ) → first_stacks m kind repeated p (n + 1) ≡ first_stacks m kind repeated p n ++ drawn_times p.copies (drawn_by m kind (place_offset m repeated p n))
   next_stack n =
       ap (stacks_by m kind p.copies) (map-range_with_len_more (place_offset m repeated p) 0 n n (omega arith))
@@ -177,7 +177,7 @@ module _ (m : ModalState) (kind : Kind) (repeated : Bool) (p : Places) where
       let more : (n + 1) * p.copies ≡ n * p.copies + p.copies = omega arith in
       omega (arith, more, mul-le (n + 1) p.copies p.number p.copies (omega arith) (omega arith), h.all)
 
-  -- there is room for the copies on one place more
+  -- there is room for the copies on one more place
   pub room_next : {S : Type 0} (t : Store S) (number n : ℕ) (before now : S) → AreHere number → n < p.number → Draws t before (first_stacks m kind repeated p n) now → t.count before ≤ 2 ^ 26
       → number ≤ 2 ^ 26 → t.count now + p.copies < 2 ^ 64
   room_next t number n before now h lt f room small = omega (arith, f.count, few_stacks n, up_to number n h lt, room, small)
@@ -185,7 +185,7 @@ module _ (m : ModalState) (kind : Kind) (repeated : Bool) (p : Places) where
   abbrev Fits : GDelta → Type 0
   Fits d = fault_of (drawn_by m kind d) ≡ None
 
-  -- and they lie within the grid
+  -- and they are within the grid
   pub fit_next : (n : ℕ) → ((j : ℕ) → j < n → Fits (place_offset m repeated p j)) → Fits (place_offset m repeated p n) → (j : ℕ) → j < n + 1 → Fits (place_offset m repeated p j)
   fit_next n before last j below =
       elim (nat_lt j n) as (λ b. nat_lt j n ≡ b → Fits (place_offset m repeated p j)) [
@@ -193,7 +193,7 @@ module _ (m : ModalState) (kind : Kind) (repeated : Bool) (p : Places) where
         | false ↦ λ e. let same : n ≡ j = grind (arith, nat_tests) in subst (λ (k : ℕ). Fits (place_offset m repeated p k)) same last
       ] refl
 
-  -- all copies do, where those do that come first on their places
+  -- all copies are, where those are that come first on their places
   pub fit_all : (number : ℕ) → AreHere number → ((j : ℕ) → j < p.number → Fits (place_offset m repeated p j)) → (i : ℕ) → i < number → Fits (offset_if repeated m.repetition i)
   fit_all number h fits i lt =
       let g : GDelta → ℕ = λ d. faults (fault_of (drawn_by m kind d)) in
@@ -208,7 +208,7 @@ module _ (m : ModalState) (kind : Kind) (repeated : Bool) (p : Places) where
   fault_at number n why h lt (inl e) = inl e
   fault_at number n why h lt (inr e) = inr (n * p.stride, h.within n lt, e)
 
-  -- ---- what they weigh
+  -- ---- their weight
 
   abbrev one : ℕ
   one = weight_if (drawn_by m kind still)

@@ -6,9 +6,9 @@ use Rattle.std.proofs.lemmas.List.Sums.{sum_by-append}
 use Rattle.std.specs.Prelude.{sum_by}
 use Rattle.oas_record.specs.declared.references.CellRef.{CellRef}
 use Rattle.oas_layout.specs.Laws.BagLaws.{total}
-use Rattle.oas_drawing.specs.declared.drawn.Drawn.{Drawn}
-use Rattle.oas_drawing.specs.declared.drawn.Drawn.TheVariants.{Named, PlacementBy, TextBy}
-use Rattle.oas_drawing.specs.Drawn.{weight_so_far}
+use Rattle.oas_names.specs.oas_drawing.declared.drawn.Drawn.{Drawn}
+use Rattle.oas_names.specs.oas_drawing.declared.drawn.Drawn.TheVariants.{Named, PlacementBy, TextBy}
+use Rattle.oas_names.specs.oas_drawing.Drawn.{weight_so_far}
 use Rattle.oas_names.specs.Weights.{capped, AllUsed}
 use Rattle.oas_names.proofs.WeightLemmas.{capped_more}
 use Rattle.oas_names.proofs.UsedLemmas.{total_more, used_more}
@@ -17,7 +17,7 @@ use Rattle.oas_modal.specs.Counted.{Counted, placed_by, written_by, counted_stor
 use Rattle.oas_modal.proofs.StoreLemmas.{draws_none}
 
 module _ (d : Drawn) (n : ℕ) where
-  -- each number is used still
+  -- each number is still used
   placed_used : 0 < n → (ps : List (ℕ × ℕ)) → AllUsed ps → AllUsed (placed_more d n ps)
   placed_used h ps a = elim d as (λ x. AllUsed (placed_more x n ps)) [ Named e ↦ a | PlacementBy number x y turns flip ↦ used_more ps number n h a | TextBy number textlayer texttype x y ↦ a ]
 
@@ -65,7 +65,7 @@ module _ (d : Drawn) (n : ℕ) where
         };
       })
 
--- a cell that has counted it, and weighs what it does besides
+-- a cell that has counted it, and its weight with it
 pub counted_up : (old : Counted) (d : Drawn) (n : ℕ) (a : CellRef) (k v w : ℕ) (ps qs : List (ℕ × ℕ)) → 0 < n
     → ◌≡◌ {A = Counted} (record { cell = a; count = k; weight = v; placed = ps; written = qs })
     (record { cell = old.cell; count = old.count + n; weight = old.weight; placed = placed_more d n old.placed; written = written_more d n old.written })

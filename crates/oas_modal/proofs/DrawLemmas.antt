@@ -2,32 +2,31 @@
 use Rattle.std.proofs.Common.{◌≡◌, ℕ, zero, suc, ◌+◌, ◌*◌, ◌<◌, ◌≤◌, List, length, refl, sym, ap, ◌∙◌, subst, arith, Bool, true, false, length-append}
 use Rattle.std.proofs.lemmas.Bool.Decides.{nat_tests}
 use Rattle.std.proofs.lemmas.List.Sums.{sum_by-append}
-use Rattle.std.specs.Prelude.{Option, None, Some, is_none, nat_lt, cond, sum_by}
+use Rattle.std.specs.Prelude.{Option, None, Some, is_none, nat_lt, not, cond, sum_by}
 use Rattle.std.specs.Option.{option_to_list}
 use Rattle.std.specs.List.{AllByRecursion}
 use Rattle.oas_num.specs.declared.refusals.Why.{Why}
-use Rattle.oas_num.specs.declared.refusals.Why.TheVariants.{ModalUndefined, Magnification, Angle, TooManyElements, TooHeavy, PointCount}
+use Rattle.oas_num.specs.declared.refusals.Why.TheVariants.{ModalUndefined, Magnification, Angle, TooManyElements, TooHeavy, PointCount, CoordinateRange}
 use Rattle.oas_shape.specs.Steps.{still}
 use Rattle.oas_record.specs.declared.records.Record.{Record}
 use Rattle.oas_record.specs.declared.records.Record.TheVariants as record_of
 use Rattle.oas_layout.specs.declared.limits.Limits.{Limits}
-use Rattle.oas_drawing.specs.declared.drawn.Drawn.{Drawn}
-use Rattle.oas_drawing.specs.declared.drawn.Drawn.TheVariants.{Named, PlacementBy, TextBy}
-use Rattle.oas_drawing.specs.declared.kinds.Kind.{Kind}
-use Rattle.oas_drawing.specs.Positions.{IsNear}
-use Rattle.oas_drawing.specs.declared.positions.Position.{Position}
-use Rattle.oas_drawing.specs.Modal.{ModalState, stepped}
+use Rattle.oas_names.specs.oas_drawing.declared.drawn.Drawn.{Drawn}
+use Rattle.oas_names.specs.oas_drawing.declared.drawn.Drawn.TheVariants.{Named, PlacementBy, TextBy}
+use Rattle.oas_names.specs.oas_drawing.declared.kinds.Kind.{Kind}
+use Rattle.oas_names.specs.oas_drawing.Positions.{IsNear}
+use Rattle.oas_names.specs.oas_drawing.declared.positions.Position.{Position}
+use Rattle.oas_names.specs.oas_drawing.Modal.{ModalState, stepped}
 use Rattle.oas_names.specs.Names.{cell_names, text_strings}
-use Rattle.oas_drawing.specs.Drawn.{weight_so_far}
-use Rattle.oas_drawing.specs.Drawing.{kind_of, drawn_by, place_of, offset_if, number_if, lacks_repetition}
-use Rattle.oas_drawing.specs.Reasons.{is_magnified, is_askew, weight_if, lacks_if, fault_of, kind_reason}
+use Rattle.oas_names.specs.oas_drawing.Drawn.{weight_so_far, drawn_fits}
+use Rattle.oas_names.specs.oas_drawing.Drawing.{kind_of, drawn_by, place_of, offset_if, number_if, lacks_repetition}
+use Rattle.oas_names.specs.oas_drawing.Reasons.{is_magnified, is_askew, weight_if, lacks_if, fits_if, fault_of, kind_reason}
 use Rattle.oas_modal.specs.Finish.{IsFit}
 use Rattle.oas_names.specs.Meaning.{DrawnCell, in_last}
 use Rattle.oas_modal.specs.Standing.{Standing, drawn_of, weight_with, open_after, element_reason, reason, drawn_after}
 use Rattle.oas_modal.specs.Copying.{first_copies}
-use Rattle.oas_drawing.proofs.Copies.{drawn_defined}
 use Rattle.oas_modal.proofs.CopyLemmas.{next_copy}
-use Rattle.oas_modal.proofs.PlaceLemmas.{drawn_alike, no_fault}
+use Rattle.oas_names.proofs.oas_drawing_proofs.AllKinds.{drawn_alike, drawn_defined}
 use Rattle.oas_modal.proofs.TakeLemmas.{all_append}
 
 -- ---- what all element records have in common
@@ -41,12 +40,6 @@ pub record IsElement (r : Record) : Type 0 where
   pub no_string : text_strings r ≡ None
 
 pub is_element : (r : Record) (kind : Kind) → kind_of r ≡ Some kind → IsElement r
-is_element (record_of.Placement p) kind e = record { judged = λ l n t s. refl; draws = λ ds m. refl; inside = λ b. refl; weighs = λ ds. refl; no_name = refl; no_string = refl }
-is_element (record_of.Text p) kind e = record { judged = λ l n t s. refl; draws = λ ds m. refl; inside = λ b. refl; weighs = λ ds. refl; no_name = refl; no_string = refl }
-is_element (record_of.Rectangle p) kind e = record { judged = λ l n t s. refl; draws = λ ds m. refl; inside = λ b. refl; weighs = λ ds. refl; no_name = refl; no_string = refl }
-is_element (record_of.Polygon p) kind e = record { judged = λ l n t s. refl; draws = λ ds m. refl; inside = λ b. refl; weighs = λ ds. refl; no_name = refl; no_string = refl }
-is_element (record_of.Path p) kind e = record { judged = λ l n t s. refl; draws = λ ds m. refl; inside = λ b. refl; weighs = λ ds. refl; no_name = refl; no_string = refl }
-is_element (record_of.Circle p) kind e = record { judged = λ l n t s. refl; draws = λ ds m. refl; inside = λ b. refl; weighs = λ ds. refl; no_name = refl; no_string = refl }
 is_element record_of.Pad kind e = cc
 is_element record_of.End kind e = cc
 is_element (record_of.CellName name number) kind e = cc
@@ -54,6 +47,15 @@ is_element (record_of.TextString label number) kind e = cc
 is_element (record_of.Cell c) kind e = cc
 is_element record_of.XyAbsolute kind e = cc
 is_element record_of.XyRelative kind e = cc
+is_element _ kind e = record { judged = λ l n t s. refl; draws = λ ds m. refl; inside = λ b. refl; weighs = λ ds. refl; no_name = refl; no_string = refl }
+
+-- an element without a fault is within the grid
+no_fault : (o : Option Drawn) → fault_of o ≡ None → fits_if o ≡ true
+no_fault None h = cc
+no_fault (Some d) h = fits (drawn_fits d) h where
+  fits : (b : Bool) → cond (not b) (Some CoordinateRange) None ≡ None → b ≡ true
+  fits true h = refl
+  fits false h = cc
 
 abbrev place_if : ModalState → Option Kind → Position
 place_if m None = m.geometry
@@ -66,10 +68,6 @@ AllNear m = IsNear m.placement × IsNear m.text × IsNear m.geometry
 near_case : (m : ModalState) (r : Record) (kind : Kind) → kind_of r ≡ Some kind → AllNear m → IsNear (place_if (stepped m r) (kind_of r)) → AllNear (stepped m r)
 near_case m (record_of.Placement p) kind e n h = (h, n.1, n.2)
 near_case m (record_of.Text p) kind e n h = (n.0, h, n.2)
-near_case m (record_of.Rectangle p) kind e n h = (n.0, n.1, h)
-near_case m (record_of.Polygon p) kind e n h = (n.0, n.1, h)
-near_case m (record_of.Path p) kind e n h = (n.0, n.1, h)
-near_case m (record_of.Circle p) kind e n h = (n.0, n.1, h)
 near_case m record_of.Pad kind e n h = cc
 near_case m record_of.End kind e n h = cc
 near_case m (record_of.CellName name number) kind e n h = cc
@@ -77,12 +75,13 @@ near_case m (record_of.TextString label number) kind e n h = cc
 near_case m (record_of.Cell c) kind e n h = cc
 near_case m record_of.XyAbsolute kind e n h = cc
 near_case m record_of.XyRelative kind e n h = cc
+near_case m _ kind e n h = (n.0, n.1, h)
 
 pub near_after : (m m' : ModalState) (r : Record) (kind : Kind) → kind_of r ≡ Some kind → m' ≡ stepped m r → AllNear m → IsNear (place_of m' kind) → AllNear m'
 near_after m m' r kind e is n h =
     subst AllNear (sym is) (near_case m r kind e n (subst (λ (k : Option Kind). IsNear (place_if (stepped m r) k)) (sym e) (subst (λ (v : ModalState). IsNear (place_of v kind)) is h)))
 
--- ---- what an element record that isn't refused keeps to
+-- ---- what holds for an element record that isn't refused
 
 passed : (b : Bool) (w : Why) (o : Option Why) → cond b (Some w) o ≡ None → (b ≡ false) × (o ≡ None)
 passed false w o h = (refl, h)
@@ -91,14 +90,14 @@ passed true w o h = cc
 not_less : (a b : ℕ) → nat_lt a b ≡ false → b ≤ a
 not_less a b h = grind (arith, nat_tests)
 
-pub record IsPassed (limits : Limits) (count weight : ℕ) (m : ModalState) (kind : Kind) (repeated : Bool) : Type 0 where
+pub record IsSkipped (limits : Limits) (count weight : ℕ) (m : ModalState) (kind : Kind) (repeated : Bool) : Type 0 where
   pub there : is_none (drawn_by m kind still) ≡ false
   pub few : count + number_if repeated m.repetition ≤ limits.elements
   pub light : weight + number_if repeated m.repetition * weight_if (drawn_by m kind still) ≤ limits.weight
   pub points : lacks_if (drawn_by m kind still) ≡ false
 
 pub is_passed : (limits : Limits) (count weight : ℕ) (m : ModalState) (kind : Kind) (repeated : Bool) → kind_reason limits count weight m kind repeated ≡ None
-    → IsPassed limits count weight m kind repeated
+    → IsSkipped limits count weight m kind repeated
 is_passed limits count weight m kind repeated h =
     let a = passed (is_none (drawn_by m kind still)) ModalUndefined _ h in
     let b = passed (lacks_repetition repeated m.repetition) ModalUndefined _ a.1 in
@@ -161,7 +160,7 @@ module _ (m : ModalState) (kind : Kind) (repeated : Bool) where
       all_append IsFit (first_copies m kind repeated n) (option_to_list (drawn_by m kind (offset_if repeated m.repetition n))) (fit_copies points n (λ i lt. h i (omega arith)))
       (fit_one (drawn_by m kind (offset_if repeated m.repetition n)) (h n (omega arith)) ((drawn_alike m kind (offset_if repeated m.repetition n) still).1 ∙ points))))
 
--- a copy that is drawn lies within the grid and has its points
+-- a copy that is drawn is within the grid and has its points
 pub copy_fit : (m : ModalState) (kind : Kind) (repeated : Bool) (i : ℕ) (d : Drawn) → drawn_by m kind (offset_if repeated m.repetition i) ≡ Some d
     → fault_of (drawn_by m kind (offset_if repeated m.repetition i)) ≡ None → lacks_if (drawn_by m kind still) ≡ false → IsFit d
 copy_fit m kind repeated i d is fits points =

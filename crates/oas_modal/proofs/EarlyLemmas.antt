@@ -9,7 +9,7 @@ use Rattle.std.specs.BTreeMap.{insert_entry}
 use Rattle.std.proofs.lemmas.List.{length-replicate}
 use Rattle.oas_record.specs.declared.references.CellRef.{CellRef}
 use Rattle.oas_layout.specs.declared.element.Element.{Element}
-use Rattle.oas_layout.specs.declared.element.Element.TheVariants.{Placement, Text, Rectangle, Polygon, Path, Circle}
+use Rattle.oas_layout.specs.declared.element.Element.TheVariants.{Placement, Text, Rectangle, Polygon}
 use Rattle.oas_layout.specs.declared.profile.Profile.{Profile}
 use Rattle.oas_layout.specs.Element.{element_cmp}
 use Rattle.oas_layout.specs.Bag.{items, with_more, put_more, IsTally}
@@ -17,44 +17,36 @@ use Rattle.oas_layout.specs.Plain.{is_plain}
 use Rattle.oas_layout.specs.Same.{IsNormal}
 use Rattle.oas_layout.specs.Weight.{lacks_points}
 use Rattle.oas_layout.specs.Grid.{fits_grid}
-use Rattle.oas_drawing.specs.declared.drawn.Drawn.{Drawn}
-use Rattle.oas_drawing.specs.declared.drawn.Drawn.TheVariants.{Named, PlacementBy, TextBy}
-use Rattle.oas_drawing.specs.Drawn.{drawn_cmp, drawn_fits, drawn_lacks_points}
-use Rattle.oas_drawing.specs.Laws.DrawnLaws.{derived_cmp, drawn_total}
+use Rattle.oas_names.specs.oas_drawing.declared.drawn.Drawn.{Drawn}
+use Rattle.oas_names.specs.oas_drawing.declared.drawn.Drawn.TheVariants.{Named, PlacementBy, TextBy}
+use Rattle.oas_names.specs.oas_drawing.Drawn.{drawn_cmp, drawn_fits, drawn_lacks_points}
+use Rattle.oas_names.specs.oas_drawing.Laws.DrawnLaws.{derived_cmp, drawn_total}
 use Rattle.oas_names.specs.Meaning.{is_unnamed}
 use Rattle.oas_modal.specs.Finish.{AllFit, IsFit}
 use Rattle.oas_modal.specs.Held.{Held, IsHeld, IsSplit, with_drawn, is_early, as_drawn}
 
 -- ---- the order
 
--- what is early stands before what isn't
+-- what is early comes before what isn't
 early_less : (e : Element) (q : Drawn) → is_early (Named e) ≡ true → is_early q ≡ false → drawn_cmp (Named e) q ≡ Less
 early_less e (Named (Placement cell' x' y' turns' flip')) h g = cc
 early_less e (Named (Text string' textlayer' texttype' x' y')) h g = cc
 early_less e (Named (Rectangle layer' datatype' width' height' x' y')) h g = cc
-early_less (Polygon layer datatype points) q h g = cc
-early_less (Path layer datatype half_width start end points) q h g = cc
-early_less (Circle layer datatype radius x y) q h g = cc
 early_less (Placement cell x y turns flip) (Named (Polygon layer' datatype' points)) h g = refl
-early_less (Placement cell x y turns flip) (Named (Path layer' datatype' half_width start end points)) h g = refl
-early_less (Placement cell x y turns flip) (Named (Circle layer' datatype' radius x' y')) h g = refl
-early_less (Placement cell x y turns flip) (PlacementBy number x' y' turns' flip') h g = refl
-early_less (Placement cell x y turns flip) (TextBy number textlayer' texttype' x' y') h g = refl
+early_less (Placement cell x y turns flip) (Named f) h g = refl
+early_less (Placement cell x y turns flip) q h g = refl
 early_less (Text string textlayer texttype x y) (Named (Polygon layer' datatype' points)) h g = refl
-early_less (Text string textlayer texttype x y) (Named (Path layer' datatype' half_width start end points)) h g = refl
-early_less (Text string textlayer texttype x y) (Named (Circle layer' datatype' radius x' y')) h g = refl
-early_less (Text string textlayer texttype x y) (PlacementBy number x' y' turns' flip') h g = refl
-early_less (Text string textlayer texttype x y) (TextBy number textlayer' texttype' x' y') h g = refl
+early_less (Text string textlayer texttype x y) (Named f) h g = refl
+early_less (Text string textlayer texttype x y) q h g = refl
 early_less (Rectangle layer datatype width height x y) (Named (Polygon layer' datatype' points)) h g = refl
-early_less (Rectangle layer datatype width height x y) (Named (Path layer' datatype' half_width start end points)) h g = refl
-early_less (Rectangle layer datatype width height x y) (Named (Circle layer' datatype' radius x' y')) h g = refl
-early_less (Rectangle layer datatype width height x y) (PlacementBy number x' y' turns' flip') h g = refl
-early_less (Rectangle layer datatype width height x y) (TextBy number textlayer' texttype' x' y') h g = refl
+early_less (Rectangle layer datatype width height x y) (Named f) h g = refl
+early_less (Rectangle layer datatype width height x y) q h g = refl
+early_less e q h g = cc
 
 later_greater : (d : Drawn) (e : Element) → is_early d ≡ false → is_early (Named e) ≡ true → drawn_cmp d (Named e) ≡ Greater
 later_greater d e g h = drawn_total.antisymm d (Named e) ∙ ap ordering_reverse (early_less e d h g)
 
--- each profile keeps it as it stands
+-- each profile keeps it unchanged
 pub early_plain : (e : Element) → is_early (Named e) ≡ true → is_plain e ≡ true
 early_plain (Polygon layer datatype points) h = cc
 early_plain e h = refl
@@ -63,7 +55,7 @@ pub early_normal : (profile : Profile) (e : Element) → is_early (Named e) ≡ 
 early_normal profile (Polygon layer datatype points) h = cc
 early_normal profile e h = refl
 
--- an element that is drawn has its points and lies within the grid
+-- an element that is drawn has its points and is within the grid
 pub fit_early : (d : Drawn) (e : Element) → d ≡ Named e → IsFit d → (lacks_points e ≡ false) × (fits_grid e ≡ true)
 fit_early d e is f = (ap drawn_lacks_points (sym is) ∙ f.points, ap drawn_fits (sym is) ∙ f.inside)
 

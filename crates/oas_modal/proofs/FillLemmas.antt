@@ -40,11 +40,6 @@ state unit limits profile cells spelled = record { unit = unit; limits = limits;
 
 -- ---- elements given to a cell
 
-pub length-with_more : (cs : List Cell) (i : ℕ) (e : Element) (n : ℕ) → length (cells_with_more cs i e n) ≡ length cs
-length-with_more [] i e n = refl
-length-with_more (c ∷ cs) zero e n = refl
-length-with_more (c ∷ cs) (suc i) e n = ap (λ (k : ℕ). suc k) (length-with_more cs i e n)
-
 -- the last cell is given more
 with_more-last : (cs : List Cell) (c : Cell) (e : Element) (n : ℕ) → cells_with_more (cs ++ c ∷ []) (length cs) e n ≡ cs ++ (c.0, with_more c.1 e n) ∷ []
 with_more-last [] c e n = refl
@@ -74,7 +69,7 @@ last-with_more (q ∷ qs) e n h =
     ap (λ (r : Ordering). match_ordering r ((e, n) ∷ q ∷ qs) ((q.0, q.1 + n) ∷ qs) (q ∷ with_more qs e n)) (element_total.antisymm e q.0 ∙ ap ordering_reverse h.0)
     ∙ ap (λ (xs : List (Element × ℕ)). q ∷ xs) (last-with_more qs e n h.1)
 
--- all that is held stands before each of the others
+-- all that is held comes before each of the others
 abbrev Below : List (Element × ℕ) → List (Element × ℕ) → Type 0
 Below held es = AllByRecursion (λ p. AllByRecursion (λ q. element_cmp q.0 p.0 ≡ Less) held) es
 
@@ -87,7 +82,7 @@ below_more : (held : List (Element × ℕ)) (p : Element × ℕ) (es : List (Ele
 below_more held p [] a b = tt
 below_more held p (x ∷ xs) a b = (below_last held p x.0 a.0 b.0, below_more held p xs a.1 b.1)
 
--- they are kept as they stand
+-- they are kept unchanged
 kept-ascending : (profile : Profile) (held es : List (Element × ℕ)) → AllByRecursion (λ p. IsNormal profile p.0) es → IsStrictlySortedBy element_cmp (keys_of es) → Below held es
     → kept profile held es ≡ held ++ es
 kept-ascending profile held [] norm s below = sym (append-nil held)
@@ -132,12 +127,12 @@ all-is unit limits profile cs (m ∷ ms) spelled =
 
 -- ---- what is refused
 
--- more of an element that has its points and lies within the grid is refused for its weight alone
+-- more of an element that has its points and is within the grid is refused only for its weight
 pub refused_many : (d : Contents) (e : Element) (n : ℕ) (why : Why) → refusal d e n ≡ Some why → lacks_points e ≡ false → fits_grid e ≡ true → element_count (expanded d.cells) + n
     ≤ d.limits.elements → (why ≡ TooHeavy) × (d.limits.weight < d.spelled + n * weight_of e)
 refused_many d e n why h points inside few = grind (arith, nat_tests)
 
--- a cell of another name likewise
+-- a cell with another name likewise
 pub refused_plain : (d : Contents) (name : List ℕ) (es : List (Element × ℕ)) (why : Why) → plain_refusal d name es ≡ Some why → has_cell d.cells name ≡ false → element_count (expanded d.cells)
     + length (items es) ≤ d.limits.elements → (why ≡ TooHeavy) × (d.limits.weight < d.spelled + weight_with name es)
 refused_plain d name es why h apart few = grind (arith, nat_tests)
@@ -149,7 +144,7 @@ taken_many d e n h = grind (arith, nat_tests)
 pub taken_plain : (d : Contents) (name : List ℕ) (es : List (Element × ℕ)) → plain_refusal d name es ≡ None → d.spelled + weight_with name es ≤ d.limits.weight
 taken_plain d name es h = grind (arith, nat_tests)
 
--- ---- what a filled draft means
+-- ---- the meaning of a filled draft
 
 -- more elements count together
 kept-count : (profile : Profile) (q : Element) (es ps : List (Element × ℕ)) → count_of profile q (items (kept profile es ps)) ≡ count_of profile q (items es) + count_of profile q (items ps)
@@ -203,7 +198,7 @@ elements_of-lookup name (c ∷ cs) =
     elim (pointwise ◌==◌ name c.0) as (λ b. cond b (Some (items c.1)) (elements_of name (expanded cs)) ≡ option_map items (cond b (Some c.1) (lookup (pointwise ◌==◌ name) cs)))
     [ true ↦ refl | false ↦ elements_of-lookup name cs ]
 
--- names that are alike are one
+-- names that compare as equal are equal
 alike : (x y : List ℕ) → pointwise ◌==◌ x y ≡ true → x ≡ y
 alike x y h = (slice_eq-Decides unsigned_Decides x y (pointwise ◌==◌ x y) refl).0 h
 
@@ -241,7 +236,7 @@ sealed-same unit limits profile ms d l is sealed =
       counts = λ name q. ap (λ o. count_of profile q (unwrap_or o [])) (here name) ∙ kept-same profile name q ms;
     }
 
--- what it was given, and under what limits
+-- what it was given, and under which limits
 pub all_given : (unit : Ratio) (limits : Limits) (profile : Profile) (ms : List Cell) (d : Contents) → d ≡ with_all (nothing unit limits profile) ms → (d.limits ≡ limits) × (d.profile ≡ profile)
     × (d.spelled ≡ cells_weight (expanded ms))
 all_given unit limits profile ms d is =

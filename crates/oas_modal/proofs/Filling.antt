@@ -16,17 +16,18 @@ use Rattle.oas_layout.specs.Same.{normal}
 use Rattle.oas_layout.specs.Weight.{weight_of, lacks_points}
 use Rattle.oas_layout.specs.Meaning.{element_count}
 use Rattle.oas_layout.specs.Contents.{Cell, Contents, names, expanded, cells_with_more, added, refusal}
-use Rattle.oas_drawing.specs.declared.drawn.Drawn.{Drawn}
-use Rattle.oas_drawing.specs.declared.drawn.Drawn.TheVariants.{Named, PlacementBy, TextBy}
+use Rattle.oas_names.specs.oas_drawing.declared.drawn.Drawn.{Drawn}
+use Rattle.oas_names.specs.oas_drawing.declared.drawn.Drawn.TheVariants.{Named, PlacementBy, TextBy}
 use Rattle.oas_names.specs.Names.{name_of}
-use Rattle.oas_drawing.specs.Drawn.{drawn_fits, drawn_lacks_points}
+use Rattle.oas_names.specs.oas_drawing.Drawn.{drawn_fits, drawn_lacks_points}
 use Rattle.oas_names.specs.Meaning.{element_by}
-use Rattle.oas_modal.specs.Finish.{IsFit, AllFit, with_counted, counted_meant, given}
-use Rattle.oas_modal.proofs.FillLemmas.{length-with_more, refused_many}
+use Rattle.oas_modal.specs.Finish.{IsFit, AllFit, with_counted, counted_by_name, given}
+use Rattle.oas_layout.proofs.CellLemmas.{length-with_more}
+use Rattle.oas_modal.proofs.FillLemmas.{refused_many}
 
 -- ---- one thing
 
--- the element that is meant has its points
+-- the element has its points
 meant_points : (names strings : List (ℕ × List ℕ)) (d : Drawn) (e : Element) → element_by names strings d ≡ Some e → drawn_lacks_points d ≡ false → lacks_points e ≡ false
 meant_points names strings (Named x) e h p = let same : x ≡ e = cc in subst (λ y. lacks_points y ≡ false) same p
 meant_points names strings (PlacementBy number x y turns flip) e h p = by (name_of names number) h where
@@ -38,7 +39,7 @@ meant_points names strings (TextBy number textlayer texttype x y) e h p = by (na
   by None h = cc
   by (Some name) h = let same : Text name textlayer texttype x y ≡ e = cc in subst (λ y. lacks_points y ≡ false) same refl
 
--- and lies within the grid
+-- and is within the grid
 meant_inside : (names strings : List (ℕ × List ℕ)) (d : Drawn) (e : Element) → element_by names strings d ≡ Some e → drawn_fits d ≡ true → fits_grid e ≡ true
 meant_inside names strings (Named x) e h p = let same : x ≡ e = cc in subst (λ y. fits_grid y ≡ true) same p
 meant_inside names strings (PlacementBy number x y turns flip) e h p = by (name_of names number) h where
@@ -50,7 +51,7 @@ meant_inside names strings (TextBy number textlayer texttype x y) e h p = by (na
   by None h = cc
   by (Some name) h = let same : Text name textlayer texttype x y ≡ e = cc in subst (λ y. fits_grid y ≡ true) same p
 
--- what is not taken is refused for want of memory, or for its weight
+-- what is not taken is refused out of memory, or for its weight
 pub one_refused : (names strings : List (ℕ × List ℕ)) (d : Contents) (x : Drawn) (e : Element) (n : ℕ) (why : Why) → element_by names strings x ≡ Some e → IsFit x
     → element_count (expanded d.cells) + n ≤ d.limits.elements → ((why ≡ Memory) × (refusal d e n ≡ None)) ⊎ (refusal d e n ≡ Some why) → (why ≡ Memory)
     ⊎ ((why ≡ TooHeavy) × (d.limits.weight < d.spelled + total weight_of (with_counted (element_by names strings x) n [])))
@@ -85,10 +86,10 @@ module _ (o : Option Element) (n : ℕ) (d : Contents) (i : ℕ) where
     | Some e ↦ omega (arith, element_count-with_more (normal d.profile e) n d.cells i h)
   ]
 
--- where filling a cell stands, with these still to come
+-- where filling a cell is, with these still to come
 pub record Filling (names strings : List (ℕ × List ℕ)) (initial d : Contents) (i : ℕ) (all rest : List (Drawn × ℕ)) : Type 0 where
-  pub fills : given d i (counted_meant names strings rest) ≡ given initial i (counted_meant names strings all)
-  pub weighs : d.spelled + total weight_of (counted_meant names strings rest) ≡ initial.spelled + total weight_of (counted_meant names strings all)
+  pub fills : given d i (counted_by_name names strings rest) ≡ given initial i (counted_by_name names strings all)
+  pub weighs : d.spelled + total weight_of (counted_by_name names strings rest) ≡ initial.spelled + total weight_of (counted_by_name names strings all)
   pub limits : d.limits ≡ initial.limits
   pub inside : i < length d.cells
   pub positive : AllByRecursion (λ p. 0 < p.1) rest
@@ -106,7 +107,7 @@ pub filling_more : (names strings : List (ℕ × List ℕ)) (initial d new : Con
     ≡ given d i (with_counted (element_by names strings p.0) p.1 []) → new.spelled ≤ d.limits.weight → Filling names strings initial new i all rest
 filling_more names strings initial d new i all rest p f is light =
     let o : Option Element = element_by names strings p.0 in
-    let es : List (Element × ℕ) = counted_meant names strings rest in
+    let es : List (Element × ℕ) = counted_by_name names strings rest in
     let spelled : new.spelled ≡ d.spelled + total weight_of (with_counted o p.1 []) = ap (λ (v : Contents). v.spelled) is ∙ spelled-counted o p.1 d i in
     let limits : new.limits ≡ d.limits = ap (λ (v : Contents). v.limits) is ∙ limits-counted o p.1 d i in
     let many : length new.cells ≡ length d.cells = ap (λ (v : Contents). length v.cells) is ∙ length-counted o p.1 d i in
@@ -128,11 +129,11 @@ filling_more names strings initial d new i all rest p f is light =
 -- what is refused on the way
 pub filling_refused : (names strings : List (ℕ × List ℕ)) (initial d : Contents) (i : ℕ) (all rest : List (Drawn × ℕ)) (p : Drawn × ℕ) (why : Why)
     → Filling names strings initial d i all (p ∷ rest) → (why ≡ Memory) ⊎ ((why ≡ TooHeavy) × (d.limits.weight < d.spelled + total weight_of (with_counted (element_by names strings p.0) p.1 [])))
-    → (why ≡ Memory) ⊎ ((why ≡ TooHeavy) × (initial.limits.weight < initial.spelled + total weight_of (counted_meant names strings all)))
+    → (why ≡ Memory) ⊎ ((why ≡ TooHeavy) × (initial.limits.weight < initial.spelled + total weight_of (counted_by_name names strings all)))
 filling_refused names strings initial d i all rest p why f (inl m) = inl m
 filling_refused names strings initial d i all rest p why f (inr h) =
     let heaviest : d.limits.weight ≡ initial.limits.weight = ap (λ l. l.weight) f.limits in
-    inr (h.0, omega (arith, h.1, heaviest, f.weighs, total-counted (element_by names strings p.0) p.1 d i (counted_meant names strings rest)))
+    inr (h.0, omega (arith, h.1, heaviest, f.weighs, total-counted (element_by names strings p.0) p.1 d i (counted_by_name names strings rest)))
 
 -- there is room for one more
 pub filling_room : (names strings : List (ℕ × List ℕ)) (initial d : Contents) (i : ℕ) (all rest : List (Drawn × ℕ)) (p : Drawn × ℕ) → Filling names strings initial d i all (p ∷ rest)

@@ -17,19 +17,19 @@ use Rattle.oas_layout.specs.Contents.{Contents, names, expanded, with_cell, adde
 use Rattle.oas_layout.specs.declared.profile.Profile.{Profile}
 use Rattle.oas_layout.specs.Plain.{plain_refusal, with_plain, weight_with}
 use Rattle.oas_layout.specs.Same.{IsNormal}
-use Rattle.oas_drawing.specs.declared.drawn.Drawn.{Drawn}
+use Rattle.oas_names.specs.oas_drawing.declared.drawn.Drawn.{Drawn}
 use Rattle.oas_names.specs.Names.{same_string}
 use Rattle.oas_names.specs.References.{cell_by}
-use Rattle.oas_drawing.specs.declared.drawn.Drawn.TheVariants.{Named}
+use Rattle.oas_names.specs.oas_drawing.declared.drawn.Drawn.TheVariants.{Named}
 use Rattle.oas_modal.specs.Held.{Held, IsSplit, is_early, as_drawn}
 use Rattle.oas_names.specs.Meaning.{has_twice}
-use Rattle.oas_modal.specs.Finish.{AllFit, counted_meant, with_counted_cell, held_meant, names_held, with_name_held, IsFresh, drawn_cells, drawn_total, given, with_all}
+use Rattle.oas_modal.specs.Finish.{AllFit, counted_by_name, with_counted_cell, held_by_name, names_held, with_name_held, IsFresh, drawn_cells, drawn_total, given, with_all}
 use Rattle.oas_modal.proofs.MeaningLemmas.{counted_length}
 use Rattle.oas_modal.proofs.EarlyLemmas.{early_normal, both_count}
 use Rattle.oas_modal.proofs.FillLemmas.{given-plain, refused_plain, taken_plain}
 use Rattle.oas_modal.proofs.Filling.{given-limits, given-spelled, given-count, given-names, names-last}
 
--- ---- names that stand once
+-- ---- names that occur once
 
 either_false : (a b : Bool) → (a || b) ≡ false → (a ≡ false) × (b ≡ false)
 either_false true b h = cc
@@ -91,8 +91,8 @@ none_put o es d e = ap (λ (r : Option (List ℕ)). grown r es d) (sym e)
 
 -- ---- a cell that is held in two parts
 
--- what is meant of both
-meant_split : (table strings : List (ℕ × List ℕ)) (es : List (Element × ℕ)) (ds : List (Drawn × ℕ)) → counted_meant table strings (as_drawn es ++ ds) ≡ es ++ counted_meant table strings ds
+-- the meaning of both
+meant_split : (table strings : List (ℕ × List ℕ)) (es : List (Element × ℕ)) (ds : List (Drawn × ℕ)) → counted_by_name table strings (as_drawn es ++ ds) ≡ es ++ counted_by_name table strings ds
 meant_split table strings [] ds = refl
 meant_split table strings (p ∷ ps) ds = ap (λ (xs : List (Element × ℕ)). p ∷ xs) (meant_split table strings ps ds)
 
@@ -117,13 +117,13 @@ pub record Begun (mid : Contents) (place : ℕ) (ps : List (Drawn × ℕ)) : Typ
 module _ (table strings : List (ℕ × List ℕ)) (d : Contents) (name : List ℕ) (o : Option (List ℕ)) (whole : List (Drawn × ℕ)) (es : List (Element × ℕ)) (ds : List (Drawn × ℕ))
     (named : o ≡ Some name) (is : as_drawn es ++ ds ≡ whole) (split : IsSplit es ds) where
   abbrev rest : List (Element × ℕ)
-  rest = counted_meant table strings ds
+  rest = counted_by_name table strings ds
 
   abbrev all : List (Element × ℕ)
-  all = counted_meant table strings whole
+  all = counted_by_name table strings whole
 
   meant : all ≡ es ++ rest
-  meant = ap (counted_meant table strings) (sym is) ∙ meant_split table strings es ds
+  meant = ap (counted_by_name table strings) (sym is) ∙ meant_split table strings es ds
 
   count : length (items whole) ≡ length (items es) + length (items ds)
   count = ap (λ (ps : List (Drawn × ℕ)). length (items ps)) (sym is) ∙ both_count es ds
@@ -135,7 +135,7 @@ module _ (table strings : List (ℕ × List ℕ)) (d : Contents) (name : List �
       let parts : total weight_of all ≡ total weight_of (es ++ rest) = ap (total weight_of) meant in
       omega (arith, there, parts, sum_by-items weight_of all, sum_by-items weight_of es, total-append es rest)
 
-  -- what it is once all was put
+  -- the result once all was put
   pub put_is : (mid new : Contents) (place : ℕ) → place ≡ length d.cells → mid ≡ with_plain d name es → new ≡ given mid place rest → new ≡ grown o all d
   put_is mid new place at first then =
       then
@@ -158,7 +158,7 @@ module _ (table strings : List (ℕ × List ℕ)) (d : Contents) (name : List �
         light = omega (arith, taken_plain d name es taken, spelled, heaviest);
       }
 
-  -- why putting the first part is refused
+  -- why putting the first part fails
   pub plain_refused : (why : Why) → IsFresh d o → element_count (expanded d.cells) + length (items whole) ≤ d.limits.elements → ((why ≡ Memory) × (plain_refusal d name es ≡ None))
       ⊎ (plain_refusal d name es ≡ Some why) → (why ≡ Memory) ⊎ ((why ≡ TooHeavy) × (d.limits.weight < d.spelled + cells_weight (expanded (with_counted_cell o all []))))
   plain_refused why fresh few (inl m) = inl m.0
@@ -166,7 +166,7 @@ module _ (table strings : List (ℕ × List ℕ)) (d : Contents) (name : List �
       let heavy = refused_plain d name es why h (subst (IsFresh d) named fresh) (omega (arith, few, count)) in
       inr (heavy.0, omega (arith, heavy.1, weighs))
 
-  -- and why the rest is
+  -- and why the rest does
   pub rest_refused : (mid : Contents) (why : Why) → mid ≡ with_plain d name es → (why ≡ Memory) ⊎ ((why ≡ TooHeavy) × (mid.limits.weight < mid.spelled + total weight_of rest)) → (why ≡ Memory)
       ⊎ ((why ≡ TooHeavy) × (d.limits.weight < d.spelled + cells_weight (expanded (with_counted_cell o all []))))
   rest_refused mid why first (inl m) = inl m
@@ -177,10 +177,10 @@ module _ (table strings : List (ℕ × List ℕ)) (d : Contents) (name : List �
 
 -- ---- all cells
 
--- where filling stands, with these still to come
+-- where filling is, with these still to come
 pub record FillingAll (table strings : List (ℕ × List ℕ)) (initial d : Contents) (all rest : List Held) : Type 0 where
-  pub fills : with_all d (held_meant table strings rest) ≡ with_all initial (held_meant table strings all)
-  pub weighs : d.spelled + cells_weight (expanded (held_meant table strings rest)) ≡ initial.spelled + cells_weight (expanded (held_meant table strings all))
+  pub fills : with_all d (held_by_name table strings rest) ≡ with_all initial (held_by_name table strings all)
+  pub weighs : d.spelled + cells_weight (expanded (held_by_name table strings rest)) ≡ initial.spelled + cells_weight (expanded (held_by_name table strings all))
   pub limits : d.limits ≡ initial.limits
   pub fit : AllByRecursion (λ h. AllFit h.1) rest
   pub few : element_count (expanded d.cells) + drawn_total (drawn_cells rest) ≤ d.limits.elements
@@ -203,11 +203,11 @@ all_begins table strings d all empty apart fit few light =
 
 -- after one more cell
 pub all_more : (table strings : List (ℕ × List ℕ)) (initial d new : Contents) (all rest : List Held) (h : Held) → FillingAll table strings initial d all (h ∷ rest) → new
-    ≡ grown (cell_by table h.0) (counted_meant table strings h.1) d → new.spelled ≤ d.limits.weight → FillingAll table strings initial new all rest
+    ≡ grown (cell_by table h.0) (counted_by_name table strings h.1) d → new.spelled ≤ d.limits.weight → FillingAll table strings initial new all rest
 all_more table strings initial d new all rest h f is light =
     let o : Option (List ℕ) = cell_by table h.0 in
-    let es : List (Element × ℕ) = counted_meant table strings h.1 in
-    let ms : List (List ℕ × List (Element × ℕ)) = held_meant table strings rest in
+    let es : List (Element × ℕ) = counted_by_name table strings h.1 in
+    let ms : List (List ℕ × List (Element × ℕ)) = held_by_name table strings rest in
     let spelled : new.spelled ≡ d.spelled + cells_weight (expanded (with_counted_cell o es [])) = ap (λ (v : Contents). v.spelled) is ∙ grown-spelled o es d in
     let limits : new.limits ≡ d.limits = ap (λ (v : Contents). v.limits) is ∙ grown-limits o es d in
     let most : new.limits.elements ≡ d.limits.elements = ap (λ l. l.elements) limits in
@@ -226,12 +226,12 @@ all_more table strings initial d new all rest h f is light =
 
 -- what is refused on the way
 pub all_refused : (table strings : List (ℕ × List ℕ)) (initial d : Contents) (all rest : List Held) (h : Held) (why : Why) → FillingAll table strings initial d all (h ∷ rest) → (why ≡ Memory)
-    ⊎ ((why ≡ TooHeavy) × (d.limits.weight < d.spelled + cells_weight (expanded (with_counted_cell (cell_by table h.0) (counted_meant table strings h.1) [])))) → (why ≡ Memory)
-    ⊎ ((why ≡ TooHeavy) × (initial.limits.weight < initial.spelled + cells_weight (expanded (held_meant table strings all))))
+    ⊎ ((why ≡ TooHeavy) × (d.limits.weight < d.spelled + cells_weight (expanded (with_counted_cell (cell_by table h.0) (counted_by_name table strings h.1) [])))) → (why ≡ Memory)
+    ⊎ ((why ≡ TooHeavy) × (initial.limits.weight < initial.spelled + cells_weight (expanded (held_by_name table strings all))))
 all_refused table strings initial d all rest h why f (inl m) = inl m
 all_refused table strings initial d all rest h why f (inr r) =
     let heaviest : d.limits.weight ≡ initial.limits.weight = ap (λ l. l.weight) f.limits in
-    inr (r.0, omega (arith, r.1, heaviest, f.weighs, grown-weight (cell_by table h.0) (counted_meant table strings h.1) d (held_meant table strings rest)))
+    inr (r.0, omega (arith, r.1, heaviest, f.weighs, grown-weight (cell_by table h.0) (counted_by_name table strings h.1) d (held_by_name table strings rest)))
 
 -- the next cell is one more
 pub all_fresh : (table strings : List (ℕ × List ℕ)) (initial d : Contents) (all rest : List Held) (h : Held) → FillingAll table strings initial d all (h ∷ rest) → IsFresh d (cell_by table h.0)
@@ -245,12 +245,12 @@ pub all_room : (table strings : List (ℕ × List ℕ)) (initial d : Contents) (
     + length (items h.1) ≤ d.limits.elements
 all_room table strings initial d all rest h f = omega (arith, f.few)
 
--- what holds of an error
+-- what holds for an error
 pub err_map : {T E : Type 0} {P Q : E → Type 0} → ((e : E) → P e → Q e) → (r : Result T E) → IfErr r P → IfErr r Q
 err_map f (Ok x) h = tt
 err_map f (Err e) h = f e h
 
--- and of a success
+-- and for a success
 pub ok_map : {T E P Q : Type 0} → (P → Q) → (r : Result T E) → OnOk r P → OnOk r Q
 ok_map f (Ok x) h = f h
 ok_map f (Err e) h = tt

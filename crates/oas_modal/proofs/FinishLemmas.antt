@@ -1,4 +1,4 @@
--- what the records mean that a reader has taken
+-- the meaning of the records that a reader has taken
 use Rattle.std.proofs.Common.{◌≡◌, ℕ, List, [], ◌∷◌, reverse, refl, sym, ap, ◌∙◌, subst, arith, ◌⊎◌, inl, inr, ◌||◌}
 use Rattle.std.specs.Prelude.{Option, None, Some, is_none, nat_lt}
 use Rattle.std.specs.Option.{option_map}
@@ -15,19 +15,19 @@ use Rattle.oas_layout.specs.declared.element.Element.TheVariants as element
 use Rattle.oas_layout.specs.declared.limits.Limits.{Limits}
 use Rattle.oas_layout.specs.declared.profile.Profile.{Profile}
 use Rattle.oas_layout.specs.Meaning.{Meaning, SameLayout, cells_weight}
-use Rattle.oas_drawing.specs.declared.drawn.Drawn.{Drawn}
-use Rattle.oas_drawing.specs.declared.drawn.Drawn.TheVariants.{Named, PlacementBy, TextBy}
+use Rattle.oas_names.specs.oas_drawing.declared.drawn.Drawn.{Drawn}
+use Rattle.oas_names.specs.oas_drawing.declared.drawn.Drawn.TheVariants.{Named, PlacementBy, TextBy}
 use Rattle.oas_modal.specs.declared.parts.Parts.{Parts}
-use Rattle.oas_drawing.specs.Drawing.{elements_at}
-use Rattle.oas_drawing.specs.Reasons.{first_of}
+use Rattle.oas_names.specs.oas_drawing.Drawing.{elements_at}
+use Rattle.oas_names.specs.oas_drawing.Reasons.{first_of}
 use Rattle.oas_names.specs.Names.{name_of, named, cell_names, text_strings}
 use Rattle.oas_names.specs.References.{cell_by}
-use Rattle.oas_names.specs.Meaning.{DrawnCell, element_by, with_element, elements_meant, with_named, cells_meant, meaning_by, lacks_name, has_twice, end_reason, cells_drawn}
+use Rattle.oas_names.specs.Meaning.{DrawnCell, element_by, with_element, elements_by_name, with_named, cells_by_name, meaning_by, lacks_name, has_twice, end_reason, cells_drawn}
 use Rattle.oas_modal.specs.Held.{Held}
 use Rattle.oas_modal.specs.Finish.{drawn_cells, IsWithinLimits}
 use Rattle.oas_modal.specs.Stores.{held_store}
 use Rattle.oas_modal.specs.Parts.{cells, Sound}
-use Rattle.oas_modal.specs.Stands.{ReaderState, StandsFor, records_mean, end_refusal}
+use Rattle.oas_modal.specs.Stands.{ReaderState, Represents, records_mean, end_refusal}
 use Rattle.oas_modal.specs.Alike.{AlikeCells}
 use Rattle.oas_modal.proofs.Alike.{alike_meanings}
 use Rattle.oas_modal.proofs.StoreLemmas.{held_total, held_alike}
@@ -39,7 +39,7 @@ module _ (n n' s s' : List (ℕ × List ℕ)) (cs_agree : (k : ℕ) → name_of 
   element_same (PlacementBy number x y turns flip) = ap (option_map (λ (c : List ℕ). element.Placement c x y turns flip)) (cs_agree number)
   element_same (TextBy number textlayer texttype x y) = ap (option_map (λ (t : List ℕ). element.Text t textlayer texttype x y)) (ts_agree number)
 
-  elements_same : (ds : List Drawn) → elements_meant n s ds ≡ elements_meant n' s' ds
+  elements_same : (ds : List Drawn) → elements_by_name n s ds ≡ elements_by_name n' s' ds
   elements_same [] = refl
   elements_same (d ∷ ds) = (λ i. with_element (element_same d i) (elements_same ds i))
 
@@ -47,7 +47,7 @@ module _ (n n' s s' : List (ℕ × List ℕ)) (cs_agree : (k : ℕ) → name_of 
   cell_same (cell.Number number) = cs_agree number
   cell_same (cell.Name name) = refl
 
-  cells_same : (cs : List DrawnCell) → cells_meant n s cs ≡ cells_meant n' s' cs
+  cells_same : (cs : List DrawnCell) → cells_by_name n s cs ≡ cells_by_name n' s' cs
   cells_same [] = refl
   cells_same (c ∷ cs) = (λ i. with_named (cell_same c.0 i) (elements_same c.1 i) (cells_same cs i))
 
@@ -67,7 +67,7 @@ same_twice profile a b c f g = record { unit = f.unit ∙ g.unit; cells = λ nam
 pub within_limits : (p : Parts Held) → Sound held_store p → IsWithinLimits p.limits (cells p)
 within_limits p s = record { fit = s.sound; few = omega (arith, s.total, s.few, held_total (cells p)) }
 
-module _ (failed : Option OneRefusal) (p : Parts Held) (t : ReaderState Held) (rs : List Record) (view : ◌≡◌ {A = ReaderState Held} (seen_as failed p) t) (h : StandsFor held_store t rs) where
+module _ (failed : Option OneRefusal) (p : Parts Held) (t : ReaderState Held) (rs : List Record) (view : ◌≡◌ {A = ReaderState Held} (seen_as failed p) t) (h : Represents held_store t rs) where
   kept : KeptFor held_store p (reverse rs)
   kept = kept_of held_store failed p t rs view h
 

@@ -11,9 +11,9 @@ use Rattle.std.specs.BTreeMap.{is_at, insert_entry}
 use Rattle.oas_layout.specs.declared.element.Element.{Element}
 use Rattle.oas_layout.specs.Bag.{items}
 use Rattle.oas_layout.specs.Laws.BagLaws.{sum_by-items, total-put_more, insert_entry-count, times}
-use Rattle.oas_drawing.specs.declared.drawn.Drawn.{Drawn}
-use Rattle.oas_drawing.specs.Drawn.{drawn_cmp}
-use Rattle.oas_drawing.specs.Laws.DrawnLaws.{derived_cmp, stated_cmp, drawn_total, exact_drawn}
+use Rattle.oas_names.specs.oas_drawing.declared.drawn.Drawn.{Drawn}
+use Rattle.oas_names.specs.oas_drawing.Drawn.{drawn_cmp}
+use Rattle.oas_names.specs.oas_drawing.Laws.DrawnLaws.{derived_cmp, stated_cmp, drawn_total, exact_drawn}
 use Rattle.oas_modal.specs.Held.{IsHeld, IsSplit, is_early, times_drawn, with_drawn, same_drawn, drawn_count, AddingDrawn}
 
 -- the count that a look-up finds

@@ -8,25 +8,25 @@ use Rattle.oas_num.specs.declared.refusals.Why.TheVariants.{OutOfPlace, Memory, 
 use Rattle.oas_shape.specs.Steps.{still}
 use Rattle.oas_record.specs.declared.records.Record.{Record}
 use Rattle.oas_record.specs.Records.{id_of}
-use Rattle.oas_drawing.specs.declared.drawn.Drawn.{Drawn}
-use Rattle.oas_drawing.specs.declared.kinds.Kind.{Kind}
+use Rattle.oas_names.specs.oas_drawing.declared.drawn.Drawn.{Drawn}
+use Rattle.oas_names.specs.oas_drawing.declared.kinds.Kind.{Kind}
 use Rattle.oas_modal.specs.declared.parts.Parts.{Parts}
-use Rattle.oas_drawing.specs.Positions.{IsNear}
-use Rattle.oas_drawing.specs.Modal.{ModalState, stepped}
+use Rattle.oas_names.specs.oas_drawing.Positions.{IsNear}
+use Rattle.oas_names.specs.oas_drawing.Modal.{ModalState, stepped}
 use Rattle.oas_names.specs.Names.{cell_names, text_strings, with_name, table_reason, same_string}
-use Rattle.oas_drawing.specs.Drawn.{weight_so_far}
-use Rattle.oas_drawing.specs.Drawing.{kind_of, repeats, drawn_by, place_of, offset_if, number_if}
-use Rattle.oas_drawing.specs.Reasons.{first_of, weight_if, fault_of, kind_reason, all_fit, reason_if, draw_reason}
+use Rattle.oas_names.specs.oas_drawing.Drawn.{weight_so_far}
+use Rattle.oas_names.specs.oas_drawing.Drawing.{kind_of, repeats, drawn_by, place_of, offset_if, number_if}
+use Rattle.oas_names.specs.oas_drawing.Reasons.{first_of, weight_if, fault_of, kind_reason, all_fit, reason_if, draw_reason}
 use Rattle.oas_names.specs.Meaning.{DrawnCell}
 use Rattle.oas_modal.specs.Stores.{Store, Draws, total_count, HoldCells}
-use Rattle.oas_modal.specs.Standing.{drawn_of, weight_with, open_after, MayWant, drawn_after}
+use Rattle.oas_modal.specs.Standing.{drawn_of, weight_with, open_after, MayRunOut, drawn_after}
 use Rattle.oas_modal.specs.Parts.{standing, cells, reason_of, Sound, Took}
 use Rattle.oas_modal.specs.Copying.{first_copies}
-use Rattle.oas_drawing.proofs.Copies.{refused_before, refused_at, allowed_all}
+use Rattle.oas_names.proofs.oas_drawing_proofs.Copies.{refused_before, refused_at, allowed_all}
 use Rattle.oas_modal.proofs.CopyLemmas.{drawn_of-kind}
 use Rattle.oas_modal.proofs.StoreLemmas.{total_append, hold_drawn}
 use Rattle.oas_modal.proofs.TakeLemmas.{standing_of, all_append}
-use Rattle.oas_modal.proofs.DrawLemmas.{AllNear, copy_number, copy_weight, IsElement, IsPassed, is_element, is_passed, near_after}
+use Rattle.oas_modal.proofs.DrawLemmas.{AllNear, copy_number, copy_weight, IsElement, IsSkipped, is_element, is_passed, near_after}
 
 -- ---- what is held
 
@@ -48,8 +48,8 @@ pub record InCell {S : Type 0} (t : Store S) (p : Parts S) (r : Record) (kind : 
   pub repeats_is : repeated ≡ repeats r
   pub sound : Sound t p
 
--- what is left once its copies are looked at is the grid
-grid_left : (fit : Bool) → MayWant (first_of ((not fit, CoordinateRange) ∷ []))
+-- what is left once its copies are checked is the grid
+grid_left : (fit : Bool) → MayRunOut (first_of ((not fit, CoordinateRange) ∷ []))
 grid_left true = inl refl
 grid_left false = inr refl
 
@@ -67,7 +67,7 @@ module _ {S : Type 0} (t : Store S) (p : Parts S) (r : Record) (kind : Kind) (he
   pub refused_number : (why : Why) → kind_reason p.limits p.count p.weight m kind repeated ≡ Some why → reason_of p r ≡ Some why
   refused_number why h = judged_in ∙ refused_before p.limits p.count p.weight m r kind why c.kind_is (by_repeats (Some why) h)
 
-  -- refused by the reason for its kind, for its number or for one of its copies
+  -- refused for its kind, for its number or for one of its copies
   pub refused_kind : (why : Why) → reason_if p.limits p.count p.weight m (Some kind) repeated ≡ Some why → reason_of p r ≡ Some why
   refused_kind why h =
       let by_kind : draw_reason p.limits p.count p.weight m r ≡ reason_if p.limits p.count p.weight m (Some kind) (repeats r) =
@@ -76,18 +76,18 @@ module _ {S : Type 0} (t : Store S) (p : Parts S) (r : Record) (kind : Kind) (he
       ap (λ (b : Bool). reason_if p.limits p.count p.weight m (Some kind) b) (sym c.repeats_is) in
       judged_in ∙ (by_kind ∙ (by_once ∙ h))
 
-  may_want : kind_reason p.limits p.count p.weight m kind repeated ≡ None → MayWant (reason_of p r)
+  may_want : kind_reason p.limits p.count p.weight m kind repeated ≡ None → MayRunOut (reason_of p r)
   may_want none =
       let left : Option Why = first_of ((not (all_fit m kind (repeats r)), CoordinateRange) ∷ []) in
       let drawn : draw_reason p.limits p.count p.weight m r ≡ left =
       ap (λ (k : Option Kind). reason_if p.limits p.count p.weight m k (repeats r)) c.kind_is ∙ ap (λ (o : Option Why). option_or o left) (by_repeats None none) in
-      subst MayWant (sym (judged_in ∙ drawn)) (grid_left (all_fit m kind (repeats r)))
+      subst MayRunOut (sym (judged_in ∙ drawn)) (grid_left (all_fit m kind (repeats r)))
 
   abbrev Faulty : Bool → ℕ → Why → Type 0
   Faulty b n why = (i : ℕ) × (i < n) × (fault_of (drawn_by m kind (offset_if b m.repetition i)) ≡ Some why)
 
   pub refused_copy : (why : Why) (n : ℕ) → kind_reason p.limits p.count p.weight m kind repeated ≡ None → n ≡ number_if repeated m.repetition → (why ≡ Memory) ⊎ Faulty repeated n why
-      → ((why ≡ Memory) × MayWant (reason_of p r)) ⊎ (reason_of p r ≡ Some why)
+      → ((why ≡ Memory) × MayRunOut (reason_of p r)) ⊎ (reason_of p r ≡ Some why)
   refused_copy why n none number (inl h) = inl (h, may_want none)
   refused_copy why n none number (inr h) =
       let g : Faulty (repeats r) (number_if (repeats r) m.repetition) why =
@@ -112,14 +112,14 @@ module _ {S : Type 0} (t : Store S) (p : Parts S) (r : Record) (kind : Kind) (he
   drawn_is n number =
       ap (first_copies m kind repeated) number ∙ ap (λ (b : Bool). first_copies m kind b (number_if b m.repetition)) c.repeats_is ∙ sym (drawn_of-kind m r kind c.kind_is)
 
-  -- and may stand for
+  -- and may represent
   holds_drawn : (held' : S) → Draws t held (drawn_of m r) held' → (ds : List DrawnCell) → HoldCells t (cells p) ds → HoldCells t (p.done.items ++ held' ∷ []) (drawn_after ds m r)
   holds_drawn held' drawn ds h =
       let open_one : HoldCells t (p.done.items ++ held ∷ []) ds = subst (λ (o : Option S). HoldCells t (p.done.items ++ option_to_list o) ds) c.held_is h in
       subst (λ (es : List DrawnCell). HoldCells t (p.done.items ++ held' ∷ []) es) (sym ((is_element r kind c.kind_is).draws ds m))
       (hold_drawn t held held' (drawn_of m r) drawn p.done.items ds open_one)
 
-  -- so many copies as are counted
+  -- as many copies as are counted
   weighs_as : (n w : ℕ) → n ≡ number_if repeated m.repetition → w ≡ number_if repeated m.repetition * weight_if (drawn_by m kind still) → w ≡ n * weight_if (drawn_by m kind still)
   weighs_as n w number weighs = weighs ∙ ap (λ (k : ℕ). k * weight_if (drawn_by m kind still)) (sym number)
 
@@ -152,7 +152,7 @@ module _ {S : Type 0} (t : Store S) (p : Parts S) (r : Record) (kind : Kind) (he
   pub number_fits : (n : ℕ) → kind_reason p.limits p.count p.weight m kind repeated ≡ None → n ≡ number_if repeated m.repetition → (p.count + n ≤ p.limits.elements)
       × (p.weight + n * weight_if (drawn_by m kind still) ≤ p.limits.weight)
   number_fits n none number =
-      let passes : IsPassed p.limits p.count p.weight m kind repeated = is_passed p.limits p.count p.weight m kind repeated none in
+      let passes : IsSkipped p.limits p.count p.weight m kind repeated = is_passed p.limits p.count p.weight m kind repeated none in
       (omega (arith, passes.few, number), subst (λ (k : ℕ). p.weight + k * weight_if (drawn_by m kind still) ≤ p.limits.weight) (sym number) passes.light)
 
   pub sound_draw : (held' : S) (n w : ℕ) → kind_reason p.limits p.count p.weight m kind repeated ≡ None → n ≡ number_if repeated m.repetition
@@ -162,7 +162,7 @@ module _ {S : Type 0} (t : Store S) (p : Parts S) (r : Record) (kind : Kind) (he
       let weighs = weighs_as n w number weighs_all in
       let drawn = draws_as held' n number drawn_all in
       let s : Sound t p = c.sound in
-      let passes : IsPassed p.limits p.count p.weight m kind repeated = is_passed p.limits p.count p.weight m kind repeated none in
+      let passes : IsSkipped p.limits p.count p.weight m kind repeated = is_passed p.limits p.count p.weight m kind repeated none in
       let fits = number_fits n none number in
       let near : AllNear m = near_after p.modal m r kind c.kind_is c.modal_is (s.placement, s.text, s.geometry) place in
       let before = all_front t.IsSound p.done.items (held ∷ []) (subst (λ (o : Option S). AllByRecursion t.IsSound (p.done.items ++ option_to_list o)) c.held_is s.sound) in

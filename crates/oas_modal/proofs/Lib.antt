@@ -11,7 +11,6 @@ pub mod CountLemmas
 pub mod WeighLemmas
 pub mod StandingSteps
 pub mod CopyLemmas
-pub mod PlaceLemmas
 pub mod TakeLemmas
 pub mod DrawLemmas
 pub mod JudgedDraws
@@ -19,3 +18,5 @@ pub mod OnceLemmas
 pub mod ReaderLemmas
 pub mod FinishLemmas
 pub mod AcceptLemmas
+pub use Rattle.oas_names.proofs.oas_drawing_proofs
+pub use Rattle.oas_names.proofs as oas_names_proofs

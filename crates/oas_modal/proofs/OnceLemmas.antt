@@ -1,4 +1,4 @@
--- An element that stands once, in the open cell: its copies are the one that is drawn.
+-- An element without a repetition, in the open cell: its one copy is drawn.
 use Rattle.std.proofs.Common.{◌≡◌, ℕ, ◌+◌, ◌*◌, List, [], ◌++◌, refl, sym, ap, ◌∙◌, subst, arith, false}
 use Rattle.std.specs.Prelude.{Option, None, Some, replicate}
 use Rattle.std.specs.Option.{option_to_list}
@@ -6,25 +6,25 @@ use Rattle.oas_num.specs.declared.refusals.Why.{Why}
 use Rattle.oas_shape.specs.Steps.{still}
 use Rattle.oas_ring.specs.declared.point.Point.{Point}
 use Rattle.oas_record.specs.declared.records.Record.{Record}
-use Rattle.oas_ahead.specs.declared.named.NamedOnce.{NamedOnce}
-use Rattle.oas_ahead.specs.declared.named.NamedOnce.TheVariants.{Placement, Text}
-use Rattle.oas_ahead.specs.Named.{named_record}
-use Rattle.oas_drawing.specs.declared.drawn.Drawn.{Drawn}
-use Rattle.oas_drawing.specs.declared.kinds.Kind.{Kind}
-use Rattle.oas_drawing.specs.declared.kinds.Kind.TheVariants.{Rectangle}
+use Rattle.oas_peek.specs.declared.named.NamedOnce.{NamedOnce}
+use Rattle.oas_peek.specs.declared.named.NamedOnce.TheVariants.{Placement, Text}
+use Rattle.oas_peek.specs.Named.{named_record}
+use Rattle.oas_names.specs.oas_drawing.declared.drawn.Drawn.{Drawn}
+use Rattle.oas_names.specs.oas_drawing.declared.kinds.Kind.{Kind}
+use Rattle.oas_names.specs.oas_drawing.declared.kinds.Kind.TheVariants.{Rectangle}
 use Rattle.oas_modal.specs.declared.parts.Parts.{Parts}
-use Rattle.oas_drawing.specs.Positions.{IsNear}
-use Rattle.oas_drawing.specs.Modal.{ModalState, stepped}
-use Rattle.oas_drawing.specs.Drawn.{weight_so_far}
-use Rattle.oas_drawing.specs.Drawing.{kind_of, repeats, rectangle_at, point_from, place_of, drawn_by}
-use Rattle.oas_drawing.specs.Reasons.{weight_if, fault_of, kind_reason, reason_if}
-use Rattle.oas_drawing.specs.Named.{named_by, named_kind}
+use Rattle.oas_names.specs.oas_drawing.Positions.{IsNear}
+use Rattle.oas_names.specs.oas_drawing.Modal.{ModalState, stepped}
+use Rattle.oas_names.specs.oas_drawing.Drawn.{weight_so_far}
+use Rattle.oas_names.specs.oas_drawing.Drawing.{kind_of, repeats, rectangle_at, point_from, place_of, drawn_by}
+use Rattle.oas_names.specs.oas_drawing.Reasons.{weight_if, fault_of, kind_reason, reason_if}
+use Rattle.oas_names.specs.oas_drawing.Named.{named_by, named_kind}
 use Rattle.oas_modal.specs.Stores.{Store, Draws}
 use Rattle.oas_modal.specs.Parts.{reason_of, Sound, Took}
 use Rattle.oas_modal.specs.Copying.{first_copies}
 use Rattle.oas_modal.proofs.JudgedDraws.{InCell, refused_kind, allowed_draw, took_draw, sound_draw}
 
--- ---- what it weighs
+-- ---- its weight
 
 -- a rectangle weighs one
 rectangle_weighs : (a b c d : Option ℕ) (at : Point) (e : Drawn) → rectangle_at a b c d at ≡ Some e → 1 ≡ 1 * weight_if (rectangle_at a b c d at)
@@ -37,7 +37,7 @@ rectangle_weighs (Some a) (Some b) (Some c) (Some d) at e h = refl
 pub one_weighs : (m : ModalState) (d : Drawn) → drawn_by m Rectangle still ≡ Some d → 1 ≡ 1 * weight_if (drawn_by m Rectangle still)
 one_weighs m d is = rectangle_weighs m.layer m.datatype m.width m.height (point_from m.geometry still) d is
 
--- and anything what it does so far
+-- and anything else its weight so far
 pub weighs_so_far : (o : Option Drawn) (d : Drawn) (w : ℕ) → o ≡ Some d → w ≡ weight_so_far d → w ≡ 1 * weight_if o
 weighs_so_far o d w is weighs =
     let one : weight_so_far d ≡ 1 * weight_so_far d = omega arith in
@@ -45,7 +45,7 @@ weighs_so_far o d w is weighs =
 
 -- ---- what it is
 
--- a placement or a text at hand is an element record of its kind, and repeats nothing
+-- a placement or a text at hand is an element record of its kind, without a repetition
 pub named_is : (n : NamedOnce) → kind_of (named_record n) ≡ Some (named_kind n)
 named_is (Placement c quarters flip x y) = refl
 named_is (Text s textlayer texttype x y) = refl

@@ -2,7 +2,7 @@
 use Rattle.std.proofs.Common.{◌≡◌, List, [], ◌∷◌, ◌++◌, reverse, ap, ◌∙◌}
 use Rattle.std.proofs.lemmas.List.{reverse-append}
 use Rattle.oas_record.specs.declared.records.Record.{Record}
-use Rattle.oas_drawing.proofs.Steps.{modal_step}
+use Rattle.oas_names.proofs.oas_drawing_proofs.Steps.{modal_step}
 use Rattle.oas_modal.specs.Standing.{took_with, took}
 use Rattle.oas_modal.specs.Stands.{seen}
 

@@ -9,9 +9,9 @@ use Rattle.std.specs.declared.cmp.Ordering.TheVariants.{Less, Equal, Greater}
 use Rattle.oas_record.specs.declared.references.CellRef.{CellRef}
 use Rattle.oas_layout.specs.Bag.{items}
 use Rattle.oas_layout.specs.Laws.BagLaws.{total, sum_by-items, total-put_more}
-use Rattle.oas_drawing.specs.declared.drawn.Drawn.{Drawn}
-use Rattle.oas_drawing.specs.Drawn.{drawn_cmp}
-use Rattle.oas_drawing.specs.Laws.DrawnLaws.{exact_drawn}
+use Rattle.oas_names.specs.oas_drawing.declared.drawn.Drawn.{Drawn}
+use Rattle.oas_names.specs.oas_drawing.Drawn.{drawn_cmp}
+use Rattle.oas_names.specs.oas_drawing.Laws.DrawnLaws.{exact_drawn}
 use Rattle.oas_modal.specs.Held.{Held, with_drawn}
 use Rattle.oas_names.specs.Meaning.{DrawnCell, in_last}
 use Rattle.oas_modal.specs.Alike.{SameDrawn, AlikeCells}
@@ -54,7 +54,7 @@ module _ {S : Type 0} (t : Store S) where
   total_append [] gs = omega arith
   total_append (s ∷ ss) gs = omega (arith, total_append ss gs)
 
-  -- a cell more
+  -- one more cell
   pub hold_begun : (c : CellRef) (s : S) → IsBegun t c s → (ss : List S) (ds : List DrawnCell) → HoldCells t ss ds → HoldCells t (ss ++ s ∷ []) (ds ++ (c, []) ∷ [])
   hold_begun c s b [] [] h = (b.cell, b.holds, tt)
   hold_begun c s b (g ∷ gs) (d ∷ ds) h = (h.0, h.1, hold_begun c s b gs ds h.2)
@@ -89,7 +89,7 @@ length-items_all (p ∷ ps) = omega (arith, length-append (replicate p.1 p.0) (i
 length-with_drawn : (ps : List (Drawn × ℕ)) (d : Drawn) (n : ℕ) → length (items (with_drawn ps d n)) ≡ length (items ps) + n
 length-with_drawn ps d n = omega (arith, length-items_all (with_drawn ps d n), length-items_all ps, total-put_more drawn_cmp (λ _. 1) ps d n (λ x _. refl))
 
--- more of one thing adds what that weighs
+-- more of one thing adds the weight of that
 sum_more : (g : Drawn → ℕ) (ps : List (Drawn × ℕ)) (d : Drawn) (n : ℕ) → sum_by g (items (with_drawn ps d n)) ≡ sum_by g (items ps) + n * g d
 sum_more g ps d n =
     sum_by-items g (with_drawn ps d n) ∙ (total-put_more drawn_cmp g ps d n (λ x h. ap g (sym (exact_drawn d x h))) ∙ ap (λ (k : ℕ). k + n * g d) (sym (sum_by-items g ps)))
@@ -133,7 +133,7 @@ pub held_total : (hs : List Held) → total_count held_store hs ≡ drawn_total 
 held_total [] = refl
 held_total (h ∷ hs) = ap (λ (n : ℕ). length (items h.1) + n) (held_total hs)
 
--- they may stand for cells that are drawn alike
+-- they may represent cells that are drawn alike
 pub held_alike : (hs : List Held) (ds : List DrawnCell) → HoldCells held_store hs ds → AlikeCells (drawn_cells hs) ds
 held_alike [] [] h = tt
 held_alike [] (d ∷ ds) h = absurd h

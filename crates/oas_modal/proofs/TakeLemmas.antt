@@ -8,8 +8,8 @@ use Rattle.oas_record.specs.declared.references.CellRef.{CellRef}
 use Rattle.oas_record.specs.declared.records.Record.{Record}
 use Rattle.oas_record.specs.declared.records.Record.TheVariants as record_of
 use Rattle.oas_modal.specs.declared.parts.Parts.{Parts}
-use Rattle.oas_drawing.specs.Positions.{IsWithin, IsNear}
-use Rattle.oas_drawing.specs.Modal.{ModalState, stepped, origin}
+use Rattle.oas_names.specs.oas_drawing.Positions.{IsWithin, IsNear}
+use Rattle.oas_names.specs.oas_drawing.Modal.{ModalState, stepped, origin}
 use Rattle.oas_names.specs.Names.{Table, with_name}
 use Rattle.oas_names.specs.Meaning.{DrawnCell, in_last}
 use Rattle.oas_modal.specs.Standing.{Standing, cell_weight}

@@ -38,7 +38,7 @@ or_false : (a : Bool) → (a || false) ≡ a
 or_false true = refl
 or_false false = refl
 
--- a name that is among those before it stands twice
+-- a name that is among those before it occurs twice
 twice_at : (ks : List (List ℕ)) (n : List ℕ) (rs : List (List ℕ)) → list_any (same_string n) ks ≡ true → has_twice (ks ++ n ∷ rs) ≡ true
 twice_at [] n rs h = cc
 twice_at (k ∷ ks) n rs h = by (same_string n k) refl h (λ later. twice_at ks n rs later) where
@@ -64,7 +64,7 @@ once_at (k ∷ ks) n h t = by (same_string n k) (list_any (same_string k) ks) re
       list_any-append (same_string k) ks (n ∷ []) ∙ (λ i. f i || (here i || false)) in
       (λ i. none i || later h t i)
 
--- what the set of names so far says of each name
+-- what the set of names so far says about each name
 pub record Seen (has : Bor (List ℕ) → Bool) (ns : List (List ℕ)) : Type 0 where
   pub set : (q : Bor (List ℕ)) → has q ≡ list_any (same_string q.now) ns
   pub once : has_twice ns ≡ false
@@ -102,7 +102,7 @@ seen_some names has more hs h n e new is s =
     let same : names_held names (hs ++ h ∷ []) ≡ names_held names hs ++ n.now ∷ [] = names_held-append names hs (h ∷ []) ∙ ap (λ (o : Option (List ℕ)). names_held names hs ++ with_name_held o []) e in
     subst (Seen more) (sym same) (seen_more has more (names_held names hs) n s new is)
 
--- a name that is in the set stands twice
+-- a name that is in the set occurs twice
 pub seen_twice : (names : List (ℕ × List ℕ)) (has : Bor (List ℕ) → Bool) (hs gs : List Held) (h : Held) (n : Bor (List ℕ)) → cell_by names h.0 ≡ Some n.now → has n ≡ true
     → Seen has (names_held names hs) → has_twice (names_held names (hs ++ h ∷ gs)) ≡ true
 seen_twice names has hs gs h n e there s =
@@ -140,7 +140,7 @@ pub bare-append : {S : Type 0} (t : Store S) (ss rs : List S) → bare t (ss ++ 
 bare-append t [] rs = refl
 bare-append t (s ∷ ss) rs = ap (λ (hs : List Held). (t.cell s, []) ∷ hs) (bare-append t ss rs)
 
--- one cell more, and the cells after it
+-- one more cell, and the cells after it
 pub bare_one : {S : Type 0} (t : Store S) (ss : List S) (i : ℕ) (s : S) → i < length ss → s ≡ get_or ss i s → bare t (take (suc i) ss) ≡ bare t (take i ss) ++ (t.cell s, []) ∷ []
 bare_one {S} t ss i s h e = ap (λ (rs : List S). bare t rs) (take_one ss i s h e) ∙ bare-append t (take i ss) (s ∷ [])
 

@@ -1,4 +1,4 @@
--- What is counted weighs what was drawn.
+-- The weight of what is counted is that of what was drawn.
 use Rattle.std.proofs.Common.{◌≡◌, ℕ, zero, suc, ◌+◌, List, [], ◌∷◌, Bool, true, false, cond, ◌||◌, Option, None, Some, length, unwrap_or, refl, sym, ◌∙◌, ap, arith}
 use Rattle.std.specs.Prelude.{sum_by, nat_lt, is_none}
 use Rattle.std.specs.Option.{option_map}
@@ -8,12 +8,12 @@ use Rattle.oas_layout.specs.declared.element.Element.{Element}
 use Rattle.oas_layout.specs.declared.element.Element.TheVariants.{Placement, Text}
 use Rattle.oas_layout.specs.Weight.{weight_of}
 use Rattle.oas_layout.specs.Meaning.{cells_weight}
-use Rattle.oas_drawing.specs.declared.drawn.Drawn.{Drawn}
-use Rattle.oas_drawing.specs.declared.drawn.Drawn.TheVariants.{Named, PlacementBy, TextBy}
-use Rattle.oas_drawing.specs.Drawn.{weight_so_far}
+use Rattle.oas_names.specs.oas_drawing.declared.drawn.Drawn.{Drawn}
+use Rattle.oas_names.specs.oas_drawing.declared.drawn.Drawn.TheVariants.{Named, PlacementBy, TextBy}
+use Rattle.oas_names.specs.oas_drawing.Drawn.{weight_so_far}
 use Rattle.oas_names.specs.Names.{name_of}
 use Rattle.oas_names.specs.References.{cell_by}
-use Rattle.oas_names.specs.Meaning.{DrawnCell, element_by, elements_meant, with_named, cells_meant, is_unnamed, lacks_name}
+use Rattle.oas_names.specs.Meaning.{DrawnCell, element_by, elements_by_name, with_named, cells_by_name, is_unnamed, lacks_name}
 use Rattle.oas_names.specs.Weights.{capped, AllUsed, joined, names_weight, head_weight}
 use Rattle.oas_names.proofs.WeightLemmas.{capped_more, known, some_lack, joined_known, joined_none, unnamed, name_length, names_known, Adding}
 use Rattle.oas_modal.specs.Stores.{HoldCells}
@@ -38,7 +38,7 @@ module _ (names strings : List (ℕ × List ℕ)) where
       elim (name_of strings number) as (λ o. cond (is_none (option_map (λ (c : List ℕ). Text c textlayer texttype x y) o)) 1 0 ≡ 0 + cond (is_none o) 1 0)
       [ None ↦ refl | Some c ↦ refl ]
 
-  -- what is meant weighs, by the numbers
+  -- the weight of the meaning, by the numbers
   weighed_by : (d : Drawn) → weighed weight_of (element_by names strings d) + cond (is_unnamed names strings d) 1 0 ≡ weight_so_far d
       + (placed_by (name_length names) d + written_by (name_length strings) d)
   weighed_by (Named e) = omega arith
@@ -58,7 +58,7 @@ module _ (names strings : List (ℕ × List ℕ)) where
   lacking_sum : (ds : List Drawn) → lacking ds ≡ sum_by (placed_by (unnamed names)) ds + sum_by (written_by (unnamed strings)) ds
   lacking_sum ds = (λ i. sum_by (λ d. lacking_by d i) ds) ∙ sum_two (placed_by (unnamed names)) (written_by (unnamed strings)) ds
 
-  weighed_sum : (ds : List Drawn) → sum_by weight_of (elements_meant names strings ds) + lacking ds ≡ sum_by weight_so_far ds
+  weighed_sum : (ds : List Drawn) → sum_by weight_of (elements_by_name names strings ds) + lacking ds ≡ sum_by weight_so_far ds
       + (sum_by (placed_by (name_length names)) ds + sum_by (written_by (name_length strings)) ds)
   weighed_sum ds =
       let meant = sum-meant names strings weight_of ds in
@@ -69,10 +69,10 @@ module _ (names strings : List (ℕ × List ℕ)) where
       let both = sum_two (placed_by (name_length names)) (written_by (name_length strings)) ds in
       omega (arith, meant, left, same, right, both)
 
-  -- what a cell's elements weigh
+  -- the weight of a cell's elements
   body_known : (c : Counted) (ds : List Drawn) → AllUsed c.placed → AllUsed c.written → CountsThese c ds
       → joined (Some c.weight) (joined (names_weight names c.placed) (names_weight strings c.written))
-      ≡ cond (list_any (is_unnamed names strings) ds) None (Some (capped (sum_by weight_of (elements_meant names strings ds))))
+      ≡ cond (list_any (is_unnamed names strings) ds) None (Some (capped (sum_by weight_of (elements_by_name names strings ds))))
   body_known c ds p w h =
       let first : Some c.weight ≡ known 0 (sum_by weight_so_far ds) = ap Some h.weight in
       let placed : names_weight names c.placed ≡ known (sum_by (placed_by (unnamed names)) ds) (sum_by (placed_by (name_length names)) ds) =
@@ -87,8 +87,8 @@ module _ (names strings : List (ℕ × List ℕ)) where
       ∙ (joined_known 0 (sum_by (placed_by (unnamed names)) ds + sum_by (written_by (unnamed strings)) ds) (sum_by weight_so_far ds)
       (sum_by (placed_by (name_length names)) ds + sum_by (written_by (name_length strings)) ds)
       ∙ ((λ i. known (lack i) (sym (weighed_sum ds) i))
-      ∙ (by (lacking ds) (sum_by weight_of (elements_meant names strings ds))
-      ∙ ap (λ b. cond b None (Some (capped (sum_by weight_of (elements_meant names strings ds))))) (sym (any-sum (is_unnamed names strings) ds)))))) where
+      ∙ (by (lacking ds) (sum_by weight_of (elements_by_name names strings ds))
+      ∙ ap (λ b. cond b None (Some (capped (sum_by weight_of (elements_by_name names strings ds))))) (sym (any-sum (is_unnamed names strings) ds)))))) where
         by : (l w : ℕ) → known l (w + l) ≡ cond (nat_lt 0 l) None (Some (capped w))
         by zero w = ap (λ (k : ℕ). Some (capped k)) (omega arith)
         by (suc l) w = (λ i. cond (some_lack l i) None (Some (capped (w + suc l)))) ∙ (λ i. cond (sym (some_lack l) i) None (Some (capped w)))
@@ -104,15 +104,15 @@ module _ (names strings : List (ℕ × List ℕ)) where
       ap Some (ap (λ (k : ℕ). capped (k + capped (cells_weight cs))) (capped_more (1 + length name) (sum_by weight_of es))
       ∙ capped_more ((1 + length name) + sum_by weight_of es) (cells_weight cs))
 
-  -- what all cells weigh with all names
+  -- the weight of all cells with all names
   pub all_known : (ss : List Counted) (ds : List DrawnCell) → AllByRecursion (λ c. AllUsed c.placed × AllUsed c.written) ss → HoldCells counted_store ss ds →
-      all_weight names strings ss ≡ cond (lacks_name names strings ds) None (Some (capped (cells_weight (cells_meant names strings ds))))
+      all_weight names strings ss ≡ cond (lacks_name names strings ds) None (Some (capped (cells_weight (cells_by_name names strings ds))))
   all_known [] [] a h = refl
   all_known [] (d ∷ ds) a h = absurd h
   all_known (c ∷ cs) [] a h = absurd h
   all_known (c ∷ cs) (d ∷ ds) a h =
       (λ i. joined (joined (head_weight (cell_by names (h.0 i))) (body_known c d.1 a.0.0 a.0.1 h.1 i)) (all_known cs ds a.1 h.2 i))
-      ∙ cell_and (cell_by names d.0) (list_any (is_unnamed names strings) d.1) (lacks_name names strings ds) (elements_meant names strings d.1) (cells_meant names strings ds)
+      ∙ cell_and (cell_by names d.0) (list_any (is_unnamed names strings) d.1) (lacks_name names strings ds) (elements_by_name names strings d.1) (cells_by_name names strings ds)
 
 -- nothing is added yet
 pub cells_begin : (names strings : List (ℕ × List ℕ)) (cs ds : List Counted) → cs ≡ ds → Adding 0 (all_weight names strings cs) (all_weight names strings ds)

@@ -4,7 +4,7 @@ use Rattle.oas_num.specs.Ratio.{Ratio}
 use Rattle.oas_layout.specs.declared.limits.Limits.{Limits}
 use Rattle.oas_layout.specs.declared.profile.Profile.{Profile}
 use Rattle.oas_layout.specs.Meaning.{SameLayout}
-use Rattle.oas_drawing.specs.declared.drawn.Drawn.{Drawn}
+use Rattle.oas_names.specs.oas_drawing.declared.drawn.Drawn.{Drawn}
 use Rattle.oas_names.specs.Meaning.{DrawnCell, meaning_by, end_reason}
 
 -- each thing is drawn as often: whatever each counts for, the sums are equal

@@ -4,10 +4,10 @@ use Rattle.std.specs.List.{range_with_len}
 use Rattle.std.specs.Option.{option_to_list}
 use Rattle.oas_num.specs.declared.deltas.GDelta.{GDelta}
 use Rattle.oas_shape.specs.declared.places.Places.{Places}
-use Rattle.oas_drawing.specs.declared.drawn.Drawn.{Drawn}
-use Rattle.oas_drawing.specs.declared.kinds.Kind.{Kind}
-use Rattle.oas_drawing.specs.Modal.{ModalState}
-use Rattle.oas_drawing.specs.Drawing.{drawn_by, offset_if}
+use Rattle.oas_names.specs.oas_drawing.declared.drawn.Drawn.{Drawn}
+use Rattle.oas_names.specs.oas_drawing.declared.kinds.Kind.{Kind}
+use Rattle.oas_names.specs.oas_drawing.Modal.{ModalState}
+use Rattle.oas_names.specs.oas_drawing.Drawing.{drawn_by, offset_if}
 
 -- the elements of a kind at each of the offsets
 abbrev pub copies_by : ModalState → Kind → List GDelta → List Drawn
@@ -18,12 +18,12 @@ copies_by m kind (d ∷ ds) = option_to_list (drawn_by m kind d) ++ copies_by m 
 abbrev pub first_copies : ModalState → Kind → Bool → ℕ → List Drawn
 first_copies m kind repeated n = copies_by m kind (map (offset_if repeated m.repetition) (range_with_len 0 n))
 
--- an element so many times, where it is one
+-- an element this many times, where it is one
 abbrev pub drawn_times : ℕ → Option Drawn → List Drawn
 drawn_times n None = []
 drawn_times n (Some d) = replicate n d
 
--- so many copies at each of the offsets
+-- this many copies at each of the offsets
 abbrev pub stacks_by : ModalState → Kind → ℕ → List GDelta → List Drawn
 stacks_by m kind n [] = []
 stacks_by m kind n (d ∷ ds) = drawn_times n (drawn_by m kind d) ++ stacks_by m kind n ds

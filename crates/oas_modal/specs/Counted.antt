@@ -6,15 +6,15 @@ use Rattle.std.specs.Ordering.{nat_cmp}
 use Rattle.oas_record.specs.declared.references.CellRef.{CellRef}
 use Rattle.oas_layout.specs.Bag.{put_more}
 use Rattle.oas_layout.specs.Laws.BagLaws.{total}
-use Rattle.oas_drawing.specs.declared.drawn.Drawn.{Drawn}
-use Rattle.oas_drawing.specs.declared.drawn.Drawn.TheVariants.{Named, PlacementBy, TextBy}
-use Rattle.oas_drawing.specs.Drawn.{weight_so_far}
+use Rattle.oas_names.specs.oas_drawing.declared.drawn.Drawn.{Drawn}
+use Rattle.oas_names.specs.oas_drawing.declared.drawn.Drawn.TheVariants.{Named, PlacementBy, TextBy}
+use Rattle.oas_names.specs.oas_drawing.Drawn.{weight_so_far}
 use Rattle.oas_names.specs.References.{cell_by}
 use Rattle.oas_names.specs.Weights.{AllUsed, capped, joined, names_weight, head_weight}
 use Rattle.oas_modal.specs.Stores.{Store}
 
--- its reference, how many elements its records draw, what they weigh as long as numbers have no names, and how often each
--- number is placed, and written
+-- its reference, how many elements its records draw, their weight as long as numbers have no names, and how often each number
+-- is placed, and written
 pub record Counted : Type 0 where
   pub cell : CellRef
   pub count : ℕ
@@ -40,7 +40,7 @@ pub record CountsThese (c : Counted) (ds : List Drawn) : Type 0 where
   pub placed : (f : ℕ → ℕ) → total f c.placed ≡ sum_by (placed_by f) ds
   pub written : (f : ℕ → ℕ) → total f c.written ≡ sum_by (written_by f) ds
 
--- what is counted of a cell: it stands for all lists of which each number is used as often, and that weigh as much
+-- what is counted of a cell: it represents all lists in which each number is used as often, and that weigh as much
 abbrev pub counted_store : Store Counted
 counted_store = record {
   cell = λ c. c.cell;
@@ -54,19 +54,19 @@ pub record IsTold (count : ℕ) (ps : List (ℕ × ℕ)) : Type 0 where
   pub ascending : IsStrictlySortedBy nat_cmp (keys_of ps)
   pub few : total (λ _. 1) ps ≤ count
 
--- n placements more
+-- n more placements
 abbrev pub placed_more : Drawn → ℕ → List (ℕ × ℕ) → List (ℕ × ℕ)
 placed_more (Named e) n ps = ps
 placed_more (PlacementBy number x y turns flip) n ps = put_more nat_cmp ps number n
 placed_more (TextBy number textlayer texttype x y) n ps = ps
 
--- n texts more
+-- n more texts
 abbrev pub written_more : Drawn → ℕ → List (ℕ × ℕ) → List (ℕ × ℕ)
 written_more (Named e) n ps = ps
 written_more (PlacementBy number x y turns flip) n ps = ps
 written_more (TextBy number textlayer texttype x y) n ps = put_more nat_cmp ps number n
 
--- something is drawn n times more
+-- something is drawn n more times
 abbrev pub counted_more : Counted → Drawn → ℕ → Counted
 counted_more c d n =
     record {

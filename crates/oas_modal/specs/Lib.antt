@@ -9,3 +9,5 @@ pub mod Parts
 pub mod Taken
 pub mod Copying
 pub mod Laws
+pub use Rattle.oas_names.specs.oas_drawing
+pub use Rattle.oas_names.specs as oas_names

@@ -1,11 +1,11 @@
--- What a reader keeps, as where it stands.
+-- What a reader keeps, as its state.
 use Rattle.std.specs.Prelude.{◌≡◌, ◌≤◌, ◌++◌, Option, is_some, List}
 use Rattle.std.specs.List.{AllByRecursion}
 use Rattle.std.specs.Option.{option_to_list}
 use Rattle.oas_num.specs.declared.refusals.Why.{Why}
 use Rattle.oas_record.specs.declared.records.Record.{Record}
 use Rattle.oas_modal.specs.declared.parts.Parts.{Parts}
-use Rattle.oas_drawing.specs.Positions.{IsNear}
+use Rattle.oas_names.specs.oas_drawing.Positions.{IsNear}
 use Rattle.oas_names.specs.Names.{cell_names, text_strings, same_string, table_reason, with_name}
 use Rattle.oas_names.specs.Meaning.{DrawnCell}
 use Rattle.oas_modal.specs.Stores.{Store, total_count, HoldCells}

@@ -8,21 +8,21 @@ use Rattle.oas_record.specs.declared.records.Record.{Record}
 use Rattle.oas_record.specs.declared.records.Record.TheVariants as record_of
 use Rattle.oas_record.specs.Records.{id_of}
 use Rattle.oas_layout.specs.declared.limits.Limits.{Limits}
-use Rattle.oas_drawing.specs.declared.drawn.Drawn.{Drawn}
-use Rattle.oas_drawing.specs.Modal.{ModalState, stepped}
-use Rattle.oas_drawing.specs.Drawn.{weight_so_far}
-use Rattle.oas_drawing.specs.Drawing.{copies_at, offsets_of}
-use Rattle.oas_drawing.specs.Reasons.{first_of, draw_reason}
+use Rattle.oas_names.specs.oas_drawing.declared.drawn.Drawn.{Drawn}
+use Rattle.oas_names.specs.oas_drawing.Modal.{ModalState, stepped}
+use Rattle.oas_names.specs.oas_drawing.Drawn.{weight_so_far}
+use Rattle.oas_names.specs.oas_drawing.Drawing.{copies_at, offsets_of}
+use Rattle.oas_names.specs.oas_drawing.Reasons.{first_of, draw_reason}
 use Rattle.oas_names.specs.Meaning.{DrawnCell, in_last}
 
--- the modal variables, whether a cell is open, how many elements there are, and what all weighs
+-- the modal variables, whether a cell is open, how many elements there are, and the weight of all
 pub record Standing : Type 0 where
   pub modal : ModalState
   pub in_cell : Bool
   pub count : ℕ
   pub weight : ℕ
 
--- what a CELL weighs: one and the bytes of its name; a number weighs nothing yet
+-- the weight of a CELL: one and the bytes of its name; a number weighs nothing yet
 abbrev pub cell_weight : CellRef → ℕ
 cell_weight (cell.Number number) = 0
 cell_weight (cell.Name name) = 1 + length name
@@ -31,7 +31,7 @@ cell_weight (cell.Name name) = 1 + length name
 abbrev pub drawn_of : ModalState → Record → List Drawn
 drawn_of m r = copies_at m r (offsets_of m r)
 
--- what a record that draws these weighs
+-- the weight of a record that draws these
 abbrev pub weight_with : Record → List Drawn → ℕ
 weight_with (record_of.Cell c) ds = cell_weight c
 weight_with r ds = sum_by weight_so_far ds
@@ -60,7 +60,7 @@ took s r = took_with s r (stepped s.modal r)
 abbrev pub element_reason : Limits → Standing → ModalState → Record → Option Why
 element_reason limits s m r = cond s.in_cell (draw_reason limits s.count s.weight m r) (Some (OutOfPlace (id_of r)))
 
--- why a record is refused; `names` and `strings` say it of records that name cells and text strings. END is for the caller
+-- why a record is refused; `names` and `strings` say it for records that name cells and text strings. The caller handles END
 -- (own rule).
 abbrev pub reason : Limits → (Record → Option Why) → (Record → Option Why) → Standing → Record → Option Why
 reason limits names strings s record_of.Pad = None
@@ -72,10 +72,10 @@ reason limits names strings s record_of.XyAbsolute = None
 reason limits names strings s record_of.XyRelative = None
 reason limits names strings s r = element_reason limits s (stepped s.modal r) r
 
--- Where memory may be wanted for a record that is refused for this reason, or for none: only where it is none, or where a copy
--- lies outside the grid, since those before it are held one by one.
-abbrev pub MayWant : Option Why → Type 0
-MayWant why = (why ≡ None) ⊎ (why ≡ Some CoordinateRange)
+-- Where memory may run out for a record that is refused for this reason, or for none: only where it is none, or where a copy
+-- is outside the grid, since the copies before it are held one by one.
+abbrev pub MayRunOut : Option Why → Type 0
+MayRunOut why = (why ≡ None) ⊎ (why ≡ Some CoordinateRange)
 
 -- what is drawn in the cells after one more record
 abbrev pub drawn_after : List DrawnCell → ModalState → Record → List DrawnCell

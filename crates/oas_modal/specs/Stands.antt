@@ -1,4 +1,4 @@
--- For which records a reader stands. `rs` and `before` list records newest first, but in StandsFor and `refusal`.
+-- Which records a reader represents. `rs` and `before` list records newest first, except in Represents and `refusal`.
 use Rattle.std.specs.Prelude.{◌≡◌, ℕ, ◌+◌, Bool, false, Option, None, List, [], ◌∷◌, length, reverse}
 use Rattle.oas_num.specs.Ratio.{Ratio}
 use Rattle.oas_num.specs.declared.refusals.Why.{Why}
@@ -7,9 +7,9 @@ use Rattle.oas_record.specs.declared.records.Record.{Record}
 use Rattle.oas_layout.specs.declared.limits.Limits.{Limits}
 use Rattle.oas_layout.specs.declared.profile.Profile.{Profile}
 use Rattle.oas_layout.specs.Meaning.{Meaning}
-use Rattle.oas_drawing.specs.Modal.{modal_of}
-use Rattle.oas_drawing.specs.Drawing.{elements_at}
-use Rattle.oas_names.specs.Names.{Table, NamesStand, cell_names, text_strings, same_string, name_reason, named}
+use Rattle.oas_names.specs.oas_drawing.Modal.{modal_of}
+use Rattle.oas_names.specs.oas_drawing.Drawing.{elements_at}
+use Rattle.oas_names.specs.Names.{Table, TableRepresents, cell_names, text_strings, same_string, name_reason, named}
 use Rattle.oas_names.specs.Meaning.{meaning_by, end_reason, cells_drawn}
 use Rattle.oas_modal.specs.Stores.{Store, HoldCells}
 use Rattle.oas_modal.specs.Standing.{Standing, open_after, weight_with, reason}
@@ -24,12 +24,12 @@ abbrev pub number_drawn : List Record → ℕ
 number_drawn [] = 0
 number_drawn (r ∷ before) = number_drawn before + length (elements_at r before)
 
--- what the cells and the elements weigh, as long as numbers have no names
+-- the weight of the cells and the elements, as long as numbers have no names
 abbrev pub weight_so_far_of : List Record → ℕ
 weight_so_far_of [] = 0
 weight_so_far_of (r ∷ before) = weight_so_far_of before + weight_with r (elements_at r before)
 
--- what the definitions say of these records
+-- what the definitions say about these records
 abbrev pub seen : List Record → Standing
 seen rs = record { modal = modal_of rs; in_cell = is_in_cell rs; count = number_drawn rs; weight = weight_so_far_of rs }
 
@@ -42,7 +42,7 @@ abbrev pub Allowed : Limits → List Record → Type 0
 Allowed limits [] = Unit {0}
 Allowed limits (r ∷ before) = Allowed limits before × (refused_after limits before r ≡ None)
 
--- what a reader is seen as
+-- what contracts see of a reader
 pub record ReaderState (S : Type 0) : Type 0 where
   pub failed : Option Refusal
   pub unit : Ratio
@@ -53,20 +53,20 @@ pub record ReaderState (S : Type 0) : Type 0 where
   pub strings : Table (List ℕ)
   pub cells : List S
 
--- A reader stands for the records, oldest first. Its stores, in order, are of the same cells, and each may stand for what the
--- records draw in its cell.
-pub record StandsFor {S : Type 0} (t : Store S) (s : ReaderState S) (rs : List Record) : Type 0 where
+-- A reader represents the records, oldest first. Its stores, in order, are those of the same cells, and each may represent
+-- what the records draw in its cell.
+pub record Represents {S : Type 0} (t : Store S) (s : ReaderState S) (rs : List Record) : Type 0 where
   pub sound : s.failed ≡ None
   pub standing : s.standing ≡ seen (reverse rs)
-  pub names : NamesStand cell_names s.names (reverse rs)
-  pub strings : NamesStand text_strings s.strings (reverse rs)
+  pub names : TableRepresents cell_names s.names (reverse rs)
+  pub strings : TableRepresents text_strings s.strings (reverse rs)
   pub cells : HoldCells t s.cells (cells_drawn elements_at (reverse rs))
 
 -- why a record after these is refused, oldest first
 abbrev pub refusal : Limits → List Record → Record → Option Why
 refusal limits rs r = refused_after limits (reverse rs) r
 
--- what the records mean, oldest first, each number by the names of the whole file
+-- the meaning of the records, oldest first, each number by the names of the whole file
 abbrev pub records_mean : Ratio → List Record → Meaning
 records_mean unit rs = meaning_by (named cell_names (reverse rs)) (named text_strings (reverse rs)) unit (cells_drawn elements_at (reverse rs))
 

@@ -2,21 +2,21 @@
 use Rattle.std.specs.Prelude.{◌≡◌, ℕ, ◌+◌, List, [], ◌∷◌, ◌++◌, length}
 use Rattle.oas_record.specs.declared.references.CellRef.{CellRef}
 use Rattle.oas_layout.specs.Bag.{items}
-use Rattle.oas_drawing.specs.declared.drawn.Drawn.{Drawn}
+use Rattle.oas_names.specs.oas_drawing.declared.drawn.Drawn.{Drawn}
 use Rattle.oas_names.specs.Meaning.{DrawnCell}
 use Rattle.oas_modal.specs.Held.{Held}
 use Rattle.oas_modal.specs.Alike.{SameDrawn}
 use Rattle.oas_modal.specs.Finish.{AllFit}
 
--- what is known of a kind of stores
+-- what is known about a kind of stores
 pub record Store (S : Type 0) : Type 1 where
-  -- the CELL that it is of
+  -- its CELL
   pub cell : S → CellRef
   -- how many elements were drawn
   pub count : S → ℕ
-  -- what it keeps of them lies within the grid and has its points
+  -- what it keeps of them is within the grid and has its points
   pub IsSound : S → Type 0
-  -- it may stand for these, in the order in which they were drawn
+  -- it may represent these, in the order in which they were drawn
   pub Holds : S → List Drawn → Type 0
 
 -- between two of its states these were drawn
@@ -26,7 +26,7 @@ pub record Draws {S : Type 0} (t : Store S) (old : S) (ds : List Drawn) (new : S
   pub sound : t.IsSound old → t.IsSound new
   pub holds : (before : List Drawn) → t.Holds old before → t.Holds new (before ++ ds)
 
--- it is of this CELL, and nothing is drawn in it
+-- it is for this CELL, and nothing is drawn in it
 pub record IsBegun {S : Type 0} (t : Store S) (c : CellRef) (s : S) : Type 0 where
   pub cell : t.cell s ≡ c
   pub count : t.count s ≡ 0
@@ -38,7 +38,7 @@ abbrev pub total_count : {S : Type 0} → Store S → List S → ℕ
 total_count t [] = 0
 total_count t (s ∷ ss) = t.count s + total_count t ss
 
--- in order, each is of the cell's reference and may stand for what is drawn in it
+-- in order, each has the cell's reference and may represent what is drawn in it
 abbrev pub HoldCells : {S : Type 0} → Store S → List S → List DrawnCell → Type 0
 HoldCells t [] [] = Unit {0}
 HoldCells t [] (d ∷ ds) = ⊥
@@ -50,7 +50,7 @@ abbrev pub bare : {S : Type 0} → Store S → List S → List Held
 bare t [] = []
 bare t (s ∷ ss) = (t.cell s, []) ∷ bare t ss
 
--- what is held of a cell: it stands for all lists in which each thing is drawn as often
+-- what is held of a cell: it represents all lists in which each thing is drawn as often
 abbrev pub held_store : Store Held
 held_store = record {
   cell = λ h. h.0;

@@ -18,7 +18,7 @@ module _ {S : Type 0} where
     pub cells : taken.cells.items ≡ cells p
     pub sound : AllByRecursion t.IsSound taken.cells.items
 
-  -- it is what the reader stands for, and what is held of each cell is sound
+  -- it is what the reader represents, and what is held of each cell is sound
   pub record HandsOver (t : Store S) (s : ReaderState S) (taken : Taken S) : Type 0 where
     pub going : s.failed ≡ None
     pub unit : taken.unit ≡ s.unit

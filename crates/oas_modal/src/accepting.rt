@@ -1,4 +1,4 @@
-//! What END refuses of cells of which nothing is kept but counts.
+//! What END refuses where only the counts of cells are kept.
 
 ghost use Rattle.std.specs.Prelude.{◌≡◌, ◌⊎◌, List, None, Some, OnOk, IfErr};
 ghost use Rattle.std.specs.List.{AllByRecursion};
@@ -64,7 +64,7 @@ fn accept_cells(
     Ok(())
 }
 
-/// What all cells weigh with all names, as far as 64 bits tell it; None where a number has no name.
+/// The weight of all cells with all names, capped to 64 bits; None where a number has no name.
 fn all_weight(
     cells: Vec<CountedCell>,
     names: &NameTable<Name>,
@@ -79,7 +79,7 @@ fn all_weight(
     Some(weight)
 }
 
-/// What a cell weighs with all names.
+/// The weight of a cell with all names.
 fn counted_weight(
     counted: CountedCell,
     names: &NameTable<Name>,

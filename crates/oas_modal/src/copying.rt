@@ -3,18 +3,18 @@
 ghost use Rattle.std.specs.Prelude.{◌≡◌, ◌⊎◌, ◌*◌, ◌<◌, ◌≤◌, ◌^◌, ℕ, false, None, OnOk, IfOk, IfErr};
 ghost use Rattle.oas_num.specs.declared.refusals.Why.TheVariants.{Memory};
 ghost use Rattle.oas_shape.specs.Steps.{still};
-ghost use Rattle.oas_drawing.specs.Drawn.{weight_so_far};
-ghost use Rattle.oas_drawing.specs.Drawing.{drawn_by, number_if, offset_if};
-ghost use Rattle.oas_drawing.specs.Reasons.{weight_if, lacks_if, fault_of};
+ghost use Rattle.oas_names.specs.oas_drawing.Drawn.{weight_so_far};
+ghost use Rattle.oas_names.specs.oas_drawing.Drawing.{drawn_by, number_if, offset_if};
+ghost use Rattle.oas_names.specs.oas_drawing.Reasons.{weight_if, lacks_if, fault_of};
 ghost use Rattle.oas_modal.specs.Stores.{Draws};
 ghost use Rattle.oas_modal.specs.Copying.{first_copies};
 
 use crate::stores::CellStore;
-use oas_drawing::{Drawn, Kind, ModalVariables};
+use oas_names::oas_drawing::{Drawn, Kind, ModalVariables};
 use oas_num::Why;
 use std::alloc::Global;
 
-/// What it weighs as long as numbers have no names.
+/// Its weight as long as numbers have no names.
 pub(crate) fn weight_so_far(drawn: &Drawn) -> u64
     ensures { result ≡ weight_so_far drawn.now }
 {
@@ -24,7 +24,7 @@ pub(crate) fn weight_so_far(drawn: &Drawn) -> u64
     }
 }
 
-/// Draws the copies of an element record, those on one place at once, and gives what they weigh together.
+/// Draws the copies of an element record, those on one place at once, and returns their weight together.
 pub(crate) fn hold_copies<S: CellStore>(
     alloc: Global,
     modal: &ModalVariables,

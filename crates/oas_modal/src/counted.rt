@@ -1,29 +1,29 @@
 //! What is counted of a CELL, where none of its elements is kept.
 
 ghost use Rattle.std.specs.Prelude.{◌≡◌, ◌+◌, ◌<◌, ◌^◌, OnOk, OnErr};
-ghost use Rattle.oas_drawing.specs.Named.{drawn_once};
+ghost use Rattle.oas_names.specs.oas_drawing.Named.{drawn_once};
 ghost use Rattle.oas_modal.specs.Counted.{counted_store, placed_more, written_more};
 ghost use Rattle.oas_modal.specs.Laws.StoreLaws.{counted_in_any_order};
 
 use crate::copying::weight_so_far;
 use crate::stores::CellStore;
-use oas_drawing::{Drawn, DrawnOnce};
 use oas_names::UsedNumbers;
+use oas_names::oas_drawing::{Drawn, DrawnOnce};
 use oas_record::{CellRef, TextRef};
 use std::alloc::{AllocError, Global};
 use std::marker::Model;
 
-/// A CELL, by its name or a number, and of what its records draw just what decides at END whether it is refused: how many
-/// elements there are, what they weigh, and how often each number is used. Its memory is that of the numbers.
+/// A CELL, by its name or a number, and just what decides at END whether what its records draw is refused: how many elements
+/// there are, their weight, and how often each number is used. It needs memory for the numbers only.
 #[derive(Drop)]
 pub struct CountedCell {
     pub(crate) cell: CellRef,
     pub(crate) count: u64,
-    /// As long as numbers have no names; at most what 64 bits hold, which is more than any limits allow.
+    /// As long as numbers have no names; at most what 64 bits hold, which exceeds all limits.
     pub(crate) weight: u64,
-    /// Of cells, by placements.
+    /// The numbers of cells, used by placements.
     pub(crate) placed: UsedNumbers,
-    /// Of text strings, by texts.
+    /// The numbers of text strings, used by texts.
     pub(crate) written: UsedNumbers,
 }
 
@@ -40,7 +40,7 @@ impl Model for CountedCell {
 }
 
 impl CountedCell {
-    /// Counts something that is drawn so many times, and the uses of the number by which it is, if it is.
+    /// Counts something that is drawn this many times, and the uses of its number, if it has one.
     fn count_up(&mut self, drawn: &Drawn, times: u64) -> Result<(), AllocError>
         requires { self.old.count + times < 2 ^ 64 }
         ensures ok { OnOk result (self.new ≡ record self.old
@@ -56,7 +56,7 @@ impl CountedCell {
         Ok(())
     }
 
-    /// Counts something that stands once, and the use of the number by which it is, if it is.
+    /// Counts something without a repetition, and the use of its number, if it has one.
     fn count_once(&mut self, drawn: &DrawnOnce<'_>) -> Result<(), AllocError>
         requires { self.old.count + 1 < 2 ^ 64 }
         ensures ok { OnOk result (self.new ≡ record self.old

@@ -14,8 +14,8 @@ ghost use Rattle.oas_modal.specs.Stores.{bare};
 use crate::held::HeldCell;
 use crate::putting::put_all;
 use crate::stores::CellStore;
-use oas_drawing::Drawn;
 use oas_layout::{Draft, Layout, Limits, Profile};
+use oas_names::oas_drawing::Drawn;
 use oas_names::{NameTable, cell_meant, is_unnamed};
 use oas_num::{Fraction, Label, Name, Why};
 use std::alloc::Global;
@@ -23,9 +23,9 @@ use std::collections::{BTreeMap, BTreeSet};
 
 /// The layout of what is held, where each number has the name that the tables of the whole file give it.
 ///
-/// It is refused by `UnknownReference` where a number has no name, else by `DuplicateCell` where two cells have one name,
-/// else by `TooHeavy` where all of it weighs more than the limits allow; and by `Memory`. What is held is within the grid and
-/// the limits on the number of elements.
+/// It is refused with `UnknownReference` where a number has no name, else with `DuplicateCell` where two cells have one name,
+/// else with `TooHeavy` where all of it weighs more than the limits allow; or it fails with `Memory`. What is held is within
+/// the grid and the limits on the number of elements.
 pub fn finish(
     alloc: Global,
     unit: Fraction,
@@ -60,14 +60,14 @@ pub fn finish(
     Ok(layout)
 }
 
-/// Whether a cell is a number that has no name, or has one.
+/// Whether a cell is a number without a name, or draws one.
 fn cell_lacks(cell: &HeldCell, names: &NameTable<Name>, strings: &NameTable<Label>) -> bool
     ensures { result ≡ cell_lacks names.now.named strings.now.named (cell.now.0, items cell.now.1) }
 {
     cell_meant(names, &cell.cell).is_none() || any_unnamed(&cell.others, names, strings)
 }
 
-/// Whether one of them is a number that has no name.
+/// Whether one of them is a number without a name.
 fn any_unnamed(
     drawn: &BTreeMap<Drawn, u64>,
     names: &NameTable<Name>,

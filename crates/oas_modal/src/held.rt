@@ -1,32 +1,32 @@
-//! What the records of a CELL draw, each held once beside its count.
+//! What the records of a CELL draw, each thing held once with its count.
 
 ghost use Rattle.std.specs.Prelude.{◌≡◌, ◌+◌, ◌<◌, ◌^◌, [], true, false, length, unwrap_or, OnOk, OnErr, IfOk, IfErr};
 ghost use Rattle.std.specs.BTreeMap.{get, insert_entry, IsOrdered, IsUnchanged};
 ghost use Rattle.oas_layout.specs.Bag.{items};
-ghost use Rattle.oas_drawing.specs.declared.drawn.Drawn.TheVariants.{Named as OneNamed};
-ghost use Rattle.oas_drawing.specs.Laws.DrawnLaws.{derived_cmp};
+ghost use Rattle.oas_names.specs.oas_drawing.declared.drawn.Drawn.TheVariants.{Named as OneNamed};
+ghost use Rattle.oas_names.specs.oas_drawing.Laws.DrawnLaws.{derived_cmp};
 ghost use Rattle.oas_modal.specs.Held.{with_drawn, is_early};
 ghost use Rattle.oas_modal.specs.Finish.{IsFit};
 ghost use Rattle.oas_modal.specs.Stores.{held_store};
 ghost use Rattle.oas_modal.specs.Laws.StoreLaws.{held_in_any_order};
 
 use crate::stores::CellStore;
-use oas_drawing::Drawn;
 use oas_layout::{Element, PlainElements};
+use oas_names::oas_drawing::Drawn;
 use oas_record::CellRef;
 use std::alloc::{AllocError, Global};
 use std::collections::BTreeMap;
 use std::marker::Model;
 
-/// A CELL, by its name or a number, and what its records draw, seen as the ascending list of it with counts.
+/// A CELL, by its name or a number, and what its records draw; contracts see the ascending list with counts.
 ///
-/// Placements, texts and rectangles that have their names are held as the layout will hold them, and go to it as they are.
-/// What is named by number, and what may be kept in another form, waits in a map. Both are ordered, so that no choice of
-/// elements makes them slow.
+/// Placements, texts and rectangles that have their names are held as the layout will hold them, and go to it unchanged. What
+/// is named by number, and what may be kept in another form, waits in a map. Both are ordered, so that no choice of elements
+/// makes them slow.
 #[derive(Drop)]
 pub struct HeldCell {
     pub(crate) cell: CellRef,
-    /// These stand before all others in the order.
+    /// These come before all others in the order.
     pub(crate) early: PlainElements,
     pub(crate) others: BTreeMap<Drawn, u64>,
 }
@@ -54,7 +54,7 @@ impl HeldCell {
         }
     }
 
-    /// Draws something that lies within the grid so many times more, or hands it back where memory is refused.
+    /// Draws something that is within the grid this many more times. If out of memory it hands it back.
     pub fn add(&mut self, drawn: Drawn, times: u64) -> Result<(), Drawn>
         requires some { 0 < times }
         requires fit { IsFit drawn }
@@ -69,7 +69,7 @@ impl HeldCell {
         }
     }
 
-    /// Draws an element that stands before all others in the order.
+    /// Draws an element that comes before all others in the order.
     fn add_early(&mut self, element: Element, times: u64) -> Result<(), Drawn>
         requires some { 0 < times }
         requires early { is_early (OneNamed element) ≡ true }
@@ -124,7 +124,7 @@ impl CellStore for HeldCell {
     }
 }
 
-/// The element, where it stands before all others in the order.
+/// The element, where it comes before all others in the order.
 fn early_element(drawn: Drawn) -> Result<Element, Drawn>
     ensures early { IfOk result (λ e. (drawn ≡ OneNamed e) × (is_early drawn ≡ true)) }
     ensures late { IfErr result (λ d. (d ≡ drawn) × (is_early drawn ≡ false)) }
@@ -140,7 +140,7 @@ fn early_element(drawn: Drawn) -> Result<Element, Drawn>
     }
 }
 
-/// Counts something up, in one search for its place, or hands it back.
+/// Adds to the count of something, in one search for its place, or hands it back.
 fn count_up(held: &mut BTreeMap<Drawn, u64>, drawn: Drawn, times: u64) -> Result<(), Drawn>
     requires { unwrap_or (get derived_cmp held.old drawn) 0 + times < 2 ^ 64 }
     ensures entries { OnOk result (held.new.entries ≡ insert_entry derived_cmp held.old.entries drawn (unwrap_or (get derived_cmp held.old drawn) 0 + times)) }

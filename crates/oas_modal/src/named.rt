@@ -2,26 +2,26 @@
 
 ghost use Rattle.std.specs.Prelude.{◌≡◌, ◌⊎◌, None, Some, OnOk, IfErr};
 ghost use Rattle.oas_num.specs.declared.refusals.Why.TheVariants.{Memory};
-ghost use Rattle.oas_ahead.specs.Named.{GivesName, named_record};
-ghost use Rattle.oas_modal.specs.Standing.{MayWant};
+ghost use Rattle.oas_peek.specs.Named.{HasValidName, named_record};
+ghost use Rattle.oas_modal.specs.Standing.{MayRunOut};
 ghost use Rattle.oas_modal.specs.Parts.{Took, Sound, reason_of};
 
 use crate::parts::Parts;
 use crate::stores::CellStore;
-use oas_ahead::NamedOnce;
 use oas_num::Why;
+use oas_peek::NamedOnce;
 
-/// Draws a placement or a text that stands once in the open cell. What else refuses it comes before want of memory.
+/// Draws a placement or a text without a repetition in the open cell. Other refusals come before out of memory.
 pub(crate) fn accept_named<S: CellStore>(
     parts: &mut Parts<S>,
     next: &NamedOnce<'_>,
 ) -> Result<(), Why>
-    requires named { GivesName next.now }
+    requires named { HasValidName next.now }
     requires sound { Sound S.store parts.old }
     ensures reason { OnOk result (reason_of parts.old (named_record next.now) ≡ None) }
     ensures new { OnOk result (Took S.store parts.old (named_record next.now) parts.new) }
     ensures sound { OnOk result (Sound S.store parts.new) }
-    ensures err { IfErr result (λ why. ((why ≡ Memory) × MayWant (reason_of parts.old (named_record next.now))) ⊎ (reason_of parts.old (named_record next.now) ≡ Some why)) }
+    ensures err { IfErr result (λ why. ((why ≡ Memory) × MayRunOut (reason_of parts.old (named_record next.now))) ⊎ (reason_of parts.old (named_record next.now) ≡ Some why)) }
 {
     let Some(held) = &mut parts.cell else {
         return Err(Why::OutOfPlace(match next {

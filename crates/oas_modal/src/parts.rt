@@ -13,13 +13,13 @@ ghost use Rattle.oas_modal.specs.Stores.{held_store};
 use crate::finishing::finish;
 use crate::held::HeldCell;
 use crate::stores::CellStore;
-use oas_drawing::ModalVariables;
 use oas_layout::{Layout, Limits, Profile};
 use oas_names::NameTable;
+use oas_names::oas_drawing::ModalVariables;
 use oas_num::{Fraction, Label, Name, Why};
 use std::alloc::Global;
 
-/// What a reader keeps, with a store for each cell. The open one's stands apart from those before it.
+/// What a reader keeps, with a store for each cell. That of the open one is apart from those before it.
 #[derive(Drop)]
 pub struct Parts<S> {
     pub(crate) alloc: Global,

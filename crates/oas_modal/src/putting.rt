@@ -10,17 +10,17 @@ ghost use Rattle.oas_layout.specs.Meaning.{element_count, cells_weight};
 ghost use Rattle.oas_layout.specs.Contents.{expanded};
 ghost use Rattle.oas_names.specs.References.{cell_by};
 ghost use Rattle.oas_names.specs.Meaning.{element_by, has_twice};
-ghost use Rattle.oas_modal.specs.Finish.{drawn_cells, drawn_total, IsFit, AllFit, with_counted, counted_meant, with_counted_cell, held_meant, names_held, IsFresh, given, with_all};
+ghost use Rattle.oas_modal.specs.Finish.{drawn_cells, drawn_total, IsFit, AllFit, with_counted, counted_by_name, with_counted_cell, held_by_name, names_held, IsFresh, given, with_all};
 
 use crate::held::HeldCell;
-use oas_drawing::Drawn;
 use oas_layout::Draft;
+use oas_names::oas_drawing::Drawn;
 use oas_names::{NameTable, element_meant, name_meant};
 use oas_num::{Label, Name, Why};
 use std::alloc::Global;
 use std::collections::BTreeMap;
 
-/// Adds what is drawn so many times to a cell.
+/// Adds what is drawn to a cell, this many times.
 fn put_one(
     alloc: Global,
     draft: &mut Draft,
@@ -43,9 +43,7 @@ fn put_one(
     let Some(element) = element_meant(alloc, drawn, names, strings)? else {
         return Ok(());
     };
-    if let Err((why, _)) = draft.add_many(cell, element, times) {
-        return Err(why);
-    }
+    draft.add_many(cell, element, times)?;
     Ok(())
 }
 
@@ -63,10 +61,10 @@ fn put_drawn(
     requires fit { AllFit drawn.entries }
     requires few { element_count (expanded draft.old.cells) + length (items drawn.entries) ≤ draft.old.limits.elements }
     requires light { draft.old.spelled ≤ draft.old.limits.weight }
-    ensures ok { OnOk result (draft.new ≡ given draft.old cell (counted_meant names.now.named strings.now.named drawn.entries)) }
+    ensures ok { OnOk result (draft.new ≡ given draft.old cell (counted_by_name names.now.named strings.now.named drawn.entries)) }
     ensures light { OnOk result (draft.new.spelled ≤ draft.old.limits.weight) }
     ensures why { IfErr result (λ why. (why ≡ Memory)
-        ⊎ ((why ≡ TooHeavy) × (draft.old.limits.weight < draft.old.spelled + total weight_of (counted_meant names.now.named strings.now.named drawn.entries)))) }
+        ⊎ ((why ≡ TooHeavy) × (draft.old.limits.weight < draft.old.spelled + total weight_of (counted_by_name names.now.named strings.now.named drawn.entries)))) }
 {
     for (one, times) in drawn {
         put_one(alloc, draft, cell, one, times, names, strings)?;
@@ -74,7 +72,7 @@ fn put_drawn(
     Ok(())
 }
 
-/// Adds a cell with all that is drawn in it. What stands first in the order goes as a whole.
+/// Adds a cell with all that is drawn in it. What comes first in the order goes as a whole.
 fn put_cell(
     alloc: Global,
     draft: &mut Draft,
@@ -86,11 +84,11 @@ fn put_cell(
     requires fit { AllFit held.1 }
     requires few { element_count (expanded draft.old.cells) + length (items held.1) ≤ draft.old.limits.elements }
     requires light { draft.old.spelled ≤ draft.old.limits.weight }
-    ensures ok { OnOk result (draft.new ≡ with_all draft.old (with_counted_cell (cell_by names.now.named held.0) (counted_meant names.now.named strings.now.named held.1) [])) }
+    ensures ok { OnOk result (draft.new ≡ with_all draft.old (with_counted_cell (cell_by names.now.named held.0) (counted_by_name names.now.named strings.now.named held.1) [])) }
     ensures light { OnOk result (draft.new.spelled ≤ draft.old.limits.weight) }
     ensures why { IfErr result (λ why. (why ≡ Memory)
         ⊎ ((why ≡ TooHeavy) × (draft.old.limits.weight < draft.old.spelled
-        + cells_weight (expanded (with_counted_cell (cell_by names.now.named held.0) (counted_meant names.now.named strings.now.named held.1) []))))) }
+        + cells_weight (expanded (with_counted_cell (cell_by names.now.named held.0) (counted_by_name names.now.named strings.now.named held.1) []))))) }
 {
     let HeldCell {
         cell,
@@ -120,10 +118,10 @@ pub(crate) fn put_all(
     requires empty { draft.old.cells ≡ [] }
     requires few { drawn_total (drawn_cells cells.items) ≤ draft.old.limits.elements }
     requires light { draft.old.spelled ≤ draft.old.limits.weight }
-    ensures ok { OnOk result (draft.new ≡ with_all draft.old (held_meant names.now.named strings.now.named cells.items)) }
+    ensures ok { OnOk result (draft.new ≡ with_all draft.old (held_by_name names.now.named strings.now.named cells.items)) }
     ensures light { OnOk result (draft.new.spelled ≤ draft.old.limits.weight) }
     ensures why { IfErr result (λ why. (why ≡ Memory)
-        ⊎ ((why ≡ TooHeavy) × (draft.old.limits.weight < draft.old.spelled + cells_weight (expanded (held_meant names.now.named strings.now.named cells.items))))) }
+        ⊎ ((why ≡ TooHeavy) × (draft.old.limits.weight < draft.old.spelled + cells_weight (expanded (held_by_name names.now.named strings.now.named cells.items))))) }
 {
     for held in cells {
         put_cell(alloc, draft, held, names, strings)?;

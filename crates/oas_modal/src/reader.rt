@@ -1,12 +1,12 @@
-//! The reader: it takes record after record, and finishes to a layout.
+//! The reader: it takes record after record, and finishes with a layout.
 
 ghost use Rattle.std.specs.Prelude.{◌≡◌, ◌⊎◌, ◌++◌, ◌∷◌, [], List, None, Some, OnOk, IfOk, IfErr};
 ghost use Rattle.oas_num.specs.declared.refusals.Why.TheVariants.{Memory};
 ghost use Rattle.oas_num.specs.declared.refusals.Refusal.{Refusal as OneRefusal};
 ghost use Rattle.oas_record.specs.declared.records.Record.{Record as OneRecord};
-ghost use Rattle.oas_ahead.specs.Named.{GivesName, named_record};
-ghost use Rattle.oas_modal.specs.Standing.{MayWant};
-ghost use Rattle.oas_modal.specs.Stands.{StandsFor, refusal, records_mean, end_refusal};
+ghost use Rattle.oas_peek.specs.Named.{HasValidName, named_record};
+ghost use Rattle.oas_modal.specs.Standing.{MayRunOut};
+ghost use Rattle.oas_modal.specs.Stands.{Represents, refusal, records_mean, end_refusal};
 ghost use Rattle.oas_modal.specs.Stores.{held_store};
 ghost use Rattle.oas_modal.specs.Counted.{counted_store};
 ghost use Rattle.oas_modal.specs.Taken.{HandsOver};
@@ -21,17 +21,17 @@ use crate::parts::{Parts, layout_of};
 use crate::stores::CellStore;
 use crate::taken::{Taken, taken_of};
 use crate::taking::{accept, accept_rectangle};
-use oas_ahead::NamedOnce;
-use oas_drawing::ModalVariables;
 use oas_layout::{Layout, Limits, Profile};
 use oas_names::NameTable;
+use oas_names::oas_drawing::ModalVariables;
 use oas_num::{Fraction, Refusal, Why};
+use oas_peek::NamedOnce;
 use oas_record::{Record, Rectangle};
 use std::alloc::Global;
 use std::marker::Model;
 
-/// Takes the records of a file, one after another, with a store for each cell. It is seen as its refusal, if there was one,
-/// and what it stands for.
+/// Takes the records of a file, one after another, with a store for each cell. Contracts see its refusal, if there was one,
+/// and what it represents.
 #[derive(Drop)]
 pub struct Reader<S: CellStore = HeldCell> {
     failed: Option<Refusal>,
@@ -59,7 +59,7 @@ impl<S: CellStore> Model for Reader<S> {
     ghost invariant = { λ a. a.failed ≡ None → Sound S.store a.parts };
 }
 
-/// The refusal of a record that starts at byte `at`, which is kept for the answers from then on.
+/// The refusal of a record that starts at byte `at`, which is kept and returned from then on.
 fn keep(failed: &mut Option<Refusal>, at: u64, why: Why) -> Refusal
     ensures refusal { (result.at ≡ at) × (result.why ≡ why) }
     ensures kept { failed.new ≡ Some result }
@@ -72,7 +72,7 @@ fn keep(failed: &mut Option<Refusal>, at: u64, why: Why) -> Refusal
 impl<S: CellStore> Reader<S> {
     /// A reader of no records.
     pub fn new(alloc: Global, unit: Fraction, limits: Limits, profile: Profile) -> Reader<S>
-        ensures stands { StandsFor S.store result [] }
+        ensures stands { Represents S.store result [] }
         ensures unit { result.unit ≡ unit }
         ensures limits { result.limits ≡ limits }
         ensures profile { result.profile ≡ profile }
@@ -95,15 +95,15 @@ impl<S: CellStore> Reader<S> {
         }
     }
 
-    /// Takes one record more, which starts at byte `at`. It is refused as `refusal` says, the first reason of several; END by
-    /// `OutOfPlace`, as it is for the caller (own rule); and by `Memory` only where it isn't refused else, or for a copy
-    /// outside the grid. After a refusal the answer is the same refusal from then on.
+    /// Takes one more record, which starts at byte `at`. It is refused as `refusal` says, with the first reason of several;
+    /// END with `OutOfPlace`, as the caller handles it (own rule). It fails with `Memory` only where it isn't refused
+    /// otherwise, or for a copy outside the grid. After a refusal each call returns the same refusal.
     pub fn take(&mut self, at: u64, next: Record) -> Result<(), Refusal>
         ensures again { (e : OneRefusal) → self.old.failed ≡ Some e → (result ≡ Err e) × (self.new ≡ self.old) }
         ensures failed { IfErr result (λ e. self.new.failed ≡ Some e) }
-        ensures taken { (rs : List OneRecord) → StandsFor S.store self.old rs → OnOk result ((refusal self.old.limits rs next ≡ None) × StandsFor S.store self.new (rs ++ next ∷ [])) }
-        ensures refused { (rs : List OneRecord) → StandsFor S.store self.old rs →
-            IfErr result (λ e. (e.at ≡ at) × (((e.why ≡ Memory) × MayWant (refusal self.old.limits rs next)) ⊎ (refusal self.old.limits rs next ≡ Some e.why))) }
+        ensures taken { (rs : List OneRecord) → Represents S.store self.old rs → OnOk result ((refusal self.old.limits rs next ≡ None) × Represents S.store self.new (rs ++ next ∷ [])) }
+        ensures refused { (rs : List OneRecord) → Represents S.store self.old rs →
+            IfErr result (λ e. (e.at ≡ at) × (((e.why ≡ Memory) × MayRunOut (refusal self.old.limits rs next)) ⊎ (refusal self.old.limits rs next ≡ Some e.why))) }
         ensures unit { OnOk result (self.new.unit ≡ self.old.unit) }
         ensures limits { OnOk result (self.new.limits ≡ self.old.limits) }
         ensures profile { OnOk result (self.new.profile ≡ self.old.profile) }
@@ -118,16 +118,16 @@ impl<S: CellStore> Reader<S> {
         }
     }
 
-    /// Takes a rectangle that gives no repetition, as [`Reader::take`] takes it as a record: what it stands for then, and what
-    /// it refuses, are the same. Such rectangles are often most of a file; this way moves no record and walks over no copies.
-    /// One outside a cell is refused by `OutOfPlace`.
+    /// Takes a rectangle without a repetition, as [`Reader::take`] takes its record: what the reader then represents, and
+    /// what it refuses, are the same. Such rectangles are often most of a file; this moves no record and has no loop over
+    /// copies. One outside a cell is refused with `OutOfPlace`.
     pub fn take_rectangle(&mut self, at: u64, next: Rectangle) -> Result<(), Refusal>
         requires { next.spot.repetition ≡ None }
         ensures again { (e : OneRefusal) → self.old.failed ≡ Some e → (result ≡ Err e) × (self.new ≡ self.old) }
         ensures failed { IfErr result (λ e. self.new.failed ≡ Some e) }
-        ensures taken { (rs : List OneRecord) → StandsFor S.store self.old rs → OnOk result ((refusal self.old.limits rs (OneRecord.Rectangle next) ≡ None) × StandsFor S.store self.new (rs ++ OneRecord.Rectangle next ∷ [])) }
-        ensures refused { (rs : List OneRecord) → StandsFor S.store self.old rs →
-            IfErr result (λ e. (e.at ≡ at) × (((e.why ≡ Memory) × MayWant (refusal self.old.limits rs (OneRecord.Rectangle next))) ⊎ (refusal self.old.limits rs (OneRecord.Rectangle next) ≡ Some e.why))) }
+        ensures taken { (rs : List OneRecord) → Represents S.store self.old rs → OnOk result ((refusal self.old.limits rs (OneRecord.Rectangle next) ≡ None) × Represents S.store self.new (rs ++ OneRecord.Rectangle next ∷ [])) }
+        ensures refused { (rs : List OneRecord) → Represents S.store self.old rs →
+            IfErr result (λ e. (e.at ≡ at) × (((e.why ≡ Memory) × MayRunOut (refusal self.old.limits rs (OneRecord.Rectangle next))) ⊎ (refusal self.old.limits rs (OneRecord.Rectangle next) ≡ Some e.why))) }
         ensures unit { OnOk result (self.new.unit ≡ self.old.unit) }
         ensures limits { OnOk result (self.new.limits ≡ self.old.limits) }
         ensures profile { OnOk result (self.new.profile ≡ self.old.profile) }
@@ -142,15 +142,16 @@ impl<S: CellStore> Reader<S> {
         }
     }
 
-    /// Takes a placement or a text that stands once, whose name, if it gives one, is one, as [`Reader::take`] takes it as a record:
-    /// what it stands for then, and what it refuses, are the same. This way no record is made, and a name where none was modal.
+    /// Takes a placement or a text without a repetition, whose name, if it gives one, is valid, as [`Reader::take`] takes its
+    /// record: what the reader then represents, and what it refuses, are the same. No record is built, and a name only where
+    /// none was modal.
     pub fn take_named(&mut self, at: u64, next: &NamedOnce<'_>) -> Result<(), Refusal>
-        requires { GivesName next.now }
+        requires { HasValidName next.now }
         ensures again { (e : OneRefusal) → self.old.failed ≡ Some e → (result ≡ Err e) × (self.new ≡ self.old) }
         ensures failed { IfErr result (λ e. self.new.failed ≡ Some e) }
-        ensures taken { (rs : List OneRecord) → StandsFor S.store self.old rs → OnOk result ((refusal self.old.limits rs (named_record next.now) ≡ None) × StandsFor S.store self.new (rs ++ named_record next.now ∷ [])) }
-        ensures refused { (rs : List OneRecord) → StandsFor S.store self.old rs →
-            IfErr result (λ e. (e.at ≡ at) × (((e.why ≡ Memory) × MayWant (refusal self.old.limits rs (named_record next.now))) ⊎ (refusal self.old.limits rs (named_record next.now) ≡ Some e.why))) }
+        ensures taken { (rs : List OneRecord) → Represents S.store self.old rs → OnOk result ((refusal self.old.limits rs (named_record next.now) ≡ None) × Represents S.store self.new (rs ++ named_record next.now ∷ [])) }
+        ensures refused { (rs : List OneRecord) → Represents S.store self.old rs →
+            IfErr result (λ e. (e.at ≡ at) × (((e.why ≡ Memory) × MayRunOut (refusal self.old.limits rs (named_record next.now))) ⊎ (refusal self.old.limits rs (named_record next.now) ≡ Some e.why))) }
         ensures unit { OnOk result (self.new.unit ≡ self.old.unit) }
         ensures limits { OnOk result (self.new.limits ≡ self.old.limits) }
         ensures profile { OnOk result (self.new.profile ≡ self.old.profile) }
@@ -164,8 +165,8 @@ impl<S: CellStore> Reader<S> {
         }
     }
 
-    /// What was taken, with the stores of all cells, for a caller that finishes them; END starts at byte `at`. After a refusal
-    /// it is refused by the same one, and else for want of memory alone.
+    /// What was taken, with the stores of all cells, for a caller that finishes them; END starts at byte `at`. After a
+    /// refusal it returns the same one, and otherwise fails only out of memory.
     pub fn hand_over(self, at: u64) -> Result<Taken<S>, Refusal>
         ensures ok { IfOk result (HandsOver S.store self) }
         ensures again { (e : OneRefusal) → self.failed ≡ Some e → result ≡ Err e }
@@ -180,15 +181,15 @@ impl<S: CellStore> Reader<S> {
 }
 
 impl Reader<HeldCell> {
-    /// The layout of the records that were taken; END starts at byte `at`. It is refused as `end_refusal` says, the first
-    /// reason of several, or by `Memory`; and after a refusal by the same one.
+    /// The layout of the records that were taken; END starts at byte `at`. It is refused as `end_refusal` says, with the
+    /// first reason of several, or fails with `Memory`; after a refusal it returns the same one.
     pub fn finish(self, at: u64) -> Result<Layout, Refusal>
         ensures again { (e : OneRefusal) → self.failed ≡ Some e → result ≡ Err e }
-        ensures accepted { (rs : List OneRecord) → StandsFor held_store self rs → OnOk result (end_refusal self.limits rs ≡ None) }
-        ensures means { (rs : List OneRecord) → StandsFor held_store self rs → IfOk result (λ l. SameLayout self.profile (meaning_of l) (records_mean self.unit rs)) }
+        ensures accepted { (rs : List OneRecord) → Represents held_store self rs → OnOk result (end_refusal self.limits rs ≡ None) }
+        ensures means { (rs : List OneRecord) → Represents held_store self rs → IfOk result (λ l. SameLayout self.profile (meaning_of l) (records_mean self.unit rs)) }
         ensures limits { IfOk result (λ l. l.limits ≡ self.limits) }
         ensures profile { IfOk result (λ l. l.profile ≡ self.profile) }
-        ensures refused { (rs : List OneRecord) → StandsFor held_store self rs → IfErr result (λ e. (e.at ≡ at) × ((e.why ≡ Memory) ⊎ (end_refusal self.limits rs ≡ Some e.why))) }
+        ensures refused { (rs : List OneRecord) → Represents held_store self rs → IfErr result (λ e. (e.at ≡ at) × ((e.why ≡ Memory) ⊎ (end_refusal self.limits rs ≡ Some e.why))) }
     {
         let Reader { failed, parts } = self;
         if let Some(refusal) = failed {
@@ -203,11 +204,11 @@ impl Reader<HeldCell> {
 
 impl Reader<CountedCell> {
     /// Accepts the records that were taken; END starts at byte `at`. They are refused where, and for the reason for which,
-    /// `finish` refuses them, or by `Memory`; and after a refusal by the same one.
+    /// `finish` refuses them, or it fails with `Memory`; after a refusal it returns the same one.
     pub fn finish_counting(self, at: u64) -> Result<(), Refusal>
         ensures again { (e : OneRefusal) → self.failed ≡ Some e → result ≡ Err e }
-        ensures accepted { (rs : List OneRecord) → StandsFor counted_store self rs → OnOk result (end_refusal self.limits rs ≡ None) }
-        ensures refused { (rs : List OneRecord) → StandsFor counted_store self rs → IfErr result (λ e. (e.at ≡ at) × ((e.why ≡ Memory) ⊎ (end_refusal self.limits rs ≡ Some e.why))) }
+        ensures accepted { (rs : List OneRecord) → Represents counted_store self rs → OnOk result (end_refusal self.limits rs ≡ None) }
+        ensures refused { (rs : List OneRecord) → Represents counted_store self rs → IfErr result (λ e. (e.at ≡ at) × ((e.why ≡ Memory) ⊎ (end_refusal self.limits rs ≡ Some e.why))) }
     {
         let Reader { failed, parts } = self;
         if let Some(refusal) = failed {

@@ -1,4 +1,4 @@
-//! Laws of what a reader stands for, over the definitions alone.
+//! Laws of what a reader represents, from the definitions alone.
 
 ghost use Rattle.std.specs.Prelude.{◌≡◌, ◌↔◌, List, [], ◌∷◌, ◌++◌, reverse};
 ghost use Rattle.oas_record.specs.declared.records.Record.{Record as OneRecord};
@@ -10,13 +10,13 @@ ghost use Rattle.oas_modal.specs.Standing.{took};
 ghost use Rattle.oas_modal.specs.Stands.{seen};
 ghost use Rattle.oas_modal.specs.Stores.{HoldCells, held_store};
 
-/// One more record changes what the definitions say by itself alone. The records are listed oldest first.
+/// How one more record changes what the definitions say. The records are listed oldest first.
 pub fn one_more_record()
     ensures { (rs : List OneRecord) (r : OneRecord) → seen (reverse (rs ++ r ∷ [])) ≡ took (seen (reverse rs)) r }
 {}
 
-/// What is held of cells stands for exactly those with the same references in the same order, in each of which each thing is
-/// drawn as often.
+/// Held cells represent exactly the cells with the same references in the same order, in each of which each thing is drawn as
+/// often.
 pub fn held_cells()
     ensures { (hs : List Held) (cs : List DrawnCell) → HoldCells held_store hs cs ↔ AlikeCells (drawn_cells hs) cs }
 {}

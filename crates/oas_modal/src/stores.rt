@@ -1,30 +1,30 @@
 //! Where what the records of a CELL draw is collected.
 
 ghost use Rattle.std.specs.Prelude.{◌≡◌, ◌+◌, ◌<◌, ◌^◌, List, [], ◌∷◌, replicate, OnOk, OnErr};
-ghost use Rattle.oas_drawing.specs.declared.drawn.Drawn.{Drawn};
-ghost use Rattle.oas_drawing.specs.Named.{drawn_once};
+ghost use Rattle.oas_names.specs.oas_drawing.declared.drawn.Drawn.{Drawn};
+ghost use Rattle.oas_names.specs.oas_drawing.Named.{drawn_once};
 ghost use Rattle.oas_modal.specs.Alike.{SameDrawn};
 ghost use Rattle.oas_modal.specs.Finish.{IsFit};
 ghost use Rattle.oas_modal.specs.Stores.{Store, Draws, IsBegun};
 
-use oas_drawing::{Drawn, DrawnOnce};
+use oas_names::oas_drawing::{Drawn, DrawnOnce};
 use oas_record::CellRef;
 use std::alloc::{AllocError, Global};
 
-/// Collects what the records of one CELL draw: all of it, or what is wanted of it.
+/// Collects what the records of one CELL draw: all of it, or the part that is needed.
 pub trait CellStore: Sized + Drop {
-    /// The CELL, how many elements were drawn, and what it may stand for. A store that keeps no element may stand for any.
+    /// The CELL, how many elements were drawn, and what it may represent. A store that keeps no element may represent any.
     ghost store: { Store Self };
 
-    /// One of a CELL in which nothing is drawn.
+    /// A store for a CELL in which nothing is drawn.
     fn begin(alloc: Global, cell: CellRef) -> Self
         ensures { IsBegun store cell result };
 
-    /// The CELL that it is of.
+    /// Its CELL.
     fn cell(&self) -> &CellRef
         ensures { result.now ≡ store.cell self.now };
 
-    /// Draws something that lies within the grid so many times more. Where memory is refused nothing is drawn.
+    /// Draws something that is within the grid this many more times. If out of memory nothing is drawn.
     fn draw(&mut self, drawn: Drawn, times: u64) -> Result<(), AllocError>
         requires some { 0 < times }
         requires fit { IsFit drawn }
@@ -32,8 +32,8 @@ pub trait CellStore: Sized + Drop {
         ensures ok { OnOk result (Draws store self.old (replicate times drawn) self.new) }
         ensures err { OnErr result (Draws store self.old [] self.new) };
 
-    /// Draws something that has a name, and lies within the grid, once more. Its name is copied only where it is kept so. Where
-    /// memory is refused nothing is drawn.
+    /// Draws something that has a name, and is within the grid, once more. Its name is copied only where it is kept. If out
+    /// of memory nothing is drawn.
     fn draw_once(&mut self, alloc: Global, drawn: &DrawnOnce<'_>) -> Result<(), AllocError>
         requires fit { IsFit (drawn_once drawn.now) }
         requires room { store.count self.old + 1 < 2 ^ 64 }
@@ -44,10 +44,10 @@ pub trait CellStore: Sized + Drop {
         self.draw(drawn, 1)
     }
 
-    /// Gives back memory that only drawing wants, once all is drawn. What it may stand for stays as it is.
+    /// Gives back memory that only drawing needs, once all is drawn. What it may represent is unchanged.
     fn rest(&mut self)
         ensures { self.new ≡ self.old };
 
-    /// The order in which things are drawn makes no difference to what it may stand for.
+    /// The order in which things are drawn makes no difference to what it may represent.
     ghost alike: { (s : Self) (ds es : List Drawn) → store.Holds s ds → SameDrawn ds es → store.Holds s es };
 }

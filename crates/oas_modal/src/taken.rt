@@ -22,7 +22,7 @@ pub struct Taken<S> {
     pub cells: Vec<S>,
 }
 
-/// What was taken, of what is kept; END starts at byte `at`.
+/// What was taken, from what is kept; END starts at byte `at`.
 pub(crate) fn taken_of<S: CellStore>(parts: Parts<S>, at: u64) -> Result<Taken<S>, Refusal>
     requires { Sound S.store parts }
     ensures ok { IfOk result (HasParts S.store parts) }

@@ -1,58 +1,19 @@
 //! How each record changes what a reader keeps.
 
-ghost use Rattle.std.specs.Prelude.{◌≡◌, ◌≢◌, ◌⊎◌, None, Some, OnOk, IfErr};
+ghost use Rattle.std.specs.Prelude.{◌≡◌, ◌⊎◌, None, Some, OnOk, IfErr};
 ghost use Rattle.oas_num.specs.declared.refusals.Why.TheVariants.{Memory};
 ghost use Rattle.oas_record.specs.declared.records.Record.{Record as OneRecord};
-ghost use Rattle.oas_record.specs.Records.{id_of};
-ghost use Rattle.oas_drawing.specs.Positions.{IsNear};
-ghost use Rattle.oas_drawing.specs.Modal.{stepped};
-ghost use Rattle.oas_drawing.specs.Drawing.{kind_of};
-ghost use Rattle.oas_modal.specs.Standing.{MayWant, cell_weight};
+ghost use Rattle.oas_names.specs.oas_drawing.Drawing.{kind_of};
+ghost use Rattle.oas_modal.specs.Standing.{MayRunOut, cell_weight};
 ghost use Rattle.oas_modal.specs.Parts.{Took, Sound, cells, reason_of};
 
 use crate::copying::hold_copies;
 use crate::parts::Parts;
 use crate::stores::CellStore;
-use oas_drawing::{Kind, ModalVariables, repeats};
+use oas_names::oas_drawing::{Kind, repeats};
 use oas_num::{Label, Name, Why};
-use oas_record::{CellRef, Record, Rectangle, Turn};
+use oas_record::{CellRef, Record, Rectangle};
 use std::mem;
-
-/// Changes the modal variables by an element record, from which is taken what has memory of its own.
-fn step(modal: &mut ModalVariables, next: &mut Record)
-    requires element { kind_of next.old ≢ None }
-    requires placement { IsNear modal.old.placement }
-    requires text { IsNear modal.old.text }
-    requires geometry { IsNear modal.old.geometry }
-    ensures { modal.new ≡ stepped modal.old next.old }
-{
-    match next {
-        Record::Placement(placed) => modal.place(placed),
-        Record::Text(written) => modal.write(written),
-        Record::Rectangle(drawn) => modal.draw_rectangle(drawn),
-        Record::Polygon(drawn) => modal.draw_polygon(drawn),
-        Record::Path(drawn) => modal.draw_path(drawn),
-        Record::Circle(drawn) => modal.draw_circle(drawn),
-        _ => {}
-    }
-}
-
-/// The id of an element record.
-fn id_of_kind(kind: &Kind) -> u64
-    ensures { (r : OneRecord) → kind_of r ≡ Some kind.now → id_of r ≡ result }
-{
-    match kind {
-        Kind::Placement { turn, .. } => match turn {
-            Turn::Quarters(_) => 17,
-            Turn::Degrees { .. } => 18,
-        },
-        Kind::Text => 19,
-        Kind::Rectangle => 20,
-        Kind::Polygon => 21,
-        Kind::Path => 22,
-        Kind::Circle => 27,
-    }
-}
 
 /// Draws an element record in the open cell.
 fn draw<S: CellStore>(parts: &mut Parts<S>, kind: &Kind, next: &mut Record) -> Result<(), Why>
@@ -61,13 +22,13 @@ fn draw<S: CellStore>(parts: &mut Parts<S>, kind: &Kind, next: &mut Record) -> R
     ensures reason { OnOk result (reason_of parts.old next.old ≡ None) }
     ensures new { OnOk result (Took S.store parts.old next.old parts.new) }
     ensures sound { OnOk result (Sound S.store parts.new) }
-    ensures err { IfErr result (λ why. ((why ≡ Memory) × MayWant (reason_of parts.old next.old)) ⊎ (reason_of parts.old next.old ≡ Some why)) }
+    ensures err { IfErr result (λ why. ((why ≡ Memory) × MayRunOut (reason_of parts.old next.old)) ⊎ (reason_of parts.old next.old ≡ Some why)) }
 {
     let Some(held) = &mut parts.cell else {
-        return Err(Why::OutOfPlace(id_of_kind(kind)));
+        return Err(Why::OutOfPlace(next.id()));
     };
     let repeated = repeats(next);
-    step(&mut parts.modal, next);
+    parts.modal.step(next);
     let number = parts
         .modal
         .copies(kind, repeated, parts.limits, parts.count, parts.weight)?;
@@ -77,10 +38,10 @@ fn draw<S: CellStore>(parts: &mut Parts<S>, kind: &Kind, next: &mut Record) -> R
     Ok(())
 }
 
-/// For how many cells room is taken at once, at least.
+/// For at least this many cells room is reserved at once.
 const LEAST: usize = 4;
 
-/// For which part of those that are there it is: a quarter, so that little of it is idle.
+/// How much of the present size is reserved at once: a quarter, so that little of it is idle.
 const PART: usize = 4;
 
 /// Ends the open cell, where there is one.
@@ -104,7 +65,7 @@ fn close<S: CellStore>(parts: &mut Parts<S>) -> Result<(), Why>
     Ok(())
 }
 
-/// What a CELL weighs as long as its number has no name.
+/// The weight of a CELL as long as its number has no name.
 fn cell_weight(cell: &CellRef) -> u64
     ensures { result ≡ cell_weight cell.now }
 {
@@ -186,16 +147,11 @@ fn take_other<S: CellStore>(parts: &mut Parts<S>, next: Record) -> Result<(), Wh
             Ok(())
         }
         Record::Pad => Ok(()),
-        Record::Placement(_) => Ok(()),
-        Record::Text(_) => Ok(()),
-        Record::Rectangle(_) => Ok(()),
-        Record::Polygon(_) => Ok(()),
-        Record::Path(_) => Ok(()),
-        Record::Circle(_) => Ok(()),
+        _ => Ok(()),
     }
 }
 
-/// Draws a rectangle that gives no repetition in the open cell. It stands once, so that no copies are walked over.
+/// Draws a rectangle without a repetition in the open cell, so there is no loop over copies.
 pub(crate) fn accept_rectangle<S: CellStore>(
     parts: &mut Parts<S>,
     next: &mut Rectangle,
@@ -205,7 +161,7 @@ pub(crate) fn accept_rectangle<S: CellStore>(
     ensures reason { OnOk result (reason_of parts.old (OneRecord.Rectangle next.old) ≡ None) }
     ensures new { OnOk result (Took S.store parts.old (OneRecord.Rectangle next.old) parts.new) }
     ensures sound { OnOk result (Sound S.store parts.new) }
-    ensures err { IfErr result (λ why. ((why ≡ Memory) × MayWant (reason_of parts.old (OneRecord.Rectangle next.old))) ⊎ (reason_of parts.old (OneRecord.Rectangle next.old) ≡ Some why)) }
+    ensures err { IfErr result (λ why. ((why ≡ Memory) × MayRunOut (reason_of parts.old (OneRecord.Rectangle next.old))) ⊎ (reason_of parts.old (OneRecord.Rectangle next.old) ≡ Some why)) }
 {
     let Some(held) = &mut parts.cell else {
         return Err(Why::OutOfPlace(20));
@@ -223,14 +179,14 @@ pub(crate) fn accept_rectangle<S: CellStore>(
     Ok(())
 }
 
-/// Takes a record, where it isn't refused. What has memory of its own is taken from it.
+/// Takes a record, where it isn't refused. Memory that the record owns is moved out of it.
 #[inline(never)]
 pub(crate) fn accept<S: CellStore>(parts: &mut Parts<S>, next: &mut Record) -> Result<(), Why>
     requires { Sound S.store parts.old }
     ensures reason { OnOk result (reason_of parts.old next.old ≡ None) }
     ensures new { OnOk result (Took S.store parts.old next.old parts.new) }
     ensures sound { OnOk result (Sound S.store parts.new) }
-    ensures err { IfErr result (λ why. ((why ≡ Memory) × MayWant (reason_of parts.old next.old)) ⊎ (reason_of parts.old next.old ≡ Some why)) }
+    ensures err { IfErr result (λ why. ((why ≡ Memory) × MayRunOut (reason_of parts.old next.old)) ⊎ (reason_of parts.old next.old ≡ Some why)) }
 {
     match Kind::of(next) {
         Some(kind) => draw(parts, &kind, next),

@@ -11,7 +11,7 @@ use Rattle.oas_names.specs.declared.names.Numbering.{Numbering}
 use Rattle.oas_names.specs.declared.names.Numbering.TheVariants.{Implicit, Explicit}
 use Rattle.oas_names.specs.Names.{same_string, numbering_given, numbering_after, numbering_of, next_number, named_after, named, name_of, is_mixed, is_other, naming_reason}
 use Rattle.oas_names.specs.Names.{reason_given, name_reason, AllowedNames}
-use Rattle.oas_names.specs.Laws.NameLaws.{GivesName, HasNumbering, other_numbering, NumberingIsOfEach, StringIsGiven, NoStringIsGiven, MixedWhere, TwiceWhere}
+use Rattle.oas_names.specs.Laws.NameLaws.{HasValidName, HasNumbering, other_numbering, NumberingIsOfEach, StringIsGiven, NoStringIsGiven, MixedWhere, TwiceWhere}
 use Rattle.oas_names.proofs.NameTables.{first_false}
 
 -- ---- what the records name
@@ -72,10 +72,10 @@ numbering_of_each given rs numbering allowed = (numbering_found given rs numberi
 
 -- ---- the string of a number
 
-name_past : (given : Record → Option (List ℕ × Option ℕ)) (r : Record) (rs : List Record) (number : ℕ) (string : List ℕ) → GivesName given rs number string → GivesName given (r ∷ rs) number string
+name_past : (given : Record → Option (List ℕ × Option ℕ)) (r : Record) (rs : List Record) (number : ℕ) (string : List ℕ) → HasValidName given rs number string → HasValidName given (r ∷ rs) number string
 name_past given r rs number string h = record { after = r ∷ h.after; by = h.by; before = h.before; said = h.said; split = ap (λ xs. r ∷ xs) h.split; gave = h.gave; number_is = h.number_is }
 
--- what is found after one more name is that one, or was there
+-- what is found after one more name is that one, or was there before
 at_head : (names : List (ℕ × List ℕ)) (n m : ℕ) (s t : List ℕ) → name_of ((m, s) ∷ names) n ≡ Some t → ((n ≡ m) × (s ≡ t)) ⊎ (name_of names n ≡ Some t)
 at_head names n m s t h =
     elim (nat_eq n m) as (λ b. nat_eq n m ≡ b → cond b (Some s) (name_of names n) ≡ Some t → ((n ≡ m) × (s ≡ t)) ⊎ (name_of names n ≡ Some t)) [
@@ -86,10 +86,10 @@ at_head names n m s t h =
 head_is : (names : List (ℕ × List ℕ)) (n m : ℕ) (s : List ℕ) → n ≡ m → name_of ((m, s) ∷ names) n ≡ Some s
 head_is names n m s e = grind (arith, nat_tests)
 
-pub string_found : (given : Record → Option (List ℕ × Option ℕ)) (rs : List Record) (number : ℕ) (string : List ℕ) → name_of (named given rs) number ≡ Some string → GivesName given rs number string
+pub string_found : (given : Record → Option (List ℕ × Option ℕ)) (rs : List Record) (number : ℕ) (string : List ℕ) → name_of (named given rs) number ≡ Some string → HasValidName given rs number string
 string_found given [] number string h = cc
 string_found given (r ∷ rs) number string h =
-    elim (given r) as (λ o. given r ≡ o → name_of (named_after o (next_number given rs) (named given rs)) number ≡ Some string → GivesName given (r ∷ rs) number string) [
+    elim (given r) as (λ o. given r ≡ o → name_of (named_after o (next_number given rs) (named given rs)) number ≡ Some string → HasValidName given (r ∷ rs) number string) [
       | None ↦ λ e k. name_past given r rs number string (string_found given rs number string k)
       | Some g ↦ λ e k. elim (at_head (named given rs) number (unwrap_or g.1 (next_number given rs)) g.0 string k) [
         | inl w ↦ record { after = []; by = r; before = rs; said = g.1; split = refl; gave = e ∙ ap (λ (s : List ℕ). Some (s, g.1)) w.1; number_is = w.0 }
@@ -135,7 +135,7 @@ string_at given (r ∷ rs) number string (a ∷ after) by before said allowed sp
     let rest : rs ≡ after ++ by ∷ before = cc in
     string_stays (given r) (numbering_of given rs) (next_number given rs) (named given rs) number string (string_at given rs number string after by before said allowed.0 rest gave is) allowed.1
 
-string_only : (given : Record → Option (List ℕ × Option ℕ)) (rs : List Record) (number : ℕ) (string : List ℕ) → AllowedNames same_string given rs → GivesName given rs number string
+string_only : (given : Record → Option (List ℕ × Option ℕ)) (rs : List Record) (number : ℕ) (string : List ℕ) → AllowedNames same_string given rs → HasValidName given rs number string
     → name_of (named given rs) number ≡ Some string
 string_only given rs number string allowed h = string_at given rs number string h.after h.by h.before h.said allowed h.split h.gave h.number_is
 
@@ -207,7 +207,7 @@ twice_second false false h = cc
 no_other : (numbering : Option Numbering) (f : Numbering) → is_mixed numbering f ≡ false → numbering ≡ Some (other_numbering f) → ⊥
 no_other numbering f h e = let yes = ap (λ (x : Option Numbering). is_mixed x f) e ∙ is_mixed-other f in cc
 
--- the reason of a record that gives this
+-- the reason for a record that gives this
 reason_is : (given : Record → Option (List ℕ × Option ℕ)) (before : List Record) (r : Record) (string : List ℕ) (number : Option ℕ) → given r ≡ Some (string, number)
     → name_reason same_string given before r ≡ naming_reason same_string (numbering_of given before) (next_number given before) (named given before) string number
 reason_is given before r string number e = ap (λ o. reason_given same_string (numbering_of given before) (next_number given before) (named given before) o) e
@@ -261,9 +261,9 @@ twice_where given before r string number allowed e =
 
 -- ---- more records
 
-pub allowed_front : (given : Record → Option (List ℕ × Option ℕ)) (later before : List Record) → AllowedNames same_string given (later ++ before) → AllowedNames same_string given before
-allowed_front given [] before allowed = allowed
-allowed_front given (r ∷ later) before allowed = allowed_front given later before allowed.0
+pub allowed_prefix : (given : Record → Option (List ℕ × Option ℕ)) (later before : List Record) → AllowedNames same_string given (later ++ before) → AllowedNames same_string given before
+allowed_prefix given [] before allowed = allowed
+allowed_prefix given (r ∷ later) before allowed = allowed_prefix given later before allowed.0
 
 pub names_stay : (given : Record → Option (List ℕ × Option ℕ)) (later before : List Record) (number : ℕ) (string : List ℕ) → AllowedNames same_string given (later ++ before)
     → name_of (named given before) number ≡ Some string → name_of (named given (later ++ before)) number ≡ Some string

@@ -1,4 +1,4 @@
--- Tables of names against the records for which they stand.
+-- Tables of names, and the records that they represent.
 use Rattle.std.proofs.Common.{◌≡◌, ◌≢◌, ℕ, ◌+◌, ◌≤◌, List, [], ◌∷◌, length, refl, ◌∙◌, ap, arith, Bool, true, false, cond}
 use Rattle.std.specs.Prelude.{Option, None, Some, unwrap_or, nat_eq}
 use Rattle.std.specs.Ordering.{nat_cmp}
@@ -11,7 +11,7 @@ use Rattle.oas_drawing.specs.Reasons.{first_of}
 use Rattle.oas_names.specs.declared.names.Numbering.{Numbering}
 use Rattle.oas_names.specs.declared.names.Numbering.TheVariants.{Implicit, Explicit}
 use Rattle.oas_names.specs.Names.{numbering_given, numbering_after, numbering_of, counted, next_after, next_number, named_after, named, name_of, is_mixed, is_other, naming_reason}
-use Rattle.oas_names.specs.Names.{reason_given, name_reason, Table, no_names, table_reason, with_name, NamesStand}
+use Rattle.oas_names.specs.Names.{reason_given, name_reason, Table, no_names, table_reason, with_name, TableRepresents}
 
 -- ---- one entry more
 
@@ -84,17 +84,17 @@ more_given : {S : Type 0} (same : S → S → Bool) (t : Table S) (numbering : O
 more_given same t numbering next names None h none = h
 more_given same t numbering next names (Some g) h none = more_named same t numbering next names g.0 g.1 h none
 
-pub one_more : {S : Type 0} (same : S → S → Bool) (given : Record → Option (S × Option ℕ)) (t : Table S) (before : List Record) (r : Record) → NamesStand given t before
-    → name_reason same given before r ≡ None → NamesStand given (with_name t (given r)) (r ∷ before)
+pub one_more : {S : Type 0} (same : S → S → Bool) (given : Record → Option (S × Option ℕ)) (t : Table S) (before : List Record) (r : Record) → TableRepresents given t before
+    → name_reason same given before r ≡ None → TableRepresents given (with_name t (given r)) (r ∷ before)
 one_more same given t before r h none =
     let had : HasNames t (numbering_of given before) (next_number given before) (named given before) = record { numbering_is = h.numbering; agrees = h.agrees; next_is = h.next; free = h.free } in
     let has = more_given same t (numbering_of given before) (next_number given before) (named given before) (given r) had none in
     record { numbering = has.numbering_is; agrees = has.agrees; next = has.next_is; free = has.free }
 
-pub none_stand : {S : Type 0} (given : Record → Option (S × Option ℕ)) → NamesStand given no_names []
+pub none_stand : {S : Type 0} (given : Record → Option (S × Option ℕ)) → TableRepresents given no_names []
 none_stand given = record { numbering = refl; agrees = λ q. refl; next = λ f. refl; free = λ f q le. refl }
 
--- what isn't asked where the first condition holds
+-- what isn't tested where the first condition holds
 first_or : (a b b' : Bool) (w x : Why) → (a ≡ false → b ≡ b') → first_of ((a, w) ∷ (b, x) ∷ []) ≡ first_of ((a, w) ∷ (b', x) ∷ [])
 first_or true b b' w x f = refl
 first_or false b b' w x f = ap (λ c. first_of ((c, x) ∷ [])) (f refl)
@@ -110,7 +110,7 @@ same_given : {S : Type 0} (same : S → S → Bool) (t : Table S) (numbering : O
 same_given same t numbering next names None h = refl
 same_given same t numbering next names (Some g) h = same_naming same t numbering next names g.0 g.1 h
 
-pub same_reason : {S : Type 0} (same : S → S → Bool) (given : Record → Option (S × Option ℕ)) (t : Table S) (before : List Record) (r : Record) → NamesStand given t before
+pub same_reason : {S : Type 0} (same : S → S → Bool) (given : Record → Option (S × Option ℕ)) (t : Table S) (before : List Record) (r : Record) → TableRepresents given t before
     → table_reason same t (given r) ≡ name_reason same given before r
 same_reason same given t before r h =
     let had : HasNames t (numbering_of given before) (next_number given before) (named given before) = record { numbering_is = h.numbering; agrees = h.agrees; next_is = h.next; free = h.free } in

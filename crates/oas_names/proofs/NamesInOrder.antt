@@ -1,4 +1,4 @@
--- Names of which those of 0, 1, 2, .. stand in a list, and all others beside their numbers.
+-- Names with the numbers 0, 1, 2, .. in a list, and all others with their numbers.
 use Rattle.std.proofs.Common.{◌≡◌, ℕ, zero, suc, ◌+◌, ◌<◌, ◌≤◌, ◌^◌, List, [], ◌∷◌, ◌++◌, length, refl, sym, ◌∙◌, ap, subst, arith, Option, Some, None, length-append}
 use Rattle.std.specs.Prelude.{nat_eq, slice_set, slice_index_or}
 use Rattle.std.specs.Ordering.{nat_cmp, match_ordering}
@@ -81,11 +81,11 @@ module _ {S : Type 0} where
   push_from first [] others n v e = ap (λ (k : ℕ). (k, v) ∷ others) (omega (arith, e))
   push_from first (s ∷ ss) others n v e = ap (λ (es : List (ℕ × S)). (first, s) ∷ es) (push_from (first + 1) ss others n v (omega (arith, e)))
 
-  -- in the place of one in order
+  -- in place of one in order
   pub insert_place : (ss : List S) (others : List (ℕ × S)) (q : ℕ) (v : S) → q < length ss → insert_entry nat_cmp (numbered 0 ss ++ others) q v ≡ numbered 0 (slice_set ss q v) ++ others
   insert_place ss others q v h = insert_within 0 ss others q q v (omega arith) h
 
-  -- behind those in order
+  -- after those in order
   pub insert_next : (ss : List S) (others : List (ℕ × S)) (q : ℕ) (v : S) → q ≡ length ss → AllFrom (length ss) others → lookup (nat_eq q) others ≡ None
       → insert_entry nat_cmp (numbered 0 ss ++ others) q v ≡ numbered 0 (ss ++ v ∷ []) ++ others
   insert_next ss others q v e later none =
@@ -97,7 +97,7 @@ module _ {S : Type 0} where
   pub insert_past : (ss : List S) (others : List (ℕ × S)) (q : ℕ) (v : S) → length ss ≤ q → insert_entry nat_cmp (numbered 0 ss ++ others) q v ≡ numbered 0 ss ++ insert_entry nat_cmp others q v
   insert_past ss others q v h = insert_from 0 ss others q v (omega (arith, h))
 
-  -- ---- apart still
+  -- ---- still apart
 
   pub from_more : (n : ℕ) (others : List (ℕ × S)) → AllFrom n others → lookup (nat_eq n) others ≡ None → AllFrom (n + 1) others
   from_more n [] later none = tt
@@ -117,7 +117,7 @@ module _ {S : Type 0} where
         | Greater ↦ (later.0, from_inserted n es q v h later.1)
       ]
 
-  -- where so many are in order, and one more
+  -- where this many are in order, and one more
   pub apart_next : (ss more : List S) (es : List (ℕ × S)) (q : ℕ) (v : S) → more ≡ ss ++ v ∷ [] → AreApart (length ss) es → q ≡ length ss → q < 2 ^ 62 → lookup (nat_eq q) es ≡ None
       → AreApart (length more) es
   apart_next ss more es q v is apart e few none =
@@ -129,7 +129,7 @@ module _ {S : Type 0} where
   apart_past ss es fs q v apart h is =
       subst (AreApart (length ss)) (sym is) (record { later = from_inserted (length ss) es q v h apart.later; few = apart.few })
 
-  -- ---- the table that is seen
+  -- ---- the table as contracts see it
 
   abbrev table : Option Numbering → List (ℕ × S) → Table S
   table numbering names = record { numbering = numbering; named = names }
@@ -142,7 +142,7 @@ module _ {S : Type 0} where
     pub put_place : (q : ℕ) (v : S) → q < length ss → table numbering (numbered 0 (slice_set ss q v) ++ es) ≡ with_string t q v
     put_place q v h = ap (table numbering) (sym (insert_place ss es q v h)) ∙ ap (λ (u : Table S). with_string u q v) view
 
-    -- behind those in order
+    -- after those in order
     pub put_next : (q : ℕ) (v : S) (more : List S) → q ≡ length ss → AreApart (length ss) es → lookup (nat_eq q) es ≡ None → more ≡ ss ++ v ∷ [] → table numbering (numbered 0 more ++ es) ≡ with_string t q v
     put_next q v more e apart none is =
         ap (λ (xs : List S). table numbering (numbered 0 xs ++ es)) is

@@ -1,4 +1,4 @@
--- What references mean by tables and by records, and where a name is lacking.
+-- What references mean by tables and by records, and where a name is missing.
 use Rattle.std.proofs.Common.{◌≡◌, ℕ, List, [], ◌∷◌, ◌++◌, refl, ◌∙◌, ap, ◌⊎◌, inl, inr, Bool, true, false, ◌||◌}
 use Rattle.std.specs.Prelude.{Option, None, Some, is_none, IsTrue, ◌↔◌}
 use Rattle.oas_record.specs.declared.records.Record.{Record}
@@ -6,7 +6,7 @@ use Rattle.oas_record.specs.declared.references.CellRef.{CellRef}
 use Rattle.oas_record.specs.declared.references.CellRef.TheVariants as cell
 use Rattle.oas_record.specs.declared.references.TextRef.{TextRef}
 use Rattle.oas_record.specs.declared.references.TextRef.TheVariants as text
-use Rattle.oas_names.specs.Names.{Table, NamesStand, cell_names, text_strings, named, name_of}
+use Rattle.oas_names.specs.Names.{Table, TableRepresents, cell_names, text_strings, named, name_of}
 use Rattle.oas_names.specs.References.{cell_by, string_by, cell_used, string_used, is_unknown, uses_unknown, lacks_name, IsUsed}
 use Rattle.oas_names.specs.Laws.NameLaws.{UsesUnknown}
 use Rattle.oas_names.proofs.NameLemmas.{no_string_is_given}
@@ -19,7 +19,7 @@ pub same_string_by : (names names' : List (ℕ × List ℕ)) (text : TextRef) �
 same_string_by names names' (text.Number number) h = h number
 same_string_by names names' (text.Label label) h = refl
 
--- ---- names that are lacking
+-- ---- names that are missing
 
 some_true : (a b : Bool) → a || b ≡ true → (a ≡ true) ⊎ (b ≡ true)
 some_true true b h = inl refl
@@ -82,7 +82,7 @@ same_uses : (used : Record → Option ℕ) (names names' : List (ℕ × List ℕ
 same_uses used names names' [] h = refl
 same_uses used names names' (r ∷ rs) h = ap (λ b. b || uses_unknown used names rs) (same_unknown names names' (used r) h) ∙ ap (λ b. is_unknown names' (used r) || b) (same_uses used names names' rs h)
 
-pub lacks_tables : (cells strings : Table (List ℕ)) (rs : List Record) → NamesStand cell_names cells rs → NamesStand text_strings strings rs
+pub lacks_tables : (cells strings : Table (List ℕ)) (rs : List Record) → TableRepresents cell_names cells rs → TableRepresents text_strings strings rs
     → uses_unknown cell_used cells.named rs || uses_unknown string_used strings.named rs ≡ lacks_name rs
 lacks_tables cells strings rs c s =
     ap (λ b. b || uses_unknown string_used strings.named rs) (same_uses cell_used cells.named (named cell_names rs) rs c.agrees) ∙

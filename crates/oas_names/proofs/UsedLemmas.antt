@@ -1,4 +1,4 @@
--- How often numbers are used after more of one.
+-- How often numbers are used after one is used once more.
 use Rattle.std.proofs.Common.{◌≡◌, ℕ, ◌+◌, ◌*◌, ◌<◌, ◌≤◌, List, [], ◌∷◌, true, false, Some, unwrap_or, cond, sym, ◌∙◌, ap, subst, arith}
 use Rattle.std.proofs.lemmas.Map.Lookups.{exact_unsigned}
 use Rattle.std.specs.Cmp.{nat_cmp_total}
@@ -11,7 +11,7 @@ use Rattle.oas_layout.specs.Bag.{put_more}
 use Rattle.oas_layout.specs.Laws.BagLaws.{total, total-put_more, insert_entry-count}
 use Rattle.oas_names.specs.Weights.{AllUsed}
 
--- numbers that compare alike are equal
+-- numbers that compare as equal are equal
 exact_nat : (k x : ℕ) → nat_cmp k x ≡ Equal → x ≡ k
 exact_nat k x e = sym (exact_unsigned k x e)
 
@@ -32,7 +32,7 @@ total_more f ps k n = total-put_more nat_cmp f ps k n (λ x h. ap f (exact_nat k
 pub few_more : (ps : List (ℕ × ℕ)) (k n c : ℕ) → total (λ _. 1) ps ≤ c → total (λ _. 1) (put_more nat_cmp ps k n) ≤ c + n
 few_more ps k n c h = omega (arith, h, total_more (λ _. 1) ps k n)
 
--- and each is used still
+-- and each is still used
 pub used_more : (ps : List (ℕ × ℕ)) (k n : ℕ) → 0 < n → AllUsed ps → AllUsed (put_more nat_cmp ps k n)
 used_more [] k n h a = (h, tt)
 used_more (p ∷ ps) k n h a =

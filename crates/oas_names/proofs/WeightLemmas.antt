@@ -1,4 +1,4 @@
--- What names weigh, and how weights are added.
+-- The weight of names, and how weights are added.
 use Rattle.std.proofs.Common.{◌≡◌, ℕ, zero, suc, ◌+◌, ◌*◌, ◌<◌, List, [], ◌∷◌, Bool, true, false, cond, ◌||◌, Option, None, Some, length, unwrap_or, refl, sym, ◌∙◌, ap, subst, arith}
 use Rattle.std.specs.Prelude.{nat_lt, is_none, min, ◌^◌, ◌-◌}
 use Rattle.std.proofs.lemmas.Bool.Decides.{nat_tests}
@@ -6,7 +6,7 @@ use Rattle.oas_layout.specs.Laws.BagLaws.{total}
 use Rattle.oas_names.specs.Names.{name_of}
 use Rattle.oas_names.specs.Weights.{capped, AllUsed, joined, name_weight, names_weight}
 
--- ---- weights as far as 64 bits tell them
+-- ---- weights capped to 64 bits
 
 min_more : (m a b : ℕ) → min (min a m + min b m) m ≡ min (a + b) m
 min_more m a b = grind arith
@@ -17,7 +17,7 @@ capped_more a b = min_more (2 ^ 64 - 1) a b
 min_capped : (m v a : ℕ) → min (v + a) m ≡ min (v + min (a * 1) m) m
 min_capped m v a = grind arith
 
--- once what it weighs
+-- once its weight
 pub capped_once : (v a : ℕ) → capped (v + a) ≡ capped (v + capped (a * 1))
 capped_once v a = min_capped (2 ^ 64 - 1) v a
 
@@ -40,7 +40,7 @@ joined_if false false v w = ap Some (capped_more v w)
 pub joined_known : (a b v w : ℕ) → joined (known a v) (known b w) ≡ known (a + b) (v + w)
 joined_known a b v w = joined_if (nat_lt 0 a) (nat_lt 0 b) v w ∙ ap (λ t. cond t None (Some (capped (v + w)))) (either_lacks a b)
 
--- what a number counts for that has no name
+-- what a number without a name counts for
 abbrev pub unnamed : List (ℕ × List ℕ) → ℕ → ℕ
 unnamed names k = cond (is_none (name_of names k)) 1 0
 
@@ -61,7 +61,7 @@ names_known names (p ∷ ps) h =
 
 -- ---- weights that are added one after another
 
--- so much is added, and the rest makes it the whole
+-- this much is added, and the rest makes it the whole
 pub record Adding (now : ℕ) (rest whole : Option ℕ) : Type 0 where
   pub exact : capped now ≡ now
   pub joins : joined (Some now) rest ≡ whole

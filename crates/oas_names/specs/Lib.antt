@@ -4,3 +4,4 @@ pub mod References
 pub mod Meaning
 pub mod Weights
 pub mod Laws
+pub use Rattle.oas_drawing.specs as oas_drawing

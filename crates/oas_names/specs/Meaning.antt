@@ -20,52 +20,52 @@ use Rattle.oas_drawing.specs.Reasons.{first_of}
 use Rattle.oas_names.specs.Names.{name_of, same_string}
 use Rattle.oas_names.specs.References.{cell_by}
 
--- a CELL's reference, and what its records draw, a thing as often as they draw it
+-- a CELL's reference, and what its records draw, each thing as often as they draw it
 abbrev pub DrawnCell : Type 0
 DrawnCell = CellRef × List Drawn
 
--- the element that is meant; None where its number has no name
+-- the element; None where its number has no name
 abbrev pub element_by : List (ℕ × List ℕ) → List (ℕ × List ℕ) → Drawn → Option Element
 element_by names strings (Named e) = Some e
 element_by names strings (PlacementBy number x y turns flip) = option_map (λ cell. Placement cell x y turns flip) (name_of names number)
 element_by names strings (TextBy number textlayer texttype x y) = option_map (λ string. Text string textlayer texttype x y) (name_of strings number)
 
--- an element more, where there is one
+-- one more element, where there is one
 abbrev pub with_element : Option Element → List Element → List Element
 with_element None es = es
 with_element (Some e) es = e ∷ es
 
--- the elements that are meant, where no number lacks a name
-abbrev pub elements_meant : List (ℕ × List ℕ) → List (ℕ × List ℕ) → List Drawn → List Element
-elements_meant names strings [] = []
-elements_meant names strings (d ∷ ds) = with_element (element_by names strings d) (elements_meant names strings ds)
+-- the elements, where no number lacks a name
+abbrev pub elements_by_name : List (ℕ × List ℕ) → List (ℕ × List ℕ) → List Drawn → List Element
+elements_by_name names strings [] = []
+elements_by_name names strings (d ∷ ds) = with_element (element_by names strings d) (elements_by_name names strings ds)
 
--- a cell more, where it has a name
+-- one more cell, where it has a name
 abbrev pub with_named : Option (List ℕ) → List Element → List (List ℕ × List Element) → List (List ℕ × List Element)
 with_named None es cs = cs
 with_named (Some name) es cs = (name, es) ∷ cs
 
--- the cells that are meant, where no number lacks a name
-abbrev pub cells_meant : List (ℕ × List ℕ) → List (ℕ × List ℕ) → List DrawnCell → List (List ℕ × List Element)
-cells_meant names strings [] = []
-cells_meant names strings (c ∷ cs) = with_named (cell_by names c.0) (elements_meant names strings c.1) (cells_meant names strings cs)
+-- the cells, where no number lacks a name
+abbrev pub cells_by_name : List (ℕ × List ℕ) → List (ℕ × List ℕ) → List DrawnCell → List (List ℕ × List Element)
+cells_by_name names strings [] = []
+cells_by_name names strings (c ∷ cs) = with_named (cell_by names c.0) (elements_by_name names strings c.1) (cells_by_name names strings cs)
 
--- the unit, and by name the elements
+-- the unit, and for each name the elements
 abbrev pub meaning_by : List (ℕ × List ℕ) → List (ℕ × List ℕ) → Ratio → List DrawnCell → Meaning
-meaning_by names strings unit cs = record { unit = unit; cells = cells_meant names strings cs }
+meaning_by names strings unit cs = record { unit = unit; cells = cells_by_name names strings cs }
 
 -- a number that has no name
 abbrev pub is_unnamed : List (ℕ × List ℕ) → List (ℕ × List ℕ) → Drawn → Bool
 is_unnamed names strings d = is_none (element_by names strings d)
 
--- a cell that has such a number, or is one
+-- a cell that draws such a number, or is one
 abbrev pub cell_lacks : List (ℕ × List ℕ) → List (ℕ × List ℕ) → DrawnCell → Bool
 cell_lacks names strings c = is_none (cell_by names c.0) || list_any (is_unnamed names strings) c.1
 
 abbrev pub lacks_name : List (ℕ × List ℕ) → List (ℕ × List ℕ) → List DrawnCell → Bool
 lacks_name names strings cs = list_any (cell_lacks names strings) cs
 
--- a name stands twice
+-- a name occurs twice
 abbrev pub has_twice : List (List ℕ) → Bool
 has_twice [] = false
 has_twice (name ∷ names) = list_any (same_string name) names || has_twice names
@@ -75,19 +75,19 @@ abbrev pub end_reason : List (ℕ × List ℕ) → List (ℕ × List ℕ) → Li
 end_reason names strings limits cs =
     first_of (
     (lacks_name names strings cs, UnknownReference)
-    ∷ (has_twice (keys_of (cells_meant names strings cs)), DuplicateCell)
-    ∷ (nat_lt limits.weight (cells_weight (cells_meant names strings cs)), TooHeavy)
+    ∷ (has_twice (keys_of (cells_by_name names strings cs)), DuplicateCell)
+    ∷ (nat_lt limits.weight (cells_weight (cells_by_name names strings cs)), TooHeavy)
     ∷ []
     )
 
--- more of what is drawn, in the last cell
+-- more that is drawn, in the last cell
 abbrev pub in_last : List Drawn → List DrawnCell → List DrawnCell
 in_last ds [] = []
 in_last ds (c ∷ []) = (c.0, c.1 ++ ds) ∷ []
 in_last ds (c ∷ b ∷ cs) = c ∷ in_last ds (b ∷ cs)
 
--- The cells of these records, which are listed newest first, in the order of the file. `elements_at` is what a record
--- draws after those before it.
+-- The cells of these records, which are listed newest first, in the order of the file. `elements_at` is what a record draws
+-- after those before it.
 abbrev pub cells_drawn : (Record → List Record → List Drawn) → List Record → List DrawnCell
 cells_drawn elements_at [] = []
 cells_drawn elements_at (record_of.Cell c ∷ before) = cells_drawn elements_at before ++ (c, []) ∷ []

@@ -1,5 +1,5 @@
 -- The numbers that name records give to strings (SEMI P39, CELLNAME record, TEXTSTRING record). Records are listed newest
--- first. `given` is a class of name records: of a record of the class the string, and the number where it gives one; of any
+-- first. `given` is a class of name records: for a record of the class the string, and the number where it gives one; for any
 -- other record None.
 use Rattle.std.specs.Prelude.{◌≡◌, ◌≢◌, ℕ, ◌+◌, ◌≤◌, nat_eq, ◌==◌, Bool, true, false, not, List, [], ◌∷◌, length, Option, None, Some, unwrap_or}
 use Rattle.std.specs.Ordering.{nat_cmp}
@@ -24,7 +24,7 @@ abbrev pub text_strings : Record → Option (List ℕ × Option ℕ)
 text_strings (record_of.TextString label number) = Some (label, number)
 text_strings _ = None
 
--- the numbering of a record that gives this number, or none
+-- the numbering of a record with this number, or with none
 abbrev pub numbering_given : Option ℕ → Numbering
 numbering_given None = Implicit
 numbering_given (Some number) = Explicit
@@ -34,7 +34,7 @@ abbrev pub counted : Option ℕ → ℕ → ℕ
 counted None n = n + 1
 counted (Some number) n = n
 
--- whether a class that has this numbering already has records of the other one
+-- whether a class with this numbering already has records of the other one
 abbrev pub is_mixed : Option Numbering → Numbering → Bool
 is_mixed None numbering = false
 is_mixed (Some Implicit) Implicit = false
@@ -42,7 +42,7 @@ is_mixed (Some Implicit) Explicit = true
 is_mixed (Some Explicit) Implicit = true
 is_mixed (Some Explicit) Explicit = false
 
--- what a table holds: its numbering, and numbers with their strings
+-- a table's contents: its numbering, and numbers with their strings
 pub record Table (S : Type 0) : Type 0 where
   pub numbering : Option Numbering
   pub named : List (ℕ × S)
@@ -117,7 +117,7 @@ module _ {S : Type 0} where
 
   -- a table has the numbering of these records, and names each number as they do. As long as none of them gives a number, it
   -- has as many names as there are implicit records, and no number from there on has a name
-  pub record NamesStand (given : Record → Option (S × Option ℕ)) (t : Table S) (rs : List Record) : Type 0 where
+  pub record TableRepresents (given : Record → Option (S × Option ℕ)) (t : Table S) (rs : List Record) : Type 0 where
     pub numbering : t.numbering ≡ numbering_of given rs
     pub agrees : (number : ℕ) → name_of t.named number ≡ name_of (named given rs) number
     pub next : numbering_of given rs ≢ Some Explicit → length t.named ≡ next_number given rs

@@ -1,4 +1,4 @@
--- What references to names mean: cells in CELL and PLACEMENT records, strings in TEXT records, each itself or by a number.
+-- What references to names mean: cells in CELL and PLACEMENT records, strings in TEXT records, each by itself or by a number.
 -- Records are listed newest first; numbers are looked up in the whole file.
 use Rattle.std.specs.Prelude.{◌≡◌, ℕ, Bool, false, ◌||◌, List, [], ◌∷◌, ◌++◌, Option, None, Some, is_none}
 use Rattle.oas_record.specs.declared.records.Record.{Record}
@@ -9,12 +9,12 @@ use Rattle.oas_record.specs.declared.references.TextRef.{TextRef}
 use Rattle.oas_record.specs.declared.references.TextRef.TheVariants as text
 use Rattle.oas_names.specs.Names.{cell_names, text_strings, named, name_of}
 
--- the cell that is meant, where each number has these names; None where a number has none
+-- the cell, where each number has these names; None where a number has none
 abbrev pub cell_by : List (ℕ × List ℕ) → CellRef → Option (List ℕ)
 cell_by names (cell.Number number) = name_of names number
 cell_by names (cell.Name name) = Some name
 
--- the string that is meant, likewise
+-- the string, likewise
 abbrev pub string_by : List (ℕ × List ℕ) → TextRef → Option (List ℕ)
 string_by names (text.Number number) = name_of names number
 string_by names (text.Label label) = Some label
@@ -55,7 +55,7 @@ abbrev pub uses_unknown : (Record → Option ℕ) → List (ℕ × List ℕ) →
 uses_unknown used names [] = false
 uses_unknown used names (r ∷ rs) = is_unknown names (used r) || uses_unknown used names rs
 
--- whether a number is used in the file of these records that no name record of it names; refused by UnknownReference at END
+-- whether a number is used in the file of these records that no name record of it names; refused with UnknownReference at END
 abbrev pub lacks_name : List Record → Bool
 lacks_name rs = uses_unknown cell_used (named cell_names rs) rs || uses_unknown string_used (named text_strings rs) rs
 

@@ -1,4 +1,4 @@
--- What the names of numbers weigh, each as often as its number is used.
+-- The weight of the names of numbers, each as often as its number is used.
 use Rattle.std.specs.Prelude.{ℕ, ◌+◌, ◌*◌, ◌<◌, ◌-◌, ◌^◌, min, List, [], ◌∷◌, length, Option, None, Some}
 use Rattle.std.specs.List.{AllByRecursion}
 use Rattle.oas_names.specs.Names.{name_of}
@@ -7,7 +7,7 @@ use Rattle.oas_names.specs.Names.{name_of}
 abbrev pub AllUsed : List (ℕ × ℕ) → Type 0
 AllUsed ps = AllByRecursion (λ p. 0 < p.1) ps
 
--- a weight, as far as 64 bits tell it: it is more than any limits allow where it isn't exact
+-- a weight, capped to 64 bits: where it isn't exact it exceeds all limits
 abbrev pub capped : ℕ → ℕ
 capped n = min n (2 ^ 64 - 1)
 
@@ -19,7 +19,7 @@ joined None b = None
 joined (Some a) None = None
 joined (Some a) (Some b) = Some (capped (a + b))
 
--- so many times a name
+-- a name this many times
 abbrev pub name_weight : Option (List ℕ) → ℕ → Option ℕ
 name_weight None n = None
 name_weight (Some name) n = Some (capped (n * length name))

@@ -1,4 +1,4 @@
-//! What a reference, and what is drawn by one, means by the tables of the whole file.
+//! The meaning of a reference, and of what is drawn with one, by the tables of the whole file.
 
 ghost use Rattle.std.specs.Prelude.{◌≡◌, IfOk, IfErr};
 ghost use Rattle.std.specs.Option.{option_copied};
@@ -14,7 +14,7 @@ use oas_num::{Label, Name, Why};
 use oas_record::CellRef;
 use std::alloc::Global;
 
-/// The name of the cell that is meant, by the table of the whole file; None where it is a number that no record names.
+/// The name of the cell, by the table of the whole file; None where it is a number that no record names.
 pub fn cell_meant<'a>(names: &'a NameTable<Name>, cell: &'a CellRef) -> Option<&'a Name>
     ensures { option_copied result ≡ cell_by names.now.named cell.now }
 {
@@ -35,7 +35,7 @@ pub fn is_unnamed(drawn: &Drawn, names: &NameTable<Name>, strings: &NameTable<La
     }
 }
 
-/// The element that is meant; None where its number has no name. A name behind a number is copied.
+/// The element; None where its number has no name. The name of a number is copied.
 pub fn element_meant(
     alloc: Global,
     drawn: Drawn,
@@ -76,7 +76,7 @@ pub fn element_meant(
     }
 }
 
-/// The name of the cell that is meant; None where it is a number that has none.
+/// The name of the cell; None where it is a number that has none.
 pub fn name_meant(
     alloc: Global,
     cell: CellRef,

@@ -1,30 +1,30 @@
-//! Laws of the numbers of names, over the definitions alone. A class of name records is a function `given`: of a record of
-//! the class it is the string and the number that it gives, of any other record None.
+//! Laws of the numbers of names, from the definitions alone. A class of name records is a function `given`: for a record of
+//! the class it returns the string and the number that the record gives, for any other record None.
 
 ghost use Rattle.std.specs.Prelude.{◌≡◌, ◌↔◌, ◌⊎◌, ◌||◌, IsTrue, ℕ, List, [], Option, None};
 ghost use Rattle.oas_record.specs.declared.records.Record.{Record as OneRecord};
 ghost use Rattle.oas_record.specs.declared.records.Record.TheVariants as record_of;
 ghost use Rattle.oas_record.specs.declared.references.CellRef.{CellRef};
 ghost use Rattle.oas_record.specs.declared.references.TextRef.{TextRef};
-ghost use Rattle.oas_names.specs.Names.{Table, NamesStand, no_names, cell_names, text_strings, named, same_string};
+ghost use Rattle.oas_names.specs.Names.{Table, TableRepresents, no_names, cell_names, text_strings, named, same_string};
 ghost use Rattle.oas_names.specs.References.{cell_by, string_by, cell_used, string_used, uses_unknown, lacks_name};
-ghost use Rattle.oas_names.specs.Laws.NameLaws.{RefusesAsRecords, StandsForMore, NumberingIsOfEach, StringIsGiven, NoStringIsGiven, MixedWhere, TwiceWhere, AllowedFront, NamesStay, UsesUnknown};
+ghost use Rattle.oas_names.specs.Laws.NameLaws.{RefusesAsRecords, StandsForMore, NumberingIsOfEach, StringIsGiven, NoStringIsGiven, MixedWhere, TwiceWhere, AllowedPrefix, NamesStay, UsesUnknown};
 
 use oas_num::{Label, Name};
 
-/// A table of no names stands for no records.
+/// A table of no names represents no records.
 pub fn no_records()
-    ensures { (given : OneRecord → Option (List ℕ × Option ℕ)) → NamesStand given no_names [] }
+    ensures { (given : OneRecord → Option (List ℕ × Option ℕ)) → TableRepresents given no_names [] }
 {}
 
-/// A table refuses what the records for which it stands refuse, and stands for one more once it has taken it; a record that
+/// A table refuses what the records that it represents refuse, and represents one more once it has taken it; a record that
 /// isn't of its class changes nothing.
 pub fn one_more_record()
     ensures reason { (given : OneRecord → Option (List ℕ × Option ℕ)) → RefusesAsRecords given }
     ensures stands { (given : OneRecord → Option (List ℕ × Option ℕ)) → StandsForMore given }
 {}
 
-/// Of records that are allowed, each number has one string, and all have one numbering.
+/// In records that are allowed, each number has one string, and all have one numbering.
 pub fn one_string()
     ensures numbering { (given : OneRecord → Option (List ℕ × Option ℕ)) → NumberingIsOfEach given }
     ensures string { (given : OneRecord → Option (List ℕ × Option ℕ)) → StringIsGiven given }
@@ -33,7 +33,7 @@ pub fn one_string()
 
 /// Of records that are allowed, the first ones are allowed, and what they name is named by all.
 pub fn further_records()
-    ensures front { (given : OneRecord → Option (List ℕ × Option ℕ)) → AllowedFront given }
+    ensures front { (given : OneRecord → Option (List ℕ × Option ℕ)) → AllowedPrefix given }
     ensures stay { (given : OneRecord → Option (List ℕ × Option ℕ)) → NamesStay given }
 {}
 
@@ -43,27 +43,27 @@ pub fn refused_names()
     ensures twice { (given : OneRecord → Option (List ℕ × Option ℕ)) → TwiceWhere given }
 {}
 
-/// Cell names and text strings know nothing of one another.
+/// Cell names and text strings are independent of each other.
 pub fn two_classes()
     ensures cells { (label : List ℕ) (number : Option ℕ) → cell_names (record_of.TextString label number) ≡ None }
     ensures texts { (name : List ℕ) (number : Option ℕ) → text_strings (record_of.CellName name number) ≡ None }
 {}
 
-/// A table means by a reference what the records mean for which it stands.
+/// A reference means the same by a table as by the records that it represents.
 pub fn same_references()
-    ensures cells { (t : Table (List ℕ)) (rs : List OneRecord) (cell : CellRef) → NamesStand cell_names t rs → cell_by t.named cell ≡ cell_by (named cell_names rs) cell }
-    ensures texts { (t : Table (List ℕ)) (rs : List OneRecord) (text : TextRef) → NamesStand text_strings t rs → string_by t.named text ≡ string_by (named text_strings rs) text }
+    ensures cells { (t : Table (List ℕ)) (rs : List OneRecord) (cell : CellRef) → TableRepresents cell_names t rs → cell_by t.named cell ≡ cell_by (named cell_names rs) cell }
+    ensures texts { (t : Table (List ℕ)) (rs : List OneRecord) (text : TextRef) → TableRepresents text_strings t rs → string_by t.named text ≡ string_by (named text_strings rs) text }
 {}
 
-/// A name is lacking exactly if some record uses a number, for a cell or a text string, that no record of its class gives
-/// to a string; and it is lacking in the tables that stand for the records.
+/// A name is missing exactly if some record uses a number, for a cell or a text string, that no record of its class gives to
+/// a string; and it is missing in the tables that represent the records.
 pub fn lacking_names()
     ensures used { (rs : List OneRecord) → IsTrue (lacks_name rs) ↔ (UsesUnknown cell_used cell_names rs ⊎ UsesUnknown string_used text_strings rs) }
-    ensures tables { (cells strings : Table (List ℕ)) (rs : List OneRecord) → NamesStand cell_names cells rs → NamesStand text_strings strings rs →
+    ensures tables { (cells strings : Table (List ℕ)) (rs : List OneRecord) → TableRepresents cell_names cells rs → TableRepresents text_strings strings rs →
         uses_unknown cell_used cells.named rs || uses_unknown string_used strings.named rs ≡ lacks_name rs }
 {}
 
-/// Cell names and text strings are compared by `same_string`, which says that they are equal.
+/// Cell names and text strings are compared by `same_string`, which says whether they are equal.
 pub fn string_test()
     ensures names { (a b : List ℕ) → ⟦<Name as PartialEq>⟧.eq a b ≡ same_string a b }
     ensures labels { (a b : List ℕ) → ⟦<Label as PartialEq>⟧.eq a b ≡ same_string a b }

@@ -12,7 +12,7 @@ use std::alloc::Global;
 use std::collections::BTreeMap;
 use std::marker::Model;
 
-/// Whether name records leave their numbers to be counted, or give them (SEMI P39, CELLNAME record, TEXTSTRING record).
+/// Whether name records count their numbers implicitly, or give them (SEMI P39, CELLNAME record, TEXTSTRING record).
 #[derive(Clone, Copy, PartialEq, Eq)]
 pub enum Numbering {
     /// Ids 3 and 5: the numbers count from 0.
@@ -22,7 +22,7 @@ pub enum Numbering {
 }
 
 impl Numbering {
-    /// The numbering of a name record that gives this number, or none.
+    /// The numbering of a name record with this number, or with none.
     fn of(number: Option<u64>) -> Numbering
         ensures { result ≡ numbering_given number }
     {
@@ -33,13 +33,13 @@ impl Numbering {
     }
 }
 
-/// How many strings stand in order at most: more than memory holds, and few enough that all can be counted.
+/// How many strings are in order at most: more than memory holds, and few enough that all can be counted.
 const MOST_IN_ORDER: u64 = 1 << 62;
 
 /// The numbers that the name records of one class give to strings, and the numbering of these records.
 ///
-/// Where the numbers 0, 1, 2, .. come in this order, their strings stand in a list, each at its number. All other numbers are in
-/// a map, which is ordered, so that no choice of numbers makes it slow.
+/// Where the numbers 0, 1, 2, .. come in this order, their strings are in a list, each at its number. All other numbers are
+/// in a map, which is ordered, so that no choice of numbers makes it slow.
 #[derive(Drop)]
 pub struct NameTable<S> {
     numbering: Option<Numbering>,
@@ -82,10 +82,10 @@ impl<S: PartialEq + Drop> NameTable<S> {
         }
     }
 
-    /// Takes a name record: a string, and its number where it gives one, else the next one of its class, from 0 on.
+    /// Takes a name record: a string, and its number where it gives one, or else the next one of its class, from 0 on.
     ///
-    /// It is refused by `MixedNumbering` where the class has records of the other numbering, by `NumberTwice` where the number
-    /// has another string, and by `Memory` only where neither holds.
+    /// It is refused with `MixedNumbering` where the class has records of the other numbering, with `NumberTwice` where the
+    /// number has another string, and with `Memory` only where neither holds.
     pub fn name(&mut self, string: S, number: Option<u64>) -> Result<(), Why>
         ensures ok { OnOk result ((table_reason S.eq self.old (Some (string, number)) ≡ None) × (self.new ≡ with_name self.old (Some (string, number)))) }
         ensures why { IfErr result (λ why. ((why ≡ Memory) × (table_reason S.eq self.old (Some (string, number)) ≡ None)) ⊎ (table_reason S.eq self.old (Some (string, number)) ≡ Some why)) }
@@ -101,7 +101,7 @@ impl<S: PartialEq + Drop> NameTable<S> {
         Ok(())
     }
 
-    /// Gives a number a string, in the place of the one that it had, if it had one. Where memory is refused nothing changes.
+    /// Gives a number a string, in place of the one that it had, if any. If out of memory nothing changes.
     fn put(&mut self, number: u64, string: S) -> Result<(), Why>
         ensures ok { OnOk result (self.new ≡ record self.old { named = insert_entry nat_cmp self.old.named number string }) }
         ensures why { IfErr result (λ why. why ≡ Memory) }

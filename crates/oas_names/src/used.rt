@@ -1,4 +1,4 @@
-//! How often numbers are used that stand for names, and what their names weigh together.
+//! How often the numbers of names are used, and the weight of their names together.
 
 ghost use Rattle.std.specs.Prelude.{◌≡◌, ◌+◌, ◌<◌, ◌^◌, [], unwrap_or, OnOk, OnErr};
 ghost use Rattle.std.specs.Ordering.{nat_cmp};
@@ -12,7 +12,7 @@ use std::alloc::{AllocError, Global};
 use std::collections::BTreeMap;
 use std::marker::Model;
 
-/// How often each number is used that stands for a name. The map is ordered, so that no choice of numbers makes it slow.
+/// How often each number of a name is used. The map is ordered, so that no choice of numbers makes it slow.
 #[derive(Drop)]
 pub struct UsedNumbers {
     times: BTreeMap<u64, u64>,
@@ -41,7 +41,7 @@ impl UsedNumbers {
         }
     }
 
-    /// Uses a number so many times more. Where memory is refused nothing changes.
+    /// Uses a number this many more times. If out of memory nothing changes.
     pub fn add(&mut self, number: u64, times: u64) -> Result<(), AllocError>
         requires { total (λ _. 1) self.old + times < 2 ^ 64 }
         ensures ok { OnOk result (self.new ≡ put_more nat_cmp self.old number times) }

@@ -1,4 +1,4 @@
--- A record of the profile stands for itself.
+-- A record of the profile is translated to itself.
 use Rattle.std.proofs.Common.{◌≡◌, Bool, Option, None, Some, refl}
 use Rattle.std.specs.Option.{option_map}
 use Rattle.oas_num.specs.declared.reals.Real.{Real}
@@ -8,9 +8,9 @@ use Rattle.oas_record.specs.declared.records.Record.{Record}
 use Rattle.oas_record.specs.declared.records.Record.TheVariants as record_of
 use Rattle.oas_record.specs.declared.references.CellRef.{CellRef}
 use Rattle.oas_record.specs.declared.spots.Spot.{Spot}
-use Rattle.oas_wide.specs.Reals.{wide_of}
-use Rattle.oas_wide.specs.WideRecords.{inner_widened}
-use Rattle.oas_wide.specs.declared.records.WideRecord.TheVariants as wide
+use Rattle.oas_block.specs.oas_wide.Reals.{wide_of}
+use Rattle.oas_block.specs.oas_wide.WideRecords.{inner_widened}
+use Rattle.oas_block.specs.oas_wide.declared.records.WideRecord.TheVariants as wide
 use Rattle.oas_narrow.specs.Placements.{magnification_of, angle_of, with_turns}
 use Rattle.oas_narrow.specs.Roles.{plain_role, role_of}
 
@@ -31,7 +31,7 @@ pub kept : (r : Record) → with_turns (inner_widened r) ≡ wide.Profile r
 kept (record_of.Placement p) = placement_kept p.cell p.turn p.flip p.spot
 kept _ = refl
 
--- ---- what a record of the profile is
+-- ---- the role of a record of the profile
 
 placement_role : (c : Option CellRef) (turn : Turn) (flip : Bool) (at : Spot) →
     let r : Record = record_of.Placement (record { cell = c; turn = turn; flip = flip; spot = at }) in role_of (inner_widened r) ≡ plain_role r

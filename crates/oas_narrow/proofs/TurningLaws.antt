@@ -1,4 +1,4 @@
--- What the profile makes of the magnification and of the angle that stand for reals of any type.
+-- What the profile makes of the magnification and of the angle that reals of any type are translated to.
 use Rattle.std.proofs.Common.{◌≡◌, ℕ, ◌*◌, ◌/◌, ◌%◌, ◌^◌, ◌<◌, Bool, true, false, IsTrue, inl, inr, refl, sym, ap, ◌∙◌, ◌⊎◌, arith}
 use Rattle.std.specs.Prelude.{◌==◌, ◌&&◌, ◌↔◌, nat_lt, not, if◌then◌else◌, is_some, Option, None, Some}
 use Rattle.std.proofs.lemmas.Bool.{lt-ltb, ltb-true}
@@ -8,9 +8,9 @@ use Rattle.std.proofs.lemmas.Nat.{pow_pos}
 use Rattle.oas_num.specs.declared.reals.Real.{Real}
 use Rattle.oas_record.specs.declared.placements.Turn.TheVariants.{Degrees}
 use Rattle.oas_layout.specs.declared.element.Turns.TheVariants.{T0, T1, T2, T3}
-use Rattle.oas_drawing.specs.Turns as drawn
-use Rattle.oas_drawing.specs.Turns.{turned, turns_by}
-use Rattle.oas_wide.specs.declared.reals.WideReal.{WideReal}
+use Rattle.oas_modal.specs.oas_drawing.Turns as drawn
+use Rattle.oas_modal.specs.oas_drawing.Turns.{turned, turns_by}
+use Rattle.oas_block.specs.oas_wide.declared.reals.WideReal.{WideReal}
 use Rattle.oas_narrow.specs.Placements.{num_of, den_of, IsOne, IsQuarters, is_one, quarters_of, is_plain, plain_of, magnification_of, degrees_by, angle_of}
 use Rattle.oas_narrow.proofs.TurningLemmas.{equal, halved_is, one_is}
 
@@ -121,11 +121,11 @@ divides n q a e = ap (λ m. m % q) e ∙ mul-mod_left n q
 quotient : (n q a : ℕ) → 0 < q → a ≡ n * q → a / q ≡ n
 quotient n q a some e = ap (λ m. m / q) e ∙ mul-div_cancel n some
 
--- of a real of the profile
+-- for a real of the profile
 plain_turned : (r : WideReal) (n : ℕ) → Plain r → IsQuarters r n → r.num ≡ n * (90 * r.den)
 plain_turned r n p q = sym p.num ∙ q.equal ∙ ap (λ m. n * (90 * m)) p.den
 
--- of a float
+-- for a float
 quarters_some : (r : WideReal) (n : ℕ) → IsQuarters r n → quarters_of r ≡ Some (n % 4)
 quarters_some r n q =
     ap (λ b. if b then Some (num_of r / (90 * den_of r) % 4) else None)

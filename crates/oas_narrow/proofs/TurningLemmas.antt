@@ -8,7 +8,7 @@ use Rattle.std.proofs.lemmas.Nat.{pow-add, pow_pos, mul-mod_first, mod-mul-add, 
 use Rattle.std.proofs.Math.Arith.{mod-mul}
 use Rattle.std.proofs.Math.Nat.{pow-suc, mod-lt, mod-mod, mod-eq_of_lt, div-add-mod, mul-le-mul_right, mul-div-mul_right, mul-div_cancel, mul-mod_left}
 use Rattle.std.proofs.Math.Pow.{pow_mono}
-use Rattle.oas_wide.specs.declared.reals.WideReal.{WideReal}
+use Rattle.oas_block.specs.oas_wide.declared.reals.WideReal.{WideReal}
 use Rattle.oas_narrow.specs.Placements.{num_of, den_of, is_one, quarters_of}
 
 -- ---- tests
@@ -27,7 +27,7 @@ cancel a b p some e = sym (mul-div_cancel a some) ∙ ap (λ n. n / p) e ∙ mul
 grouped : (a b c : ℕ) → a * (b * c) ≡ a * b * c
 grouped a b c = grind arith
 
--- doubled so often, of which some are the last
+-- doubled this often, of which some are the last
 up : (n d h : ℕ) → h ≤ d → n * 2 ^ d ≡ n * 2 ^ (d - h) * 2 ^ h
 up n d h less = ap (λ k. n * 2 ^ k) (omega (arith, less)) ∙ ap (λ k. n * k) (pow-add 2 (d - h) h) ∙ grouped n (2 ^ (d - h)) (2 ^ h)
 
@@ -44,7 +44,7 @@ halved_is num unit none = let e : unit * (num / unit) ≡ num / unit * unit = gr
 pub halved_odd : (half num unit : ℕ) → num % unit ≢ 0 → half * unit ≢ num
 halved_odd half num unit odd e = odd (sym (ap (λ n. n % unit) e) ∙ mul-mod_left half unit)
 
--- ---- doubling, multiples left out
+-- ---- doubling, modulo multiples
 
 doubled_less : (a w : ℕ) → 0 < w → a % w * 2 < w → a % w * 2 ≡ (a * 2) % w
 doubled_less a w some less = sym (mod-eq_of_lt less) ∙ mul-mod_first a 2 w
@@ -117,7 +117,7 @@ module _ (r : WideReal) where
   pub unequal_down : (half : ℕ) → d < h → half * 2 ^ (h - d) ≡ r.num → half ≢ r.den → num_of r ≢ den_of r
   unequal_down half less is other e = other (cancel half r.den (2 ^ h) (pow_pos h) (sym (down half less is) ∙ e))
 
-  -- as often halved as it is
+  -- halved as often as it is
   pub back_down : (half : ℕ) → d < h → num_of r ≡ half * 2 ^ h → half * 2 ^ (h - d) ≡ r.num
   back_down half less e = sym (cancel r.num (half * 2 ^ (h - d)) (2 ^ d) (pow_pos d) (e ∙ up half h d (omega (arith, less))))
 
@@ -137,7 +137,7 @@ zero_by (suc a) p some = let large : 1 * p ≤ suc a * p = mul-le-mul_right p (o
 abbrev pub quarters_by : ℕ → ℕ → Option ℕ
 quarters_by x q = if x % q == 0 then Some (x / q % 4) else None
 
--- an angle that is x / den, by its parts or by others of the same value
+-- an angle of x / den, by its parts or by others of the same value
 pub quarters_is : (r : WideReal) (x : ℕ) → 0 < r.den → num_of r ≡ x * 2 ^ r.halved → quarters_of r ≡ quarters_by x (90 * r.den)
 quarters_is r x some e =
     let q : ℕ = 90 * r.den in
@@ -159,7 +159,7 @@ none_by x q isnt = ap (λ b. if b then Some (x / q % 4) else None) (unequal isnt
 pub no_quarters : (r : WideReal) → r.den ≡ 0 → None ≡ quarters_of r
 no_quarters r none = sym (ap (λ n. if nat_lt 0 n && (num_of r % (90 * den_of r) == 0) then Some (num_of r / (90 * den_of r) % 4) else None) none)
 
--- less whole turns it is as many quarter turns, and as many degrees above
+-- modulo whole turns it has as many quarter turns, and as many degrees above
 module _ (x q : ℕ) (some : 0 < q) where
   turn : x % (4 * q) ≡ (x / q % 4) * q + x % q
   turn = mod-mul x {m = 4} {c = q} (omega arith) some
@@ -170,7 +170,7 @@ module _ (x q : ℕ) (some : 0 < q) where
   within_quarters : x % (4 * q) / q % 4 ≡ x / q % 4
   within_quarters = ap (λ n. n / q % 4) turn ∙ ap (λ n. n % 4) (div-mul-add (x / q % 4) q (x % q) (mod-lt x some)) ∙ mod-mod (x / q) 4
 
--- ---- what is answered
+-- ---- what is returned
 
 module _ (r : WideReal) (degrees : ℕ) (some : 0 < r.den) where
   abbrev q : ℕ
@@ -196,7 +196,7 @@ module _ (r : WideReal) (degrees : ℕ) (some : 0 < r.den) where
   pub none_down : r.doubled < r.halved → degrees * 2 ^ (r.halved - r.doubled) ≡ r.num → degrees % q ≢ 0 → None ≡ quarters_of r
   none_down less is rest = sym (quarters_is r degrees some (down r degrees less is) ∙ none_by degrees q rest)
 
--- it isn't halved so often, so it is no whole number of degrees
+-- it isn't halved this often, so it is no whole number of degrees
 pub halfway : (r : WideReal) → 0 < r.den → r.doubled < r.halved → ((half : ℕ) → half * 2 ^ (r.halved - r.doubled) ≢ r.num) → None ≡ quarters_of r
 halfway r some less none =
     let q : ℕ = 90 * r.den in

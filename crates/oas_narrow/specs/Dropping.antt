@@ -4,8 +4,8 @@ use Rattle.oas_narrow.specs.declared.dropping.Extra.{Extra}
 use Rattle.oas_narrow.specs.declared.dropping.Extra.TheVariants as extra
 use Rattle.oas_narrow.specs.declared.dropping.Dropping.{Dropping}
 use Rattle.oas_narrow.specs.declared.dropping.Report.{Report}
-use Rattle.oas_wide.specs.declared.reasons.WideWhy.{WideWhy}
-use Rattle.oas_wide.specs.declared.reasons.WideWhy.TheVariants.{Properties, LayerNames, Extensions}
+use Rattle.oas_block.specs.oas_wide.declared.reasons.WideWhy.{WideWhy}
+use Rattle.oas_block.specs.oas_wide.declared.reasons.WideWhy.TheVariants.{Properties, LayerNames, Extensions}
 
 -- whether it is named to be left out
 abbrev pub is_named : Dropping → Extra → Bool
@@ -15,7 +15,7 @@ is_named dropping extra.LayerName = dropping.layer_names
 is_named dropping extra.ExtensionName = dropping.extensions
 is_named dropping extra.ExtensionElement = dropping.extensions
 
--- a name record, behind which no cell is open
+-- a name record, after which no cell is open
 abbrev pub is_name : Extra → Bool
 is_name extra.PropertyName = true
 is_name extra.Property = false
@@ -23,7 +23,7 @@ is_name extra.LayerName = true
 is_name extra.ExtensionName = true
 is_name extra.ExtensionElement = false
 
--- why it stops a file of which it isn't to be left out
+-- why it stops a file where it isn't to be left out
 abbrev pub undropped : Extra → WideWhy
 undropped extra.PropertyName = Properties
 undropped extra.Property = Properties
@@ -31,7 +31,7 @@ undropped extra.LayerName = LayerNames
 undropped extra.ExtensionName = Extensions
 undropped extra.ExtensionElement = Extensions
 
--- a number, as far as 64 bits count
+-- a number, capped to 64 bits
 abbrev pub capped : ℕ → ℕ
 capped n = min n (2 ^ 64 - 1)
 

@@ -1,15 +1,15 @@
--- For which records of the profile the records of a file of the standard stand, why they aren't prepared, and what is left out of
--- them. `before` lists records newest first.
+-- Which records of the profile the records of a file of the standard are translated to, why they aren't prepared, and what is
+-- left out of them. `before` lists records newest first.
 use Rattle.std.specs.Prelude.{◌≡◌, ℕ, ◌+◌, Bool, true, false, cond, Option, Some, None, List, [], ◌∷◌, ◌++◌, reverse, Result, Ok, Err}
 use Rattle.std.specs.Option.{option_or}
 use Rattle.oas_num.specs.declared.refusals.Why.{Why}
 use Rattle.oas_record.specs.declared.records.Record.{Record}
 use Rattle.oas_layout.specs.declared.limits.Limits.{Limits}
 use Rattle.oas_modal.specs.Stands.{refusal}
-use Rattle.oas_wide.specs.declared.reasons.WideWhy.{WideWhy}
-use Rattle.oas_wide.specs.declared.reasons.WideWhy.TheVariants.{Profile}
-use Rattle.oas_wide.specs.declared.records.WideRecord.{WideRecord}
-use Rattle.oas_foreign.specs.Steps.{handed_by, kept_after}
+use Rattle.oas_block.specs.oas_wide.declared.reasons.WideWhy.{WideWhy}
+use Rattle.oas_block.specs.oas_wide.declared.reasons.WideWhy.TheVariants.{Profile}
+use Rattle.oas_block.specs.oas_wide.declared.records.WideRecord.{WideRecord}
+use Rattle.oas_foreign.specs.Steps.{translated_by, kept_after}
 use Rattle.oas_foreign.specs.Tracked.{Tracked, fresh}
 use Rattle.oas_narrow.specs.declared.dropping.Dropping.{Dropping}
 use Rattle.oas_narrow.specs.declared.dropping.Extra.{Extra}
@@ -24,33 +24,33 @@ abbrev pub is_open : List WideRecord → Bool
 is_open [] = false
 is_open (w ∷ before) = opens (is_open before) (role_of w)
 
--- ---- the records for which they stand
+-- ---- the records that they are translated to
 
 -- the modal variables after these
 abbrev pub kept_of : List WideRecord → Tracked
 kept_of [] = fresh
 kept_of (w ∷ before) = kept_after (kept_of before) (with_turns w)
 
--- the records for which one more stands after these, or why it stands for none
-abbrev pub handed_after : List WideRecord → WideRecord → Result (List Record) WideWhy
-handed_after before w = handed_by (kept_of before) (with_turns w)
+-- the records that one more is translated to after these, or why there are none
+abbrev pub translated_after : List WideRecord → WideRecord → Result (List Record) WideWhy
+translated_after before w = translated_by (kept_of before) (with_turns w)
 
 abbrev pub listed : Result (List Record) WideWhy → List Record
 listed (Ok rs) = rs
 listed (Err why) = []
 
--- those for which all of these stand, oldest first: of each those for which it stands after the ones before it
+-- those that all of these are translated to, oldest first: each is translated after the ones before it
 abbrev pub stood_for : List WideRecord → List Record
 stood_for [] = []
-stood_for (w ∷ before) = stood_for before ++ listed (handed_after before w)
+stood_for (w ∷ before) = stood_for before ++ listed (translated_after before w)
 
--- the same of records that are listed oldest first
+-- the same for records that are listed oldest first
 abbrev pub narrowed : List WideRecord → List Record
 narrowed ws = stood_for (reverse ws)
 
 -- ---- why a record isn't prepared
 
--- why the first of some records is refused that is, each after those before it, oldest first
+-- why the first of some records that is refused is, each after those before it, oldest first
 abbrev pub refused_of : Limits → List Record → List Record → Option Why
 refused_of limits rs [] = None
 refused_of limits rs (r ∷ more) = option_or (refusal limits rs r) (refused_of limits (rs ++ r ∷ []) more)
@@ -59,15 +59,15 @@ abbrev pub refused_if : Option Why → Option WideWhy
 refused_if None = None
 refused_if (Some why) = Some (Profile why)
 
--- it stands for no records, or for some of which one is refused after those for which the records before it stand
-abbrev pub handed_obstacle : Limits → List Record → Result (List Record) WideWhy → Option WideWhy
-handed_obstacle limits rs (Err why) = Some why
-handed_obstacle limits rs (Ok more) = refused_if (refused_of limits rs more)
+-- it is translated to no records, or to some of which one is refused after those that the records before it are translated to
+abbrev pub translated_obstacle : Limits → List Record → Result (List Record) WideWhy → Option WideWhy
+translated_obstacle limits rs (Err why) = Some why
+translated_obstacle limits rs (Ok more) = refused_if (refused_of limits rs more)
 
 -- why one more record isn't prepared after these
 abbrev pub obstacle_after : Limits → Dropping → List WideRecord → WideRecord → Option WideWhy
 obstacle_after limits dropping before w =
-    option_or (obstacle_by dropping (is_open before) (role_of w)) (handed_obstacle limits (stood_for before) (handed_after before w))
+    option_or (obstacle_by dropping (is_open before) (role_of w)) (translated_obstacle limits (stood_for before) (translated_after before w))
 
 -- each of the records is prepared after those before it
 abbrev pub ArePrepared : Limits → Dropping → List WideRecord → Type 0
@@ -94,7 +94,7 @@ abbrev pub tally : Extra → List WideRecord → ℕ
 tally e [] = 0
 tally e (w ∷ ws) = tally e ws + one_if e (extra_of (role_of w))
 
--- how many of each kind, as far as 64 bits count
+-- how many of each kind, capped to 64 bits
 abbrev pub report_of : List WideRecord → Report
 report_of ws = record {
   property_names = capped (tally extra.PropertyName ws);

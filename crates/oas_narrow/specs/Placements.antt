@@ -1,19 +1,19 @@
--- Which placement of the profile a placement by reals stands for (SEMI P39, PLACEMENT records). Its magnification has to be 1 and
--- its angle a whole multiple of 90 degrees, exactly (own rule): that the profile's reader decides.
+-- Which placement of the profile a placement by reals is translated to (SEMI P39, PLACEMENT records). Its magnification has
+-- to be 1 and its angle a whole multiple of 90 degrees, exactly (own rule): the profile's reader decides that.
 use Rattle.std.specs.Option.{option_map}
 use Rattle.std.specs.Prelude.{◌≡◌, ℕ, ◌*◌, ◌/◌, ◌%◌, ◌^◌, ◌<◌, ◌==◌, ◌&&◌, nat_lt, not, if◌then◌else◌, Bool, false, Option, None, Some}
 use Rattle.oas_num.specs.declared.reals.Real.{Real}
 use Rattle.oas_record.specs.declared.placements.Placement.{Placement}
 use Rattle.oas_record.specs.declared.placements.Turn.TheVariants.{Degrees}
 use Rattle.oas_record.specs.declared.records.Record.TheVariants as record_of
-use Rattle.oas_wide.specs.declared.placements.WidePlacement.{WidePlacement}
-use Rattle.oas_wide.specs.declared.reals.WideReal.{WideReal}
-use Rattle.oas_wide.specs.declared.records.WideRecord.{WideRecord}
-use Rattle.oas_wide.specs.declared.records.WideRecord.TheVariants as wide
+use Rattle.oas_block.specs.oas_wide.declared.placements.WidePlacement.{WidePlacement}
+use Rattle.oas_block.specs.oas_wide.declared.reals.WideReal.{WideReal}
+use Rattle.oas_block.specs.oas_wide.declared.records.WideRecord.{WideRecord}
+use Rattle.oas_block.specs.oas_wide.declared.records.WideRecord.TheVariants as wide
 
 -- ---- what reals are
 
--- the fraction that one is, whatever its parts
+-- the fraction of a real, whatever its parts
 abbrev pub num_of : WideReal → ℕ
 num_of r = r.num * 2 ^ r.doubled
 
@@ -26,7 +26,7 @@ pub record IsOne (r : WideReal) : Type 0 where
   pub some : 0 < r.den
   pub equal : num_of r ≡ den_of r
 
--- in degrees it is so many quarter turns
+-- in degrees it is this many quarter turns
 pub record IsQuarters (r : WideReal) (quarters : ℕ) : Type 0 where
   pub some : 0 < r.den
   pub equal : num_of r ≡ quarters * (90 * den_of r)
@@ -36,7 +36,7 @@ pub record IsQuarters (r : WideReal) (quarters : ℕ) : Type 0 where
 abbrev pub is_one : WideReal → Bool
 is_one r = not r.negative && (nat_lt 0 r.den && (num_of r == den_of r))
 
--- its quarter turns, whole turns left out, if it is a whole multiple of 90
+-- its quarter turns, modulo whole turns, if it is a whole multiple of 90
 abbrev pub quarters_of : WideReal → Option ℕ
 quarters_of r = if nat_lt 0 r.den && (num_of r % (90 * den_of r) == 0) then Some (num_of r / (90 * den_of r) % 4) else None
 
@@ -49,11 +49,11 @@ is_plain r = (r.doubled == 0) && (r.halved == 0)
 abbrev pub plain_of : WideReal → Real
 plain_of r = record { negative = r.negative; num = r.num; den = r.den }
 
--- 1 for a float that is 1, and else 0, which the profile refuses
+-- 1 for a float that is 1, or else 0, which the profile refuses
 abbrev pub magnification_of : WideReal → Real
 magnification_of r = if is_plain r then plain_of r else record { negative = false; num = if is_one r then 1 else 0; den = 1 }
 
--- so many degrees, and where it is no multiple of 90 one degree, which the profile refuses
+-- this many degrees; where it is no multiple of 90 one degree, which the profile refuses
 abbrev pub degrees_by : Option ℕ → ℕ
 degrees_by None = 1
 degrees_by (Some quarters) = 90 * quarters
@@ -67,7 +67,7 @@ angle_of r = if is_plain r then plain_of r else record { negative = r.negative; 
 abbrev pub placement_of : WidePlacement → Placement
 placement_of p = record { cell = p.cell; turn = Degrees (option_map magnification_of p.magnification) (option_map angle_of p.angle); flip = p.flip; spot = p.spot }
 
--- a record in whose place there is the placement of the profile, if it is a placement by reals
+-- a record; if it is a placement by reals, the placement of the profile that it is translated to
 abbrev pub with_turns : WideRecord → WideRecord
 with_turns (wide.Placement p) = wide.Profile (record_of.Placement (placement_of p))
 with_turns w = w

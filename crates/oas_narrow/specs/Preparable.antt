@@ -4,15 +4,15 @@ use Rattle.oas_checksum.specs.Crc.{crc32}
 use Rattle.oas_checksum.specs.Signed.{signed}
 use Rattle.oas_checksum.specs.Sums.{checksum32}
 use Rattle.oas_num.specs.Ratio.{Ratio, Reduces}
-use Rattle.oas_wide.specs.declared.ends.Validation.{Validation}
-use Rattle.oas_wide.specs.declared.ends.Validation.TheVariants.{Unvalidated, Crc32, Checksum32}
-use Rattle.oas_wide.specs.declared.ends.WideEnd.{WideEnd}
-use Rattle.oas_wide.specs.declared.heads.WideStart.{WideStart}
-use Rattle.oas_wide.specs.declared.reals.WideReal.{WideReal}
+use Rattle.oas_block.specs.oas_wide.declared.ends.Validation.{Validation}
+use Rattle.oas_block.specs.oas_wide.declared.ends.Validation.TheVariants.{Unvalidated, Crc32, Checksum32}
+use Rattle.oas_block.specs.oas_wide.declared.ends.WideEnd.{WideEnd}
+use Rattle.oas_block.specs.oas_wide.declared.heads.WideStart.{WideStart}
+use Rattle.oas_block.specs.oas_wide.declared.reals.WideReal.{WideReal}
 use Rattle.oas_layout.specs.declared.limits.Limits.{Limits}
 use Rattle.oas_layout.specs.Meaning.{Meaning}
 use Rattle.oas_modal.specs.Stands.{records_mean, end_refusal}
-use Rattle.oas_wide.specs.declared.records.WideRecord.{WideRecord}
+use Rattle.oas_block.specs.oas_wide.declared.records.WideRecord.{WideRecord}
 use Rattle.oas_narrow.specs.declared.dropping.Dropping.{Dropping}
 use Rattle.oas_narrow.specs.Narrowing.{narrowed, ArePrepared}
 use Rattle.oas_narrow.specs.WideFiles.{WideFileOf}
@@ -27,7 +27,7 @@ pub record IsUnitOf (real : WideReal) (unit : Ratio) : Type 0 where
 
 -- ---- the signature
 
--- the bytes are a file of which its END says right that it came whole (SEMI P39, END record, validation-scheme)
+-- the bytes are a file whose END says correctly that it is complete (SEMI P39, END record, validation-scheme)
 abbrev pub IsValid : Validation → List ℕ → Type 0
 IsValid Unvalidated bytes = Unit {0}
 IsValid (Crc32 signature) bytes = signature ≡ crc32 (signed bytes)
@@ -39,7 +39,7 @@ IsValid (Checksum32 signature) bytes = signature ≡ checksum32 (signed bytes)
 abbrev pub AllPrepared : Limits → Dropping → List WideRecord → Type 0
 AllPrepared limits dropping ws = ArePrepared limits dropping (reverse ws)
 
--- a file of the standard whose records are prepared, within these limits and by what is named to be left out
+-- a file of the standard whose records are prepared, within these limits and with what is named to be left out
 pub record Formed (limits : Limits) (dropping : Dropping) (b : List ℕ) : Type 0 where
   pub start : WideStart
   pub records : List WideRecord
@@ -50,12 +50,12 @@ pub record Formed (limits : Limits) (dropping : Dropping) (b : List ℕ) : Type 
   pub prepared : AllPrepared limits dropping records
   pub whole : end_refusal limits (narrowed records) ≡ None
 
--- and that came whole
+-- and that is complete
 pub record Preparable (limits : Limits) (dropping : Dropping) (b : List ℕ) : Type 0 where
   pub formed : Formed limits dropping b
   pub valid : IsValid formed.end.validation b
 
--- what a file of the standard means: what the records of the profile do for which its records stand
+-- the meaning of a file of the standard: that of the records of the profile that its records are translated to
 pub record WideMeans (b : List ℕ) (m : Meaning) : Type 0 where
   pub start : WideStart
   pub records : List WideRecord

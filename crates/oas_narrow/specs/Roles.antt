@@ -1,15 +1,15 @@
--- What a record of the standard is to a file of the profile: whether it opens or closes a cell, wants an open one, or may be
--- left out.
+-- The role of a record of the standard in a file of the profile: whether it opens or closes a cell, requires an open one, or
+-- may be left out.
 use Rattle.std.specs.Prelude.{◌≡◌, ℕ, Bool, true, false, cond, not, ◌&&◌, is_some, if◌then◌else◌, Option, Some, None}
 use Rattle.oas_num.specs.declared.refusals.Why.TheVariants.{OutOfPlace, RecordLeftOut}
 use Rattle.oas_record.specs.declared.records.Record.{Record}
 use Rattle.oas_record.specs.declared.records.Record.TheVariants as record_of
 use Rattle.oas_record.specs.Records.{id_of}
-use Rattle.oas_wide.specs.declared.reasons.WideWhy.{WideWhy}
-use Rattle.oas_wide.specs.declared.reasons.WideWhy.TheVariants.{Profile, Extensions}
-use Rattle.oas_wide.specs.declared.records.WideRecord.{WideRecord}
-use Rattle.oas_wide.specs.declared.records.WideRecord.TheVariants as wide
-use Rattle.oas_wide.specs.declared.trapezoids.Trapezoid.{Trapezoid}
+use Rattle.oas_block.specs.oas_wide.declared.reasons.WideWhy.{WideWhy}
+use Rattle.oas_block.specs.oas_wide.declared.reasons.WideWhy.TheVariants.{Profile, Extensions}
+use Rattle.oas_block.specs.oas_wide.declared.records.WideRecord.{WideRecord}
+use Rattle.oas_block.specs.oas_wide.declared.records.WideRecord.TheVariants as wide
+use Rattle.oas_block.specs.oas_wide.declared.trapezoids.Trapezoid.{Trapezoid}
 use Rattle.oas_narrow.specs.declared.dropping.Dropping.{Dropping}
 use Rattle.oas_narrow.specs.declared.dropping.Extra.{Extra}
 use Rattle.oas_narrow.specs.declared.dropping.Extra.TheVariants as extra
@@ -18,7 +18,7 @@ use Rattle.oas_narrow.specs.declared.roles.Role.{Role}
 use Rattle.oas_narrow.specs.declared.roles.Role.TheVariants as role
 use Rattle.oas_narrow.specs.Dropping.{is_named, is_name, undropped, counted}
 
--- ---- what a record is
+-- ---- the role of a record
 
 -- a record of the profile
 abbrev pub plain_role : Record → Role
@@ -53,16 +53,16 @@ role_of (wide.NamedTrapezoid t) = role.Element 26
 role_of (wide.ExtensionGeometry g) = role.Extension 33
 role_of (wide.Block head) = role.Missing 34
 
--- ---- where it may stand
+-- ---- where it is allowed
 
--- whether a cell is open behind it: a CELL opens one; name records, also those that are left out, close it
+-- whether a cell is open after it: a CELL opens one; name records, also those that are left out, close it
 abbrev pub opens : Bool → Role → Bool
 opens was role.Cell = true
 opens was role.Name = false
 opens was (role.Extra e) = was && not (is_name e)
 opens was _ = was
 
--- an element wants an open cell
+-- an element requires an open cell
 abbrev pub outside : Bool → ℕ → Option WideWhy
 outside true id = None
 outside false id = Some (Profile (OutOfPlace id))

@@ -1,16 +1,16 @@
--- What a file of the standard is: its front, its records and END (SEMI P39, OASIS file). Records stand by themselves, or in
--- blocks (SEMI P39, CBLOCK record), and are the file's all the same.
+-- What a file of the standard is: its head, its records and END (SEMI P39, OASIS file). Records come by themselves, or in
+-- blocks (SEMI P39, CBLOCK record); either way they are the file's.
 use Rattle.std.specs.Prelude.{◌≡◌, ◌≢◌, ℕ, Bool, List, [], ◌∷◌, ◌++◌}
 use Rattle.oas_num.specs.Grammar.{IsPair, IsSuch, IsImage, IsEach}
 use Rattle.oas_record.specs.Heads.{IsMagic}
-use Rattle.oas_wide.specs.declared.blocks.BlockHead.{BlockHead}
-use Rattle.oas_wide.specs.declared.ends.WideEnd.{WideEnd}
-use Rattle.oas_wide.specs.declared.heads.WideStart.{WideStart}
-use Rattle.oas_wide.specs.Heads.{SpellsWideStart}
-use Rattle.oas_wide.specs.declared.records.WideRecord.{WideRecord}
-use Rattle.oas_wide.specs.declared.records.WideRecord.TheVariants.{End, Block}
-use Rattle.oas_wide.specs.WideRecords.{wide_record_in}
-use Rattle.oas_block.specs.Blocks.{StandsFor}
+use Rattle.oas_block.specs.oas_wide.declared.blocks.BlockHead.{BlockHead}
+use Rattle.oas_block.specs.oas_wide.declared.ends.WideEnd.{WideEnd}
+use Rattle.oas_block.specs.oas_wide.declared.heads.WideStart.{WideStart}
+use Rattle.oas_block.specs.oas_wide.Heads.{SpellsWideStart}
+use Rattle.oas_block.specs.oas_wide.declared.records.WideRecord.{WideRecord}
+use Rattle.oas_block.specs.oas_wide.declared.records.WideRecord.TheVariants.{End, Block}
+use Rattle.oas_block.specs.oas_wide.WideRecords.{wide_record_in}
+use Rattle.oas_block.specs.Blocks.{Represents}
 
 abbrev pub after_magic : Unit {0} × WideStart → WideStart
 after_magic p = p.1
@@ -35,13 +35,13 @@ end_in in_end end bytes = wide_record_in in_end (End end) bytes
 
 -- ---- blocks
 
--- what stands before a block's bytes
+-- what comes before a block's bytes
 abbrev pub head_in : Bool → BlockHead → List ℕ → Type 0
 head_in in_end head bytes = wide_record_in in_end (Block head) bytes
 
--- a block's bytes, by the data that they stand for
+-- a block's bytes, by the data that they encode
 abbrev pub packed_by : BlockHead → List ℕ → List ℕ → Type 0
-packed_by head plain bytes = StandsFor head bytes plain
+packed_by head plain bytes = Represents head bytes plain
 
 -- a block, by its head and its data
 abbrev pub block_in : Bool → BlockHead × List ℕ → List ℕ → Type 0
@@ -68,7 +68,7 @@ records_of (ws ∷ items) = ws ++ records_of items
 abbrev pub WideParts : Type 0
 WideParts = WideStart × (List (List WideRecord) × WideEnd)
 
--- the magic and START, then items and END, by START's word on where the table-offsets stand
+-- the magic and START, then items and END; START says where the table-offsets are
 abbrev pub wide_file : WideParts → List ℕ → Type 0
 wide_file = IsPair wide_head (λ start. IsPair (IsEach (item_in start.flag_in_end)) (λ _. end_in start.flag_in_end))
 
@@ -78,8 +78,8 @@ pub record WideFileOf (start : WideStart) (ws : List WideRecord) (end : WideEnd)
   pub all : records_of items ≡ ws
   pub spelled : wide_file (start, (items, end)) bytes
 
--- the bytes are the front of a file: the magic, START and these records
-pub record WideFrontOf (head : WideStart) (ws : List WideRecord) (bytes : List ℕ) : Type 0 where
+-- the bytes are a prefix of a file: the magic, START and these records
+pub record WidePrefixOf (head : WideStart) (ws : List WideRecord) (bytes : List ℕ) : Type 0 where
   pub items : List (List WideRecord)
   pub all : records_of items ≡ ws
   pub start : List ℕ

@@ -2,9 +2,9 @@
 ghost use Rattle.std.specs.Prelude.{◌≡◌};
 ghost use Rattle.oas_narrow.specs.Dropping.{is_named, is_name, undropped, counted};
 
-use oas_wide::WideWhy;
+use oas_block::oas_wide::WideWhy;
 
-/// What may be left out of a file, since the profile has no record of it.
+/// What may be left out of a file, since the profile has no such record.
 #[derive(Clone, Copy, Debug, PartialEq, Eq)]
 pub enum Extra {
     /// A name or a string for properties (SEMI P39, PROPNAME, PROPSTRING), ids 7 to 10.
@@ -19,7 +19,7 @@ pub enum Extra {
     ExtensionElement,
 }
 
-/// What a user has named to be left out. Nothing else is.
+/// What the user has named to be left out. Nothing else is.
 #[derive(Clone, Copy, Debug, PartialEq, Eq)]
 pub struct Dropping {
     /// Properties, and the names and strings for them.
@@ -31,7 +31,7 @@ pub struct Dropping {
 }
 
 impl Extra {
-    /// Whether it is a name record, as those of cells: behind it no cell is open (SEMI P39, CELL record).
+    /// Whether it is a name record, like those of cells: after it no cell is open (SEMI P39, CELL record).
     pub fn is_name(&self) -> bool
         ensures { result ≡ is_name self.now }
     {
@@ -41,7 +41,7 @@ impl Extra {
         }
     }
 
-    /// Why it stops a file of which it isn't to be left out.
+    /// Why it stops a file where it isn't to be left out.
     pub(crate) fn undropped(&self) -> WideWhy
         ensures { result ≡ undropped self.now }
     {
@@ -66,7 +66,7 @@ impl Dropping {
     }
 }
 
-/// How many records were left out, as far as 64 bits count.
+/// How many records were left out, capped to 64 bits.
 #[derive(Clone, Copy, Debug, PartialEq, Eq)]
 pub struct Report {
     /// Names and strings for properties, ids 7 to 10.
@@ -85,7 +85,7 @@ impl Report {
     ghost use Rattle.std.specs.Prelude.{[]};
     ghost use Rattle.oas_narrow.specs.Dropping.{nothing_left_out};
 
-    /// That nothing was.
+    /// Nothing was left out.
     pub fn new() -> Report
         ensures { result ≡ nothing_left_out }
     {

@@ -1,16 +1,16 @@
-//! What placements by reals stand for: the function's contract is it, and its body is empty.
+//! What placements by reals are translated to: the function's contract is the law, and its body is empty.
 ghost use Rattle.std.specs.Prelude.{◌≡◌, ◌↔◌, ℕ, IsTrue, Option, Some};
 ghost use Rattle.oas_num.specs.declared.reals.Real.{Real};
 ghost use Rattle.oas_record.specs.declared.placements.Turn.TheVariants.{Degrees};
 ghost use Rattle.oas_record.specs.declared.records.Record.{Record};
-ghost use Rattle.oas_drawing.specs.Turns.{is_one, is_quarters, turned, turns_by};
-ghost use Rattle.oas_wide.specs.declared.reals.WideReal.{WideReal};
-ghost use Rattle.oas_wide.specs.WideRecords.{inner_widened};
-ghost use Rattle.oas_wide.specs.declared.records.WideRecord.TheVariants.{Profile};
+ghost use Rattle.oas_modal.specs.oas_drawing.Turns.{is_one, is_quarters, turned, turns_by};
+ghost use Rattle.oas_block.specs.oas_wide.declared.reals.WideReal.{WideReal};
+ghost use Rattle.oas_block.specs.oas_wide.WideRecords.{inner_widened};
+ghost use Rattle.oas_block.specs.oas_wide.declared.records.WideRecord.TheVariants.{Profile};
 ghost use Rattle.oas_narrow.specs.Placements.{IsOne, IsQuarters, magnification_of, angle_of, with_turns};
 
-/// A record of the profile stands for itself. A magnification is taken exactly where the real is 1, and an angle exactly where
-/// it is a whole number of quarter turns, which are those of the placement.
+/// A record of the profile is translated to itself. A magnification is accepted exactly where the real is 1, and an angle
+/// exactly where it is a whole number of quarter turns, which are those of the placement.
 pub fn placements()
     ensures kept { (r : Record) → with_turns (inner_widened r) ≡ Profile r }
     ensures one { (r : WideReal) → IsTrue (is_one (Some (magnification_of r))) ↔ IsOne r }

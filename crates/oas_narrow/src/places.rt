@@ -1,9 +1,9 @@
-//! Where a record stands, in a file or in a block.
+//! Where a record is, in a file or in a block.
 ghost use Rattle.std.specs.Prelude.{◌≡◌};
 ghost use Rattle.oas_narrow.specs.Rejections.{rejected, refused};
 
+use oas_block::oas_wide::{WideRefusal, WideWhy};
 use oas_num::Refusal;
-use oas_wide::{WideRefusal, WideWhy};
 
 /// Where a file isn't prepared.
 #[derive(Clone, Copy, Debug, PartialEq, Eq)]

@@ -1,43 +1,32 @@
-//! What a record of the standard is to a file of the profile.
+//! The role of a record of the standard in a file of the profile.
 ghost use Rattle.std.specs.Prelude.{◌≡◌};
-ghost use Rattle.oas_record.specs.declared.records.Record.TheVariants.{Placement as PlacementRecord};
 ghost use Rattle.oas_narrow.specs.Roles.{plain_role, trapezoid_id, role_of, opens, outside, unnamed, obstacle_by, extra_of, counted_if};
 
 use crate::dropping::{Dropping, Extra, Report};
+use oas_block::oas_wide::{Trapezoid, WideRecord, WideWhy};
 use oas_num::Why;
-use oas_record::{Placement, Record, Turn};
-use oas_wide::{Trapezoid, WideRecord, WideWhy};
+use oas_record::Record;
 
-/// What a record of the standard is to a file of the profile.
+/// The role of a record of the standard in a file of the profile.
 #[derive(Clone, Copy, Debug, PartialEq, Eq)]
 pub enum Role {
     /// A CELL, which opens a cell.
     Cell,
-    /// A name of the profile (CELLNAME, TEXTSTRING), behind which no cell is open.
+    /// A name of the profile (CELLNAME, TEXTSTRING), after which no cell is open.
     Name,
-    /// An element of this id, which stands for records of the profile and wants an open cell.
+    /// An element with this id, which is translated to records of the profile and requires an open cell.
     Element(u64),
     /// Another record of the profile.
     Other,
     /// A record that may be left out, and is no element.
     Extra(Extra),
-    /// An element of an extension, of this id, which may be left out and wants an open cell.
+    /// An element of an extension, with this id, which may be left out and requires an open cell.
     Extension(u64),
-    /// A record of this id, which is none of a file's records: END, or a CBLOCK.
+    /// A record with this id, which is none of a file's records: END, or a CBLOCK.
     Missing(u64),
 }
 
-/// The id of a placement: 17 by quarter turns, 18 by reals.
-fn placement_role(placed: &Placement) -> Role
-    ensures { result ≡ plain_role (PlacementRecord placed.now) }
-{
-    match placed.turn {
-        Turn::Quarters(_) => Role::Element(17),
-        Turn::Degrees { .. } => Role::Element(18),
-    }
-}
-
-/// What a record of the profile is.
+/// The role of a record of the profile.
 fn plain_role(next: &Record) -> Role
     ensures { result ≡ plain_role next.now }
 {
@@ -45,12 +34,7 @@ fn plain_role(next: &Record) -> Role
         Record::Pad | Record::End | Record::XyAbsolute | Record::XyRelative => Role::Other,
         Record::CellName { .. } | Record::TextString { .. } => Role::Name,
         Record::Cell(_) => Role::Cell,
-        Record::Placement(placed) => placement_role(placed),
-        Record::Text(_) => Role::Element(19),
-        Record::Rectangle(_) => Role::Element(20),
-        Record::Polygon(_) => Role::Element(21),
-        Record::Path(_) => Role::Element(22),
-        Record::Circle(_) => Role::Element(27),
+        _ => Role::Element(next.id()),
     }
 }
 
@@ -90,7 +74,7 @@ fn unnamed(is_named: bool, extra: Extra) -> Option<WideWhy>
 }
 
 impl Role {
-    /// That of a record.
+    /// The role of a record.
     pub fn of(next: &WideRecord) -> Role
         ensures { result ≡ role_of next.now }
     {
@@ -114,7 +98,7 @@ impl Role {
         }
     }
 
-    /// Whether a cell is open behind it: a CELL opens one, and name records, also those that are left out, close it.
+    /// Whether a cell is open after it: a CELL opens one, and name records, also those that are left out, close it.
     pub fn opens(self, was_open: bool) -> bool
         ensures { result ≡ opens was_open self }
     {
@@ -126,8 +110,8 @@ impl Role {
         }
     }
 
-    /// Why it isn't prepared, by what is named to be left out and whether a cell is open. What there is to say of the records
-    /// for which it stands comes after this.
+    /// Why it isn't prepared, by what is named to be left out and whether a cell is open. Refusals of the records that it is
+    /// translated to come after this.
     pub fn obstacle(self, dropping: Dropping, is_open: bool) -> Option<WideWhy>
         ensures { result ≡ obstacle_by dropping is_open self }
     {

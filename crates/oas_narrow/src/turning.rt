@@ -2,11 +2,11 @@
 ghost use Rattle.std.specs.Prelude.{◌≡◌, ◌≢◌, ◌≤◌, ◌<◌, ◌*◌, ◌%◌, ◌^◌, ℕ, IfSome, IsNone};
 ghost use Rattle.oas_narrow.specs.Placements.{is_one, quarters_of, is_plain, plain_of, magnification_of, angle_of, placement_of, with_turns};
 
+use oas_block::oas_wide::{WidePlacement, WideReal, WideRecord};
 use oas_num::Real;
 use oas_record::{Placement, Record, Turn};
-use oas_wide::{WidePlacement, WideReal, WideRecord};
 
-/// A number that is halved so often. None where it can't be.
+/// A number halved this often. None where it can't be.
 fn halved(num: u64, times: u16) -> Option<u64>
     ensures some { IfSome result (λ half. half * 2 ^ times ≡ num) }
     ensures none { IsNone result → (half : ℕ) → half * 2 ^ times ≢ num }
@@ -25,7 +25,7 @@ fn halved(num: u64, times: u16) -> Option<u64>
     }
 }
 
-/// A number that is doubled so often, multiples of `whole` left out.
+/// A number doubled this often, modulo `whole`.
 fn doubled_within(num: u64, times: u16, whole: u128) -> u128
     requires some { 0 < whole }
     requires half { whole ≤ 2 ^ 127 }
@@ -55,7 +55,7 @@ fn is_one(real: WideReal) -> bool
     }
 }
 
-/// The quarter turns of an angle in degrees, whole turns left out. None where it is no whole multiple of 90.
+/// The quarter turns of an angle in degrees, modulo whole turns. None where it is no whole multiple of 90.
 fn quarters_of(angle: WideReal) -> Option<u64>
     ensures { result ≡ quarters_of angle }
 {
@@ -74,7 +74,7 @@ fn quarters_of(angle: WideReal) -> Option<u64>
     Some((degrees / quarter % 4) as u64)
 }
 
-/// Whether a real is a fraction as it stands, as those of the profile.
+/// Whether a real is an unscaled fraction, like those of the profile.
 fn is_plain(real: WideReal) -> bool
     ensures { result ≡ is_plain real }
 {
@@ -125,7 +125,7 @@ fn angle_of(real: WideReal) -> Real
     }
 }
 
-/// The placement of the profile for which one by reals stands.
+/// The placement of the profile that one by reals is translated to.
 fn placement_of(placed: WidePlacement) -> Placement
     ensures { result ≡ placement_of placed }
 {
@@ -147,7 +147,7 @@ fn placement_of(placed: WidePlacement) -> Placement
     }
 }
 
-/// A record in whose place there is the placement of the profile for which it stands, if it is one by reals.
+/// A record; if it is a placement by reals, the placement of the profile that it is translated to.
 pub fn with_turns(next: WideRecord) -> WideRecord
     ensures { result ≡ with_turns next }
 {

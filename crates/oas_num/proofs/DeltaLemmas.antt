@@ -4,7 +4,7 @@ use Rattle.oas_num.specs.declared.refusals.Why.{Why}
 use Rattle.oas_num.specs.Script.{Script}
 use Rattle.oas_num.specs.Grammar.{IsThere}
 use Rattle.oas_num.specs.Integers.{IsUnsigned}
-use Rattle.oas_num.specs.Laws.IntegerLaws.{OneFront-IsUnsigned}
+use Rattle.oas_num.specs.Laws.IntegerLaws.{PrefixFree-IsUnsigned}
 use Rattle.oas_num.specs.Deltas.{SpellsDelta2, SpellsDelta3, SpellsGDelta, GDeltaTook, delta2_of, delta3_of, gdelta_of, has_second, IsNumbers}
 use Rattle.oas_num.specs.Laws.DeltaLaws.{Delta2-some, Delta3-some, GDelta-some}
 use Rattle.oas_num.specs.Reading.{ReadsValue, FailsPiece, IntegerMay}
@@ -27,4 +27,4 @@ first_number_fails f = image_fails gdelta_of (first_fails f)
 
 pub second_number_fails : {old mid new : Script} {first : ℕ} {why : Why} → ReadsValue IsUnsigned old first mid
     → FailsPiece (IsThere (has_second first) IsUnsigned) IntegerMay mid why new → FailsPiece SpellsGDelta GDeltaTook old why new
-second_number_fails {first = first} read f = image_fails gdelta_of (second_fails OneFront-IsUnsigned read (there_fails_in IsUnsigned IntegerMay (has_second first) (λ _ h. h) f))
+second_number_fails {first = first} read f = image_fails gdelta_of (second_fails PrefixFree-IsUnsigned read (there_fails_in IsUnsigned IntegerMay (has_second first) (λ _ h. h) f))

@@ -5,13 +5,13 @@ use Rattle.std.proofs.Math.Nat.{pow-suc, pow-le-pow_right}
 use Rattle.std.proofs.lemmas.Nat.{mul-le}
 use Rattle.oas_num.specs.declared.refusals.Why.{Why}
 use Rattle.oas_num.specs.declared.refusals.Why.TheVariants.{Truncated, IntegerRange, Read, InputTooLong}
-use Rattle.oas_num.specs.Script.{Script, Takes}
+use Rattle.oas_num.specs.Script.{Script, Consumed}
 use Rattle.oas_num.specs.Integers.{IsOpen, IsClosed, IsUnsigned, value_of}
-use Rattle.oas_num.specs.Laws.IntegerLaws.{open_front}
+use Rattle.oas_num.specs.Laws.IntegerLaws.{open_prefix}
 use Rattle.oas_num.specs.Grammar.{IsByte}
 use Rattle.oas_num.specs.Begun.{Decides}
 use Rattle.oas_num.specs.Reading.{ReadsValue, FailsPiece, ByteMay, IntegerMay, IsUnended}
-use Rattle.oas_num.proofs.ReadLemmas.{Takes-none, Takes-then, Wants, NoneFits-after, NoneWithin-after}
+use Rattle.oas_num.proofs.ReadLemmas.{Consumed-none, Consumed-then, Wants, NoneFits-after, NoneWithin-after}
 
 value_of-push : (front : List ℕ) (b : ℕ) → value_of (front ++ b ∷ []) ≡ value_of front + b % 128 * 128 ^ length front
 value_of-push [] b = omega arith
@@ -36,14 +36,14 @@ byte_first (d ∷ q) r rest h e = (d, d ∷ [], q ++ r, record { only = refl; sm
 open_wants : (front : List ℕ) → IsOpen front → Wants IsUnsigned front IsByte
 open_wants front o = record {
   wants = λ v p r rest s e.
-      let m = open_front front p r rest o s.closed e in
+      let m = open_prefix front p r rest o s.closed e in
       byte_first m.0 r rest m.2 m.3;
 }
 
 none_came : (front bytes : List ℕ) → IsOpen front → length front < 10 → Decides true IsByte (λ last. last ≡ []) bytes → Decides true IsUnsigned IsUnended (front ++ bytes)
 none_came front bytes o few d =
     let none : bytes ≡ [] = d.joined ∙ (λ i. d.begun i ++ d.holds i) in
-    record { front = []; last = front ++ bytes; joined = refl; begun = refl; holds = rw (none, append-nil front) (record { open_front = o; few = few }) }
+    record { front = []; last = front ++ bytes; joined = refl; begun = refl; holds = rw (none, append-nil front) (record { open_prefix = o; few = few }) }
 
 -- the bytes of an integer that is cut off
 cut_off : (why : Why) (front bytes : List ℕ) → IsOpen front → length front < 10 → Decides true IsByte (ByteMay why) bytes → Decides true IsUnsigned (IntegerMay why) (front ++ bytes)
@@ -52,10 +52,10 @@ cut_off Read front bytes o few d = none_came front bytes o few d
 cut_off InputTooLong front bytes o few d = none_came front bytes o few d
 cut_off _ front bytes o few d = absurd d.holds
 
--- so many bytes of groups were read, and this is their value
+-- this many bytes of groups were read, and this is their value
 pub record Partway (old now : Script) (count value weight : ℕ) : Type 0 where
   pub front : List ℕ
-  pub takes : Takes old front now
+  pub takes : Consumed old front now
   pub are_open : IsOpen front
   pub len : length front ≡ count
   pub value_is : value ≡ value_of front
@@ -63,7 +63,7 @@ pub record Partway (old now : Script) (count value weight : ℕ) : Type 0 where
   pub below : value < weight
 
 pub starts : (old : Script) → Partway old old 0 0 1
-starts old = record { front = []; takes = Takes-none old; are_open = tt; len = refl; value_is = refl; weight_is = refl; below = omega arith }
+starts old = record { front = []; takes = Consumed-none old; are_open = tt; len = refl; value_is = refl; weight_is = refl; below = omega arith }
 
 weight_le : (i k : ℕ) → i ≤ k → 128 ^ i ≤ 128 ^ k
 weight_le i k le = pow-le-pow_right (omega arith) le
@@ -97,7 +97,7 @@ module _ (old mid : Script) (i v w : ℕ) (so_far : Partway old mid i v w) where
       let d = digit_le b w in
       record {
         front = so_far.front ++ b ∷ [];
-        takes = Takes-then old mid new so_far.front (b ∷ []) so_far.takes (rw only at read.takes);
+        takes = Consumed-then old mid new so_far.front (b ∷ []) so_far.takes (rw only at read.takes);
         are_open = IsOpen-push so_far.front b so_far.are_open le read.spelled.small;
         len = omega (arith, length-append so_far.front (b ∷ []), so_far.len);
         value_is = rw (value_of-push so_far.front b) cc;
@@ -110,7 +110,7 @@ module _ (old mid : Script) (i v w : ℕ) (so_far : Partway old mid i v w) where
       let only = read.spelled.only in
       record {
         bytes = so_far.front ++ b ∷ [];
-        takes = Takes-then old mid new so_far.front (b ∷ []) so_far.takes (rw only at read.takes);
+        takes = Consumed-then old mid new so_far.front (b ∷ []) so_far.takes (rw only at read.takes);
         spelled = record {
           closed = IsClosed-push so_far.front b so_far.are_open lt;
           short = omega (arith, length-append so_far.front (b ∷ []), so_far.len);
@@ -124,7 +124,7 @@ module _ (old mid : Script) (i v w : ℕ) (so_far : Partway old mid i v w) where
       let wants = open_wants so_far.front so_far.are_open in
       record {
         bytes = so_far.front ++ f.bytes;
-        takes = Takes-then old mid new so_far.front f.bytes so_far.takes f.takes;
+        takes = Consumed-then old mid new so_far.front f.bytes so_far.takes f.takes;
         reason = cut_off why so_far.front f.bytes so_far.are_open (omega (arith, so_far.len)) f.reason;
         format = λ is. NoneFits-after IsUnsigned IsByte so_far.front f.bytes wants (f.format is);
         cut = λ is. NoneWithin-after IsUnsigned IsByte so_far.front f.bytes wants (f.cut is);
@@ -163,17 +163,17 @@ out_of_range old mid new i v w b so_far ninth read above =
     let only = read.spelled.only in
     record {
       bytes = so_far.front ++ b ∷ [];
-      takes = Takes-then old mid new so_far.front (b ∷ []) so_far.takes (rw only at read.takes);
+      takes = Consumed-then old mid new so_far.front (b ∷ []) so_far.takes (rw only at read.takes);
       reason = record {
         front = [];
         last = so_far.front ++ b ∷ [];
         joined = refl;
         begun = refl;
-        holds = record { front = so_far.front; tenth = b; joined = refl; nine = so_far.len ∙ ninth; open_front = so_far.are_open; above = above };
+        holds = record { front = so_far.front; tenth = b; joined = refl; nine = so_far.len ∙ ninth; open_prefix = so_far.are_open; above = above };
       };
       format = λ _. record {
         none = λ u p r more s e.
-            let m = open_front so_far.front p r (b ∷ more) so_far.are_open s.closed (e ∙ append_assoc so_far.front (b ∷ []) more) in
+            let m = open_prefix so_far.front p r (b ∷ more) so_far.are_open s.closed (e ∙ append_assoc so_far.front (b ∷ []) more) in
             tenth so_far.front m.0 r more b u (so_far.len ∙ ninth) above m.2 (rw m.1 at s) m.3;
       };
       cut = λ is. absurd cc;

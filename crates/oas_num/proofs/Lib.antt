@@ -9,3 +9,4 @@ pub mod PuttingLemmas
 pub mod TextLemmas
 pub mod RealLemmas
 pub mod DeltaLemmas
+pub mod SentenceLemmas

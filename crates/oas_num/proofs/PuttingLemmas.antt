@@ -2,8 +2,8 @@
 use Rattle.std.proofs.Common.{◌≡◌, ℕ, zero, suc, ◌+◌, ◌<◌, ◌≤◌, List, [], ◌∷◌, ◌++◌, length, drop, get_or, drop-cons, flat_map, Result, refl, sym, ap, subst, ◌∙◌, append_assoc}
 use Rattle.std.proofs.Common.{append-nil, add-one, arith}
 use Rattle.oas_num.specs.SinkFault.{SinkFault}
-use Rattle.oas_num.specs.Writing.{Puts, PutsFront, Writes}
-use Rattle.oas_num.proofs.WritingLemmas.{Puts-none, Puts-then, PutsFront-then, Writes-then}
+use Rattle.oas_num.specs.Writing.{Puts, PutsPrefix, Writes}
+use Rattle.oas_num.proofs.WritingLemmas.{Puts-none, Puts-then, PutsPrefix-then, Writes-then}
 
 drop_all : {A : Type 0} (xs : List A) (i : ℕ) → length xs ≤ i → drop i xs ≡ []
 drop_all [] zero le = refl
@@ -14,7 +14,7 @@ drop_all (x ∷ xs) (suc i) le = drop_all xs i (omega (arith, le))
 next_is : {A : Type 0} (f : A → List ℕ) (xs : List A) (i : ℕ) (d : A) → i < length xs → flat_map f (drop i xs) ≡ f (get_or xs i d) ++ flat_map f (drop (i + 1) xs)
 next_is f xs i d lt = ap (flat_map f) (drop-cons xs i d lt ∙ ap (λ (k : ℕ). get_or xs i d ∷ drop k xs) (sym (add-one i)))
 
--- of the whole a front was put, and this is left
+-- a prefix of the whole was put, and this is left
 pub record PutSoFar {K : Type 0} (given : K → List ℕ → K → Type 0) (failures : K → ℕ) (whole left : List ℕ) (old now : K) : Type 0 where
   pub front : List ℕ
   pub joined : whole ≡ front ++ left
@@ -36,9 +36,9 @@ module _ {K : Type 0} {given : K → List ℕ → K → Type 0} {failures : K �
   }
 
   -- a part that fails, before others
-  pub fails_at : {whole a : List ℕ} {old mid new : K} (left : List ℕ) → PutSoFar given failures whole (a ++ left) old mid → PutsFront given failures mid a new → PutsFront given failures old whole new
+  pub fails_at : {whole a : List ℕ} {old mid new : K} (left : List ℕ) → PutSoFar given failures whole (a ++ left) old mid → PutsPrefix given failures mid a new → PutsPrefix given failures old whole new
   fails_at {a = a} {old = old} {mid = mid} {new = new} left p q =
-      rw p.joined (PutsFront-then _ _ old mid new p.front a left p.puts q)
+      rw p.joined (PutsPrefix-then _ _ old mid new p.front a left p.puts q)
 
   -- the last part
   pub ends : {whole a : List ℕ} {old mid : K} (new : K) (r : Result Unit SinkFault) → PutSoFar given failures whole a old mid
@@ -51,7 +51,7 @@ module _ {K : Type 0} {given : K → List ℕ → K → Type 0} {failures : K �
   all_put {whole = whole} {old = old} {now = now} p =
       subst (λ (a : List ℕ). Puts given failures old a now) (sym (append-nil p.front) ∙ sym p.joined) p.puts
 
-  -- what was put whole is a front of itself
+  -- what was put whole is a prefix of itself
   pub nothing_left : {whole : List ℕ} {old now : K} → Puts given failures old whole now → PutSoFar given failures whole [] old now
   nothing_left {whole = whole} p = record { front = whole; joined = sym (append-nil whole); puts = p }
 
@@ -65,7 +65,7 @@ module _ {K : Type 0} {given : K → List ℕ → K → Type 0} {failures : K �
       pub item_put : {new : K} → Puts given failures mid (f (get_or xs i d)) new → PutSoFar given failures whole (flat_map f (drop (i + 1) xs)) old new
       item_put q = next_left ▸ q
 
-      pub item_fails : {new : K} → PutsFront given failures mid (f (get_or xs i d)) new → PutsFront given failures old whole new
+      pub item_fails : {new : K} → PutsPrefix given failures mid (f (get_or xs i d)) new → PutsPrefix given failures old whole new
       item_fails q = fails_at _ next_left q
 
   pub items_put : {A : Type 0} (f : A → List ℕ) (xs : List A) (i : ℕ) {whole : List ℕ} {old now : K} → length xs ≤ i

@@ -1,13 +1,13 @@
 -- One read after another.
 use Rattle.std.proofs.Common.{◌≡◌, ℕ, Bool, List, ◌++◌, sym, ap, subst, ◌∙◌, append_assoc}
 use Rattle.oas_num.specs.declared.refusals.Why.{Why}
-use Rattle.oas_num.specs.Script.{Script, Takes}
+use Rattle.oas_num.specs.Script.{Script, Consumed}
 use Rattle.oas_num.specs.Begun.{HasSome, Begins, Before}
 use Rattle.oas_num.specs.Laws.BegunLaws.{Before-begins}
 use Rattle.oas_num.specs.Reading.{NoneFits, NoneWithin, FailsBy}
-pub use Rattle.oas_bytes.proofs.ScriptLemmas.{Takes-none, Takes-then, Takes-nothing}
+pub use Rattle.oas_bytes.proofs.ScriptLemmas.{Consumed-none, Consumed-then, Consumed-nothing, Consumed-one, since_is, since_then, consumed_since, since_none, consumed_none}
 
--- after these bytes each spelling goes on by one of the other kind
+-- after these bytes each spelling goes on with one of the other kind
 pub record Wants {V W : Type 0} (spells : V → List ℕ → Type 0) (front : List ℕ) (next : W → List ℕ → Type 0) : Type 0 where
   pub wants : (v : V) (p r rest : List ℕ) → spells v p → p ++ r ≡ front ++ rest → (w : W) × (q : List ℕ) × (more : List ℕ) × next w q × (q ++ more ≡ rest)
 
@@ -28,12 +28,12 @@ module _ {V W : Type 0} (spells : V → List ℕ → Type 0) (next : W → List 
 
   -- what fails there fails as a whole
   pub Fails-after : {piece to : Bool} (may there : Why → List ℕ → Type 0) (old mid new : Script) (why : Why) (front : List ℕ)
-      → ((last : List ℕ) → there why last → may why last) → Takes old front mid → Wants spells front next
+      → ((last : List ℕ) → there why last → may why last) → Consumed old front mid → Wants spells front next
       → ((a : List ℕ) → Before piece next a → Before to spells (front ++ a)) → FailsBy piece next there mid why new
       → FailsBy to spells may old why new
   Fails-after may there old mid new why front allows takes wants begun f = record {
     bytes = front ++ f.bytes;
-    takes = Takes-then old mid new front f.bytes takes f.takes;
+    takes = Consumed-then old mid new front f.bytes takes f.takes;
     reason = let r = f.reason in record {
       front = front ++ r.front;
       last = r.last;
@@ -48,7 +48,7 @@ module _ {V W : Type 0} (spells : V → List ℕ → Type 0) (next : W → List 
     too_long = f.too_long;
   }
 
-  -- where a spelling of the one makes one of the other, so does what begins it
+  -- where a spelling of the one makes one of the other, a prefix makes a prefix
   module _ (front : List ℕ) (build : W → V) (makes : (w : W) (q : List ℕ) → next w q → spells (build w) (front ++ q)) where
     pub Begins-after : (a : List ℕ) → Begins next a → Begins spells (front ++ a)
     Begins-after a b = record {

@@ -5,13 +5,13 @@ use Rattle.oas_num.specs.declared.refusals.Why.{Why}
 use Rattle.oas_num.specs.declared.refusals.Why.TheVariants.{Truncated, EmptyName, StringByte, Read, InputTooLong}
 use Rattle.oas_num.specs.Script.{Script}
 use Rattle.oas_num.specs.Grammar.{IsPair, IsSuch, IsByte}
-use Rattle.oas_num.specs.Laws.GrammarLaws.{OneFront-byte}
+use Rattle.oas_num.specs.Laws.GrammarLaws.{PrefixFree-byte}
 use Rattle.oas_num.specs.declared.texts.TextClass.TheVariants as classes
 use Rattle.oas_num.specs.Integers.{IsUnsigned}
-use Rattle.oas_num.specs.Laws.IntegerLaws.{OneFront-IsUnsigned}
+use Rattle.oas_num.specs.Laws.IntegerLaws.{PrefixFree-IsUnsigned}
 use Rattle.oas_num.specs.Style.{Any}
-use Rattle.oas_num.specs.Texts.{IsOf, IsNameByte, IsLabelByte, IsName, IsLabel, IsText, IsPositive, IsPassed, SpellsName, SpellsLabel, SpellsPadding, padding_of, padding_length}
-use Rattle.oas_num.specs.Laws.TextLaws.{OneFront-positive, text_of, HasSome-name, HasSome-label, HasSome-padding, HasSome-text, HasSome-passed}
+use Rattle.oas_num.specs.Texts.{IsOf, IsNameByte, IsLabelByte, IsName, IsLabel, IsText, IsPositive, IsSkipped, SpellsName, SpellsLabel, SpellsPadding, padding_of, padding_length}
+use Rattle.oas_num.specs.Laws.TextLaws.{PrefixFree-positive, text_of, HasSome-name, HasSome-label, HasSome-padding, HasSome-text, HasSome-passed}
 use Rattle.oas_num.specs.Pieces.{CountTook}
 use Rattle.oas_num.specs.Reading.{ReadsPiece, ReadsValue, FailsPiece, ByteMay, IntegerMay, ClassMay, TextMay, NameLengthMay, TextTook, NameTook, LabelTook, PaddingTook, IsInside}
 use Rattle.oas_num.proofs.MidwayLemmas.{Midway, begins, refused, image_fails}
@@ -32,7 +32,7 @@ TextMay-class class InputTooLong last h = h
 TextMay-class class StringByte last h = h
 TextMay-class class _ last h = absurd h
 
--- a byte of a class is what is spelled so
+-- a byte of a class spells itself
 pub inside : {class : ℕ → Type 0} {byte : ℕ} (last : List ℕ) → IsSuch class IsByte byte last → IsInside class last
 inside {byte = byte} last h = (byte, h.spelled.only, h.holds)
 
@@ -56,7 +56,7 @@ pub empty : {old new : Script} {count : ℕ} → count ≡ 0 → ReadsValue IsUn
 empty {old = old} {new = new} {count = count} none read =
     let spelled : IsUnsigned 0 read.bytes = rw none at read.spelled in
     let g : FailsPiece name_parts NameTook old EmptyName new =
-    first_fails (refused IsPositive IsUnsigned NameLengthMay old new EmptyName count OneFront-IsUnsigned read (λ (pos : 0 < count). omega arith)
+    first_fails (refused IsPositive IsUnsigned NameLengthMay old new EmptyName count PrefixFree-IsUnsigned read (λ (pos : 0 < count). omega arith)
     spelled (λ e. cc) (λ e. cc) (λ e. cc)) in
     keyed_fails length g
 
@@ -64,13 +64,13 @@ empty {old = old} {new = new} {count = count} none read =
 pub name_text_fails : {old mid new : Script} {count : ℕ} {why : Why} → count ≢ 0 → ReadsValue IsUnsigned old count mid
     → FailsPiece (IsText IsNameByte count) (TextTook IsNameByte count) mid why new → FailsPiece SpellsName NameTook old why new
 name_text_fails {old = old} {mid = mid} {new = new} {count = count} {why = why} some read f =
-    let g : FailsPiece name_parts NameTook old why new = second_fails (OneFront-positive Any) (such_read IsPositive IsUnsigned old mid count (omega arith) read) f in
+    let g : FailsPiece name_parts NameTook old why new = second_fails (PrefixFree-positive Any) (such_read IsPositive IsUnsigned old mid count (omega arith) read) f in
     keyed_fails length g
 
 -- the length of a name was read
 pub with_name_length : {old new : Script} {count : ℕ} → count ≢ 0 → ReadsValue IsUnsigned old count new → Midway SpellsName (IsText IsNameByte count) (λ text. text) old new
 with_name_length {old = old} {new = new} {count = count} some read =
-    key_read SpellsName length (IsSuch IsPositive IsUnsigned) (λ count. IsText IsNameByte count) (λ v. v) old old new count (OneFront-positive Any)
+    key_read SpellsName length (IsSuch IsPositive IsUnsigned) (λ count. IsText IsNameByte count) (λ v. v) old old new count (PrefixFree-positive Any)
     (λ v q h. h.len) (HasSome-text classes.Name count) (begins SpellsName (HasSome-name Any) old)
     (such_read IsPositive IsUnsigned old new count (omega arith) read)
 
@@ -93,22 +93,22 @@ label_length_fails {old = old} {new = new} {why = why} f =
 pub label_text_fails : {old mid new : Script} {count : ℕ} {why : Why} → ReadsValue IsUnsigned old count mid
     → FailsPiece (IsText IsLabelByte count) (TextTook IsLabelByte count) mid why new → FailsPiece SpellsLabel LabelTook old why new
 label_text_fails {old = old} {new = new} {why = why} read f =
-    let g : FailsPiece label_parts LabelTook old why new = second_fails OneFront-IsUnsigned read f in
+    let g : FailsPiece label_parts LabelTook old why new = second_fails PrefixFree-IsUnsigned read f in
     keyed_fails length g
 
 -- the length of a label was read
 pub with_label_length : {old new : Script} {count : ℕ} → ReadsValue IsUnsigned old count new → Midway SpellsLabel (IsText IsLabelByte count) (λ text. text) old new
 with_label_length {old = old} {new = new} {count = count} read =
-    key_read SpellsLabel length IsUnsigned (λ count. IsText IsLabelByte count) (λ v. v) old old new count OneFront-IsUnsigned (λ v q h. h.len)
+    key_read SpellsLabel length IsUnsigned (λ count. IsText IsLabelByte count) (λ v. v) old old new count PrefixFree-IsUnsigned (λ v q h. h.len)
     (HasSome-text classes.Label count) (begins SpellsLabel (HasSome-label Any) old) read
 
 -- the bytes that were read are those of a label
 pub read_label : {old new : Script} {count : ℕ} {text : List ℕ} → count < 2 ^ 64 → ReadsValue (IsText IsLabelByte count) old text new → IsLabel text
 read_label fits read = record { fits = omega (arith, read.spelled.len); class = text_of read.spelled }
 
--- ---- passed bytes
+-- ---- skipped bytes
 
--- so many bytes were passed
+-- this many bytes were skipped
 pub record Passed (old now : Script) (count : ℕ) : Type 0 where
   pub text : List ℕ
   pub listed : Listed IsByte old now text
@@ -125,10 +125,10 @@ passed_more {old = old} {mid = mid} {new = new} {byte = byte} p read = record {
 }
 
 pub passed_fails : {old mid new : Script} {at count : ℕ} {why : Why} → at < count → Passed old mid at → FailsPiece IsByte ByteMay mid why new
-    → FailsPiece (IsPassed count) (CountTook IsByte count ByteMay) old why new
-passed_fails lt p f = image_fails padding_of (item_fails OneFront-byte (λ _ h. h) (omega (arith, lt, p.len)) p.listed f)
+    → FailsPiece (IsSkipped count) (CountTook IsByte count ByteMay) old why new
+passed_fails lt p f = image_fails padding_of (item_fails PrefixFree-byte (λ _ h. h) (omega (arith, lt, p.len)) p.listed f)
 
-pub passed_all : {old new : Script} {at count : ℕ} → at ≡ count → Passed old new at → ReadsValue (IsPassed count) old (record { length = count }) new
+pub passed_all : {old new : Script} {at count : ℕ} → at ≡ count → Passed old new at → ReadsValue (IsSkipped count) old (record { length = count }) new
 passed_all {old = old} {new = new} {count = count} is p = record {
   bytes = p.listed.bytes;
   spelled = record { from = p.text; is = ap (λ (n : ℕ). let padding : Padding = record { length = n } in padding) (p.len ∙ is); spelled = record { len = p.len ∙ is; each = p.listed.each } };
@@ -136,23 +136,23 @@ passed_all {old = old} {new = new} {count = count} is p = record {
 }
 
 abbrev padding_parts : ℕ × Padding → List ℕ → Type 0
-padding_parts = IsPair IsUnsigned IsPassed
+padding_parts = IsPair IsUnsigned IsSkipped
 
 pub padding_length_fails : {old new : Script} {why : Why} → FailsPiece IsUnsigned IntegerMay old why new → FailsPiece SpellsPadding PaddingTook old why new
 padding_length_fails {old = old} {new = new} {why = why} f =
     let g : FailsPiece padding_parts PaddingTook old why new = first_fails f in
     keyed_fails padding_length g
 
-pub with_padding_length : {old new : Script} {count : ℕ} → ReadsValue IsUnsigned old count new → Midway SpellsPadding (IsPassed count) (λ padding. padding) old new
+pub with_padding_length : {old new : Script} {count : ℕ} → ReadsValue IsUnsigned old count new → Midway SpellsPadding (IsSkipped count) (λ padding. padding) old new
 with_padding_length {old = old} {new = new} {count = count} read =
-    key_read SpellsPadding padding_length IsUnsigned IsPassed (λ v. v) old old new count OneFront-IsUnsigned
+    key_read SpellsPadding padding_length IsUnsigned IsSkipped (λ v. v) old old new count PrefixFree-IsUnsigned
     (λ v q h. sym (ap padding_length h.is) ∙ h.spelled.len) (HasSome-passed count) (begins SpellsPadding HasSome-padding old) read
 
 pub padding_done : (old mid new : Script) (count : ℕ) (r : Result Padding Why) → ReadsValue IsUnsigned old count mid
-    → ReadsPiece (IsPassed count) (CountTook IsByte count ByteMay) mid r new → ReadsPiece SpellsPadding PaddingTook old r new
+    → ReadsPiece (IsSkipped count) (CountTook IsByte count ByteMay) mid r new → ReadsPiece SpellsPadding PaddingTook old r new
 padding_done old mid new count (Ok padding) read passed = is_read (with_padding_length read) passed
 padding_done old mid new count (Err why) read passed =
-    let g : FailsPiece padding_parts PaddingTook old why new = second_fails OneFront-IsUnsigned read passed in
+    let g : FailsPiece padding_parts PaddingTook old why new = second_fails PrefixFree-IsUnsigned read passed in
     keyed_fails padding_length g
 
 -- ---- bytes of a class, one after another
@@ -161,10 +161,10 @@ of_push : (class : ℕ → Type 0) (bytes : List ℕ) (b : ℕ) → IsOf class b
 of_push class [] b all is = (is, tt)
 of_push class (x ∷ xs) b all is = (all.0, of_push class xs b all.1 is)
 
--- one more of the bytes is of it
+-- one more of the bytes is in it
 pub of_more : (class : ℕ → Type 0) (bytes : List ℕ) (i : ℕ) → i < length bytes → IsOf class (take i bytes) → class (slice_index_or bytes i 0) → IsOf class (take (i + 1) bytes)
 of_more class bytes i in_bytes all is = rw (take_more bytes i 0 in_bytes) (of_push class (take i bytes) (slice_index_or bytes i 0) all is)
 
--- and all of them, behind the last
+-- and all of them, after the last
 pub of_all : (class : ℕ → Type 0) (bytes : List ℕ) (i : ℕ) → length bytes ≤ i → IsOf class (take i bytes) → IsOf class bytes
 of_all class bytes i over all = rw (take_all i bytes over) at all

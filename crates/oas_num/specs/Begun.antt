@@ -7,18 +7,19 @@ pub record HasSome {V : Type 0} (spells : V → List ℕ → Type 0) : Type 0 wh
   pub bytes : List ℕ
   pub spelled : spells value bytes
 
--- The bytes begin a spelling.
+-- The bytes are a prefix of a spelling.
 pub record Begins {V : Type 0} (spells : V → List ℕ → Type 0) (front : List ℕ) : Type 0 where
   pub value : V
   pub rest : List ℕ
   pub spelled : spells value (front ++ rest)
 
--- What stands before the bytes that decided: nothing, where a value is read as one piece, as a byte and an integer are; else bytes that begin a spelling.
+-- What comes before the bytes that decided: nothing, where a value is read as one piece, as a byte or an integer; else a
+-- prefix of a spelling.
 abbrev pub Before : {V : Type 0} → Bool → (V → List ℕ → Type 0) → List ℕ → Type 0
 Before true spells front = front ≡ []
 Before false spells front = Begins spells front
 
--- The bytes end with those that decided, of which that holds.
+-- The bytes end with those that decided, for which that holds.
 pub record Decides {V : Type 0} (piece : Bool) (spells : V → List ℕ → Type 0) (P : List ℕ → Type 0) (bytes : List ℕ) : Type 0 where
   pub front : List ℕ
   pub last : List ℕ

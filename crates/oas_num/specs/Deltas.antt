@@ -15,7 +15,7 @@ use Rattle.oas_num.specs.Reading.{IntegerMay}
 abbrev pub step : ℤ → ℤ → GDelta
 step x y = record { dx = x; dy = y }
 
--- so far in one of eight directions, of which a diagonal goes so far along both axes: E, N, W, S, NE, NW, SW, SE
+-- this far in one of eight directions; a diagonal goes this far along both axes: E, N, W, S, NE, NW, SW, SE
 abbrev pub toward : ℕ → ℕ → GDelta
 toward direction far =
     if direction == 0 then step (pos far) (pos 0) else
@@ -27,18 +27,18 @@ toward direction far =
     (if direction == 6 then step (neg_ℤ (pos far)) (neg_ℤ (pos far)) else
     step (pos far) (neg_ℤ (pos far))))))))
 
--- a 1-delta is a number with a sign
+-- a 1-delta is a signed number
 abbrev pub SpellsDelta1 : Delta1 → List ℕ → Type 0
 SpellsDelta1 v bytes = IsSigned v.0 bytes
 
--- the low two bits are the direction, the rest is how far
+-- the low two bits are the direction, the rest is the distance
 abbrev pub delta2_of : ℕ → Delta2
 delta2_of n = let far = toward (n % 4) (n / 4) in record { dx = far.dx; dy = far.dy }
 
 abbrev pub SpellsDelta2 : Delta2 → List ℕ → Type 0
 SpellsDelta2 = IsImage delta2_of IsUnsigned
 
--- the low three bits are the direction, the rest is how far
+-- the low three bits are the direction, the rest is the distance
 abbrev pub delta3_of : ℕ → Delta3
 delta3_of n = let far = toward (n % 8) (n / 8) in record { dx = far.dx; dy = far.dy }
 
@@ -49,7 +49,7 @@ SpellsDelta3 = IsImage delta3_of IsUnsigned
 abbrev pub has_second : ℕ → Bool
 has_second first = first % 2 == 1
 
--- In form 1 bits 1 to 3 are the direction, and the rest is how far. In form 2 bit 1 of the first number and bit 0 of the
+-- In form 1 bits 1 to 3 are the direction, and the rest is the distance. In form 2 bit 1 of the first number and bit 0 of the
 -- second are the signs of the components, and the rest of each is its magnitude.
 abbrev pub gdelta_from : ℕ → Option ℕ → GDelta
 gdelta_from first None = toward (first / 2 % 8) (first / 16)
@@ -58,11 +58,11 @@ gdelta_from first (Some second) = step (signed_of (first / 2)) (signed_of second
 abbrev pub gdelta_of : ℕ × Option ℕ → GDelta
 gdelta_of numbers = gdelta_from numbers.0 numbers.1
 
--- the two numbers of form 2, in which a component of zero goes east or north
+-- the two numbers of form 2; a component of zero goes east or north
 abbrev pub long_numbers : GDelta → ℕ × ℕ
 long_numbers d = (2 * code d.dx + 1, code d.dy)
 
--- the numbers of a g-delta, of which the second is there by the first one's bit 0
+-- the numbers of a g-delta; the first one's bit 0 says whether the second is there
 abbrev pub IsNumbers : ℕ × Option ℕ → List ℕ → Type 0
 IsNumbers = IsPair IsUnsigned (λ first. IsThere (has_second first) IsUnsigned)
 
@@ -74,6 +74,6 @@ gdelta_in Shortest d bytes = IsPair (unsigned_in Shortest) (λ _. unsigned_in Sh
 abbrev pub SpellsGDelta : GDelta → List ℕ → Type 0
 SpellsGDelta = gdelta_in Any
 
--- where in it a read of a g-delta may fail: in its first number, or in the second, where there is one
+-- where a read of a g-delta may fail: in its first number, or in the second, if there is one
 abbrev pub GDeltaTook : Why → List ℕ → Type 0
 GDeltaTook = PairTook IsUnsigned IntegerMay (λ first. ThereTook (has_second first) IntegerMay)

@@ -4,12 +4,12 @@ use Rattle.oas_num.specs.declared.integers.Unsigned.{Unsigned}
 use Rattle.oas_num.specs.declared.integers.Signed.{Signed}
 use Rattle.oas_num.specs.Grammar.{IsImage}
 
--- bytes of groups, of which more follow
+-- bytes of groups with more to follow
 abbrev pub IsOpen : List ℕ → Type 0
 IsOpen [] = Unit {0}
 IsOpen (b ∷ bs) = (128 ≤ b) × (b < 256) × IsOpen bs
 
--- all but the last at least 128, and the last below
+-- all except the last are at least 128, and the last is below
 abbrev pub IsClosed : List ℕ → Type 0
 IsClosed [] = ⊥
 IsClosed (b ∷ bs) = ((b < 128) × (bs ≡ [])) ⊎ ((128 ≤ b) × (b < 256) × IsClosed bs)
@@ -30,11 +30,11 @@ pub record IsUnsigned (n : ℕ) (bytes : List ℕ) : Type 0 where
 abbrev pub signed_of : ℕ → ℤ
 signed_of n = if n % 2 == 0 then pos (n / 2) else neg_ℤ (pos (n / 2))
 
--- the bytes are a spelling of a number with a sign
+-- the bytes are a spelling of a signed number
 abbrev pub IsSigned : ℤ → List ℕ → Type 0
 IsSigned = IsImage signed_of IsUnsigned
 
--- the same of the types of these numbers
+-- the same for the types of these numbers
 abbrev pub SpellsUnsigned : Unsigned → List ℕ → Type 0
 SpellsUnsigned v bytes = IsUnsigned v.0 bytes
 

@@ -13,6 +13,7 @@ pub mod Combinators
 pub mod Integers
 pub mod Style
 pub mod Texts
+pub mod Named
 pub mod Pieces
 pub mod Reading
 pub mod Reals

@@ -2,7 +2,7 @@
 use Rattle.std.specs.Prelude.{◌≡◌, ◌≢◌, ℕ, ◌<◌, Bool, true, false, List, [], ◌∷◌, ◌++◌, length, Result, Ok, Err, IsTrue}
 use Rattle.oas_num.specs.declared.refusals.Why.{Why}
 use Rattle.oas_num.specs.declared.refusals.Why.TheVariants.{Truncated, IntegerRange, StringByte, EmptyName, Read, InputTooLong, Memory}
-use Rattle.oas_num.specs.Script.{Script, Takes, IsAtEnd, HasFailed, IsTooLong}
+use Rattle.oas_num.specs.Script.{Script, Consumed, IsAtEnd, HasFailed, IsTooLong}
 use Rattle.oas_num.specs.Integers.{IsOpen, IsUnsigned}
 use Rattle.oas_num.specs.Grammar.{IsSuch, IsByte}
 use Rattle.oas_num.specs.Texts.{IsNameByte, IsLabelByte, IsPositive}
@@ -24,11 +24,11 @@ is_cut Read = true
 is_cut InputTooLong = true
 is_cut _ = false
 
--- The tables below say of each reason what all bytes are that were read.
+-- The tables below say for each reason what all the bytes are that were read.
 
--- the first bytes of an integer of which more follow, or none
+-- the first bytes of an integer with more to follow, or none
 pub record IsUnended (last : List ℕ) : Type 0 where
-  pub open_front : IsOpen last
+  pub open_prefix : IsOpen last
   pub few : length last < 10
 
 -- where a read of a byte may fail
@@ -44,7 +44,7 @@ pub record IsOutOfRange (bytes : List ℕ) : Type 0 where
   pub tenth : ℕ
   pub joined : bytes ≡ front ++ tenth ∷ []
   pub nine : length front ≡ 9
-  pub open_front : IsOpen front
+  pub open_prefix : IsOpen front
   pub above : 1 < tenth
 
 -- where a read of an integer may fail
@@ -85,27 +85,27 @@ abbrev pub NameLengthMay : Why → List ℕ → Type 0
 NameLengthMay EmptyName bytes = IsUnsigned 0 bytes
 NameLengthMay why bytes = IntegerMay why bytes
 
--- where in it a read of so many bytes of a string may fail
+-- where a read of this many bytes of a string may fail
 abbrev pub TextTook : (ℕ → Type 0) → ℕ → Why → List ℕ → Type 0
 TextTook class count = CountTook (IsSuch class IsByte) count (TextMay class)
 
--- where in it a read of an n-string may fail
+-- where a read of an n-string may fail
 abbrev pub NameTook : Why → List ℕ → Type 0
 NameTook = PairTook (IsSuch IsPositive IsUnsigned) NameLengthMay (TextTook IsNameByte)
 
--- where in it a read of an a-string may fail
+-- where a read of an a-string may fail
 abbrev pub LabelTook : Why → List ℕ → Type 0
 LabelTook = PairTook IsUnsigned IntegerMay (TextTook IsLabelByte)
 
--- where in it a read of a string that is passed over may fail
+-- where a read of a skipped string may fail
 abbrev pub PaddingTook : Why → List ℕ → Type 0
 PaddingTook = PairTook IsUnsigned IntegerMay (λ count. CountTook IsByte count ByteMay)
 
--- No spelling is a front of the bytes, however they go on.
+-- No spelling is a prefix of the bytes, whatever follows.
 pub record NoneFits {V : Type 0} (spells : V → List ℕ → Type 0) (bytes : List ℕ) : Type 0 where
   pub none : (v : V) (front rest more : List ℕ) → spells v front → front ++ rest ≢ bytes ++ more
 
--- No spelling is a front of the bytes.
+-- No spelling is a prefix of the bytes.
 pub record NoneWithin {V : Type 0} (spells : V → List ℕ → Type 0) (bytes : List ℕ) : Type 0 where
   pub none : (v : V) (front rest : List ℕ) → spells v front → front ++ rest ≢ bytes
 
@@ -113,12 +113,12 @@ pub record NoneWithin {V : Type 0} (spells : V → List ℕ → Type 0) (bytes :
 pub record ReadsValue {V : Type 0} (spells : V → List ℕ → Type 0) (old : Script) (v : V) (new : Script) : Type 0 where
   pub bytes : List ℕ
   pub spelled : spells v bytes
-  pub takes : Takes old bytes new
+  pub takes : Consumed old bytes new
 
 -- A read failed, for a reason that it may have.
 pub record FailsBy {V : Type 0} (piece : Bool) (spells : V → List ℕ → Type 0) (may : Why → List ℕ → Type 0) (old : Script) (why : Why) (new : Script) : Type 0 where
   pub bytes : List ℕ
-  pub takes : Takes old bytes new
+  pub takes : Consumed old bytes new
   pub reason : Decides piece spells (may why) bytes
   pub format : IsTrue (is_format why) → NoneFits spells bytes
   pub cut : IsTrue (is_cut why) → NoneWithin spells bytes
@@ -126,7 +126,7 @@ pub record FailsBy {V : Type 0} (piece : Bool) (spells : V → List ℕ → Type
   pub device : why ≡ Read → HasFailed new
   pub too_long : why ≡ InputTooLong → IsTooLong new
 
--- What was read before the bytes that decided begins a spelling.
+-- What was read before the bytes that decided is a prefix of a spelling.
 abbrev pub Fails : {V : Type 0} → (V → List ℕ → Type 0) → (Why → List ℕ → Type 0) → Script → Why → Script → Type 0
 Fails spells may old why new = FailsBy false spells may old why new
 
@@ -139,12 +139,12 @@ abbrev pub Reads : {V : Type 0} → (V → List ℕ → Type 0) → (Why → Lis
 Reads spells may old (Ok v) new = ReadsValue spells old v new
 Reads spells may old (Err why) new = Fails spells may old why new
 
--- The same, of one piece.
+-- The same, for one piece.
 abbrev pub ReadsPiece : {V : Type 0} → (V → List ℕ → Type 0) → (Why → List ℕ → Type 0) → Script → Result V Why → Script → Type 0
 ReadsPiece spells may old (Ok v) new = ReadsValue spells old v new
 ReadsPiece spells may old (Err why) new = FailsPiece spells may old why new
 
--- The same, of one piece.
+-- The same, for one piece.
 abbrev pub ReadsPieceAs : {X V : Type 0} → (X → V) → (V → List ℕ → Type 0) → (Why → List ℕ → Type 0) → Script → Result X Why → Script → Type 0
 ReadsPieceAs view spells may old (Ok x) new = ReadsValue spells old (view x) new
 ReadsPieceAs view spells may old (Err why) new = FailsPiece spells may old why new

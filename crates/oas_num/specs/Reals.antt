@@ -18,7 +18,7 @@ has_num kind = not (kind / 2 == 1)
 abbrev pub has_den : ℕ → Bool
 has_den kind = not (kind / 2 == 0)
 
--- a part that isn't there is 1
+-- a missing part is 1
 abbrev pub part_of : Option ℕ → ℕ
 part_of None = 1
 part_of (Some part) = part
@@ -42,11 +42,11 @@ real_of p = record { negative = p.0 % 2 == 1; num = part_of p.1.0; den = part_of
 abbrev pub SpellsReal : Real → List ℕ → Type 0
 SpellsReal = IsImage real_of (IsPair (IsSuch IsFraction IsUnsigned) SpellsParts)
 
--- the canonical type: a denominator of 1 is left out, and else a numerator of 1
+-- the canonical type: a denominator of 1 is left out, or else a numerator of 1
 abbrev pub kind_of : Real → ℕ
 kind_of r = (if r.den == 1 then 0 else if r.num == 1 then 2 else 4) + (if r.negative then 1 else 0)
 
--- a part in its shortest spelling, where the type has it, and else 1
+-- a part in its shortest spelling, where the type has it, or else 1
 abbrev pub IsPart : Bool → ℕ → List ℕ → Type 0
 IsPart true part bytes = IsShortest part bytes
 IsPart false part bytes = (bytes ≡ []) × (part ≡ 1)
@@ -69,10 +69,10 @@ RealMay FloatReal last = (kind : ℕ) × IsUnsigned kind last × (6 ≤ kind) ×
 RealMay RealType last = (kind : ℕ) × IsUnsigned kind last × (8 ≤ kind)
 RealMay _ last = ⊥
 
--- where in them a read of the parts that a type has may fail
+-- where a read of the parts that a type has may fail
 abbrev pub PartsTook : ℕ → Why → List ℕ → Type 0
 PartsTook kind = PairTook (IsThere (has_num kind) IsUnsigned) (ThereTook (has_num kind) IntegerMay) (λ _. ThereTook (has_den kind) IntegerMay)
 
--- where in it a read of a real may fail: in its type, or in a part that the type has
+-- where a read of a real may fail: in its type, or in a part that the type has
 abbrev pub RealTook : Why → List ℕ → Type 0
 RealTook = PairTook (IsSuch IsFraction IsUnsigned) RealMay PartsTook

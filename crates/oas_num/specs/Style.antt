@@ -1,4 +1,4 @@
--- The two ways to spell: any that the standard has, or the shortest, which a canonical file has.
+-- The two styles of spelling: any that the standard allows, or the shortest, which a canonical file has.
 use Rattle.std.specs.Prelude.{◌≡◌, ℕ, ℤ, pos, negsuc, ◌+◌, ◌*◌, ◌≤◌, List, length}
 use Rattle.oas_num.specs.Integers.{IsUnsigned, IsSigned, signed_of}
 
@@ -18,17 +18,17 @@ pub record IsShortestSigned (z : ℤ) (bytes : List ℕ) : Type 0 where
   pub plain : from ≡ 1 → ⊥
   pub shortest : IsShortest from bytes
 
--- a number without a sign, in a style
+-- an unsigned number, in a style
 abbrev pub unsigned_in : Style → ℕ → List ℕ → Type 0
 unsigned_in Any = IsUnsigned
 unsigned_in Shortest = IsShortest
 
--- a number with a sign, in a style
+-- a signed number, in a style
 abbrev pub signed_in : Style → ℤ → List ℕ → Type 0
 signed_in Any = IsSigned
 signed_in Shortest = IsShortestSigned
 
--- the number that spells a number with a sign: the sign in its lowest bit
+-- the number that spells a signed number: the sign in its lowest bit
 abbrev pub code : ℤ → ℕ
 code (pos n) = 2 * n
 code (negsuc n) = 2 * n + 3

@@ -11,7 +11,7 @@ use Rattle.oas_num.specs.Style.{Style, Any, unsigned_in}
 abbrev pub IsBetween : ℕ → ℕ → ℕ → Type 0
 IsBetween low high byte = (low ≤ byte) × (byte ≤ high)
 
--- a byte of an n-string: printable, and no space
+-- a byte of an n-string: printable, without the space
 abbrev pub IsNameByte : ℕ → Type 0
 IsNameByte byte = IsBetween 33 126 byte
 
@@ -40,7 +40,7 @@ pub record IsLabel (bytes : List ℕ) : Type 0 where
   pub fits : length bytes < 2 ^ 64
   pub class : IsOf IsLabelByte bytes
 
--- so many bytes of a class
+-- this many bytes of a class
 abbrev pub IsText : (ℕ → Type 0) → ℕ → List ℕ → List ℕ → Type 0
 IsText class count = IsCount (IsSuch class IsByte) count
 
@@ -61,17 +61,17 @@ SpellsName = name_in Any
 abbrev pub SpellsLabel : List ℕ → List ℕ → Type 0
 SpellsLabel = label_in Any
 
--- of passed bytes only their number is kept
+-- of skipped bytes only their number is kept
 abbrev pub padding_of : List ℕ → Padding
 padding_of bytes = record { length = length bytes }
 
 abbrev pub padding_length : Padding → ℕ
 padding_length padding = padding.length
 
--- so many bytes of any kind
-abbrev pub IsPassed : ℕ → Padding → List ℕ → Type 0
-IsPassed count = IsImage padding_of (IsCount IsByte count)
+-- this many bytes of any kind
+abbrev pub IsSkipped : ℕ → Padding → List ℕ → Type 0
+IsSkipped count = IsImage padding_of (IsCount IsByte count)
 
 -- a length, and that many bytes of any kind
 abbrev pub SpellsPadding : Padding → List ℕ → Type 0
-SpellsPadding = IsKeyed padding_length (unsigned_in Any) IsPassed
+SpellsPadding = IsKeyed padding_length (unsigned_in Any) IsSkipped

@@ -10,7 +10,7 @@ use crate::spelling::Spelled;
 use oas_bytes::Source;
 use std::alloc::Global;
 
-/// A 1-delta (SEMI P39, Deltas): how far along one axis. Which axis that is, the list says in which it stands.
+/// A 1-delta (SEMI P39, Deltas): how far along one axis. Its place in the list says which axis.
 #[derive(Clone, Copy, Debug, PartialEq, Eq)]
 pub struct Delta1(pub i64);
 
@@ -21,7 +21,7 @@ pub struct Delta2 {
     pub dy: i64,
 }
 
-/// A 3-delta (SEMI P39, Deltas): along an axis, or as far along both.
+/// A 3-delta (SEMI P39, Deltas): along one axis, or equally far along both.
 #[derive(Clone, Copy, Debug, PartialEq, Eq)]
 pub struct Delta3 {
     pub dx: i64,
@@ -95,7 +95,7 @@ impl Spelled for Delta3 {
 }
 
 impl GDelta {
-    /// The step that its numbers stand for: a direction and how far, or where there is a second one, both components.
+    /// The step of its numbers: a direction and a distance, or, where there is a second number, both components.
     pub fn from_numbers(first: u64, second: Option<u64>) -> GDelta
         ensures { result ≡ gdelta_from first second }
     {
@@ -130,7 +130,7 @@ impl Spelled for GDelta {
     }
 }
 
-/// The low two bits are the direction, the rest is how far.
+/// The low two bits are the direction, the rest is the distance.
 fn delta2_from(coded: u64) -> Delta2
     ensures { result ≡ delta2_of coded }
 {
@@ -141,7 +141,7 @@ fn delta2_from(coded: u64) -> Delta2
     }
 }
 
-/// The low three bits are the direction, the rest is how far.
+/// The low three bits are the direction, the rest is the distance.
 fn delta3_from(coded: u64) -> Delta3
     ensures { result ≡ delta3_of coded }
 {
@@ -152,8 +152,8 @@ fn delta3_from(coded: u64) -> Delta3
     }
 }
 
-/// So far in one of eight directions: 0 east, 1 north, 2 west, 3 south, 4 north-east, 5 north-west, 6 south-west,
-/// 7 south-east. A diagonal goes so far along both axes.
+/// A distance in one of eight directions: 0 east, 1 north, 2 west, 3 south, 4 north-east, 5 north-west, 6 south-west, 7
+/// south-east. A diagonal goes that far along both axes.
 fn step_toward(direction: u64, far: u64) -> GDelta
     requires { far < 2 ^ 63 }
     ensures { result ≡ toward direction far }

@@ -9,7 +9,7 @@ use oas_bytes::Source;
 use std::alloc::Global;
 
 /// A number below 2^64 (SEMI P39, Unsigned integers): groups of seven bits, the least significant first. Longer spellings
-/// than needed are accepted, of ten bytes at most (own rule).
+/// than needed are accepted, up to ten bytes (own rule).
 #[derive(Clone, Copy, Debug, PartialEq, Eq)]
 pub struct Unsigned(pub u64);
 
@@ -18,7 +18,7 @@ pub struct Unsigned(pub u64);
 #[derive(Clone, Copy, Debug, PartialEq, Eq)]
 pub struct Signed(pub i64);
 
-/// Reads a number without a sign. It is refused at the byte that decides.
+/// Reads an unsigned number. It fails at the byte that decides.
 pub fn read_unsigned<S: Source>(source: &mut S) -> Result<u64, Why>
     ensures { ReadsPiece IsUnsigned IntegerMay (S.script source.old) result (S.script source.new) }
 {
@@ -39,7 +39,7 @@ pub fn read_unsigned<S: Source>(source: &mut S) -> Result<u64, Why>
     Ok(value + u64::from(last) * weight)
 }
 
-/// Reads a number with a sign.
+/// Reads a signed number.
 pub(crate) fn read_signed<S: Source>(source: &mut S) -> Result<i64, Why>
     ensures { ReadsPiece IsSigned IntegerMay (S.script source.old) result (S.script source.new) }
 {
@@ -52,7 +52,7 @@ pub(crate) fn read_signed<S: Source>(source: &mut S) -> Result<i64, Why>
     }
 }
 
-/// Reads a number without a sign, where there is one.
+/// Reads an unsigned number, where there is one.
 pub fn read_unsigned_if<S: Source>(there: bool, source: &mut S) -> Result<Option<u64>, Why>
     ensures { ReadsPiece (IsThere there IsUnsigned) IntegerMay (S.script source.old) result (S.script source.new) }
 {
@@ -63,7 +63,7 @@ pub fn read_unsigned_if<S: Source>(there: bool, source: &mut S) -> Result<Option
     }
 }
 
-/// Reads a number with a sign, where there is one.
+/// Reads a signed number, where there is one.
 pub fn read_signed_if<S: Source>(there: bool, source: &mut S) -> Result<Option<i64>, Why>
     ensures { ReadsPiece (IsThere there IsSigned) IntegerMay (S.script source.old) result (S.script source.new) }
 {

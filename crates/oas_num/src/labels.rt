@@ -1,5 +1,5 @@
-//! Strings of texts.
-ghost use Rattle.std.specs.Prelude.{◌≡◌, ◌↔◌, IsTrue, ◌==◌, List, ℕ, IfOk, OnOk, OnErr};
+//! The strings of labels.
+ghost use Rattle.std.specs.Prelude.{◌≡◌, ◌↔◌, IsTrue, ◌==◌, ◌⊎◌, List, ℕ, IfOk, IfErr, OnOk, OnErr};
 ghost use Rattle.std.proofs.Common.{rules};
 ghost use Rattle.std.specs.Cmp.{partial_order_from_own_ties};
 ghost use Rattle.std.specs.Cmp.Rules.{comparing, hashing};
@@ -8,6 +8,8 @@ ghost use Rattle.std.specs.Ordering.{nat_cmp, as_partial_cmp};
 ghost use Rattle.std.specs.Hash as fed;
 ghost use Rattle.oas_num.specs.Reading.{ReadsPiece};
 ghost use Rattle.oas_num.specs.Texts.{IsLabel};
+ghost use Rattle.oas_num.specs.Named.{RefusesLabel};
+ghost use Rattle.oas_num.specs.declared.refusals.Why.TheVariants.{Memory};
 
 use crate::integers::read_unsigned;
 use crate::refusals::Why;
@@ -42,7 +44,18 @@ impl Label {
         is_of(TextClass::Label, bytes)
     }
 
-    /// One of these bytes.
+    /// A label of these bytes, if they are an a-string: a byte outside the class is refused by `StringByte`.
+    pub fn new(alloc: Global, bytes: &[u8]) -> Result<Label, Why>
+        ensures ok { IfOk result (λ label. IsLabel bytes.now × (label ≡ bytes.now)) }
+        ensures why { IfErr result (λ why. ((why ≡ Memory) × IsLabel bytes.now) ⊎ RefusesLabel bytes.now why) }
+    {
+        if !Label::is_label(bytes) {
+            return Err(Why::StringByte);
+        }
+        Ok(Label::of(alloc, bytes)?)
+    }
+
+    /// A label of these bytes, which are an a-string.
     pub fn of(alloc: Global, bytes: &[u8]) -> Result<Label, AllocError>
         requires { IsLabel bytes.now }
         ensures { IfOk result (λ one. one ≡ bytes.now) }
@@ -51,7 +64,7 @@ impl Label {
         Ok(Label { bytes })
     }
 
-    /// Makes it these bytes, in the memory that it has where that is enough. Where memory is refused it stays what it is.
+    /// Sets it to these bytes, in the memory that it has where that is enough. If out of memory it is unchanged.
     pub fn assign(&mut self, bytes: &[u8]) -> Result<(), AllocError>
         requires { IsLabel bytes.now }
         ensures ok { OnOk result (self.new ≡ bytes.now) }
@@ -68,7 +81,7 @@ impl Label {
         &self.bytes
     }
 
-    /// An equal one.
+    /// A copy.
     pub fn try_clone(&self, alloc: Global) -> Result<Label, AllocError>
         ensures { IfOk result (λ copy. copy ≡ self.now) }
     {
@@ -80,14 +93,14 @@ impl Label {
 impl Spelled for Label {
     ghost use Rattle.oas_num.specs.Texts.{SpellsLabel};
     ghost use Rattle.oas_num.specs.Style.{Any};
-    ghost use Rattle.oas_num.specs.Laws.TextLaws.{OneFront-label, HasSome-label};
+    ghost use Rattle.oas_num.specs.Laws.TextLaws.{PrefixFree-label, HasSome-label};
     ghost use Rattle.oas_num.specs.Reading.{LabelTook};
 
     ghost spells = { SpellsLabel };
 
     ghost took = { LabelTook };
 
-    ghost one_front = { OneFront-label Any };
+    ghost one_front = { PrefixFree-label Any };
 
     ghost some = { HasSome-label Any };
 

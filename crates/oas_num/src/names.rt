@@ -1,5 +1,5 @@
 //! Names of cells.
-ghost use Rattle.std.specs.Prelude.{◌≡◌, ◌↔◌, IsTrue, ◌==◌, List, ℕ, IfOk, OnOk, OnErr};
+ghost use Rattle.std.specs.Prelude.{◌≡◌, ◌↔◌, IsTrue, ◌==◌, ◌⊎◌, List, ℕ, IfOk, IfErr, OnOk, OnErr};
 ghost use Rattle.std.proofs.Common.{rules};
 ghost use Rattle.std.specs.Cmp.{partial_order_from_own_ties};
 ghost use Rattle.std.specs.Cmp.Rules.{comparing, hashing};
@@ -8,6 +8,8 @@ ghost use Rattle.std.specs.Ordering.{nat_cmp, as_partial_cmp};
 ghost use Rattle.std.specs.Hash as fed;
 ghost use Rattle.oas_num.specs.Reading.{ReadsPiece};
 ghost use Rattle.oas_num.specs.Texts.{IsName};
+ghost use Rattle.oas_num.specs.Named.{RefusesName};
+ghost use Rattle.oas_num.specs.declared.refusals.Why.TheVariants.{Memory};
 
 use crate::integers::read_unsigned;
 use crate::refusals::Why;
@@ -19,8 +21,8 @@ use std::cmp::Ordering;
 use std::hash::{Hash, Hasher};
 use std::marker::Model;
 
-/// An n-string (SEMI P39, Strings): one or more printable bytes, `21` to `7E`, no space among them. Names are ordered by
-/// their bytes, a proper prefix first.
+/// An n-string (SEMI P39, Strings): one or more printable bytes, `21` to `7E`, without spaces. Names are ordered by their
+/// bytes, a proper prefix first.
 #[derive(Debug, Drop)]
 pub struct Name {
     bytes: Vec<u8>,
@@ -42,7 +44,22 @@ impl Name {
         !bytes.is_empty() && is_of(TextClass::Name, bytes)
     }
 
-    /// One of these bytes.
+    /// A name of these bytes, if they are an n-string: no bytes are refused by `EmptyName`, a byte outside the class by
+    /// `StringByte`.
+    pub fn new(alloc: Global, bytes: &[u8]) -> Result<Name, Why>
+        ensures ok { IfOk result (λ name. IsName bytes.now × (name ≡ bytes.now)) }
+        ensures why { IfErr result (λ why. ((why ≡ Memory) × IsName bytes.now) ⊎ RefusesName bytes.now why) }
+    {
+        if bytes.is_empty() {
+            return Err(Why::EmptyName);
+        }
+        if !Name::is_name(bytes) {
+            return Err(Why::StringByte);
+        }
+        Ok(Name::of(alloc, bytes)?)
+    }
+
+    /// A name of these bytes, which are an n-string.
     pub fn of(alloc: Global, bytes: &[u8]) -> Result<Name, AllocError>
         requires { IsName bytes.now }
         ensures { IfOk result (λ one. one ≡ bytes.now) }
@@ -51,7 +68,7 @@ impl Name {
         Ok(Name { bytes })
     }
 
-    /// Makes it these bytes, in the memory that it has where that is enough. Where memory is refused it stays what it is.
+    /// Sets it to these bytes, in the memory that it has where that is enough. If out of memory it is unchanged.
     pub fn assign(&mut self, bytes: &[u8]) -> Result<(), AllocError>
         requires { IsName bytes.now }
         ensures ok { OnOk result (self.new ≡ bytes.now) }
@@ -68,7 +85,7 @@ impl Name {
         &self.bytes
     }
 
-    /// An equal one.
+    /// A copy.
     pub fn try_clone(&self, alloc: Global) -> Result<Name, AllocError>
         ensures { IfOk result (λ copy. copy ≡ self.now) }
     {
@@ -80,14 +97,14 @@ impl Name {
 impl Spelled for Name {
     ghost use Rattle.oas_num.specs.Texts.{SpellsName};
     ghost use Rattle.oas_num.specs.Style.{Any};
-    ghost use Rattle.oas_num.specs.Laws.TextLaws.{OneFront-name, HasSome-name};
+    ghost use Rattle.oas_num.specs.Laws.TextLaws.{PrefixFree-name, HasSome-name};
     ghost use Rattle.oas_num.specs.Reading.{NameTook};
 
     ghost spells = { SpellsName };
 
     ghost took = { NameTook };
 
-    ghost one_front = { OneFront-name Any };
+    ghost one_front = { PrefixFree-name Any };
 
     ghost some = { HasSome-name Any };
 

@@ -8,11 +8,11 @@ use crate::spelling::Spelled;
 use oas_bytes::Source;
 use std::alloc::Global;
 
-/// A fraction as it stands in a file (SEMI P39, Reals, types 0 to 5). Zero parts are read: the field in which they stand
-/// decides. Types 6 and 7, floats, are left out (own rule).
+/// A fraction as a file spells it (SEMI P39, Reals, types 0 to 5). Zero parts are read; the field that has the real decides
+/// on them. Types 6 and 7, floats, are left out (own rule).
 #[derive(Clone, Copy, Debug, PartialEq, Eq)]
 pub struct Real {
-    /// The sign, that of the type.
+    /// The sign, which is that of the type.
     pub negative: bool,
     /// The numerator, 1 where the type has none.
     pub num: u64,
@@ -23,13 +23,13 @@ pub struct Real {
 impl Spelled for Real {
     ghost use Rattle.oas_num.specs.Reading.{ReadsPiece};
     ghost use Rattle.oas_num.specs.Reals.{SpellsReal, RealMay, RealTook};
-    ghost use Rattle.oas_num.specs.Laws.RealLaws.{OneFront-SpellsReal, HasSome-SpellsReal};
+    ghost use Rattle.oas_num.specs.Laws.RealLaws.{PrefixFree-SpellsReal, HasSome-SpellsReal};
 
     ghost spells = { SpellsReal };
 
     ghost took = { RealTook };
 
-    ghost one_front = { OneFront-SpellsReal };
+    ghost one_front = { PrefixFree-SpellsReal };
 
     ghost some = { HasSome-SpellsReal };
 
@@ -53,7 +53,7 @@ impl Spelled for Real {
     }
 }
 
-/// A part that isn't there is 1.
+/// A missing part is 1.
 fn part_or_one(part: Option<u64>) -> u64
     ensures { result ≡ part_of part }
 {

@@ -1,14 +1,16 @@
 //! The 34 reasons, and a reason with its place.
-ghost use Rattle.std.specs.Prelude.{◌≡◌};
-ghost use Rattle.oas_num.specs.Refusals.{number_of};
+ghost use Rattle.std.specs.Prelude.{◌≡◌, Some};
+ghost use Rattle.oas_num.specs.Refusals.{number_of, name_of, refusal_text};
 ghost use Rattle.oas_num.specs.declared.refusals.Why.TheVariants.{Memory};
 
-use std::alloc::AllocFailed;
+use std::alloc::{AllocError, AllocFailed};
+use std::error::Error;
+use std::fmt;
 
 /// Why bytes are refused.
 #[derive(Clone, Copy, Debug, PartialEq, Eq)]
 pub enum Why {
-    /// A byte among the first 13 differs from the magic.
+    /// One of the first 13 bytes differs from the magic.
     Magic,
     /// The input ends where a byte is needed.
     Truncated,
@@ -28,11 +30,11 @@ pub enum Why {
     Version,
     /// The offset-flag is above 1.
     OffsetFlag,
-    /// The record of this id is left out of the profile.
+    /// The record with this id is left out of the profile.
     RecordLeftOut(u64),
-    /// The standard has no record of this id.
+    /// The standard has no record with this id.
     UnknownRecord(u64),
-    /// The record of this id doesn't stand where it may.
+    /// The record with this id is not allowed at its place.
     OutOfPlace(u64),
     /// A zero bit of an info byte is set, a square gives a height, or an extension-scheme is above 15.
     InfoByte,
@@ -52,11 +54,11 @@ pub enum Why {
     MixedNumbering,
     /// The number already has another string.
     NumberTwice,
-    /// A coordinate, half-width, radius, extension or partial sum passes its limit.
+    /// A coordinate, half-width, radius, extension or partial sum exceeds its limit.
     CoordinateRange,
-    /// The elements pass their limit.
+    /// The elements exceed their limit.
     TooManyElements,
-    /// The weight passes its limit.
+    /// The weight exceeds its limit.
     TooHeavy,
     /// A number that is used has no name record in the file.
     UnknownReference,
@@ -68,27 +70,27 @@ pub enum Why {
     ValidationScheme,
     /// A byte follows END.
     TrailingBytes,
-    /// A byte is asked for after the source's limit, and there is one.
+    /// A byte is read after the source's limit, and there is one.
     InputTooLong,
     /// The source's device failed.
     Read,
-    /// The writer failed, or took nothing of a non-empty piece.
+    /// The writer failed, or took none of a non-empty piece.
     Write,
-    /// Memory was refused.
+    /// Out of memory.
     Memory,
 }
 
 /// Where bytes are refused, and why.
 #[derive(Clone, Copy, Debug, PartialEq, Eq)]
 pub struct Refusal {
-    /// The offset, in bytes from the first, of the record refused.
+    /// The offset of the refused record, in bytes from the first.
     pub at: u64,
     /// The reason.
     pub why: Why,
 }
 
 impl Why {
-    /// The number by which the command names the reason, 1 to 34.
+    /// The number that the command prints for the reason, 1 to 34.
     pub fn number(&self) -> u8
         ensures { result ≡ number_of self.now }
     {
@@ -131,10 +133,63 @@ impl Why {
     }
 }
 
+/// The reason's name.
+impl fmt::Display for Why {
+    ghost output = { λ why. Some (name_of why) };
+
+    fn fmt<W: fmt::Write>(&self, f: &mut fmt::Formatter<W>) -> fmt::Result {
+        f.write_str(self.name())
+    }
+}
+
+impl Error for Why {}
+
+/// The reason's number, the place, and the reason's name, as `refused 13 at 42: OutOfPlace`.
+impl fmt::Display for Refusal {
+    ghost output = { λ refusal. Some (refusal_text refusal) };
+
+    fn fmt<W: fmt::Write>(&self, f: &mut fmt::Formatter<W>) -> fmt::Result {
+        let Refusal { at, why } = *self;
+        let number = why.number();
+        write!(f, "refused {number} at {at}: {why}")
+    }
+}
+
+impl Error for Refusal {}
+
 impl<T: Drop> From<AllocFailed<T>> for Why {
     ghost from_gives = { λ _ why. why ≡ Memory };
 
     fn from(_failed: AllocFailed<T>) -> Why {
         Why::Memory
+    }
+}
+
+impl From<AllocError> for Why {
+    ghost from_gives = { λ _ why. why ≡ Memory };
+
+    fn from(_refused: AllocError) -> Why {
+        Why::Memory
+    }
+}
+
+/// Memory was refused before any byte was read or written.
+impl From<AllocError> for Refusal {
+    ghost from_gives = { λ _ refusal. (refusal.why ≡ Memory) × (refusal.at ≡ 0) };
+
+    fn from(_refused: AllocError) -> Refusal {
+        Refusal {
+            at: 0,
+            why: Why::Memory,
+        }
+    }
+}
+
+/// The reason without its place.
+impl From<Refusal> for Why {
+    ghost from_gives = { λ refusal why. why ≡ refusal.why };
+
+    fn from(refusal: Refusal) -> Why {
+        refusal.why
     }
 }

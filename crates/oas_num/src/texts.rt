@@ -9,12 +9,12 @@ use crate::spelling::next_byte;
 use oas_bytes::Source;
 use std::alloc::{AllocError, Global};
 
-/// The classes of bytes of which strings are made (SEMI P39, Strings).
+/// The classes of the bytes in strings (SEMI P39, Strings).
 #[derive(Clone, Copy, Debug, PartialEq, Eq)]
 pub enum TextClass {
-    /// Those of n-strings: printable, and no space, `21` to `7E`.
+    /// The bytes of n-strings: printable, without the space, `21` to `7E`.
     Name,
-    /// Those of a-strings: printable, or a space, `20` to `7E`.
+    /// The bytes of a-strings: printable, or a space, `20` to `7E`.
     Label,
 }
 
@@ -41,7 +41,7 @@ pub fn next_within<S: Source>(class: TextClass, source: &mut S) -> Result<u8, Wh
     Ok(byte)
 }
 
-/// So many bytes of the class. It takes no more memory than for what was read.
+/// This many bytes of the class. It allocates only for what was read.
 pub fn read_text<S: Source>(
     alloc: Global,
     class: TextClass,
@@ -70,7 +70,7 @@ pub(crate) fn is_of(class: TextClass, bytes: &[u8]) -> bool
     true
 }
 
-/// Writes these bytes over those that are held, in the memory that they have where it is enough. Where memory is refused they stay.
+/// Writes these bytes over those that are held, in their memory where it is enough. If out of memory they stay.
 pub(crate) fn overwrite(held: &mut Vec<u8>, bytes: &[u8]) -> Result<(), AllocError>
     ensures ok { OnOk result (held.new.items ≡ bytes.now) }
     ensures err { OnErr result (held.new.items ≡ held.old.items) }

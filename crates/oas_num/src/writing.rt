@@ -30,7 +30,7 @@ pub fn unsigned_len(value: u64) -> u64
     count
 }
 
-/// The number that spells a number with a sign: the sign in its lowest bit, the magnitude above it.
+/// The number that spells a signed number: the sign in its lowest bit, the magnitude above it.
 fn coded(value: i64) -> u64
     requires { nat_abs value < 2 ^ 63 }
     ensures { result ≡ code value }
@@ -39,7 +39,7 @@ fn coded(value: i64) -> u64
     if value < 0 { magnitude + 1 } else { magnitude }
 }
 
-/// Puts the shortest spelling of a number with a sign (SEMI P39, Integers). The number whose magnitude is 2^63 has none.
+/// Puts the shortest spelling of a signed number (SEMI P39, Integers). A number with magnitude 2^63 has none.
 pub fn put_signed<K: Sink>(sink: &mut K, value: i64) -> Result<(), SinkFault>
     requires { nat_abs value < 2 ^ 63 }
     ensures { Writes K.given K.failures sink.old (shortest_signed value) result sink.new }
@@ -47,8 +47,8 @@ pub fn put_signed<K: Sink>(sink: &mut K, value: i64) -> Result<(), SinkFault>
     put_unsigned(sink, coded(value))
 }
 
-/// Puts the shortest spelling of a g-delta in its second form, which gives both of its parts (SEMI P39, Deltas).
-/// Parts of larger magnitude have none.
+/// Puts the shortest spelling of a g-delta in its second form, which gives both of its parts (SEMI P39, Deltas). Parts with
+/// larger magnitudes have none.
 pub fn put_gdelta<K: Sink>(sink: &mut K, dx: i64, dy: i64) -> Result<(), SinkFault>
     requires dx { nat_abs dx < 2 ^ 62 }
     requires dy { nat_abs dy < 2 ^ 63 }

@@ -4,17 +4,17 @@ use Rattle.std.proofs.lemmas.List.{append-nil}
 use Rattle.oas_num.specs.declared.refusals.Why.TheVariants as why_of
 use Rattle.oas_num.specs.Grammar.{IsEach}
 use Rattle.oas_num.specs.Reading.{ReadsValue}
-use Rattle.oas_num.specs.Script.{Script, Takes}
-use Rattle.oas_num.proofs.ReadLemmas.{Takes-then}
-use Rattle.oas_block.specs.Blocks.{StandsFor}
+use Rattle.oas_num.specs.Script.{Script, Consumed}
+use Rattle.oas_num.proofs.ReadLemmas.{Consumed-then}
+use Rattle.oas_narrow.specs.oas_block.Blocks.{Represents}
 use Rattle.oas_layout.specs.declared.limits.Limits.{Limits}
-use Rattle.oas_wide.specs.declared.blocks.BlockHead.{BlockHead}
-use Rattle.oas_wide.specs.declared.ends.WideEnd.{WideEnd}
-use Rattle.oas_wide.specs.declared.heads.WideStart.{WideStart}
-use Rattle.oas_wide.specs.declared.reasons.WideWhy.{WideWhy}
-use Rattle.oas_wide.specs.declared.reasons.WideWhy.TheVariants as wide
-use Rattle.oas_wide.specs.declared.records.WideRecord.{WideRecord}
-use Rattle.oas_wide.specs.Reasons.{plain_of}
+use Rattle.oas_narrow.specs.oas_wide.declared.blocks.BlockHead.{BlockHead}
+use Rattle.oas_narrow.specs.oas_wide.declared.ends.WideEnd.{WideEnd}
+use Rattle.oas_narrow.specs.oas_wide.declared.heads.WideStart.{WideStart}
+use Rattle.oas_narrow.specs.oas_wide.declared.reasons.WideWhy.{WideWhy}
+use Rattle.oas_narrow.specs.oas_wide.declared.reasons.WideWhy.TheVariants as wide
+use Rattle.oas_narrow.specs.oas_wide.declared.records.WideRecord.{WideRecord}
+use Rattle.oas_narrow.specs.oas_wide.Reasons.{plain_of}
 use Rattle.oas_narrow.specs.declared.dropping.Dropping.{Dropping}
 use Rattle.oas_narrow.specs.declared.places.Place.{Place}
 use Rattle.oas_narrow.specs.declared.places.Place.TheVariants.{File, Block}
@@ -24,17 +24,22 @@ use Rattle.oas_narrow.specs.WideFiles.{inner_in, end_in, head_in, item_in, AsRec
 use Rattle.oas_prepare.specs.declared.taking.Preparation.{Preparation}
 use Rattle.oas_prepare.specs.Deciding.{decides}
 use Rattle.oas_prepare.specs.Gathering.{HasGathered}
-use Rattle.oas_prepare.specs.Inside.{HasTaken, IsAtBlock, IsCutBy, NoData, StopsBlock, ForMemory, CutOff, ByBytes, InVain, AtInner}
+use Rattle.oas_prepare.specs.Inside.{HasTaken, IsAtBlock, IsCutBy, NoData, StopsBlock, ForMemory, CutOff, ByBytes, InVain, AtInner, ReasonsBlock}
 use Rattle.oas_prepare.specs.Places.{at_file, ByRecord, StopsInData, EndsInData, IsVain, StopsInBytes, ByData, ByStream, AtBlock, StopsAt, StopsInFile, IsPlace, IsBefore}
-use Rattle.oas_prepare.specs.Run.{Stops}
-use Rattle.oas_prepare.proofs.Fronts.{Compared, Same, More, Less, Fronts, fronts, Ended, ended, end_by, not_both, allowed_front, front_more, goes_on}
+use Rattle.oas_prepare.specs.Run.{IsStopped, IsPlaced, Stops}
+use Rattle.oas_prepare.proofs.BlockReasons.{block_reasoned}
+use Rattle.oas_prepare.proofs.Fronts.{Compared, Same, More, Less, Fronts, fronts, Ended, ended, end_by, not_both, allowed_prefix, front_more, goes_on}
 use Rattle.oas_prepare.proofs.Items.{record_no_block, block_no_end}
 use Rattle.oas_prepare.proofs.Refusing.{ForMemory as Wanting, Decided, judged_stopped, memory_placed, there_at}
 use Rattle.oas_prepare.proofs.Packed.{Behind, behind, few_bytes, no_data, vain_no_data, one_plain, not_inner}
 
--- ---- a file that goes on behind a block's head
+-- it stops there, whatever the reason
+abbrev Halts : Limits → Dropping → Script → Rejection → Script → Type 0
+Halts limits dropping old e new = IsStopped limits dropping old e.why new × IsPlaced limits dropping old e new
 
--- by a block of that head
+-- ---- a file that goes on after a block's head
+
+-- with a block of that head
 record GoesOn (in_end : Bool) (block : BlockHead) (before : List WideRecord) (bytes : List ℕ) (all : List WideRecord) : Type 0 where
   plain : List ℕ
   rest : List ℕ
@@ -57,8 +62,8 @@ module _ {origin mid : Script} {head : WideStart} {first p : Preparation} (m : H
   abbrev before : List ℕ
   before = m.bytes ++ read.bytes
 
-  taken : {new : Script} (bytes : List ℕ) → Takes begun bytes new → Takes origin (before ++ bytes) new
-  taken {new = new} bytes takes = Takes-then origin begun new before bytes (Takes-then origin mid begun m.bytes read.bytes m.takes read.takes) takes
+  taken : {new : Script} (bytes : List ℕ) → Consumed begun bytes new → Consumed origin (before ++ bytes) new
+  taken {new = new} bytes takes = Consumed-then origin begun new before bytes (Consumed-then origin mid begun m.bytes read.bytes m.takes read.takes) takes
 
   block_goes_on : {start : WideStart} {ss : List WideRecord} {end : WideEnd} {whole : List ℕ} (r bytes : List ℕ) → Ended start ss end whole → whole ++ r ≡ before ++ bytes → GoesOn in_end block m.records bytes ss
   block_goes_on {start = start} {ss = ss} {end = end} {whole = whole} r bytes g e = by both.items where
@@ -89,7 +94,7 @@ module _ {origin mid : Script} {head : WideStart} {first p : Preparation} (m : H
   in_file bytes more a = let whole = (before ++ bytes) ++ more in block_goes_on [] (bytes ++ more) (ended a.file) (append-nil whole ∙ append_assoc before bytes more)
 
   inner_prepared : {bytes : List ℕ} {all : List WideRecord} (g : GoesOn in_end block m.records bytes all) → AllPrepared limits dropping all → AllPrepared limits dropping (m.records ++ g.inner)
-  inner_prepared g a = allowed_front limits dropping (m.records ++ g.inner) g.tail (subst (AllPrepared limits dropping) (g.records ∙ sym (append_assoc m.records g.inner g.tail)) a)
+  inner_prepared g a = allowed_prefix limits dropping (m.records ++ g.inner) g.tail (subst (AllPrepared limits dropping) (g.records ∙ sym (append_assoc m.records g.inner g.tail)) a)
 
   -- ---- it is taken
 
@@ -97,7 +102,7 @@ module _ {origin mid : Script} {head : WideStart} {first p : Preparation} (m : H
   block_more {new = new} {after = after} h = record {
     records = m.records ++ h.made.inner;
     bytes = m.bytes ++ (read.bytes ++ h.bytes);
-    takes = subst (λ (b : List ℕ). Takes origin b new) (append_assoc m.bytes read.bytes h.bytes) (taken h.bytes h.takes);
+    takes = subst (λ (b : List ℕ). Consumed origin b new) (append_assoc m.bytes read.bytes h.bytes) (taken h.bytes h.takes);
     front = front_more h.made.inner m.front (AsBlock (record {
       block = (block, h.plain);
       spelled = record { front = read.bytes; back = h.bytes; first = read.spelled; second = h.is; joined = refl };
@@ -115,7 +120,7 @@ module _ {origin mid : Script} {head : WideStart} {first p : Preparation} (m : H
 
   -- ---- it stops the file
 
-  module _ (at : ℕ) (is_at : at ≡ mid.given) {new : Script} (bytes : List ℕ) (takes : Takes begun bytes new) where
+  module _ (at : ℕ) (is_at : at ≡ mid.given) {new : Script} (bytes : List ℕ) (takes : Consumed begun bytes new) where
     there : (place : Place) → IsAtBlock at place → IsPlace origin (before ++ bytes) place
     there (File other) e = tt
     there (Block other within) e = record {
@@ -168,45 +173,45 @@ module _ {origin mid : Script} {head : WideStart} {first p : Preparation} (m : H
       stops = stops;
     }
 
-    -- for want of memory
-    wanting_stops : (e : Rejection) → IsAtBlock at e.place → e.why ≡ wide.Profile why_of.Memory → Stops limits dropping origin e new
+    -- out of memory
+    wanting_stops : (e : Rejection) → IsAtBlock at e.place → e.why ≡ wide.Profile why_of.Memory → Halts limits dropping origin e new
     wanting_stops e place is = (judged_stopped (taken bytes takes) (Wanting (ap plain_of is)), memory_placed e (before ++ bytes) (taken bytes takes) (there e.place place) (ap plain_of is))
 
-    -- since no block begins so
-    bytes_stop : (e : Rejection) → NoData block bytes → e.place ≡ File at → IsTrue (decides e.why) → Stops limits dropping origin e new
+    -- since no block begins like this
+    bytes_stop : (e : Rejection) → NoData block bytes → e.place ≡ File at → IsTrue (decides e.why) → Halts limits dropping origin e new
     bytes_stop e n place is = (
-      judged_stopped (taken bytes takes) (Decided is (λ tied more a. no_data more n (in_file bytes more a.formed).behind)),
+      judged_stopped (taken bytes takes) (Decided is (λ more a. no_data more n (in_file bytes more a.formed).behind)),
       record {
         bytes = before ++ bytes;
         takes = taken bytes takes;
         there = there_at origin (before ++ bytes) place;
-        placed = λ tied fresh of_file more ended. subst (StopsAt limits dropping ((before ++ bytes) ++ more)) (sym place) (at_head more fresh (λ plain rest b. no_data more n b));
+        placed = λ fresh of_file more ended. subst (StopsAt limits dropping ((before ++ bytes) ++ more)) (sym place) (at_head more fresh (λ plain rest b. no_data more n b));
       },
     )
 
     -- in what a stream gives that doesn't end as it should
     vain_stops : (e : Rejection) (plain : List ℕ) (within : ℕ) → IsVain block plain bytes → e.place ≡ Block at within → IsTrue (decides e.why) →
-        StopsInData limits dropping in_end m.records plain within ⊎ EndsInData limits dropping in_end m.records plain within → Stops limits dropping origin e new
+        StopsInData limits dropping in_end m.records plain within ⊎ EndsInData limits dropping in_end m.records plain within → Halts limits dropping origin e new
     vain_stops e plain within vain is decided s = (
-      judged_stopped (taken bytes takes) (Decided decided (λ tied more a. no_data more (vain_no_data vain) (in_file bytes more a.formed).behind)),
+      judged_stopped (taken bytes takes) (Decided decided (λ more a. no_data more (vain_no_data vain) (in_file bytes more a.formed).behind)),
       record {
         bytes = before ++ bytes;
         takes = taken bytes takes;
         there = subst (IsPlace origin (before ++ bytes)) (sym is) (there (Block at within) refl);
-        placed = λ tied fresh of_file more ended. subst (StopsAt limits dropping ((before ++ bytes) ++ more)) (sym is) (in_it more within fresh (ByStream plain vain s));
+        placed = λ fresh of_file more ended. subst (StopsAt limits dropping ((before ++ bytes) ++ more)) (sym is) (in_it more within fresh (ByStream plain vain s));
       },
     )
 
     -- at a record of its data
-    inner_stops : (e : Rejection) (plain : List ℕ) (within : ℕ) → StandsFor block bytes plain → e.place ≡ Block at within → IsTrue (decides e.why) →
-        StopsInData limits dropping in_end m.records plain within → Stops limits dropping origin e new
+    inner_stops : (e : Rejection) (plain : List ℕ) (within : ℕ) → Represents block bytes plain → e.place ≡ Block at within → IsTrue (decides e.why) →
+        StopsInData limits dropping in_end m.records plain within → Halts limits dropping origin e new
     inner_stops e plain within stands is decided s = (
-      judged_stopped (taken bytes takes) (Decided decided (λ tied more a. not more a.formed)),
+      judged_stopped (taken bytes takes) (Decided decided (λ more a. not more a.formed)),
       record {
         bytes = before ++ bytes;
         takes = taken bytes takes;
         there = subst (IsPlace origin (before ++ bytes)) (sym is) (there (Block at within) refl);
-        placed = λ tied fresh of_file more ended. subst (StopsAt limits dropping ((before ++ bytes) ++ more)) (sym is) (in_it more within fresh (ByData plain stands s));
+        placed = λ fresh of_file more ended. subst (StopsAt limits dropping ((before ++ bytes) ++ more)) (sym is) (in_it more within fresh (ByData plain stands s));
       },
     ) where
       not : (more : List ℕ) → Formed limits dropping ((before ++ bytes) ++ more) → ⊥
@@ -218,12 +223,12 @@ module _ {origin mid : Script} {head : WideStart} {first p : Preparation} (m : H
     cut_not : length bytes < block.deflated → (front rest : List ℕ) → front ++ rest ≡ before ++ bytes → Formed limits dropping front → ⊥
     cut_not few front rest e a = few_bytes (block_goes_on rest bytes (ended a.file) e).behind few
 
-    cut_stops : (why : WideWhy) → length bytes < block.deflated → IsCutBy why new → Stops limits dropping origin (at_file at why) new
+    cut_stops : (why : WideWhy) → length bytes < block.deflated → IsCutBy why new → Halts limits dropping origin (at_file at why) new
     cut_stops (wide.Profile why_of.Truncated) few cut = (
       record {
         bytes = before ++ bytes;
         takes = taken bytes takes;
-        decided = λ tied d. absurd cc;
+        decided = λ d. absurd cc;
         cut = λ _ front rest e a. absurd (cut_not few front rest e a.formed);
         truncated = λ _. (λ a. cut_not few (before ++ bytes) [] (append-nil (before ++ bytes)) a.formed, cut);
         device = λ e. absurd cc;
@@ -234,7 +239,7 @@ module _ {origin mid : Script} {head : WideStart} {first p : Preparation} (m : H
         bytes = before ++ bytes;
         takes = taken bytes takes;
         there = tt;
-        placed = λ tied fresh of_file more ended.
+        placed = λ fresh of_file more ended.
             let all : bytes ++ more ≡ bytes = ap (λ (c : List ℕ). bytes ++ c) (ended cut) ∙ append-nil bytes in
             at_head more fresh (λ plain rest b. few_bytes (subst (λ (c : List ℕ). Behind block plain c rest) all b) few);
       },
@@ -243,42 +248,46 @@ module _ {origin mid : Script} {head : WideStart} {first p : Preparation} (m : H
       record {
         bytes = before ++ bytes;
         takes = taken bytes takes;
-        decided = λ tied d. absurd cc;
+        decided = λ d. absurd cc;
         cut = λ _ front rest e a. absurd (cut_not few front rest e a.formed);
         truncated = λ e. absurd cc;
         device = λ _. cut;
         too_long = λ e. absurd cc;
         reading = λ e. cc;
       },
-      record { bytes = before ++ bytes; takes = taken bytes takes; there = tt; placed = λ tied fresh of_file. absurd cc },
+      record { bytes = before ++ bytes; takes = taken bytes takes; there = tt; placed = λ fresh of_file. absurd cc },
     )
     cut_stops (wide.Profile why_of.InputTooLong) few cut = (
       record {
         bytes = before ++ bytes;
         takes = taken bytes takes;
-        decided = λ tied d. absurd cc;
+        decided = λ d. absurd cc;
         cut = λ _ front rest e a. absurd (cut_not few front rest e a.formed);
         truncated = λ e. absurd cc;
         device = λ e. absurd cc;
         too_long = λ _. cut;
         reading = λ e. cc;
       },
-      record { bytes = before ++ bytes; takes = taken bytes takes; there = tt; placed = λ tied fresh of_file. absurd cc },
+      record { bytes = before ++ bytes; takes = taken bytes takes; there = tt; placed = λ fresh of_file. absurd cc },
     )
     cut_stops _ few cut = absurd cut
 
   same_by : (at : ℕ) (e : Rejection) → e.place ≡ File at → at_file at e.why ≡ e
   same_by at e is = λ i. record { place = sym is i; why = e.why }
 
-  pub block_stops : (at : ℕ) → at ≡ mid.given → {new : Script} (e : Rejection) → StopsBlock p.reader.limits p.dropping in_end at block begun m.records e new → Stops limits dropping origin e new
-  block_stops at is_at {new = new} e stop = by (subst (λ (b : Limits × Dropping). StopsBlock b.0 b.1 in_end at block begun m.records e new) (λ i. (m.same.limits i, m.same.dropping i)) stop) where
-    by : StopsBlock limits dropping in_end at block begun m.records e new → Stops limits dropping origin e new
+  -- what stops at the block or in it
+  abbrev BlockEnds : ℕ → Rejection → Script → Limits × Dropping → Type 0
+  BlockEnds at e new b = StopsBlock b.0 b.1 in_end at block begun m.records e new × ReasonsBlock b.0 b.1 in_end at block begun m.records e new
+
+  pub block_stops : (at : ℕ) → at ≡ mid.given → {new : Script} (e : Rejection) → BlockEnds at e new (p.reader.limits, p.dropping) → Stops limits dropping origin e new
+  block_stops at is_at {new = new} e stop = let here = subst (BlockEnds at e new) (λ i. (m.same.limits i, m.same.dropping i)) stop in let h = by here.0 in (h.0, h.1, block_reasoned m read at is_at h.0.bytes h.0.takes e here.1) where
+    by : StopsBlock limits dropping in_end at block begun m.records e new → Halts limits dropping origin e new
     by (ForMemory bytes takes place is) = wanting_stops at is_at bytes takes e place is
-    by (CutOff bytes takes few place cut) = subst (λ (x : Rejection). Stops limits dropping origin x new) (same_by at e place) (cut_stops at is_at bytes takes e.why few cut)
+    by (CutOff bytes takes few place cut) = subst (λ (x : Rejection). Halts limits dropping origin x new) (same_by at e place) (cut_stops at is_at bytes takes e.why few cut)
     by (ByBytes bytes takes none place is) = bytes_stop at is_at bytes takes e none place is
     by (InVain bytes plain within takes vain place is s) = vain_stops at is_at bytes takes e plain within vain place is s
     by (AtInner bytes plain within takes stands place is s) = inner_stops at is_at bytes takes e plain within stands place is s
 
-  -- what is prepared is so by the limits and the names of the preparation
+  -- what is prepared is prepared by the limits and the names of the preparation
   pub prepared_by : AllPrepared p.reader.limits p.dropping m.records
   prepared_by = subst (λ (b : Limits × Dropping). AllPrepared b.0 b.1 m.records) (λ i. (sym m.same.limits i, sym m.same.dropping i)) m.prepared

@@ -9,7 +9,7 @@ use Rattle.std.proofs.lemmas.Nat.{pow-add}
 use Rattle.oas_num.specs.Ratio.{Ratio, Reduces}
 use Rattle.oas_num.specs.Laws.RatioLaws.{one_lowest}
 use Rattle.oas_record.specs.Laws.HeadLaws.{itself}
-use Rattle.oas_wide.specs.declared.reals.WideReal.{WideReal}
+use Rattle.oas_narrow.specs.oas_wide.declared.reals.WideReal.{WideReal}
 use Rattle.oas_narrow.specs.Preparable.{IsUnitOf}
 use Rattle.oas_prepare.specs.Units.{ratio, IsPast}
 
@@ -124,7 +124,7 @@ double_odd a b n d m r odd =
     )
     num r.den_is
 
--- as often as one likes: the numerator grows
+-- as often as needed: the numerator grows
 abbrev Grown : ℕ → ℕ → ℕ → Ratio → Type 0
 Grown k a b f = (r : Ratio) × Reduces (a * 2 ^ k) b r × (f.num ≤ r.num)
 
@@ -194,7 +194,7 @@ less_halved num den d h f le r =
 pub less_doubled : (num den d h : ℕ) (n p : ℕ) → d ≤ h → Reduces (den * 2 ^ (h - d)) num (ratio p n) → Reduces (num * 2 ^ d) (den * 2 ^ h) (ratio n p)
 less_doubled num den d h n p le r = reduces_turned (den * 2 ^ h) (num * 2 ^ d) (ratio p n) (less_halved den num h d (ratio p n) le r)
 
--- what is in lowest terms stays
+-- what is in lowest terms is unchanged
 pub kept_lowest : (a b : ℕ) (n d : ℕ) (f : Ratio) → Reduces a b (ratio n d) → Reduces n d f → Reduces a b f
 kept_lowest a b n d f r s = subst (Reduces a b) (one_lowest n d (ratio n d) f (itself (ratio n d) r.lowest) s) r
 
@@ -220,7 +220,7 @@ unit_if : {real : WideReal} {n d : ℕ} (o : Option Ratio) → IfSome o (Reduces
 unit_if None h make = tt
 unit_if (Some f) h make = make f h
 
--- doubled, on the whole
+-- doubled, over all
 pub unit_up : (real : WideReal) (n d : ℕ) → n < 2 ^ 64 → d < 2 ^ 64 → real.halved ≤ real.doubled → Reduces (real.num * 2 ^ (real.doubled - real.halved)) real.den (ratio n d) →
     (o : Option Ratio) → IfSome o (Reduces n d) → IfSome o (IsUnitOf real)
 unit_up real n d num den le r o h = unit_if o h (λ f s.

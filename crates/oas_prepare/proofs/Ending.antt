@@ -1,79 +1,40 @@
--- What stands after END, and all that was gathered.
+-- What follows END, and all that was gathered.
 use Rattle.std.proofs.Common.{◌≡◌, ℕ, ◌+◌, List, [], ◌∷◌, ◌++◌, length, None, Some, IsTrue, ◌⊎◌, inl, inr, refl, sym, ap, subst, ◌∙◌, append_assoc, arith}
 use Rattle.std.proofs.lemmas.List.{append-nil, length-append}
 use Rattle.oas_num.specs.declared.refusals.Why.{Why}
 use Rattle.oas_num.specs.declared.refusals.Why.TheVariants.{TrailingBytes, Read, InputTooLong, Memory}
 use Rattle.oas_num.specs.declared.refusals.Refusal.{Refusal}
-use Rattle.oas_num.specs.Laws.GrammarLaws.{after_same, OneFront-pair}
-use Rattle.oas_num.specs.Grammar.{OneFront, IsPair, IsEach}
-use Rattle.oas_num.specs.Laws.CombinatorLaws.{OneFront-until}
-use Rattle.oas_num.specs.Script.{Script, Takes, IsAtEnd}
-use Rattle.oas_num.proofs.ReadLemmas.{Takes-then}
+use Rattle.oas_num.specs.Laws.GrammarLaws.{after_same}
+use Rattle.oas_num.specs.Script.{Script, Consumed, IsAtEnd}
+use Rattle.oas_num.proofs.ReadLemmas.{Consumed-then}
 use Rattle.oas_layout.specs.declared.limits.Limits.{Limits}
 use Rattle.oas_layout.specs.declared.profile.Profile.{Profile}
-use Rattle.oas_modal.specs.Stands.{end_refusal}
-use Rattle.oas_file.specs.Gathering.{MissesEnd}
-use Rattle.oas_file.proofs.Judged.{end_decides}
-use Rattle.oas_wide.specs.declared.ends.WideEnd.{WideEnd}
-use Rattle.oas_wide.specs.declared.heads.WideStart.{WideStart}
-use Rattle.oas_wide.specs.declared.records.WideRecord.{WideRecord}
-use Rattle.oas_wide.specs.declared.reasons.WideWhy.{WideWhy}
-use Rattle.oas_wide.specs.declared.reasons.WideWhy.TheVariants as wide
+use Rattle.oas_narrow.specs.oas_modal.Stands.{end_refusal}
+use Rattle.oas_canon.specs.oas_file.Gathering.{MissesEnd}
+use Rattle.oas_canon.proofs.oas_file_proofs.Judged.{end_decides}
+use Rattle.oas_narrow.specs.oas_wide.declared.ends.WideEnd.{WideEnd}
+use Rattle.oas_narrow.specs.oas_wide.declared.heads.WideStart.{WideStart}
+use Rattle.oas_narrow.specs.oas_wide.declared.records.WideRecord.{WideRecord}
+use Rattle.oas_narrow.specs.oas_wide.declared.reasons.WideWhy.{WideWhy}
+use Rattle.oas_narrow.specs.oas_wide.declared.reasons.WideWhy.TheVariants as wide
 use Rattle.oas_narrow.specs.declared.dropping.Dropping.{Dropping}
+use Rattle.oas_narrow.specs.declared.places.Place.{Place}
 use Rattle.oas_narrow.specs.declared.places.Place.TheVariants.{File}
 use Rattle.oas_narrow.specs.declared.places.Rejection.{Rejection}
 use Rattle.oas_narrow.specs.Narrowing.{narrowed}
 use Rattle.oas_narrow.specs.Preparable.{IsUnitOf, AllPrepared, IsValid, Formed, Preparable}
 use Rattle.oas_narrow.specs.Rejections.{refused}
-use Rattle.oas_narrow.specs.WideFiles.{WideParts, WideFileOf, WideFrontOf, wide_head, wide_file, item_in, end_in, records_of}
+use Rattle.oas_narrow.specs.WideFiles.{WideParts, WideFileOf}
 use Rattle.oas_prepare.specs.declared.gathering.Gathered.{Gathered}
 use Rattle.oas_prepare.specs.declared.taking.Preparation.{Preparation}
 use Rattle.oas_prepare.specs.Gathering.{HasAll, IsGathered}
 use Rattle.oas_prepare.specs.Places.{at_file, StopsAt, AfterLast, ByEnd}
-use Rattle.oas_wide.specs.Reasons.{plain_of}
+use Rattle.oas_narrow.specs.oas_wide.Reasons.{plain_of}
 use Rattle.oas_prepare.specs.Deciding.{decides}
-use Rattle.oas_prepare.specs.Run.{IsTied, IsPlaced, Stops}
+use Rattle.oas_prepare.specs.Reasons.{DecidedAt, TailMay, TheTail, WholeMay, Unsound, Torn, TheWhole, IsReasoned}
+use Rattle.oas_prepare.specs.Run.{IsPlaced, Stops}
 use Rattle.oas_prepare.proofs.Refusing.{ForMemory, Decided, judged_stopped, memory_placed, there_at}
-use Rattle.oas_prepare.proofs.Items.{OneFront-item, IsApart-item}
-use Rattle.oas_prepare.proofs.WideLaws.{OneFront-head, OneFront-end}
-
--- ---- one file
-
-pub OneFront-file : OneFront wide_file
-OneFront-file =
-    OneFront-pair wide_head (λ head. IsPair (IsEach (item_in head.flag_in_end)) (λ _. end_in head.flag_in_end)) OneFront-head
-    (λ head. OneFront-until (item_in head.flag_in_end) (end_in head.flag_in_end) (OneFront-item head.flag_in_end) (OneFront-end head.flag_in_end) (IsApart-item head.flag_in_end))
-
--- one file has the same records
-pub same_all : {head first : WideStart} {ws vs : List WideRecord} {end other : WideEnd} {b c : List ℕ} (f : WideFileOf head ws end b) (g : WideFileOf first vs other c) → f.items ≡ g.items → ws ≡ vs
-same_all f g e = sym f.all ∙ ap records_of e ∙ g.all
-
-pub file_all : {head : WideStart} {ws : List WideRecord} {end : WideEnd} {bytes last : List ℕ} → WideFrontOf head ws bytes → end_in head.flag_in_end end last → WideFileOf head ws end (bytes ++ last)
-file_all {last = last} f ends = record {
-  items = f.items;
-  all = f.all;
-  spelled = record {
-    front = f.start;
-    back = f.body ++ last;
-    first = f.begun;
-    second = record { front = f.body; back = last; first = f.each; second = ends; joined = refl };
-    joined = ap (λ (c : List ℕ). c ++ last) f.joined ∙ append_assoc f.start f.body last;
-  };
-}
-
--- no file goes on after END
-none_after : {head first : WideStart} {ws vs : List WideRecord} {end other : WideEnd} {bytes last : List ℕ} (byte : ℕ) (more : List ℕ) → WideFrontOf head ws bytes → end_in head.flag_in_end end last →
-    WideFileOf first vs other ((bytes ++ last) ++ (byte ∷ more)) → ⊥
-none_after {head = head} {first = first} {ws = ws} {vs = vs} {end = end} {other = other} {bytes = bytes} {last = last} byte more f ends file = absurd (not_nil tails) where
-  tails : byte ∷ more ≡ []
-  tails =
-      let whole = (bytes ++ last) ++ (byte ∷ more) in
-      let e : (bytes ++ last) ++ (byte ∷ more) ≡ whole ++ [] = sym (append-nil whole) in
-      let one = OneFront-file.one (head, ((file_all f ends).items, end)) (first, (file.items, other)) (bytes ++ last) whole (byte ∷ more) [] (file_all f ends).spelled file.spelled e in
-      after_same (bytes ++ last) whole (byte ∷ more) [] one.0 e
-
-  not_nil : byte ∷ more ≡ [] → ⊥
-  not_nil e = cc
+use Rattle.oas_prepare.proofs.OneFile.{PrefixFree-file, same_all, file_all, none_after}
 
 -- ---- after END
 
@@ -87,24 +48,45 @@ module _ {old mid : Script} {head : WideStart} {first p : Preparation} {end_at :
   abbrev all : List ℕ
   all = m.bytes ++ m.last
 
-  -- no file stands in front of this one
+  -- no file is a proper prefix of this one
   all_taken : (whole rest : List ℕ) → whole ++ rest ≡ all → Preparable limits dropping whole → rest ≡ []
   all_taken whole rest e a =
       let same : whole ++ rest ≡ all ++ [] = e ∙ sym (append-nil all) in
-      let one = OneFront-file.one (a.formed.start, (a.formed.file.items, a.formed.end)) (head, ((file_all m.front m.ends).items, end)) whole all rest [] a.formed.file.spelled (file_all m.front m.ends).spelled same in
+      let one = PrefixFree-file.one (a.formed.start, (a.formed.file.items, a.formed.end)) (head, ((file_all m.front m.ends).items, end)) whole all rest [] a.formed.file.spelled (file_all m.front m.ends).spelled same in
       after_same whole all rest [] one.0 same
 
   tail_place : (at : ℕ) → at ≡ mid.given → old.given ≡ 0 → at ≡ length m.bytes + length m.last
   tail_place at is fresh = omega (arith, is, m.takes.given, fresh, length-append m.bytes m.last)
 
-  byte_stops : {new : Script} (at byte : ℕ) → at ≡ mid.given → Takes mid (byte ∷ []) new → Stops limits dropping old (at_file at (wide.Profile TrailingBytes)) new
+  -- what was taken, where the end doesn't follow
+  tail_reasoned : {new : Script} (at : ℕ) (why : WideWhy) (tail : List ℕ) → at ≡ mid.given → Consumed mid tail new → TailMay why tail → IsReasoned limits dropping old (at_file at why) new
+  tail_reasoned {new = new} at why tail is takes may = record {
+    bytes = all ++ tail;
+    takes = Consumed-then old mid new all tail m.takes takes;
+    decided = λ fresh. TheTail (record {
+      left = m.last ++ tail;
+      start = head;
+      records = m.records;
+      from = length m.bytes;
+      before = record { before = m.bytes; front = m.front; prepared = m.prepared; place = refl; joined = append_assoc m.bytes m.last tail };
+      end = end;
+      last = m.last;
+      tail = tail;
+      ends = m.ends;
+      joined = refl;
+      place = tail_place at is fresh;
+      is = may;
+    });
+  }
+
+  byte_stops : {new : Script} (at byte : ℕ) → at ≡ mid.given → Consumed mid (byte ∷ []) new → Stops limits dropping old (at_file at (wide.Profile TrailingBytes)) new
   byte_stops {new = new} at byte is takes = (
-    judged_stopped both (Decided refl (λ tied more a. not more a)),
+    judged_stopped both (Decided refl (λ more a. not more a)),
     record {
       bytes = all ++ (byte ∷ []);
       takes = both;
       there = tt;
-      placed = λ tied fresh _ more _. AfterLast (record {
+      placed = λ fresh _ more _. AfterLast (record {
         left = m.last ++ (byte ∷ more);
         start = head;
         records = m.records;
@@ -119,16 +101,17 @@ module _ {old mid : Script} {head : WideStart} {first p : Preparation} {end_at :
         place = tail_place at is fresh;
       });
     },
+    tail_reasoned at (wide.Profile TrailingBytes) (byte ∷ []) is takes (byte, refl),
   ) where
-    both : Takes old (all ++ (byte ∷ [])) new
-    both = Takes-then old mid new all (byte ∷ []) m.takes takes
+    both : Consumed old (all ++ (byte ∷ [])) new
+    both = Consumed-then old mid new all (byte ∷ []) m.takes takes
 
     not : (more : List ℕ) → Preparable limits dropping ((all ++ (byte ∷ [])) ++ more) → ⊥
     not more a =
         none_after byte more m.front m.ends (subst (λ (b : List ℕ). WideFileOf a.formed.start a.formed.records a.formed.end b) (append_assoc all (byte ∷ []) more) a.formed.file)
 
-  taken_all : {new : Script} → Takes mid [] new → Takes old all new
-  taken_all {new = new} takes = subst (λ (b : List ℕ). Takes old b new) (append-nil all) (Takes-then old mid new all [] m.takes takes)
+  taken_all : {new : Script} → Consumed mid [] new → Consumed old all new
+  taken_all {new = new} takes = subst (λ (b : List ℕ). Consumed old b new) (append-nil all) (Consumed-then old mid new all [] m.takes takes)
 
   tail_stops : {new : Script} (at : ℕ) (why : Why) → at ≡ mid.given → MissesEnd mid why new → Stops limits dropping old (at_file at (wide.Profile why)) new
   tail_stops at TrailingBytes is h = byte_stops at h.0 is h.1
@@ -136,27 +119,29 @@ module _ {old mid : Script} {head : WideStart} {first p : Preparation} {end_at :
     record {
       bytes = all;
       takes = taken_all h.0;
-      decided = λ tied d. absurd cc;
+      decided = λ d. absurd cc;
       cut = λ _. all_taken;
       truncated = λ e. absurd cc;
       device = λ _. h.1;
       too_long = λ e. absurd cc;
       reading = λ e. cc;
     },
-    record { bytes = all; takes = taken_all h.0; there = tt; placed = λ tied fresh of_file. absurd cc },
+    record { bytes = all; takes = taken_all h.0; there = tt; placed = λ fresh of_file. absurd cc },
+    tail_reasoned at (wide.Profile Read) [] is h.0 refl,
   )
   tail_stops at InputTooLong is h = (
     record {
       bytes = all;
       takes = taken_all h.0;
-      decided = λ tied d. absurd cc;
+      decided = λ d. absurd cc;
       cut = λ _. all_taken;
       truncated = λ e. absurd cc;
       device = λ e. absurd cc;
       too_long = λ _. h.1;
       reading = λ e. cc;
     },
-    record { bytes = all; takes = taken_all h.0; there = tt; placed = λ tied fresh of_file. absurd cc },
+    record { bytes = all; takes = taken_all h.0; there = tt; placed = λ fresh of_file. absurd cc },
+    tail_reasoned at (wide.Profile InputTooLong) [] is h.0 refl,
   )
   tail_stops at _ is h = absurd h
 
@@ -165,7 +150,7 @@ module _ {old mid : Script} {head : WideStart} {first p : Preparation} {end_at :
   not_ended refusal h = tail_stops refusal.at refusal.why h.0 h.1
 
   -- the input ends
-  pub all_gathered : {new : Script} {profile : Profile} {limited : Limits} {drop : Dropping} → Takes mid [] new → IsAtEnd new → IsUnitOf head.unit first.reader.unit →
+  pub all_gathered : {new : Script} {profile : Profile} {limited : Limits} {drop : Dropping} → Consumed mid [] new → IsAtEnd new → IsUnitOf head.unit first.reader.unit →
       limits ≡ limited → first.reader.profile ≡ profile → dropping ≡ drop → IsGathered limited profile drop old (record { preparation = p; at = end_at; end = end }) new
   all_gathered takes at_end is_unit within by named = record {
     start = head;
@@ -193,7 +178,7 @@ module _ {limits : Limits} {profile : Profile} {dropping : Dropping} {old new : 
   pub file : WideFileOf m.start m.records g.end whole
   file = file_all m.front m.ends
 
-  -- a file that begins so has the same records and END, and nothing behind
+  -- a file that begins like this has the same records and END, and nothing after them
   record Same (more : List ℕ) (a : Formed limits dropping (whole ++ more)) : Type 0 where
     records : m.records ≡ a.records
     end : g.end ≡ a.end
@@ -202,19 +187,19 @@ module _ {limits : Limits} {profile : Profile} {dropping : Dropping} {old new : 
   same : (more : List ℕ) (a : Formed limits dropping (whole ++ more)) → Same more a
   same more a =
       let e : whole ++ more ≡ (whole ++ more) ++ [] = sym (append-nil (whole ++ more)) in
-      let both = OneFront-file.one (m.start, (file.items, g.end)) (a.start, (a.file.items, a.end)) whole (whole ++ more) more [] file.spelled a.file.spelled e in
+      let both = PrefixFree-file.one (m.start, (file.items, g.end)) (a.start, (a.file.items, a.end)) whole (whole ++ more) more [] file.spelled a.file.spelled e in
       record {
         records = same_all file a.file (ap (λ (p : WideParts). p.1.0) both.1);
         end = ap (λ (p : WideParts). p.1.1) both.1;
         none = after_same whole (whole ++ more) more [] both.0 e;
       }
 
-  end_placed : (e : Rejection) → e.place ≡ File g.at → (IsTied e.why old → end_refusal limits (narrowed m.records) ≡ None → IsValid g.end.validation whole → ⊥) → IsPlaced limits dropping old e new
+  end_placed : (e : Rejection) → e.place ≡ File g.at → (end_refusal limits (narrowed m.records) ≡ None → IsValid g.end.validation whole → ⊥) → IsPlaced limits dropping old e new
   end_placed e place torn = record {
     bytes = whole;
     takes = m.takes;
     there = there_at old whole place;
-    placed = λ tied fresh _ more ends.
+    placed = λ fresh _ more ends.
         let is : whole ≡ whole ++ more = sym (append-nil whole) ∙ ap (λ (c : List ℕ). whole ++ c) (sym (ends m.ended)) in
         subst (λ (b : List ℕ). StopsAt limits dropping b e.place) is (subst (StopsAt limits dropping whole) (sym place) (ByEnd (record {
           left = m.last;
@@ -223,32 +208,70 @@ module _ {limits : Limits} {profile : Profile} {dropping : Dropping} {old new : 
           before = record { before = m.bytes; front = m.front; prepared = m.prepared; place = omega (arith, m.place, fresh); joined = refl };
           end = g.end;
           ends = m.ends;
-          torn = torn tied;
+          torn = torn;
         })));
   }
 
-  -- END refuses the records
-  torn_stops : (e : Rejection) (why : Why) → e ≡ at_file g.at (wide.Profile why) → (why ≡ Memory) ⊎ (end_refusal limits (narrowed m.records) ≡ Some why) → Stops limits dropping old e new
-  torn_stops e why is (inl memory) = (judged_stopped m.takes (ForMemory (ap plain_of (ap (λ (x : Rejection). x.why) is) ∙ memory)), memory_placed e whole m.takes (there_at old whole (ap (λ (x : Rejection). x.place) is)) (ap plain_of (ap (λ (x : Rejection). x.why) is) ∙ memory))
-  torn_stops e why is (inr some) = (
-    judged_stopped m.takes (Decided decided (λ tied more a.
-        let none : end_refusal limits (narrowed m.records) ≡ None = ap (λ (ws : List WideRecord). end_refusal limits (narrowed ws)) (same more a.formed).records ∙ a.formed.whole in
-        let j = sym none ∙ some in cc)),
-    end_placed e (ap (λ (x : Rejection). x.place) is) (λ tied none. let j = sym none ∙ some in absurd cc),
-  ) where
-    decided : IsTrue (decides e.why)
-    decided = subst (λ (x : Rejection). IsTrue (decides x.why)) (sym is) (end_decides limits (narrowed m.records) why some)
+  -- what was taken, at END
+  whole_reasoned : (e : Rejection) → e.place ≡ File g.at → WholeMay limits m.records g.end whole e.why → IsReasoned limits dropping old e new
+  whole_reasoned e place may = record {
+    bytes = whole;
+    takes = m.takes;
+    decided = λ fresh. subst (λ (q : Place). DecidedAt limits dropping old new whole q e.why) (sym place) (TheWhole (record {
+      left = m.last;
+      start = m.start;
+      records = m.records;
+      before = record { before = m.bytes; front = m.front; prepared = m.prepared; place = omega (arith, m.place, fresh); joined = refl };
+      end = g.end;
+      ends = m.ends;
+      ended = m.ended;
+      is = may;
+    }));
+  }
 
-  pub whole_stops : (refusal : Refusal) → (refusal.at ≡ g.at) × ((refusal.why ≡ Memory) ⊎ (end_refusal g.preparation.reader.limits (narrowed m.records) ≡ Some refusal.why)) → Stops limits dropping old (refused refusal) new
-  whole_stops refusal h =
-      torn_stops (refused refusal) refusal.why (ap (λ at. at_file at (wide.Profile refusal.why)) h.0)
+  -- END refuses the records
+  torn_stops : (e : Rejection) (why : Why) → e ≡ at_file g.at (wide.Profile why) → IsValid g.end.validation whole → (why ≡ Memory) ⊎ (end_refusal limits (narrowed m.records) ≡ Some why) →
+      Stops limits dropping old e new
+  torn_stops e why is right reason = by reason where
+    place : e.place ≡ File g.at
+    place = ap (λ (x : Rejection). x.place) is
+
+    plain : e.why ≡ wide.Profile why
+    plain = ap (λ (x : Rejection). x.why) is
+
+    reasoned : IsReasoned limits dropping old e new
+    reasoned = whole_reasoned e place (Torn why plain right reason)
+
+    decided : end_refusal limits (narrowed m.records) ≡ Some why → IsTrue (decides e.why)
+    decided some = subst (λ (w : WideWhy). IsTrue (decides w)) (sym plain) (end_decides limits (narrowed m.records) why some)
+
+    not : end_refusal limits (narrowed m.records) ≡ Some why → end_refusal limits (narrowed m.records) ≡ None → ⊥
+    not some none = let j = sym none ∙ some in cc
+
+    by : (why ≡ Memory) ⊎ (end_refusal limits (narrowed m.records) ≡ Some why) → Stops limits dropping old e new
+    by (inl memory) = (
+      judged_stopped m.takes (ForMemory (ap plain_of plain ∙ memory)),
+      memory_placed e whole m.takes (there_at old whole place) (ap plain_of plain ∙ memory),
+      reasoned,
+    )
+    by (inr some) = (
+      judged_stopped m.takes (Decided (decided some) (λ more a. not some (ap (λ (ws : List WideRecord). end_refusal limits (narrowed ws)) (same more a.formed).records ∙ a.formed.whole))),
+      end_placed e place (λ none. absurd (not some none)),
+      reasoned,
+    )
+
+  pub whole_stops : (refusal : Refusal) → IsValid g.end.validation whole → (refusal.at ≡ g.at) × ((refusal.why ≡ Memory) ⊎ (end_refusal g.preparation.reader.limits (narrowed m.records) ≡ Some refusal.why)) →
+      Stops limits dropping old (refused refusal) new
+  whole_stops refusal right h =
+      torn_stops (refused refusal) refusal.why (ap (λ at. at_file at (wide.Profile refusal.why)) h.0) right
       (subst (λ (l : Limits). (refusal.why ≡ Memory) ⊎ (end_refusal l (narrowed m.records) ≡ Some refusal.why)) m.within h.1)
 
-  -- END says wrongly that the file came whole
-  pub signed_stops : (why : WideWhy) → IsTrue (decides why) → (IsTied why old → IsValid g.end.validation whole → ⊥) → Stops limits dropping old (at_file g.at why) new
-  signed_stops why is wrong = (
-    judged_stopped m.takes (Decided is (λ tied more a. wrong tied (valid more a))),
-    end_placed (at_file g.at why) refl (λ tied none. wrong tied),
+  -- END says wrongly that the file is complete
+  pub signed_stops : (IsValid g.end.validation whole → ⊥) → Stops limits dropping old (at_file g.at wide.Checksum) new
+  signed_stops wrong = (
+    judged_stopped m.takes (Decided refl (λ more a. wrong (valid more a))),
+    end_placed (at_file g.at wide.Checksum) refl (λ none. wrong),
+    whole_reasoned (at_file g.at wide.Checksum) refl (Unsound refl wrong),
   ) where
     valid : (more : List ℕ) → Preparable limits dropping (whole ++ more) → IsValid g.end.validation whole
     valid more a =

@@ -5,7 +5,7 @@ use Rattle.std.proofs.lemmas.List.{length-append, length-replicate, replicate-ap
 use Rattle.std.proofs.lemmas.Bool.{cases_lt}
 use Rattle.oas_num.specs.Grammar.{IsEach}
 use Rattle.oas_layout.specs.declared.limits.Limits.{Limits}
-use Rattle.oas_wide.specs.declared.records.WideRecord.{WideRecord}
+use Rattle.oas_narrow.specs.oas_wide.declared.records.WideRecord.{WideRecord}
 use Rattle.oas_narrow.specs.declared.dropping.Dropping.{Dropping}
 use Rattle.oas_narrow.specs.WideFiles.{inner_in}
 use Rattle.oas_prepare.specs.Laws.{OneLastRecord}
@@ -13,9 +13,9 @@ use Rattle.oas_prepare.specs.Places.{pads, IsRun, CountsAsOne, AsRun, AsOther, N
 use Rattle.oas_prepare.proofs.Items.{inner_some}
 use Rattle.oas_prepare.proofs.Pads.{pad, pad_in}
 use Rattle.oas_prepare.proofs.Runs.{each_more, each_pads, last_same}
-use Rattle.oas_prepare.proofs.WideLaws.{OneFront-inner}
+use Rattle.oas_prepare.proofs.WideLaws.{PrefixFree-inner}
 
--- as many bytes stand before the same
+-- as many bytes come before the same
 as_long : (a b x y : List ℕ) → a ++ x ≡ b ++ y → x ≡ y → length a ≡ length b
 as_long a b x y e same = omega (arith, ap length e, ap length same, length-append a x, length-append b y)
 
@@ -26,14 +26,14 @@ pads_more : (count : ℕ) → zeros count ++ 0 ∷ [] ≡ zeros (suc count)
 pads_more zero = refl
 pads_more (suc count) = ap (λ (c : List ℕ). 0 ∷ c) (pads_more count)
 
--- the last of so many stands behind the others
+-- the last of this many comes after the others
 one_behind : (a : List ℕ) (count : ℕ) → (a ++ zeros count) ++ 0 ∷ [] ≡ a ++ zeros (suc count)
 one_behind a count = append_assoc a (zeros count) (0 ∷ []) ∙ ap (λ (c : List ℕ). a ++ c) (pads_more count)
 
 module _ (in_end : Bool) where
   -- the last of some records
   last_one : (vs ws : List WideRecord) (v w : WideRecord) (a b c d : List ℕ) → IsEach (inner_in in_end) vs a → IsEach (inner_in in_end) ws b → inner_in in_end v c → inner_in in_end w d → a ++ c ≡ b ++ d → c ≡ d
-  last_one = last_same (inner_in in_end) (OneFront-inner in_end) (inner_some in_end)
+  last_one = last_same (inner_in in_end) (PrefixFree-inner in_end) (inner_some in_end)
 
   and_pads : (vs : List WideRecord) (a : List ℕ) (count : ℕ) → IsEach (inner_in in_end) vs a → IsEach (inner_in in_end) (vs ++ pads count) (a ++ zeros count)
   and_pads vs a count each = each_more (inner_in in_end) vs (pads count) a (zeros count) each (each_pads in_end count)
@@ -55,7 +55,7 @@ module _ (in_end : Bool) where
     by (inl multiple) = omega (arith, multiple, long, r.within, s.some)
     by (inr none) = none (vs ++ pads more) (a ++ zeros more) (and_pads vs a more each) (e ∙ sym (one_behind a more))
 
-  -- so the longer of two up to one end isn't one
+  -- so the longer of two with the same end isn't one
   not_longer : (vs : List WideRecord) (a b : List ℕ) (count less : ℕ) → IsEach (inner_in in_end) vs a → IsRun in_end a count → IsRun in_end b less → less < count → a ++ zeros count ≡ b ++ zeros less → ⊥
   not_longer vs a b count less each r s shorter e =
       let more : ℕ = count - suc less in

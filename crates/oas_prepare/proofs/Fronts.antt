@@ -1,24 +1,24 @@
--- How two fronts of one file of the standard compare, and how a file goes on after its front.
+-- How two prefixes of one file of the standard compare, and how a file goes on after a prefix.
 use Rattle.std.proofs.Common.{◌≡◌, ℕ, Bool, List, [], ◌∷◌, ◌++◌, None, reverse, refl, sym, ap, subst, ◌∙◌, append_assoc}
 use Rattle.std.proofs.lemmas.List.{append-nil, append_cancel_left, reverse-append}
-use Rattle.oas_num.specs.Grammar.{OneFront, IsEach}
+use Rattle.oas_num.specs.Grammar.{PrefixFree, IsEach}
 use Rattle.oas_num.specs.Laws.GrammarLaws.{after_same}
 use Rattle.oas_num.proofs.ReadLemmas.{Wants}
 use Rattle.oas_record.specs.Heads.{magic, IsMagic}
 use Rattle.oas_layout.specs.declared.limits.Limits.{Limits}
-use Rattle.oas_wide.specs.declared.ends.WideEnd.{WideEnd}
-use Rattle.oas_wide.specs.declared.heads.WideStart.{WideStart}
-use Rattle.oas_wide.specs.declared.records.WideRecord.{WideRecord}
-use Rattle.oas_wide.specs.declared.records.WideRecord.TheVariants.{End}
-use Rattle.oas_wide.specs.Heads.{SpellsWideStart}
-use Rattle.oas_wide.specs.WideRecords.{wide_record_in}
+use Rattle.oas_narrow.specs.oas_wide.declared.ends.WideEnd.{WideEnd}
+use Rattle.oas_narrow.specs.oas_wide.declared.heads.WideStart.{WideStart}
+use Rattle.oas_narrow.specs.oas_wide.declared.records.WideRecord.{WideRecord}
+use Rattle.oas_narrow.specs.oas_wide.declared.records.WideRecord.TheVariants.{End}
+use Rattle.oas_narrow.specs.oas_wide.Heads.{SpellsWideStart}
+use Rattle.oas_narrow.specs.oas_wide.WideRecords.{wide_record_in}
 use Rattle.oas_narrow.specs.declared.dropping.Dropping.{Dropping}
 use Rattle.oas_narrow.specs.Narrowing.{ArePrepared}
 use Rattle.oas_narrow.specs.Preparable.{AllPrepared, Formed}
-use Rattle.oas_narrow.specs.WideFiles.{WideParts, WideFileOf, WideFrontOf, wide_file, wide_head, item_in, end_in, records_of}
+use Rattle.oas_narrow.specs.WideFiles.{WideParts, WideFileOf, WidePrefixOf, wide_file, wide_head, item_in, end_in, records_of}
 use Rattle.oas_prepare.specs.Taking.{obstacle_next}
-use Rattle.oas_prepare.proofs.WideLaws.{OneFront-head}
-use Rattle.oas_prepare.proofs.Items.{OneFront-item, IsApart-item, item_begins, records-more, records-push}
+use Rattle.oas_prepare.proofs.WideLaws.{PrefixFree-head}
+use Rattle.oas_prepare.proofs.Items.{PrefixFree-item, IsApart-item, item_begins, records-more, records-push}
 
 -- ---- what is allowed
 
@@ -26,11 +26,11 @@ allowed_before : (limits : Limits) (dropping : Dropping) (rs ss : List WideRecor
 allowed_before limits dropping [] ss a = a
 allowed_before limits dropping (r ∷ rs) ss a = allowed_before limits dropping rs ss a.0
 
--- what is allowed of all records is allowed of the first of them
-pub allowed_front : (limits : Limits) (dropping : Dropping) (rs ss : List WideRecord) → AllPrepared limits dropping (rs ++ ss) → AllPrepared limits dropping rs
-allowed_front limits dropping rs ss a = allowed_before limits dropping (reverse ss) (reverse rs) (subst (λ (back : List WideRecord). ArePrepared limits dropping back) (reverse-append rs ss) a)
+-- what is allowed as all records is allowed as the first of them
+pub allowed_prefix : (limits : Limits) (dropping : Dropping) (rs ss : List WideRecord) → AllPrepared limits dropping (rs ++ ss) → AllPrepared limits dropping rs
+allowed_prefix limits dropping rs ss a = allowed_before limits dropping (reverse ss) (reverse rs) (subst (λ (back : List WideRecord). ArePrepared limits dropping back) (reverse-append rs ss) a)
 
--- of one record more: it is allowed after the others
+-- one more record: it is allowed after the others
 pub allowed_last : (limits : Limits) (dropping : Dropping) (rs : List WideRecord) (r : WideRecord) → AllPrepared limits dropping (rs ++ r ∷ []) → obstacle_next limits dropping rs r ≡ None
 allowed_last limits dropping rs r a = let both : ArePrepared limits dropping (r ∷ reverse rs) = subst (λ (back : List WideRecord). ArePrepared limits dropping back) (reverse-append rs (r ∷ [])) a in both.1
 
@@ -40,7 +40,7 @@ allowed_more limits dropping rs r a none = subst (λ (back : List WideRecord). A
 -- ---- two lists of spellings of one kind
 
 module _ {V : Type 0} (A : V → List ℕ → Type 0) where
-  -- the values are the same, or one list goes on by a value that stands where the other has ended
+  -- the values are the same, or one list goes on with a value where the other has ended
   pub data Compared (rs ss : List V) (left right : List ℕ) : Type 0 where
     Same : rs ≡ ss → left ≡ right → Compared rs ss left right
     More : (r : V) (tail : List V) (front rest : List ℕ) → ss ≡ (rs ++ r ∷ []) ++ tail → A r front → left ≡ front ++ rest → Compared rs ss left right
@@ -51,7 +51,7 @@ module _ {V : Type 0} (A : V → List ℕ → Type 0) where
   compared_more r s rs ss left right e (More q tail front rest is one stands) = More q tail front rest (λ i. sym e i ∷ is i) one stands
   compared_more r s rs ss left right e (Less q tail front rest is one stands) = Less q tail front rest (λ i. e i ∷ is i) one stands
 
-  pub compare : OneFront A → (rs ss : List V) (a b left right : List ℕ) → IsEach A rs a → IsEach A ss b → a ++ left ≡ b ++ right → Compared rs ss left right
+  pub compare : PrefixFree A → (rs ss : List V) (a b left right : List ℕ) → IsEach A rs a → IsEach A ss b → a ++ left ≡ b ++ right → Compared rs ss left right
   compare law [] [] a b left right p q e = Same refl (after_same a b left right (p ∙ sym q) e)
   compare law [] (s ∷ ss) a b left right p q e =
       More s ss q.0 (q.1 ++ right) refl q.2 (ap (λ (c : List ℕ). c ++ left) (sym p) ∙ e ∙ ap (λ (c : List ℕ). c ++ right) q.4 ∙ append_assoc q.0 q.1 right)
@@ -63,25 +63,25 @@ module _ {V : Type 0} (A : V → List ℕ → Type 0) where
       let one = law.one r s p.0 q.0 (p.1 ++ left) (q.1 ++ right) p.2 q.2 e1 in
       compared_more r s rs ss left right one.1 (compare law rs ss p.1 q.1 left right p.3 q.3 (after_same p.0 q.0 (p.1 ++ left) (q.1 ++ right) one.0 e1))
 
--- ---- two fronts of one file
+-- ---- two prefixes of one file
 
--- what a front is, with what is left after it
-front_is : {head : WideStart} {rs : List WideRecord} {before : List ℕ} (left : List ℕ) (f : WideFrontOf head rs before) → before ++ left ≡ f.start ++ (f.body ++ left)
+-- a prefix, with what is left after it
+front_is : {head : WideStart} {rs : List WideRecord} {before : List ℕ} (left : List ℕ) (f : WidePrefixOf head rs before) → before ++ left ≡ f.start ++ (f.body ++ left)
 front_is left f = ap (λ (c : List ℕ). c ++ left) f.joined ∙ append_assoc f.start f.body left
 
 pub record Fronts (head first : WideStart) (rs ss : List (List WideRecord)) (left right : List ℕ) : Type 0 where
   pub heads : head ≡ first
   pub items : Compared (item_in head.flag_in_end) rs ss left right
 
--- two fronts of the same bytes have one START, and items that compare
-pub fronts : {head first : WideStart} {rs ss : List WideRecord} {one other : List ℕ} (left right : List ℕ) (f : WideFrontOf head rs one) (g : WideFrontOf first ss other) → one ++ left ≡ other ++ right →
+-- two prefixes of the same bytes have one START, and items that compare
+pub fronts : {head first : WideStart} {rs ss : List WideRecord} {one other : List ℕ} (left right : List ℕ) (f : WidePrefixOf head rs one) (g : WidePrefixOf first ss other) → one ++ left ≡ other ++ right →
     Fronts head first f.items g.items left right
 fronts {head = head} {first = first} left right f g e =
     let e1 = sym (front_is left f) ∙ e ∙ front_is right g in
-    let one = (OneFront-head).one head first f.start g.start (f.body ++ left) (g.body ++ right) f.begun g.begun e1 in
+    let one = (PrefixFree-head).one head first f.start g.start (f.body ++ left) (g.body ++ right) f.begun g.begun e1 in
     record {
       heads = one.1;
-      items = compare (item_in head.flag_in_end) (OneFront-item head.flag_in_end) f.items g.items f.body g.body left right f.each
+      items = compare (item_in head.flag_in_end) (PrefixFree-item head.flag_in_end) f.items g.items f.body g.body left right f.each
           (subst (λ (h : WideStart). IsEach (item_in h.flag_in_end) g.items g.body) (sym one.1) g.each) (after_same f.start g.start (f.body ++ left) (g.body ++ right) one.0 e1);
     }
 
@@ -95,11 +95,11 @@ end_by {end = end} {last = last} heads ends = subst (λ (h : WideStart). end_in 
 
 -- ---- a file
 
--- a file is its front, and END
+-- a file is a prefix, and END
 pub record Ended (head : WideStart) (rs : List WideRecord) (end : WideEnd) (b : List ℕ) : Type 0 where
   pub before : List ℕ
   pub last : List ℕ
-  pub front : WideFrontOf head rs before
+  pub front : WidePrefixOf head rs before
   pub ends : end_in head.flag_in_end end last
   pub joined : b ≡ before ++ last
 
@@ -115,14 +115,14 @@ ended_in v b s = record {
 pub ended : {head : WideStart} {rs : List WideRecord} {end : WideEnd} {b : List ℕ} → WideFileOf head rs end b → Ended head rs end b
 ended {head = head} {end = end} {b = b} file = subst (λ (ws : List WideRecord). Ended head ws end b) file.all (ended_in (head, (file.items, end)) b file.spelled)
 
--- the records of a front that goes on
-pub goes_on : {head first : WideStart} {rs ss : List WideRecord} {one other : List ℕ} (f : WideFrontOf head rs one) (g : WideFrontOf first ss other) (ws : List WideRecord) (tail : List (List WideRecord)) →
+-- the records of a prefix that goes on
+pub goes_on : {head first : WideStart} {rs ss : List WideRecord} {one other : List ℕ} (f : WidePrefixOf head rs one) (g : WidePrefixOf first ss other) (ws : List WideRecord) (tail : List (List WideRecord)) →
     g.items ≡ (f.items ++ ws ∷ []) ++ tail → ss ≡ rs ++ (ws ++ records_of tail)
 goes_on f g ws tail is = sym g.all ∙ ap records_of is ∙ records-more f.items tail ws ∙ ap (λ (all : List WideRecord). all ++ (ws ++ records_of tail)) f.all
 
--- after the front of a file stands another of its records, the head of a block, or END
-pub file_wants : {head : WideStart} {rs : List WideRecord} {bytes : List ℕ} → WideFrontOf head rs bytes → Wants wide_file bytes (wide_record_in head.flag_in_end)
-file_wants {head = head} {bytes = bytes} f = record { wants = next } where
+-- after a prefix of a file comes another of its records, the head of a block, or END
+pub file_expects : {head : WideStart} {rs : List WideRecord} {bytes : List ℕ} → WidePrefixOf head rs bytes → Wants wide_file bytes (wide_record_in head.flag_in_end)
+file_expects {head = head} {bytes = bytes} f = record { wants = next } where
   next : (v : WideParts) (p r rest : List ℕ) → wide_file v p → p ++ r ≡ bytes ++ rest → (w : WideRecord) × (q : List ℕ) × (more : List ℕ) × wide_record_in head.flag_in_end w q × (q ++ more ≡ rest)
   next v p r rest s e = by (fronts rest (g.last ++ r) f g.front (sym e ∙ ap (λ (c : List ℕ). c ++ r) g.joined ∙ append_assoc g.before g.last r)) where
     g : Ended v.0 (records_of v.1.0) v.1.1 p
@@ -138,9 +138,9 @@ file_wants {head = head} {bytes = bytes} f = record { wants = next } where
       by_items (More ws tail front more is one stands) = let i = item_begins head.flag_in_end ws front more one in (i.value, i.front, i.more, i.spelled, sym (stands ∙ i.joined))
       by_items (Less ws tail front more is one stands) = absurd (not_both head.flag_in_end ws v.1.1 front g.last more r one ends (sym stands))
 
--- the records of an accepted file's front are allowed
-pub front_allowed : {limits : Limits} {dropping : Dropping} {head : WideStart} {rs : List WideRecord} {bytes : List ℕ} (more : List ℕ) → WideFrontOf head rs bytes → Formed limits dropping (bytes ++ more) → AllPrepared limits dropping rs
-front_allowed {limits = limits} {dropping = dropping} {head = head} {rs = rs} {bytes = bytes} more f a = by both.items where
+-- the records of an accepted file's prefix are allowed
+pub prefix_allowed : {limits : Limits} {dropping : Dropping} {head : WideStart} {rs : List WideRecord} {bytes : List ℕ} (more : List ℕ) → WidePrefixOf head rs bytes → Formed limits dropping (bytes ++ more) → AllPrepared limits dropping rs
+prefix_allowed {limits = limits} {dropping = dropping} {head = head} {rs = rs} {bytes = bytes} more f a = by both.items where
   e : Ended a.start a.records a.end (bytes ++ more)
   e = ended a.file
 
@@ -149,16 +149,16 @@ front_allowed {limits = limits} {dropping = dropping} {head = head} {rs = rs} {b
 
   by : Compared (item_in head.flag_in_end) f.items e.front.items more e.last → AllPrepared limits dropping rs
   by (Same same lefts) = subst (λ (all : List WideRecord). AllPrepared limits dropping all) (sym (sym f.all ∙ ap records_of same ∙ e.front.all)) a.prepared
-  by (More ws tail front rest is one stands) = allowed_front limits dropping rs (ws ++ records_of tail) (subst (λ (all : List WideRecord). AllPrepared limits dropping all) (goes_on f e.front ws tail is) a.prepared)
+  by (More ws tail front rest is one stands) = allowed_prefix limits dropping rs (ws ++ records_of tail) (subst (λ (all : List WideRecord). AllPrepared limits dropping all) (goes_on f e.front ws tail is) a.prepared)
   by (Less ws tail front rest is one stands) = absurd (not_both head.flag_in_end ws a.end front e.last rest [] one (end_by both.heads e.ends) (sym stands ∙ sym (append-nil e.last)))
 
--- ---- one record more
+-- ---- one more record
 
 pub push : {V : Type 0} (A : V → List ℕ → Type 0) (rs : List V) (r : V) (a b : List ℕ) → IsEach A rs a → A r b → IsEach A (rs ++ r ∷ []) (a ++ b)
 push A [] r a b each one = (b, [], one, refl, ap (λ (c : List ℕ). c ++ b) each ∙ sym (append-nil b))
 push A (s ∷ rs) r a b each one = (each.0, each.1 ++ b, each.2, push A rs r each.1 b each.3 one, ap (λ (c : List ℕ). c ++ b) each.4 ∙ append_assoc each.0 each.1 b)
 
-pub front_more : {head : WideStart} {rs : List WideRecord} (ws : List WideRecord) {a b : List ℕ} → WideFrontOf head rs a → item_in head.flag_in_end ws b → WideFrontOf head (rs ++ ws) (a ++ b)
+pub front_more : {head : WideStart} {rs : List WideRecord} (ws : List WideRecord) {a b : List ℕ} → WidePrefixOf head rs a → item_in head.flag_in_end ws b → WidePrefixOf head (rs ++ ws) (a ++ b)
 front_more {head = head} ws {a = a} {b = b} f one = record {
   items = f.items ++ ws ∷ [];
   all = records-push f.items ws ∙ ap (λ (rs : List WideRecord). rs ++ ws) f.all;
@@ -169,7 +169,7 @@ front_more {head = head} ws {a = a} {b = b} f one = record {
   joined = ap (λ (c : List ℕ). c ++ b) f.joined ∙ append_assoc f.start f.body b;
 }
 
--- ---- what stands first in a file
+-- ---- what comes first in a file
 
 -- the magic and START
 pub record BeginsFile (b : List ℕ) : Type 0 where
@@ -193,11 +193,11 @@ head_begins head start left h =
 file_begins : (v : WideParts) (p r : List ℕ) → wide_file v p → BeginsFile (p ++ r)
 file_begins v p r s = subst BeginsFile (sym (ap (λ (c : List ℕ). c ++ r) s.joined ∙ append_assoc s.front s.back r)) (head_begins v.0 s.front (s.back ++ r) s.first)
 
-pub magic_wanted : Wants wide_file [] IsMagic
-magic_wanted = record { wants = λ v p r rest s e. let b = file_begins v p r s in (tt, magic, b.start ++ b.rest, refl, sym b.joined ∙ e) }
+pub magic_expected : Wants wide_file [] IsMagic
+magic_expected = record { wants = λ v p r rest s e. let b = file_begins v p r s in (tt, magic, b.start ++ b.rest, refl, sym b.joined ∙ e) }
 
-pub start_wanted : Wants wide_file magic SpellsWideStart
-start_wanted = record { wants = λ v p r rest s e. let b = file_begins v p r s in (b.head, b.start, b.rest, b.begun, append_cancel_left magic (b.start ++ b.rest) rest (sym b.joined ∙ e)) }
+pub start_expected : Wants wide_file magic SpellsWideStart
+start_expected = record { wants = λ v p r rest s e. let b = file_begins v p r s in (b.head, b.start, b.rest, b.begun, append_cancel_left magic (b.start ++ b.rest) rest (sym b.joined ∙ e)) }
 
 -- the START of a file
 pub record FileStart (head : WideStart) (b : List ℕ) : Type 0 where

@@ -1,38 +1,37 @@
--- One record more, END, or a rejection there.
-use Rattle.std.proofs.Common.{◌≡◌, ℕ, [], ◌∷◌, ◌++◌, None, Some, ◌⊎◌, inl, inr, refl, sym, ap, subst, ◌∙◌, append_assoc, arith}
-use Rattle.std.specs.Prelude.{Option}
-use Rattle.oas_num.specs.declared.refusals.Why.TheVariants.{Memory}
+-- One more record, END, or a rejection there.
+use Rattle.std.proofs.Common.{◌≡◌, ℕ, [], ◌∷◌, ◌++◌, None, Some, inl, inr, refl, sym, ap, subst, ◌∙◌, append_assoc, arith}
 use Rattle.oas_num.specs.Reading.{ReadsValue}
-use Rattle.oas_num.specs.Script.{Script, Takes}
+use Rattle.oas_num.specs.Script.{Script, Consumed}
 use Rattle.oas_num.specs.Ratio.{Ratio}
-use Rattle.oas_num.proofs.ReadLemmas.{Takes-then}
+use Rattle.oas_num.proofs.ReadLemmas.{Consumed-then}
 use Rattle.oas_layout.specs.declared.limits.Limits.{Limits}
-use Rattle.oas_wide.specs.declared.ends.WideEnd.{WideEnd}
-use Rattle.oas_wide.specs.declared.heads.WideStart.{WideStart}
-use Rattle.oas_wide.specs.declared.reasons.WideRefusal.{WideRefusal}
-use Rattle.oas_wide.specs.declared.reasons.WideWhy.{WideWhy}
-use Rattle.oas_wide.specs.declared.reasons.WideWhy.TheVariants.{Profile}
-use Rattle.oas_wide.specs.declared.records.WideRecord.{WideRecord}
-use Rattle.oas_wide.specs.declared.records.WideRecord.TheVariants.{End}
-use Rattle.oas_wide.specs.Reasons.{plain_of}
-use Rattle.oas_wide.specs.WideRecords.{FailsWide}
+use Rattle.oas_narrow.specs.oas_wide.declared.ends.WideEnd.{WideEnd}
+use Rattle.oas_narrow.specs.oas_wide.declared.heads.WideStart.{WideStart}
+use Rattle.oas_narrow.specs.oas_wide.declared.reasons.WideRefusal.{WideRefusal}
+use Rattle.oas_narrow.specs.oas_wide.declared.reasons.WideWhy.{WideWhy}
+use Rattle.oas_narrow.specs.oas_wide.declared.records.WideRecord.{WideRecord}
+use Rattle.oas_narrow.specs.oas_wide.declared.records.WideRecord.TheVariants.{End}
+use Rattle.oas_narrow.specs.oas_wide.Reasons.{plain_of}
+use Rattle.oas_narrow.specs.oas_wide.WideRecords.{FailsWide}
 use Rattle.oas_narrow.specs.declared.dropping.Dropping.{Dropping}
+use Rattle.oas_narrow.specs.declared.places.Place.{Place}
 use Rattle.oas_narrow.specs.declared.places.Place.TheVariants.{File}
 use Rattle.oas_narrow.specs.declared.places.Rejection.{Rejection}
 use Rattle.oas_narrow.specs.Preparable.{AllPrepared}
 use Rattle.oas_narrow.specs.Rejections.{rejected}
-use Rattle.oas_narrow.specs.WideFiles.{WideFrontOf, inner_in, end_in, AsRecord}
+use Rattle.oas_narrow.specs.WideFiles.{WidePrefixOf, inner_in, end_in, AsRecord}
 use Rattle.oas_prepare.specs.declared.taking.Preparation.{Preparation}
 use Rattle.oas_prepare.specs.Gathering.{HasGathered, HasAll}
 use Rattle.oas_prepare.specs.Heads.{HasStarted}
 use Rattle.oas_prepare.specs.Places.{ByRecord, StopsAt}
+use Rattle.oas_prepare.specs.Reasons.{DecidedAt, TheNext, IsReasoned}
 use Rattle.oas_prepare.specs.Run.{Stops, IsPlaced}
-use Rattle.oas_prepare.specs.Taking.{Stands, SameRun, IsStop, obstacle_next}
-use Rattle.oas_prepare.proofs.Fronts.{allowed_last, allowed_more, front_allowed, front_more}
+use Rattle.oas_prepare.specs.Taking.{Stands, SameRun, IsStop, MayStop, obstacle_next}
+use Rattle.oas_prepare.proofs.Fronts.{allowed_last, allowed_more, prefix_allowed, front_more}
 use Rattle.oas_prepare.proofs.Refusing.{record_stops, Judges, ForMemory, Decided, judged_stopped, memory_placed, there_at}
 use Rattle.oas_prepare.proofs.Reasons.{obstacle_decides}
 use Rattle.oas_prepare.proofs.Items.{record_no_block, block_is}
-use Rattle.oas_prepare.proofs.WideLaws.{OneFront-wide}
+use Rattle.oas_prepare.proofs.WideLaws.{PrefixFree-wide}
 
 -- after the head
 pub gathered_none : {origin now : Script} {head : WideStart} {unit : Ratio} {first : Preparation} → HasStarted origin head unit now → Stands first [] → HasGathered origin head first now first
@@ -59,10 +58,10 @@ module _ {origin mid : Script} {head : WideStart} {first p : Preparation} (m : H
     gather_fails refusal h = record_stops refusal.at refusal.why m.front m.prepared m.takes h.0 h.1
 
     module _ {w : WideRecord} (read : ReadsValue (inner_in head.flag_in_end) mid w new) where
-      both : Takes origin (m.bytes ++ read.bytes) new
-      both = Takes-then origin mid new m.bytes read.bytes m.takes read.takes
+      both : Consumed origin (m.bytes ++ read.bytes) new
+      both = Consumed-then origin mid new m.bytes read.bytes m.takes read.takes
 
-      front : WideFrontOf head (m.records ++ w ∷ []) (m.bytes ++ read.bytes)
+      front : WidePrefixOf head (m.records ++ w ∷ []) (m.bytes ++ read.bytes)
       front = front_more (w ∷ []) m.front (AsRecord w refl read.spelled)
 
       -- under the limits of the first
@@ -91,36 +90,51 @@ module _ {origin mid : Script} {head : WideStart} {first p : Preparation} (m : H
       not_prepared : (why : WideWhy) → obstacle_next limits dropping m.records w ≡ Some why → AllPrepared limits dropping (m.records ++ w ∷ []) → ⊥
       not_prepared why some a = let none = allowed_last limits dropping m.records w a in let e = sym none ∙ some in cc
 
-      next_placed : (at : ℕ) (e : Rejection) → e.place ≡ File at → at ≡ mid.given → (e.why ≡ Profile Memory) ⊎ (obstacle_next limits dropping m.records w ≡ Some e.why) → IsPlaced limits dropping origin e new
-      next_placed at e place is (inl memory) = memory_placed e (m.bytes ++ read.bytes) both (there_at origin (m.bytes ++ read.bytes) place) (ap plain_of memory)
+      next_placed : (at : ℕ) (e : Rejection) → e.place ≡ File at → at ≡ mid.given → MayStop limits dropping m.records w e.why → IsPlaced limits dropping origin e new
+      next_placed at e place is (inl memory) = memory_placed e (m.bytes ++ read.bytes) both (there_at origin (m.bytes ++ read.bytes) place) (ap plain_of memory.0)
       next_placed at e place is (inr some) = record {
         bytes = m.bytes ++ read.bytes;
         takes = both;
         there = there_at origin (m.bytes ++ read.bytes) place;
-        placed = λ tied fresh of_file more ended. subst (StopsAt limits dropping ((m.bytes ++ read.bytes) ++ more)) (sym place) (ByRecord (record {
+        placed = λ fresh of_file more ended. subst (StopsAt limits dropping ((m.bytes ++ read.bytes) ++ more)) (sym place) (ByRecord (record {
           left = read.bytes ++ more;
           start = head;
           records = m.records;
           before = record { before = m.bytes; front = m.front; prepared = m.prepared; place = omega (arith, is, m.takes.given, fresh); joined = append_assoc m.bytes read.bytes more };
-          no_end = record { none = λ end front rest ends j. read.spelled.holds.no_end end ((OneFront-wide head.flag_in_end).one w (End end) read.bytes front more rest read.spelled.spelled ends j).1 };
+          no_end = record { none = λ end front rest ends j. read.spelled.holds.no_end end ((PrefixFree-wide head.flag_in_end).one w (End end) read.bytes front more rest read.spelled.spelled ends j).1 };
           no_record = record {
             none = λ q front rest next j.
-                let same = ((OneFront-wide head.flag_in_end).one w q read.bytes front more rest read.spelled.spelled next.spelled.spelled j).1 in
+                let same = ((PrefixFree-wide head.flag_in_end).one w q read.bytes front more rest read.spelled.spelled next.spelled.spelled j).1 in
                 not_prepared e.why some (subst (λ (k : WideRecord). AllPrepared limits dropping (m.records ++ k ∷ [])) (sym same) next.prepared);
           };
           no_block = record { none = λ b front rest s j. record_no_block head.flag_in_end w b.0 read.bytes s.front more (s.back ++ rest) read.spelled s.first (j ∙ block_is rest s) };
         }));
       }
 
-      next_stops : (at : ℕ) (e : Rejection) → e.place ≡ File at → at ≡ mid.given → (e.why ≡ Profile Memory) ⊎ (obstacle_next limits dropping m.records w ≡ Some e.why) → Stops limits dropping origin e new
-      next_stops at e place is reason = (judged_stopped both (judged reason), next_placed at e place is reason) where
-        judged : (e.why ≡ Profile Memory) ⊎ (obstacle_next limits dropping m.records w ≡ Some e.why) → Judges limits dropping origin (m.bytes ++ read.bytes) e.why
-        judged (inl memory) = ForMemory (ap plain_of memory)
-        judged (inr some) = Decided (obstacle_decides limits dropping m.records w e.why some) (λ tied more a. not_prepared e.why some (front_allowed more front a.formed))
+      next_reasoned : (at : ℕ) (e : Rejection) → e.place ≡ File at → at ≡ mid.given → MayStop limits dropping m.records w e.why → IsReasoned limits dropping origin e new
+      next_reasoned at e place is reason = record {
+        bytes = m.bytes ++ read.bytes;
+        takes = both;
+        decided = λ fresh. subst (λ (q : Place). DecidedAt limits dropping origin new (m.bytes ++ read.bytes) q e.why) (sym place) (TheNext (record {
+          left = read.bytes;
+          start = head;
+          records = m.records;
+          next = w;
+          before = record { before = m.bytes; front = m.front; prepared = m.prepared; place = omega (arith, is, m.takes.given, fresh); joined = refl };
+          spelled = read.spelled;
+          is = reason;
+        }));
+      }
+
+      next_stops : (at : ℕ) (e : Rejection) → e.place ≡ File at → at ≡ mid.given → MayStop limits dropping m.records w e.why → Stops limits dropping origin e new
+      next_stops at e place is reason = (judged_stopped both (judged reason), next_placed at e place is reason, next_reasoned at e place is reason) where
+        judged : MayStop limits dropping m.records w e.why → Judges limits dropping (m.bytes ++ read.bytes) e.why
+        judged (inl memory) = ForMemory (ap plain_of memory.0)
+        judged (inr some) = Decided (obstacle_decides limits dropping m.records w e.why some) (λ more a. not_prepared e.why some (prefix_allowed more front a.formed))
 
       -- or it isn't prepared
-      pub gather_stops : (at : ℕ) (e : Rejection) → at ≡ mid.given → IsStop at (obstacle_next p.reader.limits p.dropping m.records w) e → Stops limits dropping origin e new
-      gather_stops at e is stop = next_stops at e stop.place is (subst (λ (o : Option WideWhy). (e.why ≡ Profile Memory) ⊎ (o ≡ Some e.why)) same_next stop.why)
+      pub gather_stops : (at : ℕ) (e : Rejection) → at ≡ mid.given → IsStop at p.reader.limits p.dropping m.records w e → Stops limits dropping origin e new
+      gather_stops at e is stop = next_stops at e stop.place is (subst (λ (b : Limits × Dropping). MayStop b.0 b.1 m.records w e.why) (λ i. (m.same.limits i, m.same.dropping i)) stop.why)
 
     -- END is read
     pub gather_ends : (at : ℕ) (end : WideEnd) → at ≡ mid.given → ReadsValue (end_in head.flag_in_end) mid end new → HasAll origin head first at end new p
@@ -128,7 +142,7 @@ module _ {origin mid : Script} {head : WideStart} {first p : Preparation} (m : H
       records = m.records;
       bytes = m.bytes;
       last = read.bytes;
-      takes = Takes-then origin mid new m.bytes read.bytes m.takes read.takes;
+      takes = Consumed-then origin mid new m.bytes read.bytes m.takes read.takes;
       front = m.front;
       ends = read.spelled;
       place = is ∙ m.takes.given;

@@ -3,12 +3,12 @@ use Rattle.std.proofs.Common.{◌≡◌, ◌≢◌, ℕ, ◌+◌, ◌-◌, ◌%�
 use Rattle.std.specs.Prelude.{nat_lt, replicate}
 use Rattle.std.proofs.lemmas.Bool.{le-ltb, cases_lt}
 use Rattle.std.proofs.lemmas.List.{append-nil, length-append, length-replicate, append_cancel_left, take_all}
-use Rattle.oas_inflated.specs.Zeros.{StopsIn, StopsAt}
+use Rattle.oas_narrow.specs.oas_inflated.Zeros.{StopsIn, StopsAt}
 use Rattle.oas_num.specs.Reading.{ReadsValue}
-use Rattle.oas_num.specs.Script.{Script, Rest, Gave, Takes, slice_script}
-use Rattle.oas_num.proofs.ReadLemmas.{Takes-none, Takes-then}
+use Rattle.oas_num.specs.Script.{Script, Rest, Gave, Consumed, slice_script}
+use Rattle.oas_num.proofs.ReadLemmas.{Consumed-none, Consumed-then}
 use Rattle.oas_layout.specs.declared.limits.Limits.{Limits}
-use Rattle.oas_wide.specs.declared.records.WideRecord.{WideRecord}
+use Rattle.oas_narrow.specs.oas_wide.declared.records.WideRecord.{WideRecord}
 use Rattle.oas_narrow.specs.declared.dropping.Dropping.{Dropping}
 use Rattle.oas_narrow.specs.Preparable.{AllPrepared}
 use Rattle.oas_narrow.specs.WideFiles.{inner_in}
@@ -26,7 +26,7 @@ use Rattle.oas_prepare.proofs.Runs.{each_more, each_pads, no_pad, zeros_begin, n
 abbrev pub source_of : List ℕ → Script
 source_of plain = slice_script plain (length plain) 0
 
--- of the bytes it gave some, and is still to give the rest
+-- it gave some of the bytes, and will give the rest
 pub record HasGiven (plain bytes : List ℕ) (s : Script) : Type 0 where
   pub left : List ℕ
   pub joined : plain ≡ bytes ++ left
@@ -37,7 +37,7 @@ pub record HasGiven (plain bytes : List ℕ) (s : Script) : Type 0 where
 not_less : (n : ℕ) → nat_lt n n ≡ false
 not_less n = le-ltb n n (omega arith)
 
-pub has_given : (plain bytes : List ℕ) (s : Script) → Takes (source_of plain) bytes s → HasGiven plain bytes s
+pub has_given : (plain bytes : List ℕ) (s : Script) → Consumed (source_of plain) bytes s → HasGiven plain bytes s
 has_given plain bytes s t = by s.rest refl t.rest where
   by : (rest : Option Rest) → s.rest ≡ rest → Gave (source_of plain).rest bytes rest → HasGiven plain bytes s
   by None is g = absurd g
@@ -50,19 +50,19 @@ has_given plain bytes s t = by s.rest refl t.rest where
   }
 
 -- where nothing is taken the place stays
-pub kept_at : {at : ℕ} {old new : Script} → at ≡ old.given → Takes old [] new → at ≡ new.given
+pub kept_at : {at : ℕ} {old new : Script} → at ≡ old.given → Consumed old [] new → at ≡ new.given
 kept_at e takes = omega (arith, e, takes.given)
 
 -- ---- records of the data
 
--- behind these bytes of the data a run begins where a zero stands next
+-- after these bytes of the data a run begins where a zero comes next
 abbrev pub MayBegin : Bool → List ℕ → List ℕ → Type 0
 MayBegin in_end plain bytes = (rest : List ℕ) → plain ≡ bytes ++ 0 ∷ rest → (length bytes % 2 ^ 20 ≡ 0) ⊎ NoPadLast in_end bytes
 
 -- some records of the data were taken
 pub record HasSome (in_end : Bool) (first : Preparation) (records : List WideRecord) (plain : List ℕ) (s : Script) (p : Preparation) (last : Option ℕ) : Type 0 where
   pub bytes : List ℕ
-  pub takes : Takes (source_of plain) bytes s
+  pub takes : Consumed (source_of plain) bytes s
   pub made : HasInner in_end first records bytes p
   pub ends : IsLast first.reader.limits first.dropping in_end records bytes last
   pub runs : MayBegin in_end plain bytes
@@ -71,7 +71,7 @@ pub some_none : (in_end : Bool) {first : Preparation} {records : List WideRecord
     HasSome in_end first records plain (source_of plain) first None
 some_none in_end {first = first} {records = records} plain stands prepared = record {
   bytes = [];
-  takes = Takes-none (source_of plain);
+  takes = Consumed-none (source_of plain);
   made = record {
     inner = [];
     each = refl;
@@ -96,7 +96,7 @@ module _ {in_end : Bool} {first : Preparation} {records : List WideRecord} {plai
   abbrev pub here : HasGiven plain m.bytes mid
   here = has_given plain m.bytes mid m.takes
 
-  -- no zero stands next
+  -- no zero comes next
   stops_here : StopsAt mid.rest → (rest : List ℕ) → here.left ≡ 0 ∷ rest → ⊥
   stops_here stops rest e = subst StopsIn e (subst StopsAt here.rest stops) refl
 
@@ -109,14 +109,14 @@ module _ {in_end : Bool} {first : Preparation} {records : List WideRecord} {plai
     all : m.bytes ≡ plain
     all = sym (append-nil m.bytes) ∙ ap (λ (c : List ℕ). m.bytes ++ c) (sym none) ∙ sym here.joined
 
-  module _ {new : Script} {bytes : List ℕ} (takes : Takes mid bytes new) where
+  module _ {new : Script} {bytes : List ℕ} (takes : Consumed mid bytes new) where
     abbrev pub then : HasGiven plain (m.bytes ++ bytes) new
-    then = has_given plain (m.bytes ++ bytes) new (Takes-then (source_of plain) mid new m.bytes bytes m.takes takes)
+    then = has_given plain (m.bytes ++ bytes) new (Consumed-then (source_of plain) mid new m.bytes bytes m.takes takes)
 
     pub left_is : here.left ≡ bytes ++ then.left
     left_is = append_cancel_left m.bytes here.left (bytes ++ then.left) (sym here.joined ∙ then.joined ∙ append_assoc m.bytes bytes then.left)
 
-    -- nor behind them
+    -- nor after them
     stops_at : StopsAt new.rest → (rest : List ℕ) → then.left ≡ 0 ∷ rest → ⊥
     stops_at stops rest e = subst StopsIn e (subst StopsAt then.rest stops) refl
 
@@ -125,21 +125,21 @@ module _ {in_end : Bool} {first : Preparation} {records : List WideRecord} {plai
   same_next w = ap (λ (b : Limits × Dropping). obstacle_next b.0 b.1 before w) (λ i. (m.made.same.limits i, m.made.same.dropping i))
 
   -- nothing more was taken
-  pub some_kept : {now : Script} → Takes mid [] now → HasSome in_end first records plain now p last
+  pub some_kept : {now : Script} → Consumed mid [] now → HasSome in_end first records plain now p last
   some_kept {now = now} takes = record {
     bytes = m.bytes;
-    takes = subst (λ (b : List ℕ). Takes (source_of plain) b now) (append-nil m.bytes) (Takes-then (source_of plain) mid now m.bytes [] m.takes takes);
+    takes = subst (λ (b : List ℕ). Consumed (source_of plain) b now) (append-nil m.bytes) (Consumed-then (source_of plain) mid now m.bytes [] m.takes takes);
     made = m.made;
     ends = m.ends;
     runs = m.runs;
   }
 
-  -- so many PADs were taken, up to the next multiple or to what isn't one
-  pub some_pads : (at : ℕ) → at ≡ mid.given → (count : ℕ) → 0 < count → count ≤ 2 ^ 20 - at % 2 ^ 20 → {new : Script} → Takes mid (replicate count 0) new → (count < 2 ^ 20 - at % 2 ^ 20 → StopsAt new.rest) →
+  -- this many PADs were taken, up to the next multiple or to what isn't one
+  pub some_pads : (at : ℕ) → at ≡ mid.given → (count : ℕ) → 0 < count → count ≤ 2 ^ 20 - at % 2 ^ 20 → {new : Script} → Consumed mid (replicate count 0) new → (count < 2 ^ 20 - at % 2 ^ 20 → StopsAt new.rest) →
       HasSome in_end first records plain new p (Some at)
   some_pads at is_at count some few {new = new} takes stops = record {
     bytes = m.bytes ++ zeros;
-    takes = Takes-then (source_of plain) mid new m.bytes zeros m.takes takes;
+    takes = Consumed-then (source_of plain) mid new m.bytes zeros m.takes takes;
     made = record {
       inner = m.made.inner ++ pads count;
       each = each_more (inner_in in_end) m.made.inner (pads count) m.bytes zeros m.made.each (each_pads in_end count);
@@ -181,12 +181,12 @@ module _ {in_end : Bool} {first : Preparation} {records : List WideRecord} {plai
       counted : length (m.bytes ++ zeros) ≡ at + count
       counted = length-append m.bytes zeros ∙ (λ i. sym is_before i + length-replicate {A = ℕ} count 0 i)
 
-  -- one more is read and taken, where no zero stands
+  -- one more is read and taken, where no zero comes next
   pub some_more : (at : ℕ) → at ≡ mid.given → StopsAt mid.rest → {new : Script} {w : WideRecord} → ReadsValue (inner_in in_end) mid w new → (after : Preparation) →
       (obstacle_next p.reader.limits p.dropping before w ≡ None) × Stands after (before ++ w ∷ []) → SameRun p after → HasSome in_end first records plain new after (Some at)
   some_more at is_at stops {new = new} {w = w} read after h same = record {
     bytes = m.bytes ++ read.bytes;
-    takes = Takes-then (source_of plain) mid new m.bytes read.bytes m.takes read.takes;
+    takes = Consumed-then (source_of plain) mid new m.bytes read.bytes m.takes read.takes;
     made = record {
       inner = m.made.inner ++ w ∷ [];
       each = push (inner_in in_end) m.made.inner w m.bytes read.bytes m.made.each read.spelled;

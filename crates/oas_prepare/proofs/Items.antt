@@ -1,20 +1,20 @@
--- Laws of what stands in a file before END: a record, or a block of records.
+-- Laws of what comes in a file before END: a record, or a block of records.
 use Rattle.std.proofs.Common.{◌≡◌, ◌≢◌, ℕ, ◌<◌, Bool, List, [], ◌∷◌, ◌++◌, length, refl, sym, ap, subst, ◌∙◌, append_assoc, arith}
 use Rattle.std.proofs.lemmas.List.{append-nil}
 use Rattle.oas_num.specs.Combinators.{IsApart}
-use Rattle.oas_num.specs.Grammar.{OneFront, IsEach}
+use Rattle.oas_num.specs.Grammar.{PrefixFree, IsEach}
 use Rattle.oas_num.specs.Integers.{IsClosed}
-use Rattle.oas_num.specs.Script.{Script, Takes}
-use Rattle.oas_num.specs.Laws.GrammarLaws.{after_same, OneFront-pair}
-use Rattle.oas_block.specs.Blocks.{StandsFor}
-use Rattle.oas_block.proofs.OneLemmas.{one_block}
-use Rattle.oas_wide.specs.declared.blocks.BlockHead.{BlockHead}
-use Rattle.oas_wide.specs.declared.ends.WideEnd.{WideEnd}
-use Rattle.oas_wide.specs.declared.records.WideRecord.{WideRecord}
-use Rattle.oas_wide.specs.declared.records.WideRecord.TheVariants.{End, Block}
-use Rattle.oas_wide.specs.WideRecords.{wide_record_in}
+use Rattle.oas_num.specs.Script.{Script, Consumed}
+use Rattle.oas_num.specs.Laws.GrammarLaws.{after_same, PrefixFree-pair}
+use Rattle.oas_narrow.specs.oas_block.Blocks.{Represents}
+use Rattle.oas_narrow.proofs.oas_block_proofs.OneLemmas.{one_block}
+use Rattle.oas_narrow.specs.oas_wide.declared.blocks.BlockHead.{BlockHead}
+use Rattle.oas_narrow.specs.oas_wide.declared.ends.WideEnd.{WideEnd}
+use Rattle.oas_narrow.specs.oas_wide.declared.records.WideRecord.{WideRecord}
+use Rattle.oas_narrow.specs.oas_wide.declared.records.WideRecord.TheVariants.{End, Block}
+use Rattle.oas_narrow.specs.oas_wide.WideRecords.{wide_record_in}
 use Rattle.oas_narrow.specs.WideFiles.{inner_in, end_in, head_in, packed_by, block_in, is_block_of, item_in, AsRecord, AsBlock, records_of}
-use Rattle.oas_prepare.proofs.WideLaws.{OneFront-wide, OneFront-inner}
+use Rattle.oas_prepare.proofs.WideLaws.{PrefixFree-wide, PrefixFree-inner}
 
 -- ---- bytes
 
@@ -26,7 +26,7 @@ pub none_long : (l : List ℕ) → length l ≡ 0 → l ≡ []
 none_long [] e = refl
 none_long (x ∷ l) e = absurd (omega (arith, e))
 
--- as many bytes at the front of the same
+-- as many bytes at the start of the same
 pub same_long : (a b x y : List ℕ) → length a ≡ length b → a ++ x ≡ b ++ y → a ≡ b
 same_long [] [] x y n e = refl
 same_long [] (c ∷ b) x y n e = absurd (omega (arith, n))
@@ -47,18 +47,18 @@ closed_some : (bytes : List ℕ) → IsClosed bytes → bytes ≢ []
 closed_some [] h e = h
 closed_some (b ∷ bytes) h e = cc
 
--- a record has one byte at least
+-- a record has at least one byte
 wide_some : (in_end : Bool) (w : WideRecord) (bytes : List ℕ) → wide_record_in in_end w bytes → bytes ≢ []
 wide_some in_end w bytes r e = let p = r.parts in closed_some p.front p.first.closed (front_none p.front p.back (sym p.joined ∙ e))
 
 -- so a read of one goes on
-pub wide_onward : (in_end : Bool) (w : WideRecord) {old new : Script} (bytes : List ℕ) → wide_record_in in_end w bytes → Takes old bytes new → old.given < new.given
+pub wide_onward : (in_end : Bool) (w : WideRecord) {old new : Script} (bytes : List ℕ) → wide_record_in in_end w bytes → Consumed old bytes new → old.given < new.given
 wide_onward in_end w bytes r takes = omega (arith, takes.given, some_long bytes (wide_some in_end w bytes r))
 
 pub inner_some : (in_end : Bool) (w : WideRecord) (bytes : List ℕ) → inner_in in_end w bytes → bytes ≢ []
 inner_some in_end w bytes r = wide_some in_end w bytes r.spelled
 
-each_same : {V : Type 0} (A : V → List ℕ → Type 0) → OneFront A → ((v : V) (a : List ℕ) → A v a → a ≢ []) → (vs ws : List V) (a b : List ℕ) → IsEach A vs a → IsEach A ws b → a ≡ b → vs ≡ ws
+each_same : {V : Type 0} (A : V → List ℕ → Type 0) → PrefixFree A → ((v : V) (a : List ℕ) → A v a → a ≢ []) → (vs ws : List V) (a b : List ℕ) → IsEach A vs a → IsEach A ws b → a ≡ b → vs ≡ ws
 each_same A law some [] [] a b p q e = refl
 each_same A law some [] (w ∷ ws) a b p q e = absurd (some w q.0 q.2 (front_none q.0 q.1 (sym q.4 ∙ sym e ∙ p)))
 each_same A law some (v ∷ vs) [] a b p q e = absurd (some v p.0 p.2 (front_none p.0 p.1 (sym p.4 ∙ e ∙ q)))
@@ -73,18 +73,18 @@ each_same A law some (v ∷ vs) (w ∷ ws) a b p q e =
 same_head : (h g : BlockHead) → Block h ≡ Block g → h ≡ g
 same_head h g p = cc
 
-pub OneFront-block_head : (in_end : Bool) → OneFront (head_in in_end)
-OneFront-block_head in_end = record { one = λ h g a b x y p q j. let both = (OneFront-wide in_end).one (Block h) (Block g) a b x y p q j in (both.0, same_head h g both.1) }
+pub PrefixFree-block_head : (in_end : Bool) → PrefixFree (head_in in_end)
+PrefixFree-block_head in_end = record { one = λ h g a b x y p q j. let both = (PrefixFree-wide in_end).one (Block h) (Block g) a b x y p q j in (both.0, same_head h g both.1) }
 
-OneFront-packed : (head : BlockHead) → OneFront (packed_by head)
-OneFront-packed head = record {
+PrefixFree-packed : (head : BlockHead) → PrefixFree (packed_by head)
+PrefixFree-packed head = record {
   one = λ v w a b x y p q e.
       let same = same_long a b x y (p.deflated ∙ sym q.deflated) e in
-      (same, one_block head b v w (subst (λ (c : List ℕ). StandsFor head c v) same p) q);
+      (same, one_block head b v w (subst (λ (c : List ℕ). Represents head c v) same p) q);
 }
 
-pub OneFront-block : (in_end : Bool) → OneFront (block_in in_end)
-OneFront-block in_end = OneFront-pair (head_in in_end) packed_by (OneFront-block_head in_end) OneFront-packed
+pub PrefixFree-block : (in_end : Bool) → PrefixFree (block_in in_end)
+PrefixFree-block in_end = PrefixFree-pair (head_in in_end) packed_by (PrefixFree-block_head in_end) PrefixFree-packed
 
 -- a block begins with its head
 pub block_is : {in_end : Bool} {block : BlockHead × List ℕ} {bytes : List ℕ} (rest : List ℕ) (b : block_in in_end block bytes) → bytes ++ rest ≡ b.front ++ (b.back ++ rest)
@@ -92,18 +92,18 @@ block_is rest b = ap (λ (c : List ℕ). c ++ rest) b.joined ∙ append_assoc b.
 
 -- a record is no block
 pub record_no_block : (in_end : Bool) (w : WideRecord) (head : BlockHead) (a b x y : List ℕ) → inner_in in_end w a → head_in in_end head b → a ++ x ≡ b ++ y → ⊥
-record_no_block in_end w head a b x y p q e = p.holds.no_block head ((OneFront-wide in_end).one w (Block head) a b x y p.spelled q e).1
+record_no_block in_end w head a b x y p q e = p.holds.no_block head ((PrefixFree-wide in_end).one w (Block head) a b x y p.spelled q e).1
 
 -- nor is it END
 pub record_no_end : (in_end : Bool) (w : WideRecord) (end : WideEnd) (a b x y : List ℕ) → inner_in in_end w a → end_in in_end end b → a ++ x ≡ b ++ y → ⊥
-record_no_end in_end w end a b x y p q e = p.holds.no_end end ((OneFront-wide in_end).one w (End end) a b x y p.spelled q e).1
+record_no_end in_end w end a b x y p q e = p.holds.no_end end ((PrefixFree-wide in_end).one w (End end) a b x y p.spelled q e).1
 
 head_not_end : (head : BlockHead) (end : WideEnd) → Block head ≡ End end → ⊥
 head_not_end head end e = cc
 
 -- nor is a block END
 pub block_no_end : (in_end : Bool) (head : BlockHead) (end : WideEnd) (a b x y : List ℕ) → head_in in_end head a → end_in in_end end b → a ++ x ≡ b ++ y → ⊥
-block_no_end in_end head end a b x y p q e = head_not_end head end ((OneFront-wide in_end).one (Block head) (End end) a b x y p q e).1
+block_no_end in_end head end a b x y p q e = head_not_end head end ((PrefixFree-wide in_end).one (Block head) (End end) a b x y p q e).1
 
 -- ---- items
 
@@ -113,16 +113,16 @@ mixed in_end w vs a b x y p q e =
 
 item_one : (in_end : Bool) (v w : List WideRecord) (a b x y : List ℕ) → item_in in_end v a → item_in in_end w b → a ++ x ≡ b ++ y → (a ≡ b) × (v ≡ w)
 item_one in_end v w a b x y (AsRecord r is p) (AsRecord s also q) e =
-    let one = (OneFront-inner in_end).one r s a b x y p q e in
+    let one = (PrefixFree-inner in_end).one r s a b x y p q e in
     (one.0, sym is ∙ ap (λ (k : WideRecord). k ∷ []) one.1 ∙ also)
 item_one in_end v w a b x y (AsRecord r is p) (AsBlock q) e = absurd (mixed in_end r w a b x y p q e)
 item_one in_end v w a b x y (AsBlock p) (AsRecord s also q) e = absurd (mixed in_end s v b a y x q p (sym e))
 item_one in_end v w a b x y (AsBlock p) (AsBlock q) e =
-    let one = (OneFront-block in_end).one p.block q.block a b x y p.spelled q.spelled e in
-    (one.0, each_same (inner_in in_end) (OneFront-inner in_end) (inner_some in_end) v w p.block.1 q.block.1 p.each q.each (ap (λ (k : BlockHead × List ℕ). k.1) one.1))
+    let one = (PrefixFree-block in_end).one p.block q.block a b x y p.spelled q.spelled e in
+    (one.0, each_same (inner_in in_end) (PrefixFree-inner in_end) (inner_some in_end) v w p.block.1 q.block.1 p.each q.each (ap (λ (k : BlockHead × List ℕ). k.1) one.1))
 
-pub OneFront-item : (in_end : Bool) → OneFront (item_in in_end)
-OneFront-item in_end = record { one = item_one in_end }
+pub PrefixFree-item : (in_end : Bool) → PrefixFree (item_in in_end)
+PrefixFree-item in_end = record { one = item_one in_end }
 
 -- an item begins with a record, or with the head of a block
 pub record ItemBegins (in_end : Bool) (rest : List ℕ) (bytes : List ℕ) : Type 0 where
@@ -143,7 +143,7 @@ pub IsApart-item : (in_end : Bool) → IsApart (item_in in_end) (end_in in_end)
 IsApart-item in_end = record {
   apart = λ ws e a b x y p q j.
       let i = item_begins in_end ws a x p in
-      i.no_end e ((OneFront-wide in_end).one i.value (End e) i.front b i.more y i.spelled q (sym i.joined ∙ j)).1;
+      i.no_end e ((PrefixFree-wide in_end).one i.value (End e) i.front b i.more y i.spelled q (sym i.joined ∙ j)).1;
 }
 
 -- ---- lists of items

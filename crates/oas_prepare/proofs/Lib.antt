@@ -1,5 +1,6 @@
 pub mod Narrowed
-pub mod Takes
+pub mod Consumed
+pub mod ResolvedLemmas
 pub mod WideLaws
 pub mod Items
 pub mod Fronts
@@ -7,7 +8,9 @@ pub mod Refusing
 pub mod Reasons
 pub mod Gathered
 pub mod Packed
+pub mod BlockReasons
 pub mod Blocks
+pub mod OneFile
 pub mod Ending
 pub mod Whole
 pub mod Doubling

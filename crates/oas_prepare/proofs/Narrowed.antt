@@ -1,19 +1,19 @@
--- What one more record is to the records of the profile and to what is left out.
+-- What one more record adds to the records of the profile and to what is left out.
 use Rattle.std.proofs.Common.{◌≡◌, ℕ, ◌+◌, List, [], ◌∷◌, ◌++◌, Option, None, Some, reverse, refl, sym, ap, ◌∙◌, arith}
 use Rattle.std.proofs.lemmas.List.{reverse-append}
-use Rattle.oas_foreign.specs.Steps.{kept_after}
-use Rattle.oas_wide.specs.declared.records.WideRecord.{WideRecord}
+use Rattle.oas_narrow.specs.oas_foreign.Steps.{kept_after}
+use Rattle.oas_narrow.specs.oas_wide.declared.records.WideRecord.{WideRecord}
 use Rattle.oas_narrow.specs.declared.dropping.Extra.{Extra}
 use Rattle.oas_narrow.specs.declared.dropping.Extra.TheVariants as extra
 use Rattle.oas_narrow.specs.declared.dropping.Report.{Report}
 use Rattle.oas_narrow.specs.Dropping.{capped, counted}
-use Rattle.oas_narrow.specs.Narrowing.{is_open, kept_of, handed_after, listed, stood_for, narrowed, one_if, tally, report_of}
+use Rattle.oas_narrow.specs.Narrowing.{is_open, kept_of, translated_after, listed, stood_for, narrowed, one_if, tally, report_of}
 use Rattle.oas_narrow.specs.Placements.{with_turns}
 use Rattle.oas_narrow.specs.Roles.{role_of, opens, extra_of, counted_if}
 
 -- ---- the records of the profile
 
-pub narrowed-more : (ws : List WideRecord) (w : WideRecord) → narrowed (ws ++ w ∷ []) ≡ narrowed ws ++ listed (handed_after (reverse ws) w)
+pub narrowed-more : (ws : List WideRecord) (w : WideRecord) → narrowed (ws ++ w ∷ []) ≡ narrowed ws ++ listed (translated_after (reverse ws) w)
 narrowed-more ws w = ap stood_for (reverse-append ws (w ∷ []))
 
 pub kept-more : (ws : List WideRecord) (w : WideRecord) → kept_of (reverse (ws ++ w ∷ [])) ≡ kept_after (kept_of (reverse ws)) (with_turns w)

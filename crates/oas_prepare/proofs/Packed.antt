@@ -3,24 +3,24 @@ use Rattle.std.proofs.Common.{◌≡◌, ℕ, ◌<◌, ◌≤◌, Bool, List, []
 use Rattle.std.proofs.lemmas.List.{append-nil, length-append}
 use Rattle.oas_num.specs.Grammar.{IsEach}
 use Rattle.oas_num.specs.Laws.GrammarLaws.{after_same}
-use Rattle.oas_block.specs.Blocks.{StandsFor}
-use Rattle.oas_block.proofs.OneLemmas.{one_block}
-use Rattle.oas_block.proofs.StandsLemmas.{StandsForNothing, unfinished_stands, other_stands}
+use Rattle.oas_narrow.specs.oas_block.Blocks.{Represents}
+use Rattle.oas_narrow.proofs.oas_block_proofs.OneLemmas.{one_block}
+use Rattle.oas_narrow.proofs.oas_block_proofs.StandsLemmas.{RepresentsNothing, unfinished_stands, other_stands}
 use Rattle.oas_layout.specs.declared.limits.Limits.{Limits}
-use Rattle.oas_wide.specs.declared.blocks.BlockHead.{BlockHead}
-use Rattle.oas_wide.specs.declared.records.WideRecord.{WideRecord}
+use Rattle.oas_narrow.specs.oas_wide.declared.blocks.BlockHead.{BlockHead}
+use Rattle.oas_narrow.specs.oas_wide.declared.records.WideRecord.{WideRecord}
 use Rattle.oas_narrow.specs.declared.dropping.Dropping.{Dropping}
 use Rattle.oas_narrow.specs.Preparable.{AllPrepared}
 use Rattle.oas_narrow.specs.WideFiles.{inner_in, head_in, block_in}
 use Rattle.oas_prepare.specs.Inside.{NoData}
 use Rattle.oas_prepare.specs.Places.{StopsInData, IsVain}
-use Rattle.oas_prepare.proofs.Fronts.{Compared, Same, More, Less, compare, allowed_front}
-use Rattle.oas_prepare.proofs.Items.{front_none, none_long, same_long, inner_some, OneFront-block_head, block_is}
-use Rattle.oas_prepare.proofs.WideLaws.{OneFront-inner}
+use Rattle.oas_prepare.proofs.Fronts.{Compared, Same, More, Less, compare, allowed_prefix}
+use Rattle.oas_prepare.proofs.Items.{front_none, none_long, same_long, inner_some, PrefixFree-block_head, block_is}
+use Rattle.oas_prepare.proofs.WideLaws.{PrefixFree-inner}
 
 -- ---- bytes
 
--- the longer of two fronts of the same bytes goes on behind the shorter
+-- the longer of two prefixes of the same bytes goes on after the shorter
 front_of : (a b x y : List ℕ) → a ++ x ≡ b ++ y → length b ≤ length a → a ≡ b ++ drop (length b) a
 front_of a [] x y e n = refl
 front_of [] (d ∷ b) x y e n = absurd (omega (arith, n))
@@ -32,20 +32,20 @@ front_of (c ∷ a) (d ∷ b) x y e n =
 
 -- ---- the bytes of a block
 
--- behind a block's head stand bytes for that data, and the rest
+-- after a block's head come bytes for that data, and the rest
 pub record Behind (block : BlockHead) (plain bytes rest : List ℕ) : Type 0 where
   pub packed : List ℕ
-  pub is : StandsFor block packed plain
+  pub is : Represents block packed plain
   pub joined : packed ++ rest ≡ bytes
 
 pub behind : (in_end : Bool) (block : BlockHead) (begin bytes : List ℕ) (other : BlockHead × List ℕ) (front rest : List ℕ) → head_in in_end block begin → block_in in_end other front → begin ++ bytes ≡ front ++ rest →
     Behind block other.1 bytes rest
 behind in_end block begin bytes other front rest head b e =
     let j : begin ++ bytes ≡ b.front ++ (b.back ++ rest) = e ∙ block_is rest b in
-    let one = (OneFront-block_head in_end).one block other.0 begin b.front bytes (b.back ++ rest) head b.first j in
+    let one = (PrefixFree-block_head in_end).one block other.0 begin b.front bytes (b.back ++ rest) head b.first j in
     record {
       packed = b.back;
-      is = subst (λ (h : BlockHead). StandsFor h b.back other.1) (sym one.1) b.second;
+      is = subst (λ (h : BlockHead). Represents h b.back other.1) (sym one.1) b.second;
       joined = sym (after_same begin b.front bytes (b.back ++ rest) one.0 j);
     }
 
@@ -57,7 +57,7 @@ few_bytes {bytes = bytes} {rest = rest} b few = let n = ap length b.joined in om
 pub no_data : {block : BlockHead} {plain rest : List ℕ} {bytes : List ℕ} (more : List ℕ) → NoData block bytes → Behind block plain (bytes ++ more) rest → ⊥
 no_data {block = block} {plain = plain} {rest = rest} {bytes = bytes} more n b =
     let e = front_of b.packed bytes rest more b.joined (omega (arith, n.within, b.is.deflated)) in
-    n.none (drop (length bytes) b.packed) plain (subst (λ (c : List ℕ). StandsFor block c plain) e b.is)
+    n.none (drop (length bytes) b.packed) plain (subst (λ (c : List ℕ). Represents block c plain) e b.is)
 
 -- nor with those of a stream that doesn't end as it should
 pub vain_no_data : {block : BlockHead} {plain bytes : List ℕ} → IsVain block plain bytes → NoData block bytes
@@ -65,16 +65,16 @@ vain_no_data {block = block} {plain = plain} {bytes = bytes} vain = record {
   within = omega (arith, vain.0);
   none = λ more other s.
       let none : more ≡ [] = none_long more (omega (arith, vain.0, s.deflated, length-append bytes more)) in
-      stands.none other (subst (λ (c : List ℕ). StandsFor block c other) (ap (λ (c : List ℕ). bytes ++ c) none ∙ append-nil bytes) s);
+      stands.none other (subst (λ (c : List ℕ). Represents block c other) (ap (λ (c : List ℕ). bytes ++ c) none ∙ append-nil bytes) s);
 } where
-  stands : StandsForNothing block bytes
+  stands : RepresentsNothing block bytes
   stands = elim vain.1 [ inl u ↦ unfinished_stands block plain bytes u | inr o ↦ other_stands block plain bytes o ]
 
--- they stand for one data
-pub one_plain : {block : BlockHead} {plain other rest bytes : List ℕ} (more : List ℕ) → StandsFor block bytes plain → Behind block other (bytes ++ more) rest → plain ≡ other
+-- they encode one data
+pub one_plain : {block : BlockHead} {plain other rest bytes : List ℕ} (more : List ℕ) → Represents block bytes plain → Behind block other (bytes ++ more) rest → plain ≡ other
 one_plain {block = block} {plain = plain} {other = other} {rest = rest} {bytes = bytes} more p b =
     let same : b.packed ≡ bytes = same_long b.packed bytes rest more (b.is.deflated ∙ sym p.deflated) b.joined in
-    one_block block bytes plain other p (subst (λ (c : List ℕ). StandsFor block c other) same b.is)
+    one_block block bytes plain other p (subst (λ (c : List ℕ). Represents block c other) same b.is)
 
 -- ---- the records of a block
 
@@ -82,7 +82,7 @@ one_plain {block = block} {plain = plain} {other = other} {rest = rest} {bytes =
 pub not_inner : {limits : Limits} {dropping : Dropping} {in_end : Bool} {before : List WideRecord} {plain : List ℕ} {within : ℕ} → StopsInData limits dropping in_end before plain within →
     (inner : List WideRecord) → IsEach (inner_in in_end) inner plain → AllPrepared limits dropping (before ++ inner) → ⊥
 not_inner {limits = limits} {dropping = dropping} {in_end = in_end} {before = before} {plain = plain} s inner each prepared =
-    by (compare (inner_in in_end) (OneFront-inner in_end) s.inner inner s.before plain s.left [] s.each each (sym s.joined ∙ sym (append-nil plain))) where
+    by (compare (inner_in in_end) (PrefixFree-inner in_end) s.inner inner s.before plain s.left [] s.each each (sym s.joined ∙ sym (append-nil plain))) where
       by : Compared (inner_in in_end) s.inner inner s.left [] → ⊥
       by (Same same lefts) = s.goes_on lefts
       by (More w tail front rest is one stands) = s.no_record.none w front rest (record { spelled = one; prepared = next }) stands where
@@ -92,5 +92,5 @@ not_inner {limits = limits} {dropping = dropping} {in_end = in_end} {before = be
             ∙ ap (λ (ws : List WideRecord). ws ++ tail) (sym (append_assoc before s.inner (w ∷ [])))
 
         next : AllPrepared limits dropping ((before ++ s.inner) ++ w ∷ [])
-        next = allowed_front limits dropping ((before ++ s.inner) ++ w ∷ []) tail (subst (AllPrepared limits dropping) all prepared)
+        next = allowed_prefix limits dropping ((before ++ s.inner) ++ w ∷ []) tail (subst (AllPrepared limits dropping) all prepared)
       by (Less w tail front rest is one stands) = inner_some in_end w front one (front_none front rest (sym stands))

@@ -8,20 +8,20 @@ use Rattle.oas_record.specs.Records.{record_in}
 use Rattle.oas_num.specs.Laws.IntegerLaws.{zero_spelled}
 use Rattle.oas_num.specs.Style.{Any}
 use Rattle.oas_layout.specs.declared.limits.Limits.{Limits}
-use Rattle.oas_drawing.specs.Drawing.{elements_at}
-use Rattle.oas_drawing.specs.Modal.{modal_of}
-use Rattle.oas_modal.specs.Held.{Held}
-use Rattle.oas_names.specs.Meaning.{cells_drawn}
-use Rattle.oas_names.specs.Names.{Table, NamesStand, cell_names, text_strings}
-use Rattle.oas_modal.specs.Stands.{StandsFor, ReaderState, seen, is_in_cell, number_drawn, weight_so_far_of}
-use Rattle.oas_modal.specs.Stores.{held_store, HoldCells}
-use Rattle.oas_modal.proofs.StoreLemmas.{hold_none}
-use Rattle.oas_wide.specs.declared.reasons.WideWhy.{WideWhy}
-use Rattle.oas_wide.specs.declared.records.WideRecord.{WideRecord}
-use Rattle.oas_wide.specs.declared.records.WideRecord.TheVariants.{Profile}
-use Rattle.oas_wide.proofs.WidenedLemmas.{widen}
+use Rattle.oas_narrow.specs.oas_drawing.Drawing.{elements_at}
+use Rattle.oas_narrow.specs.oas_drawing.Modal.{modal_of}
+use Rattle.oas_narrow.specs.oas_modal.Held.{Held}
+use Rattle.oas_narrow.specs.oas_names.Meaning.{cells_drawn}
+use Rattle.oas_narrow.specs.oas_names.Names.{Table, TableRepresents, cell_names, text_strings}
+use Rattle.oas_narrow.specs.oas_modal.Stands.{Represents, ReaderState, seen, is_in_cell, number_drawn, weight_so_far_of}
+use Rattle.oas_narrow.specs.oas_modal.Stores.{held_store, HoldCells}
+use Rattle.oas_narrow.proofs.oas_modal_proofs.StoreLemmas.{hold_none}
+use Rattle.oas_narrow.specs.oas_wide.declared.reasons.WideWhy.{WideWhy}
+use Rattle.oas_narrow.specs.oas_wide.declared.records.WideRecord.{WideRecord}
+use Rattle.oas_narrow.specs.oas_wide.declared.records.WideRecord.TheVariants.{Profile}
+use Rattle.oas_narrow.proofs.oas_wide_proofs.WidenedLemmas.{widen}
 use Rattle.oas_narrow.specs.declared.dropping.Dropping.{Dropping}
-use Rattle.oas_narrow.specs.Narrowing.{kept_of, handed_after, listed, narrowed, handed_obstacle}
+use Rattle.oas_narrow.specs.Narrowing.{kept_of, translated_after, listed, narrowed, translated_obstacle}
 use Rattle.oas_narrow.specs.Preparable.{AllPrepared}
 use Rattle.oas_narrow.specs.WideFiles.{inner_in}
 use Rattle.oas_prepare.specs.declared.taking.Preparation.{Preparation}
@@ -52,49 +52,49 @@ none_more n = omega arith
 seen_pad : (rs : List Record) → seen (Pad ∷ rs) ≡ seen rs
 seen_pad rs = λ i. record { modal = modal_of rs; in_cell = is_in_cell rs; count = none_more (number_drawn rs) i; weight = none_more (weight_so_far_of rs) i }
 
-cells_pad : (t : Table (List ℕ)) (rs : List Record) → NamesStand cell_names t rs → NamesStand cell_names t (Pad ∷ rs)
+cells_pad : (t : Table (List ℕ)) (rs : List Record) → TableRepresents cell_names t rs → TableRepresents cell_names t (Pad ∷ rs)
 cells_pad t rs n = record { numbering = n.numbering; agrees = n.agrees; next = n.next; free = n.free }
 
-strings_pad : (t : Table (List ℕ)) (rs : List Record) → NamesStand text_strings t rs → NamesStand text_strings t (Pad ∷ rs)
+strings_pad : (t : Table (List ℕ)) (rs : List Record) → TableRepresents text_strings t rs → TableRepresents text_strings t (Pad ∷ rs)
 strings_pad t rs n = record { numbering = n.numbering; agrees = n.agrees; next = n.next; free = n.free }
 
 drawn_pad : (hs : List Held) (rs : List Record) → HoldCells held_store hs (cells_drawn elements_at rs) → HoldCells held_store hs (cells_drawn elements_at (Pad ∷ rs))
 drawn_pad hs rs h = hold_none held_store hs (cells_drawn elements_at rs) h
 
-reader_pad : (r : ReaderState Held) (rs : List Record) → StandsFor held_store r rs → StandsFor held_store r (rs ++ Pad ∷ [])
+reader_pad : (r : ReaderState Held) (rs : List Record) → Represents held_store r rs → Represents held_store r (rs ++ Pad ∷ [])
 reader_pad r rs s = record {
   sound = s.sound;
   standing = s.standing ∙ sym (seen_pad (reverse rs)) ∙ ap seen back;
-  names = subst (NamesStand cell_names r.names) back (cells_pad r.names (reverse rs) s.names);
-  strings = subst (NamesStand text_strings r.strings) back (strings_pad r.strings (reverse rs) s.strings);
+  names = subst (TableRepresents cell_names r.names) back (cells_pad r.names (reverse rs) s.names);
+  strings = subst (TableRepresents text_strings r.strings) back (strings_pad r.strings (reverse rs) s.strings);
   cells = subst (λ (b : List Record). HoldCells held_store r.cells (cells_drawn elements_at b)) back (drawn_pad r.cells (reverse rs) s.cells);
 } where
   back : Pad ∷ reverse rs ≡ reverse (rs ++ Pad ∷ [])
   back = sym (reverse-append rs (Pad ∷ []))
 
--- ---- what is made of the records
+-- ---- the result of the records
 
 same_if : {X : Type 0} (b : Bool) (x : X) → (if b then x else x) ≡ x
 same_if true x = refl
 same_if false x = refl
 
--- it stands for itself, whatever the modal variables are
-handed_pad : (before : List WideRecord) → handed_after before pad ≡ Ok (Pad ∷ [])
+-- it is translated to itself, whatever the modal variables are
+handed_pad : (before : List WideRecord) → translated_after before pad ≡ Ok (Pad ∷ [])
 handed_pad before = same_if (kept_of before).is_mixed (Ok (Pad ∷ []))
 
 -- nothing stops it
 no_obstacle : (limits : Limits) (dropping : Dropping) (ws : List WideRecord) → obstacle_next limits dropping ws pad ≡ None
-no_obstacle limits dropping ws = ap (handed_obstacle limits (narrowed ws)) (handed_pad (reverse ws))
+no_obstacle limits dropping ws = ap (translated_obstacle limits (narrowed ws)) (handed_pad (reverse ws))
 
 stands_pad : {p : Preparation} {ws : List WideRecord} → Stands p ws → Stands p (ws ++ pad ∷ [])
 stands_pad {p = p} {ws = ws} s = record {
-  reader = subst (StandsFor held_store p.reader) (sym (narrowed-more ws pad ∙ ap (λ (h : Result (List Record) WideWhy). narrowed ws ++ listed h) (handed_pad (reverse ws)))) (reader_pad p.reader (narrowed ws) s.reader);
+  reader = subst (Represents held_store p.reader) (sym (narrowed-more ws pad ∙ ap (λ (h : Result (List Record) WideWhy). narrowed ws ++ listed h) (handed_pad (reverse ws)))) (reader_pad p.reader (narrowed ws) s.reader);
   resolver = s.resolver ∙ sym (kept-more ws pad);
   in_cell = s.in_cell ∙ sym (open-more ws pad);
   report = s.report ∙ sym (report-more ws pad);
 }
 
--- ---- so many of them
+-- ---- this many of them
 
 pub stands_pads : (count : ℕ) {p : Preparation} {ws : List WideRecord} → Stands p ws → Stands p (ws ++ pads count)
 stands_pads zero {p = p} {ws = ws} s = subst (Stands p) (sym (append-nil ws)) s

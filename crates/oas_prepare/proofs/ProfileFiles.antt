@@ -16,38 +16,38 @@ use Rattle.oas_record.specs.declared.spots.Spot.{Spot}
 use Rattle.oas_record.specs.Records.{record_in, IsInner as IsInnerRecord}
 use Rattle.oas_layout.specs.declared.limits.Limits.{Limits}
 use Rattle.oas_layout.specs.Meaning.{Meaning, SameLayout}
-use Rattle.oas_modal.specs.Standing.{open_after}
-use Rattle.oas_modal.specs.Stands as stands
-use Rattle.oas_modal.specs.Stands.{is_in_cell, refused_after, records_mean, end_refusal}
-use Rattle.oas_file.specs.Acceptance.{Accepted, Means}
-use Rattle.oas_file.specs.Files.{FileOf}
-use Rattle.oas_foreign.specs.Steps.{handed_by, kept_after}
-use Rattle.oas_foreign.specs.Tracked.{tracked}
-use Rattle.oas_foreign.proofs.LawLemmas.{tracked_plain, given_plain}
-use Rattle.oas_form.specs.Laws.FormLaws.{form_is_accepted}
-use Rattle.oas_form.proofs.Forms.{one_canonical_form}
+use Rattle.oas_narrow.specs.oas_modal.Standing.{open_after}
+use Rattle.oas_narrow.specs.oas_modal.Stands as stands
+use Rattle.oas_narrow.specs.oas_modal.Stands.{is_in_cell, refused_after, records_mean, end_refusal}
+use Rattle.oas_canon.specs.oas_file.Acceptance.{Accepted, Means}
+use Rattle.oas_canon.specs.oas_file.Files.{FileOf}
+use Rattle.oas_narrow.specs.oas_foreign.Steps.{translated_by, kept_after}
+use Rattle.oas_narrow.specs.oas_foreign.Tracked.{tracked}
+use Rattle.oas_narrow.proofs.oas_foreign_proofs.LawLemmas.{tracked_plain, given_plain}
+use Rattle.oas_canon.specs.oas_form.Laws.FormLaws.{form_is_accepted}
+use Rattle.oas_canon.proofs.oas_form_proofs.Forms.{one_canonical_form}
 use Rattle.oas_layout.proofs.LawProofs.{symmetric}
-use Rattle.oas_wide.specs.declared.blocks.BlockHead.{BlockHead}
-use Rattle.oas_wide.specs.declared.ends.WideEnd.{WideEnd}
-use Rattle.oas_wide.specs.declared.ends.Validation.TheVariants.{Unvalidated}
-use Rattle.oas_wide.specs.declared.heads.WideStart.{WideStart}
-use Rattle.oas_wide.specs.declared.reasons.WideWhy.{WideWhy}
-use Rattle.oas_wide.specs.declared.records.WideRecord.{WideRecord}
-use Rattle.oas_wide.specs.declared.records.WideRecord.TheVariants.{End, Block}
-use Rattle.oas_wide.specs.WideRecords.{wide_record_in, inner_widened, widened}
-use Rattle.oas_wide.proofs.WidenedLemmas.{widen}
+use Rattle.oas_narrow.specs.oas_wide.declared.blocks.BlockHead.{BlockHead}
+use Rattle.oas_narrow.specs.oas_wide.declared.ends.WideEnd.{WideEnd}
+use Rattle.oas_narrow.specs.oas_wide.declared.ends.Validation.TheVariants.{Unvalidated}
+use Rattle.oas_narrow.specs.oas_wide.declared.heads.WideStart.{WideStart}
+use Rattle.oas_narrow.specs.oas_wide.declared.reasons.WideWhy.{WideWhy}
+use Rattle.oas_narrow.specs.oas_wide.declared.records.WideRecord.{WideRecord}
+use Rattle.oas_narrow.specs.oas_wide.declared.records.WideRecord.TheVariants.{End, Block}
+use Rattle.oas_narrow.specs.oas_wide.WideRecords.{wide_record_in, inner_widened, widened}
+use Rattle.oas_narrow.proofs.oas_wide_proofs.WidenedLemmas.{widen}
 use Rattle.oas_narrow.specs.declared.dropping.Dropping.{Dropping}
 use Rattle.oas_narrow.specs.declared.dropping.Extra.{Extra}
 use Rattle.oas_narrow.specs.declared.dropping.Extra.TheVariants as extra
 use Rattle.oas_narrow.specs.Dropping.{nothing_left_out, capped}
-use Rattle.oas_narrow.specs.Narrowing.{is_open, kept_of, handed_after, listed, stood_for, narrowed, handed_obstacle, refused_if, obstacle_after, ArePrepared, one_if, tally, report_of}
+use Rattle.oas_narrow.specs.Narrowing.{is_open, kept_of, translated_after, listed, stood_for, narrowed, translated_obstacle, refused_if, obstacle_after, ArePrepared, one_if, tally, report_of}
 use Rattle.oas_narrow.specs.Roles.{plain_role, role_of, opens, outside, obstacle_by, extra_of}
 use Rattle.oas_narrow.specs.declared.roles.Role.{Role}
 use Rattle.oas_narrow.specs.Preparable.{IsUnitOf, Formed, WideMeans}
 use Rattle.oas_narrow.specs.WideFiles.{WideFileOf, WideParts, inner_in, item_in, end_in}
 use Rattle.oas_narrow.proofs.KeptLemmas.{kept, plain}
 use Rattle.oas_prepare.specs.Laws.{ProfileIsPrepared, ProfileAsCanonical, PreparedAgain}
-use Rattle.oas_prepare.proofs.Ending.{OneFront-file, same_all}
+use Rattle.oas_prepare.proofs.OneFile.{PrefixFree-file, same_all}
 use Rattle.oas_prepare.proofs.Items.{alone, records-alone, each_alone}
 use Rattle.oas_prepare.proofs.ProfileHeads.{head_widened}
 use Rattle.oas_prepare.proofs.WideMeanings.{one_wide_meaning}
@@ -74,9 +74,9 @@ plain-wide [] = refl
 plain-wide (r ∷ rs) = ap (λ (w : WideRecord). (kept_after (kept_of (wide_all rs)) w).is_mixed) (kept r) ∙ tracked_plain (kept_of (wide_all rs)) r (plain-wide rs)
 
 -- newest first
-handed-wide : (rs : List Record) (r : Record) → handed_after (wide_all rs) (inner_widened r) ≡ Ok (r ∷ [])
+handed-wide : (rs : List Record) (r : Record) → translated_after (wide_all rs) (inner_widened r) ≡ Ok (r ∷ [])
 handed-wide rs r =
-    ap (handed_by (kept_of (wide_all rs))) (kept r)
+    ap (translated_by (kept_of (wide_all rs))) (kept r)
     ∙ given_plain (tracked (kept_of (wide_all rs)) r) r (tracked_plain (kept_of (wide_all rs)) r (plain-wide rs))
 
 stood-wide : (rs : List Record) → stood_for (wide_all rs) ≡ reverse rs
@@ -91,38 +91,16 @@ narrowed-wide rs = ap stood_for (sym (wide-reverse rs)) ∙ stood-wide (reverse 
 
 -- what opens a cell and what closes it
 opens-plain : (was : Bool) (r : Record) → opens was (plain_role r) ≡ open_after was r
-opens-plain was record_of.Pad = refl
-opens-plain was record_of.End = refl
-opens-plain was (record_of.CellName name number) = refl
-opens-plain was (record_of.TextString label number) = refl
 opens-plain was (record_of.Cell cell) = refl
-opens-plain was record_of.XyAbsolute = refl
-opens-plain was record_of.XyRelative = refl
-opens-plain was (record_of.Placement p) = refl
-opens-plain was (record_of.Text t) = refl
-opens-plain was (record_of.Rectangle r) = refl
-opens-plain was (record_of.Polygon p) = refl
-opens-plain was (record_of.Path p) = refl
-opens-plain was (record_of.Circle c) = refl
+opens-plain was _ = refl
 
 open-wide : (rs : List Record) → is_open (wide_all rs) ≡ is_in_cell rs
 open-wide [] = refl
 open-wide (r ∷ rs) = ap (λ (q : Role). opens (is_open (wide_all rs)) q) (plain r) ∙ opens-plain (is_open (wide_all rs)) r ∙ ap (λ (was : Bool). open_after was r) (open-wide rs)
 
 not_extra : (r : Record) → extra_of (plain_role r) ≡ None
-not_extra record_of.Pad = refl
-not_extra record_of.End = refl
-not_extra (record_of.CellName name number) = refl
-not_extra (record_of.TextString label number) = refl
 not_extra (record_of.Cell cell) = refl
-not_extra record_of.XyAbsolute = refl
-not_extra record_of.XyRelative = refl
-not_extra (record_of.Placement p) = refl
-not_extra (record_of.Text t) = refl
-not_extra (record_of.Rectangle r) = refl
-not_extra (record_of.Polygon p) = refl
-not_extra (record_of.Path p) = refl
-not_extra (record_of.Circle c) = refl
+not_extra _ = refl
 
 tally-wide : (e : Extra) (rs : List Record) → tally e (wide_all rs) ≡ 0
 tally-wide e [] = refl
@@ -139,18 +117,12 @@ none_left_out rs = λ i. record {
 
 -- ---- none is stopped
 
--- an element that is allowed stands in a cell
+-- an element that is allowed is in a cell
 inside : (in_cell : Bool) (id : ℕ) (drawn : Option Why) (why : Why) → cond in_cell drawn (Some why) ≡ None → outside in_cell id ≡ None
 inside true id drawn why e = refl
 inside false id drawn why e = absurd cc
 
 in_a_cell : (limits : Limits) (dropping : Dropping) (before : List Record) (r : Record) → refused_after limits before r ≡ None → obstacle_by dropping (is_in_cell before) (plain_role r) ≡ None
-in_a_cell limits dropping before (record_of.Placement p) e = inside (is_in_cell before) _ _ _ e
-in_a_cell limits dropping before (record_of.Text p) e = inside (is_in_cell before) _ _ _ e
-in_a_cell limits dropping before (record_of.Rectangle p) e = inside (is_in_cell before) _ _ _ e
-in_a_cell limits dropping before (record_of.Polygon p) e = inside (is_in_cell before) _ _ _ e
-in_a_cell limits dropping before (record_of.Path p) e = inside (is_in_cell before) _ _ _ e
-in_a_cell limits dropping before (record_of.Circle p) e = inside (is_in_cell before) _ _ _ e
 in_a_cell limits dropping before record_of.Pad e = refl
 in_a_cell limits dropping before record_of.End e = refl
 in_a_cell limits dropping before (record_of.CellName name number) e = refl
@@ -158,19 +130,20 @@ in_a_cell limits dropping before (record_of.TextString label number) e = refl
 in_a_cell limits dropping before (record_of.Cell cell) e = refl
 in_a_cell limits dropping before record_of.XyAbsolute e = refl
 in_a_cell limits dropping before record_of.XyRelative e = refl
+in_a_cell limits dropping before _ e = inside (is_in_cell before) _ _ _ e
 
--- it stands for itself, after those before it
-allowed_one : (limits : Limits) (before : List Record) (r : Record) → refused_after limits before r ≡ None → handed_obstacle limits (stood_for (wide_all before)) (Ok (r ∷ [])) ≡ None
+-- it is translated to itself, after those before it
+allowed_one : (limits : Limits) (before : List Record) (r : Record) → refused_after limits before r ≡ None → translated_obstacle limits (stood_for (wide_all before)) (Ok (r ∷ [])) ≡ None
 allowed_one limits before r e =
-    ap (λ (rs : List Record). handed_obstacle limits rs (Ok (r ∷ []))) (stood-wide before)
+    ap (λ (rs : List Record). translated_obstacle limits rs (Ok (r ∷ []))) (stood-wide before)
     ∙ ap (λ (rs : List Record). refused_if (option_or (refused_after limits rs r) None)) (reverse-reverse before)
     ∙ ap (λ (o : Option Why). refused_if (option_or o None)) e
 
 no_obstacle : (limits : Limits) (dropping : Dropping) (before : List Record) (r : Record) → refused_after limits before r ≡ None → obstacle_after limits dropping (wide_all before) (inner_widened r) ≡ None
 no_obstacle limits dropping before r e =
-    ap (λ (o : Option WideWhy). option_or o (handed_obstacle limits (stood_for (wide_all before)) (handed_after (wide_all before) (inner_widened r))))
+    ap (λ (o : Option WideWhy). option_or o (translated_obstacle limits (stood_for (wide_all before)) (translated_after (wide_all before) (inner_widened r))))
     (ap (λ (was : Bool). obstacle_by dropping was (role_of (inner_widened r))) (open-wide before) ∙ ap (λ (q : Role). obstacle_by dropping (is_in_cell before) q) (plain r) ∙ in_a_cell limits dropping before r e)
-    ∙ ap (handed_obstacle limits (stood_for (wide_all before))) (handed-wide before r) ∙ allowed_one limits before r e
+    ∙ ap (translated_obstacle limits (stood_for (wide_all before))) (handed-wide before r) ∙ allowed_one limits before r e
 
 prepared : (limits : Limits) (dropping : Dropping) (rs : List Record) → stands.Allowed limits rs → ArePrepared limits dropping (wide_all rs)
 prepared limits dropping [] a = tt
@@ -259,7 +232,7 @@ module _ {limits : Limits} {b : List ℕ} (a : Accepted limits b) where
     whole = ap (end_refusal limits) (narrowed-wide a.records) ∙ a.whole;
   }
 
-  -- what it means as a file of the standard
+  -- its meaning as a file of the standard
   means_wide : WideMeans b (records_mean a.head.unit a.records)
   means_wide = record {
     start = wide.start;
@@ -276,7 +249,7 @@ module _ {limits : Limits} {b : List ℕ} (a : Accepted limits b) where
 
   same_records : (start : WideStart) (ws : List WideRecord) (end : WideEnd) → WideFileOf start ws end b → ws ≡ wide_all a.records
   same_records start ws end f =
-      same_all f wide.file (ap (λ (w : WideParts). w.1.0) (OneFront-file.one (start, (f.items, end)) (wide.start, (wide.file.items, record { validation = Unvalidated })) b b [] [] f.spelled wide.file.spelled refl).1)
+      same_all f wide.file (ap (λ (w : WideParts). w.1.0) (PrefixFree-file.one (start, (f.items, end)) (wide.start, (wide.file.items, record { validation = Unvalidated })) b b [] [] f.spelled wide.file.spelled refl).1)
 
 pub profile_is_prepared : ProfileIsPrepared
 unfolding formed

@@ -1,30 +1,30 @@
--- Reasons for which records aren't prepared lie in the file: none is that of the input's end, a device or the memory.
+-- Reasons for which records aren't prepared are about the file: none is about the input's end, a device or the memory.
 use Rattle.std.proofs.Common.{◌≡◌, ℕ, Bool, true, false, List, [], ◌∷◌, ◌++◌, Option, None, Some, IsTrue, reverse, refl, sym, subst}
 use Rattle.std.specs.Option.{option_or}
 use Rattle.std.specs.Prelude.{cond, Result, Ok, Err}
 use Rattle.oas_num.specs.declared.refusals.Why.{Why}
 use Rattle.oas_record.specs.declared.records.Record.{Record}
 use Rattle.oas_layout.specs.declared.limits.Limits.{Limits}
-use Rattle.oas_modal.specs.Stands.{refusal}
-use Rattle.oas_file.proofs.Judged.{refusal_decides}
-use Rattle.oas_foreign.specs.Laws.{IsReason, Undefined, OffGrid, OtherSide, NoKind, NoShape}
-use Rattle.oas_foreign.proofs.ReasonLemmas.{handed_reason}
-use Rattle.oas_wide.specs.declared.reasons.WideWhy.{WideWhy}
-use Rattle.oas_wide.specs.declared.reasons.WideWhy.TheVariants as wide
-use Rattle.oas_wide.specs.declared.records.WideRecord.{WideRecord}
+use Rattle.oas_narrow.specs.oas_modal.Stands.{refusal}
+use Rattle.oas_canon.proofs.oas_file_proofs.Judged.{refusal_decides}
+use Rattle.oas_narrow.specs.oas_foreign.Laws.{IsReason, Undefined, OffGrid, OtherSide, NoKind, NoShape}
+use Rattle.oas_narrow.proofs.oas_foreign_proofs.ReasonLemmas.{handed_reason}
+use Rattle.oas_narrow.specs.oas_wide.declared.reasons.WideWhy.{WideWhy}
+use Rattle.oas_narrow.specs.oas_wide.declared.reasons.WideWhy.TheVariants as wide
+use Rattle.oas_narrow.specs.oas_wide.declared.records.WideRecord.{WideRecord}
 use Rattle.oas_narrow.specs.declared.dropping.Dropping.{Dropping}
 use Rattle.oas_narrow.specs.declared.dropping.Extra.{Extra}
 use Rattle.oas_narrow.specs.declared.dropping.Extra.TheVariants as extra
 use Rattle.oas_narrow.specs.declared.roles.Role.{Role}
 use Rattle.oas_narrow.specs.declared.roles.Role.TheVariants as role
 use Rattle.oas_narrow.specs.Dropping.{is_named, undropped}
-use Rattle.oas_narrow.specs.Narrowing.{is_open, kept_of, handed_after, narrowed, refused_of, refused_if, handed_obstacle}
+use Rattle.oas_narrow.specs.Narrowing.{is_open, kept_of, translated_after, narrowed, refused_of, refused_if, translated_obstacle}
 use Rattle.oas_narrow.specs.Placements.{with_turns}
 use Rattle.oas_narrow.specs.Roles.{role_of, outside, unnamed, obstacle_by}
 use Rattle.oas_prepare.specs.Deciding.{decides}
 use Rattle.oas_prepare.specs.Taking.{obstacle_next}
 
--- a reason, if there is one, lies in the bytes
+-- a reason, if there is one, is about the bytes
 record InBytes (o : Option WideWhy) : Type 0 where
   decides : (why : WideWhy) → o ≡ Some why → IsTrue (decides why)
 
@@ -73,7 +73,7 @@ one_of : (one other : Option Why) (why : Why) → option_or one other ≡ Some w
 one_of None other why e p q = q why e
 one_of (Some v) other why e p q = p why e
 
--- of the records of the profile for which one stands
+-- for the records of the profile that one is translated to
 all_decide : (limits : Limits) (rs more : List Record) (why : Why) → refused_of limits rs more ≡ Some why → IsTrue (decides (wide.Profile why))
 all_decide limits rs [] why e = absurd cc
 all_decide limits rs (r ∷ more) why e = one_of (refusal limits rs r) (refused_of limits (rs ++ r ∷ []) more) why e (refusal_decides limits rs r) (all_decide limits (rs ++ r ∷ []) more)
@@ -85,7 +85,7 @@ reason_decides why (OtherSide e) = subst (λ (w : WideWhy). IsTrue (decides w)) 
 reason_decides why (NoKind e) = subst (λ (w : WideWhy). IsTrue (decides w)) (sym e) refl
 reason_decides why (NoShape e) = subst (λ (w : WideWhy). IsTrue (decides w)) (sym e) refl
 
-handed_in : (limits : Limits) (rs : List Record) (h : Result (List Record) WideWhy) → ((why : WideWhy) → h ≡ Err why → IsReason why) → InBytes (handed_obstacle limits rs h)
+handed_in : (limits : Limits) (rs : List Record) (h : Result (List Record) WideWhy) → ((why : WideWhy) → h ≡ Err why → IsReason why) → InBytes (translated_obstacle limits rs h)
 handed_in limits rs (Err why) p = some_in why (reason_decides why (p why refl))
 handed_in limits rs (Ok more) p = refused_in (refused_of limits rs more) (all_decide limits rs more)
 
@@ -95,6 +95,6 @@ or_in (Some why) other p q = p
 
 pub obstacle_decides : (limits : Limits) (dropping : Dropping) (ws : List WideRecord) (w : WideRecord) (why : WideWhy) → obstacle_next limits dropping ws w ≡ Some why → IsTrue (decides why)
 obstacle_decides limits dropping ws w why e =
-    (or_in (obstacle_by dropping (is_open (reverse ws)) (role_of w)) (handed_obstacle limits (narrowed ws) (handed_after (reverse ws) w))
+    (or_in (obstacle_by dropping (is_open (reverse ws)) (role_of w)) (translated_obstacle limits (narrowed ws) (translated_after (reverse ws) w))
     (by_in dropping (is_open (reverse ws)) (role_of w))
-    (handed_in limits (narrowed ws) (handed_after (reverse ws) w) (handed_reason (kept_of (reverse ws)) (with_turns w)))).decides why e
+    (handed_in limits (narrowed ws) (translated_after (reverse ws) w) (handed_reason (kept_of (reverse ws)) (with_turns w)))).decides why e

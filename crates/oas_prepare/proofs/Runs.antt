@@ -2,14 +2,14 @@
 use Rattle.std.proofs.Common.{◌≡◌, ◌≢◌, ℕ, zero, suc, ◌+◌, ◌-◌, ◌%◌, ◌^◌, ◌<◌, ◌≤◌, Bool, List, [], ◌∷◌, ◌++◌, refl, sym, ap, subst, ◌∙◌, append_assoc, arith}
 use Rattle.std.specs.Prelude.{replicate}
 use Rattle.std.proofs.lemmas.List.{append-nil}
-use Rattle.oas_num.specs.Grammar.{OneFront, IsEach}
+use Rattle.oas_num.specs.Grammar.{PrefixFree, IsEach}
 use Rattle.oas_num.specs.Laws.GrammarLaws.{after_same}
-use Rattle.oas_wide.specs.declared.records.WideRecord.{WideRecord}
+use Rattle.oas_narrow.specs.oas_wide.declared.records.WideRecord.{WideRecord}
 use Rattle.oas_narrow.specs.WideFiles.{inner_in}
 use Rattle.oas_prepare.specs.Places.{pads, NoPadLast}
 use Rattle.oas_prepare.proofs.Items.{inner_some}
 use Rattle.oas_prepare.proofs.Pads.{pad, pad_in}
-use Rattle.oas_prepare.proofs.WideLaws.{OneFront-inner}
+use Rattle.oas_prepare.proofs.WideLaws.{PrefixFree-inner}
 
 -- ---- spellings of one kind
 
@@ -26,7 +26,7 @@ module _ {V : Type 0} (A : V → List ℕ → Type 0) where
   each_same v x is zero = refl
   each_same v x is (suc count) = (x ∷ [], replicate count x, is, each_same v x is count, refl)
 
-  module _ (law : OneFront A) (some : (v : V) (a : List ℕ) → A v a → a ≢ []) where
+  module _ (law : PrefixFree A) (some : (v : V) (a : List ℕ) → A v a → a ≢ []) where
     -- one of them isn't several
     not_more : (v w : V) (ws : List V) (last : V) (b c d : List ℕ) → A v c → IsEach A (w ∷ ws) b → A last d → c ≡ b ++ d → ⊥
     not_more v w ws last b c d p q r e =
@@ -50,14 +50,14 @@ module _ {V : Type 0} (A : V → List ℕ → Type 0) where
 pub each_pads : (in_end : Bool) (count : ℕ) → IsEach (inner_in in_end) (pads count) (replicate count 0)
 each_pads in_end count = each_same (inner_in in_end) pad 0 (pad_in in_end) count
 
--- behind a record that isn't a PAD of one byte none stands last
+-- after a record that isn't a PAD of one byte none is last
 pub no_pad : (in_end : Bool) (vs : List WideRecord) (w : WideRecord) (a c : List ℕ) → IsEach (inner_in in_end) vs a → inner_in in_end w c → c ≢ 0 ∷ [] → NoPadLast in_end (a ++ c)
 no_pad in_end vs w a c each one not ws front before e =
-    not (last_same (inner_in in_end) (OneFront-inner in_end) (inner_some in_end) vs ws w pad a front c (0 ∷ []) each before one (pad_in in_end) e)
+    not (last_same (inner_in in_end) (PrefixFree-inner in_end) (inner_some in_end) vs ws w pad a front c (0 ∷ []) each before one (pad_in in_end) e)
 
 -- ---- where a run ends
 
--- some zeros begin with one
+-- several zeros begin with one
 pub zeros_begin : (count : ℕ) → 0 < count → (left : List ℕ) → (rest : List ℕ) × (replicate count 0 ++ left ≡ 0 ∷ rest)
 zeros_begin zero some left = absurd (omega arith)
 zeros_begin (suc count) some left = (replicate count 0 ++ left, refl)

@@ -1,24 +1,24 @@
--- A whole file, from what was gathered of it to what was written.
-use Rattle.std.proofs.Common.{◌≡◌, ℕ, ◌⊎◌, inl, inr, List, ◌++◌, Option, Some, None, Result, Ok, Err, IsTrue, IsSome, refl, sym, ◌∙◌, ap, subst, arith}
-use Rattle.oas_checksum.specs.Signed.{signed}
+-- A whole file, from what was gathered to what was written.
+use Rattle.std.proofs.Common.{◌≡◌, ℕ, ◌⊎◌, inl, inr, List, ◌++◌, Option, Some, None, Result, Ok, Err, IsTrue, refl, sym, ◌∙◌, ap, subst, arith}
+use Rattle.oas_sums.specs.oas_checksum.Signed.{signed}
 use Rattle.oas_sums.specs.Sums.{AreSums}
 use Rattle.oas_num.specs.declared.refusals.Why.TheVariants.{Write, Memory}
 use Rattle.oas_num.specs.declared.refusals.Refusal.{Refusal}
-use Rattle.oas_num.specs.Script.{Script, Rest, Gave, Takes}
+use Rattle.oas_num.specs.Script.{Script, Rest, Gave, Consumed}
 use Rattle.oas_num.specs.Written.{IsWritten, IsCutOff}
 use Rattle.oas_layout.specs.declared.limits.Limits.{Limits}
 use Rattle.oas_layout.specs.declared.profile.Profile.{Profile}
 use Rattle.oas_layout.specs.Contents.{Contents, IsLayout, meaning_of}
 use Rattle.oas_layout.specs.Meaning.{SameLayout}
 use Rattle.oas_layout.proofs.LawProofs.{symmetric}
-use Rattle.oas_modal.specs.Stands.{records_mean}
-use Rattle.oas_form.specs.Bytes.{canonical_bytes}
-use Rattle.oas_form.specs.Canonical.{CanonicalForm}
-use Rattle.oas_form.proofs.Written.{canonical_form}
+use Rattle.oas_narrow.specs.oas_modal.Stands.{records_mean}
+use Rattle.oas_canon.specs.oas_form.Bytes.{canonical_bytes}
+use Rattle.oas_canon.specs.oas_form.Canonical.{CanonicalForm}
+use Rattle.oas_canon.proofs.oas_form_proofs.Written.{canonical_form}
 use Rattle.oas_canon.proofs.Whole.{Cause, Bytes, End, Device, Limit, Writer, Room, cause_of, all_given, within_not}
-use Rattle.oas_wide.specs.declared.reasons.WideWhy.{WideWhy}
-use Rattle.oas_wide.specs.declared.reasons.WideWhy.TheVariants as wide
-use Rattle.oas_wide.specs.Reasons.{plain_of}
+use Rattle.oas_narrow.specs.oas_wide.declared.reasons.WideWhy.{WideWhy}
+use Rattle.oas_narrow.specs.oas_wide.declared.reasons.WideWhy.TheVariants as wide
+use Rattle.oas_narrow.specs.oas_wide.Reasons.{plain_of}
 use Rattle.oas_narrow.specs.declared.dropping.Dropping.{Dropping}
 use Rattle.oas_narrow.specs.declared.dropping.Report.{Report}
 use Rattle.oas_narrow.specs.declared.places.Place.TheVariants.{File}
@@ -35,7 +35,7 @@ use Rattle.oas_prepare.proofs.Ending.{whole_stops, signed_stops, formed}
 
 -- ---- what was gathered
 
-module _ {limits : Limits} {profile : Profile} {dropping : Dropping} {old new : Script} {g : Gathered} (m : IsGathered limits profile dropping old g new) (sums : ℕ × ℕ) (summed : (bytes : List ℕ) → IsSome old.rest → Takes old bytes new → AreSums sums (signed bytes)) where
+module _ {limits : Limits} {profile : Profile} {dropping : Dropping} {old new : Script} {g : Gathered} (m : IsGathered limits profile dropping old g new) (sums : ℕ × ℕ) (summed : (bytes : List ℕ) → Consumed old bytes new → AreSums sums (signed bytes)) where
   read_done : {l : Contents} {report : Report} → IsFinished g sums m.records l report → IsReadPrepared limits profile dropping old l report new
   unfolding formed
   read_done {l = l} f = record {
@@ -43,7 +43,7 @@ module _ {limits : Limits} {profile : Profile} {dropping : Dropping} {old new : 
     takes = m.takes;
     ended = m.ended;
     formed = formed m f.whole;
-    valid = λ known. f.right (m.bytes ++ m.last) (summed (m.bytes ++ m.last) known m.takes);
+    valid = f.right (m.bytes ++ m.last) (summed (m.bytes ++ m.last) m.takes);
     meaning = records_mean g.preparation.reader.unit (narrowed m.records);
     means = record {
       start = m.start;
@@ -64,8 +64,10 @@ module _ {limits : Limits} {profile : Profile} {dropping : Dropping} {old new : 
   read_stops : (e : Rejection) → StopsAtEnd g sums m.records e → Stops limits dropping old e new
   read_stops e (Broken wrong is) =
       subst (λ (x : Rejection). Stops limits dropping old x new) (sym is)
-      (signed_stops m wide.Checksum refl (λ tied. wrong (m.bytes ++ m.last) (summed (m.bytes ++ m.last) (tied refl) m.takes)))
-  read_stops e (Torn refusal is at reason) = subst (λ (x : Rejection). Stops limits dropping old x new) (sym is) (whole_stops m refusal (at, reason))
+      (signed_stops m (wrong (m.bytes ++ m.last) (summed (m.bytes ++ m.last) m.takes)))
+  read_stops e (Torn refusal is at right reason) =
+      subst (λ (x : Rejection). Stops limits dropping old x new) (sym is)
+      (whole_stops m refusal (right (m.bytes ++ m.last) (summed (m.bytes ++ m.last) m.takes)) (at, reason))
 
   pub finished : (result : Result (Contents × Report) Rejection) → Finishes g sums result → ReadsPrepared limits profile dropping old result new
   finished (Ok both) f = read_done (f m.records m.stands)
@@ -111,34 +113,33 @@ module _ {limits : Limits} {profile : Profile} {dropping : Dropping} {old new : 
   }
 
   pub exactly_done : Exactly limits dropping old (Ok report) new
-  exactly_done = by_rest old.rest read.takes.rest read.valid where
-    by_rest : (rest : Option Rest) → Gave rest read.bytes new.rest → (IsSome rest → IsValid read.formed.end.validation read.bytes) → IsWithinSource rest → new.failures ≡ 0 → IsDecided limits dropping rest (Ok report)
-    by_rest None g v w z = tt
-    by_rest (Some rest) g v w z =
-        let p : Preparable limits dropping read.bytes = record { formed = read.formed; valid = v refl } in
+  exactly_done = by_rest old.rest read.takes.rest where
+    by_rest : (rest : Option Rest) → Gave rest read.bytes new.rest → IsWithinSource rest → new.failures ≡ 0 → IsDecided limits dropping rest (Ok report)
+    by_rest None g w z = tt
+    by_rest (Some rest) g w z =
+        let p : Preparable limits dropping read.bytes = record { formed = read.formed; valid = read.valid } in
         subst (Preparable limits dropping) (all_given read.bytes rest new.rest g read.ended.none) p
 
--- ---- of known bytes
+-- ---- for known bytes
 
 front_not : {limits : Limits} {dropping : Dropping} (bytes : List ℕ) (rest : Rest) (new : Option Rest) → Gave (Some rest) bytes new →
     ((more : List ℕ) → Preparable limits dropping (bytes ++ more) → ⊥) → Preparable limits dropping rest.bytes → ⊥
 front_not bytes rest None g n a = absurd g
 front_not {limits = limits} {dropping = dropping} bytes rest (Some r) g n a = n r.bytes (subst (Preparable limits dropping) g.0 a)
 
--- only want of memory itself is like it
+-- only out of memory itself is like it
 pub memory_is : (why : WideWhy) → plain_of why ≡ Memory → why ≡ wide.Profile Memory
 memory_is (wide.Profile reason) e = ap wide.Profile e
 memory_is wide.ValueType e = absurd cc
 memory_is _ e = absurd cc
 
 pub exactly_stopped : {limits : Limits} {dropping : Dropping} {old new : Script} (e : Rejection) → IsStopped limits dropping old e.why new → Exactly limits dropping old (Err e) new
-exactly_stopped {limits = limits} {dropping = dropping} {old = old} {new = new} e f = by_rest old.rest f.takes.rest (λ known tied. f.decided (λ _. known)) where
-  by_rest : (rest : Option Rest) → Gave rest f.bytes new.rest → (IsSome rest → Unit {0} → IsTrue (decides e.why) → (more : List ℕ) → Preparable limits dropping (f.bytes ++ more) → ⊥)
-      → IsWithinSource rest → new.failures ≡ 0 → IsDecided limits dropping rest (Err e)
-  by_rest None g d w z = tt
-  by_rest (Some rest) g d w z = by_cause (cause_of (plain_of e.why)) where
+exactly_stopped {limits = limits} {dropping = dropping} {old = old} {new = new} e f = by_rest old.rest f.takes.rest where
+  by_rest : (rest : Option Rest) → Gave rest f.bytes new.rest → IsWithinSource rest → new.failures ≡ 0 → IsDecided limits dropping rest (Err e)
+  by_rest None g w z = tt
+  by_rest (Some rest) g w z = by_cause (cause_of (plain_of e.why)) where
     by_cause : Cause (plain_of e.why) → (e.why ≡ wide.Profile Write) ⊎ ((e.why ≡ wide.Profile Memory) ⊎ (Preparable limits dropping rest.bytes → ⊥))
-    by_cause (Bytes is) = inr (inr (front_not f.bytes rest new.rest g (d refl tt is)))
+    by_cause (Bytes is) = inr (inr (front_not f.bytes rest new.rest g (f.decided is)))
     by_cause (End is) = let t = f.truncated is in inr (inr (λ a. t.0 (subst (Preparable limits dropping) (sym (all_given f.bytes rest new.rest g t.1.none)) a)))
     by_cause (Device is) = absurd (omega (arith, (f.device is).failed, z))
     by_cause (Limit is) = absurd (within_not f.bytes rest new.rest g (f.too_long is).none w)

@@ -1,40 +1,40 @@
--- Laws of the records of the standard: none begins another, and no read of one fails for a fault of writing.
+-- Laws of the records of the standard: none is a prefix of another, and no read of one fails with a fault of writing.
 use Rattle.std.proofs.Common.{◌≡◌, ◌≢◌, ℕ, Bool, true, false, List, inl, inr, refl, sym, ap, subst, ◌∙◌}
 use Rattle.std.specs.Prelude.{◌==◌, if◌then◌else◌}
 use Rattle.oas_num.specs.declared.refusals.Why.{Why}
 use Rattle.oas_num.specs.declared.refusals.Why.TheVariants as why_of
-use Rattle.oas_num.specs.Grammar.{OneFront, IsPair}
-use Rattle.oas_num.specs.Laws.GrammarLaws.{OneFront-pair, OneFront-such, OneFront-image}
-use Rattle.oas_num.specs.Laws.CombinatorLaws.{OneFront-exactly}
+use Rattle.oas_num.specs.Grammar.{PrefixFree, IsPair}
+use Rattle.oas_num.specs.Laws.GrammarLaws.{PrefixFree-pair, PrefixFree-such, PrefixFree-image}
+use Rattle.oas_num.specs.Laws.CombinatorLaws.{PrefixFree-exactly}
 use Rattle.oas_record.specs.Heads.{magic, IsMagic}
-use Rattle.oas_wide.specs.declared.ends.WideEnd.{WideEnd}
-use Rattle.oas_wide.specs.declared.reasons.WideWhy.{WideWhy}
-use Rattle.oas_wide.specs.declared.records.WideRecord.{WideRecord}
-use Rattle.oas_wide.specs.declared.records.WideRecord.TheVariants.{End}
-use Rattle.oas_wide.specs.Heads.{SpellsWideStart, wide_start}
-use Rattle.oas_wide.specs.Long.{IsLong, OneFront-long}
-use Rattle.oas_wide.specs.Reasons.{named, plain_of}
-use Rattle.oas_wide.specs.WideRecords.{fields, fields_in, wide_record_in, WideIdTook, WideRecordTook}
+use Rattle.oas_narrow.specs.oas_wide.declared.ends.WideEnd.{WideEnd}
+use Rattle.oas_narrow.specs.oas_wide.declared.reasons.WideWhy.{WideWhy}
+use Rattle.oas_narrow.specs.oas_wide.declared.records.WideRecord.{WideRecord}
+use Rattle.oas_narrow.specs.oas_wide.declared.records.WideRecord.TheVariants.{End}
+use Rattle.oas_narrow.specs.oas_wide.Heads.{SpellsWideStart, wide_start}
+use Rattle.oas_narrow.specs.oas_wide.Long.{IsLong, PrefixFree-long}
+use Rattle.oas_narrow.specs.oas_wide.Reasons.{named, plain_of}
+use Rattle.oas_narrow.specs.oas_wide.WideRecords.{fields, fields_in, wide_record_in, WideIdTook, WideRecordTook}
 use Rattle.oas_narrow.specs.WideFiles.{wide_head, after_magic, IsInner, inner_in, end_in}
 
-pub OneFront-wide : (in_end : Bool) → OneFront (wide_record_in in_end)
-OneFront-wide in_end = record {
+pub PrefixFree-wide : (in_end : Bool) → PrefixFree (wide_record_in in_end)
+PrefixFree-wide in_end = record {
   one = λ v w a b x y p q e.
-      let both = (OneFront-pair IsLong (fields_in in_end) OneFront-long (λ id. (fields in_end id).found.one)).one (p.id, v) (q.id, w) a b x y p.parts q.parts e in
+      let both = (PrefixFree-pair IsLong (fields_in in_end) PrefixFree-long (λ id. (fields in_end id).found.one)).one (p.id, v) (q.id, w) a b x y p.parts q.parts e in
       (both.0, ap (λ (s : ℕ × WideRecord). s.1) both.1);
 }
 
-pub OneFront-inner : (in_end : Bool) → OneFront (inner_in in_end)
-OneFront-inner in_end = OneFront-such IsInner (wide_record_in in_end) (OneFront-wide in_end)
+pub PrefixFree-inner : (in_end : Bool) → PrefixFree (inner_in in_end)
+PrefixFree-inner in_end = PrefixFree-such IsInner (wide_record_in in_end) (PrefixFree-wide in_end)
 
 same_end : (e f : WideEnd) → End e ≡ End f → e ≡ f
 same_end e f p = cc
 
-pub OneFront-end : (in_end : Bool) → OneFront (end_in in_end)
-OneFront-end in_end = record { one = λ e f a b x y p q j. let both = (OneFront-wide in_end).one (End e) (End f) a b x y p q j in (both.0, same_end e f both.1) }
+pub PrefixFree-end : (in_end : Bool) → PrefixFree (end_in in_end)
+PrefixFree-end in_end = record { one = λ e f a b x y p q j. let both = (PrefixFree-wide in_end).one (End e) (End f) a b x y p q j in (both.0, same_end e f both.1) }
 
-pub OneFront-head : OneFront wide_head
-OneFront-head = OneFront-image after_magic (IsPair IsMagic (λ _. SpellsWideStart)) (OneFront-pair IsMagic (λ _. SpellsWideStart) (OneFront-exactly magic) (λ _. wide_start.found.one))
+pub PrefixFree-head : PrefixFree wide_head
+PrefixFree-head = PrefixFree-image after_magic (IsPair IsMagic (λ _. SpellsWideStart)) (PrefixFree-pair IsMagic (λ _. SpellsWideStart) (PrefixFree-exactly magic) (λ _. wide_start.found.one))
 
 -- ---- no fault of writing
 

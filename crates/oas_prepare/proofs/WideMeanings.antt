@@ -4,15 +4,15 @@ use Rattle.oas_num.specs.Laws.RatioLaws.{one_lowest}
 use Rattle.oas_num.specs.Ratio.{Ratio}
 use Rattle.oas_layout.specs.Meaning.{Meaning, SameLayout}
 use Rattle.oas_layout.proofs.LawProofs.{symmetric, transitive}
-use Rattle.oas_modal.specs.Stands.{records_mean}
-use Rattle.oas_form.proofs.Forms.{one_canonical_form}
-use Rattle.oas_wide.specs.declared.heads.WideStart.{WideStart}
-use Rattle.oas_wide.specs.declared.records.WideRecord.{WideRecord}
+use Rattle.oas_narrow.specs.oas_modal.Stands.{records_mean}
+use Rattle.oas_canon.proofs.oas_form_proofs.Forms.{one_canonical_form}
+use Rattle.oas_narrow.specs.oas_wide.declared.heads.WideStart.{WideStart}
+use Rattle.oas_narrow.specs.oas_wide.declared.records.WideRecord.{WideRecord}
 use Rattle.oas_narrow.specs.Narrowing.{narrowed}
 use Rattle.oas_narrow.specs.Preparable.{IsUnitOf}
 use Rattle.oas_narrow.specs.WideFiles.{WideParts}
 use Rattle.oas_prepare.specs.Laws.{OneWideMeaning, SamePrepared}
-use Rattle.oas_prepare.proofs.Ending.{OneFront-file, same_all}
+use Rattle.oas_prepare.proofs.OneFile.{PrefixFree-file, same_all}
 
 one_unit : (s t : WideStart) (u v : Ratio) → s ≡ t → IsUnitOf s.unit u → IsUnitOf t.unit v → u ≡ v
 one_unit s t u v e p q =
@@ -21,7 +21,7 @@ one_unit s t u v e p q =
 
 pub one_wide_meaning : OneWideMeaning
 one_wide_meaning b m n p q =
-    let both = OneFront-file.one (p.start, (p.file.items, p.end)) (q.start, (q.file.items, q.end)) b b [] [] p.file.spelled q.file.spelled refl in
+    let both = PrefixFree-file.one (p.start, (p.file.items, p.end)) (q.start, (q.file.items, q.end)) b b [] [] p.file.spelled q.file.spelled refl in
     let unit = one_unit p.start q.start p.unit q.unit (ap (λ (w : WideParts). w.0) both.1) p.is_unit q.is_unit in
     let records : p.records ≡ q.records = same_all p.file q.file (ap (λ (w : WideParts). w.1.0) both.1) in
     sym p.is ∙ ap (λ (x : Ratio × List WideRecord). records_mean x.0 (narrowed x.1)) (λ i. (unit i, records i)) ∙ q.is

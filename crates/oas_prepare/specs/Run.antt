@@ -1,26 +1,27 @@
 -- What preparing a file does.
-use Rattle.std.specs.Prelude.{◌≡◌, ◌≢◌, ℕ, false, List, [], ◌++◌, length, Option, Some, None, Result, Ok, Err, IsTrue, IsSome, ◌⊎◌}
+use Rattle.std.specs.Prelude.{◌≡◌, ◌≢◌, ℕ, false, List, [], ◌++◌, length, Option, Some, None, Result, Ok, Err, IsTrue, ◌⊎◌}
 use Rattle.std.specs.Io.KnownBytes.{Appends}
 use Rattle.oas_num.specs.declared.refusals.Why.TheVariants.{Truncated, Read, InputTooLong, Write, Memory}
-use Rattle.oas_num.specs.Script.{Script, Rest, Takes, IsAtEnd, HasFailed, IsTooLong}
+use Rattle.oas_num.specs.Script.{Script, Rest, Consumed, IsAtEnd, HasFailed, IsTooLong}
 use Rattle.oas_layout.specs.declared.limits.Limits.{Limits}
 use Rattle.oas_layout.specs.declared.profile.Profile.{Profile}
 use Rattle.oas_layout.specs.Meaning.{Meaning, SameLayout}
-use Rattle.oas_file.specs.Acceptance.{Means}
-use Rattle.oas_form.specs.Canonical.{CanonicalForm}
+use Rattle.oas_canon.specs.oas_file.Acceptance.{Means}
+use Rattle.oas_canon.specs.oas_form.Canonical.{CanonicalForm}
 use Rattle.oas_narrow.specs.declared.dropping.Dropping.{Dropping}
 use Rattle.oas_narrow.specs.declared.dropping.Report.{Report}
-use Rattle.oas_wide.specs.declared.reasons.WideWhy.{WideWhy}
-use Rattle.oas_wide.specs.declared.reasons.WideWhy.TheVariants as wide
+use Rattle.oas_narrow.specs.oas_wide.declared.reasons.WideWhy.{WideWhy}
+use Rattle.oas_narrow.specs.oas_wide.declared.reasons.WideWhy.TheVariants as wide
 use Rattle.oas_narrow.specs.declared.places.Place.TheVariants.{File}
 use Rattle.oas_narrow.specs.declared.places.Rejection.{Rejection}
-use Rattle.oas_wide.specs.Reasons.{plain_of}
+use Rattle.oas_narrow.specs.oas_wide.Reasons.{plain_of}
 use Rattle.oas_narrow.specs.Narrowing.{report_of}
 use Rattle.oas_narrow.specs.Preparable.{Formed, Preparable, WideMeans, IsValid}
 use Rattle.oas_prepare.specs.Deciding.{decides, is_of_file, is_cut}
 use Rattle.oas_prepare.specs.Places.{StopsAt, IsPlace}
+use Rattle.oas_prepare.specs.Reasons.{IsReasoned}
 
--- c is the canonical form of what the file's records stand for, and that was left out
+-- c is the canonical form of what the file's records are translated to, and that was left out
 pub record IsPreparedAs (limits : Limits) (profile : Profile) (dropping : Dropping) (bytes c : List ℕ) (report : Report) : Type 0 where
   pub formed : Formed limits dropping bytes
   pub form : CanonicalForm limits profile c
@@ -31,14 +32,13 @@ pub record IsPreparedAs (limits : Limits) (profile : Profile) (dropping : Droppi
   pub same : SameLayout profile source target
   pub left_out : report ≡ report_of formed.records
 
--- All that the source gave is a file that is prepared. That its signature is right is said of a source whose bytes are known:
--- of another nothing but their number ties the bytes taken to what it gave.
+-- All that the source gave is a file that is prepared, and its signature is right.
 pub record IsTaken (limits : Limits) (profile : Profile) (dropping : Dropping) (old new : Script) (canonical : List ℕ) (report : Report) : Type 0 where
   pub bytes : List ℕ
-  pub takes : Takes old bytes new
+  pub takes : Consumed old bytes new
   pub ended : IsAtEnd new
   pub is : IsPreparedAs limits profile dropping bytes canonical report
-  pub valid : IsSome old.rest → IsValid is.formed.end.validation bytes
+  pub valid : IsValid is.formed.end.validation bytes
 
 -- a file was taken, and its canonical form was written
 pub record IsDone (limits : Limits) (profile : Profile) (dropping : Dropping) (old new : Script) (before after : Option (List ℕ)) (report : Report) : Type 0 where
@@ -46,7 +46,7 @@ pub record IsDone (limits : Limits) (profile : Profile) (dropping : Dropping) (o
   pub taken : IsTaken limits profile dropping old new canonical report
   pub written : Appends before after canonical
 
--- a file was taken, and the writer failed after it took so many bytes of its canonical form
+-- a file was taken, and the writer failed after it took this many bytes of its canonical form
 pub record IsCut (limits : Limits) (profile : Profile) (dropping : Dropping) (old new : Script) (before after : Option (List ℕ)) (rejection : Rejection) : Type 0 where
   pub canonical : List ℕ
   pub report : Report
@@ -57,47 +57,43 @@ pub record IsCut (limits : Limits) (profile : Profile) (dropping : Dropping) (ol
   pub took : Appends before after front
   pub place : rejection.place ≡ File (length front)
 
--- a signature is found wrong where the bytes are known
-abbrev pub IsTied : WideWhy → Script → Type 0
-IsTied why old = why ≡ wide.Checksum → IsSome old.rest
-
 -- No file that is prepared begins with what was taken, or the source has ended and what was taken is none, or a device or the
--- memory failed. Where the input was cut off, what was taken goes on after no file that is prepared.
+-- memory failed. Where the input was cut off, no file that is prepared goes on from what was taken.
 pub record IsStopped (limits : Limits) (dropping : Dropping) (old : Script) (why : WideWhy) (new : Script) : Type 0 where
   pub bytes : List ℕ
-  pub takes : Takes old bytes new
-  pub decided : IsTied why old → IsTrue (decides why) → (more : List ℕ) → Preparable limits dropping (bytes ++ more) → ⊥
+  pub takes : Consumed old bytes new
+  pub decided : IsTrue (decides why) → (more : List ℕ) → Preparable limits dropping (bytes ++ more) → ⊥
   pub cut : IsTrue (is_cut why) → (front rest : List ℕ) → front ++ rest ≡ bytes → Preparable limits dropping front → rest ≡ []
   pub truncated : plain_of why ≡ Truncated → (Preparable limits dropping bytes → ⊥) × IsAtEnd new
   pub device : plain_of why ≡ Read → HasFailed new
   pub too_long : plain_of why ≡ InputTooLong → IsTooLong new
   pub reading : plain_of why ≢ Write
 
--- The rejection's place is in the file, or in a block that is there. Of a source that had given nothing before: it is one at
--- which each file stops that goes on so; where the source has ended, it goes on by nothing.
+-- The rejection's place is in the file, or in a block that is there. Where the source had given nothing before: it is one at
+-- which each file stops that continues what was taken; where the source has ended, nothing continues it.
 pub record IsPlaced (limits : Limits) (dropping : Dropping) (old : Script) (rejection : Rejection) (new : Script) : Type 0 where
   pub bytes : List ℕ
-  pub takes : Takes old bytes new
+  pub takes : Consumed old bytes new
   pub there : IsPlace old bytes rejection.place
-  pub placed : IsTied rejection.why old → old.given ≡ 0 → IsTrue (is_of_file rejection.why) → (more : List ℕ) → (IsAtEnd new → more ≡ []) → StopsAt limits dropping (bytes ++ more) rejection.place
+  pub placed : old.given ≡ 0 → IsTrue (is_of_file rejection.why) → (more : List ℕ) → (IsAtEnd new → more ≡ []) → StopsAt limits dropping (bytes ++ more) rejection.place
 
 abbrev pub Stops : Limits → Dropping → Script → Rejection → Script → Type 0
-Stops limits dropping old rejection new = IsStopped limits dropping old rejection.why new × IsPlaced limits dropping old rejection new
+Stops limits dropping old rejection new = IsStopped limits dropping old rejection.why new × IsPlaced limits dropping old rejection new × IsReasoned limits dropping old rejection new
 
--- ---- of known bytes
+-- ---- for known bytes
 
--- An answer says that the file is prepared, and a rejection that it is not, if not for the writer or the memory.
+-- A result says that the file is prepared, and a rejection that it is not, unless the writer or the memory failed.
 abbrev pub IsDecided : Limits → Dropping → Option Rest → Result Report Rejection → Type 0
 IsDecided limits dropping None answer = Unit {0}
 IsDecided limits dropping (Some rest) (Ok report) = Preparable limits dropping rest.bytes
 IsDecided limits dropping (Some rest) (Err rejection) =
     (rejection.why ≡ wide.Profile Write) ⊎ ((rejection.why ≡ wide.Profile Memory) ⊎ (Preparable limits dropping rest.bytes → ⊥))
 
--- no byte stands after the source's limit
+-- there is no byte after the source's limit
 abbrev pub IsWithinSource : Option Rest → Type 0
 IsWithinSource None = Unit {0}
 IsWithinSource (Some rest) = rest.goes_on ≡ false
 
--- of a file whose bytes are known and stand under the source's limit, over a device that has not failed
+-- for a file whose bytes are known and end within the source's limit, over a device that has not failed
 abbrev pub Exactly : Limits → Dropping → Script → Result Report Rejection → Script → Type 0
 Exactly limits dropping old answer new = IsWithinSource old.rest → new.failures ≡ 0 → IsDecided limits dropping old.rest answer

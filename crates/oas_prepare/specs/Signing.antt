@@ -1,14 +1,14 @@
--- What a signature is by the sums of the bytes that it is of.
+-- What a signature is, by the sums of the bytes that it covers.
 use Rattle.std.specs.Prelude.{ℕ, List}
-use Rattle.oas_checksum.specs.Signed.{signed}
+use Rattle.oas_sums.specs.oas_checksum.Signed.{signed}
 use Rattle.oas_sums.specs.Sums.{AreSums}
-use Rattle.oas_wide.specs.declared.ends.Validation.{Validation}
+use Rattle.oas_narrow.specs.oas_wide.declared.ends.Validation.{Validation}
 use Rattle.oas_narrow.specs.Preparable.{IsValid}
 
--- a file with these sums came whole
+-- a file with these sums is complete
 abbrev pub IsRight : Validation → ℕ × ℕ → Type 0
 IsRight validation sums = (bytes : List ℕ) → AreSums sums (signed bytes) → IsValid validation bytes
 
--- it didn't
+-- it isn't
 abbrev pub IsWrong : Validation → ℕ × ℕ → Type 0
 IsWrong validation sums = (bytes : List ℕ) → AreSums sums (signed bytes) → IsValid validation bytes → ⊥

@@ -1,23 +1,24 @@
--- Where the records of a file stand, one after another.
-use Rattle.std.specs.Prelude.{◌≡◌, ℕ, Option, Some, List, reverse, ◌⊎◌}
+-- The state after the records of a file, one after another.
+use Rattle.std.specs.Prelude.{◌≡◌, ℕ, Option, None, Some, List, reverse, ◌⊎◌}
 use Rattle.oas_num.specs.declared.refusals.Refusal.{Refusal}
 use Rattle.oas_num.specs.declared.refusals.Why.{Why}
 use Rattle.oas_num.specs.declared.refusals.Why.TheVariants.{Memory}
 use Rattle.oas_layout.specs.declared.limits.Limits.{Limits}
-use Rattle.oas_modal.specs.Stands.{StandsFor}
-use Rattle.oas_modal.specs.Stores.{held_store}
+use Rattle.oas_narrow.specs.oas_modal.Stands.{Represents}
+use Rattle.oas_narrow.specs.oas_modal.Stores.{held_store}
 use Rattle.oas_narrow.specs.declared.dropping.Dropping.{Dropping}
-use Rattle.oas_wide.specs.declared.reasons.WideWhy.{WideWhy}
-use Rattle.oas_wide.specs.declared.reasons.WideWhy.TheVariants.{Profile}
+use Rattle.oas_narrow.specs.oas_wide.declared.reasons.WideWhy.{WideWhy}
+use Rattle.oas_narrow.specs.oas_wide.declared.reasons.WideWhy.TheVariants.{Profile}
 use Rattle.oas_narrow.specs.declared.places.Place.TheVariants.{File}
 use Rattle.oas_narrow.specs.declared.places.Rejection.{Rejection}
-use Rattle.oas_wide.specs.declared.records.WideRecord.{WideRecord}
+use Rattle.oas_narrow.specs.oas_wide.declared.records.WideRecord.{WideRecord}
 use Rattle.oas_narrow.specs.Narrowing.{narrowed, kept_of, is_open, report_of, obstacle_after}
+use Rattle.oas_narrow.specs.Roles.{role_of, obstacle_by}
 use Rattle.oas_prepare.specs.declared.taking.Preparation.{Preparation}
 
--- it is made of these records, oldest first
+-- it is the result of these records, oldest first
 pub record Stands (p : Preparation) (ws : List WideRecord) : Type 0 where
-  pub reader : StandsFor held_store p.reader (narrowed ws)
+  pub reader : Represents held_store p.reader (narrowed ws)
   pub resolver : p.resolver ≡ kept_of (reverse ws)
   pub in_cell : p.in_cell ≡ is_open (reverse ws)
   pub report : p.report ≡ report_of ws
@@ -33,12 +34,20 @@ pub record SameRun (old new : Preparation) : Type 0 where
 abbrev pub obstacle_next : Limits → Dropping → List WideRecord → WideRecord → Option WideWhy
 obstacle_next limits dropping ws w = obstacle_after limits dropping (reverse ws) w
 
--- it stops at that offset, for that reason or for want of memory
-pub record IsStop (at : ℕ) (reason : Option WideWhy) (rejection : Rejection) : Type 0 where
-  pub place : rejection.place ≡ File at
-  pub why : (rejection.why ≡ Profile Memory) ⊎ (reason ≡ Some rejection.why)
+-- why it stops the file before any of its contents is checked: it isn't to be left out, or no cell is open
+abbrev pub bar_next : Dropping → List WideRecord → WideRecord → Option WideWhy
+bar_next dropping ws w = obstacle_by dropping (is_open (reverse ws)) (role_of w)
 
--- records at that offset are refused, for that reason or for want of memory
+-- it isn't prepared for the first reason that holds, or out of memory, where its kind doesn't stop it
+abbrev pub MayStop : Limits → Dropping → List WideRecord → WideRecord → WideWhy → Type 0
+MayStop limits dropping ws w why = ((why ≡ Profile Memory) × (bar_next dropping ws w ≡ None)) ⊎ (obstacle_next limits dropping ws w ≡ Some why)
+
+-- it stops at that offset, for this reason
+pub record IsStop (at : ℕ) (limits : Limits) (dropping : Dropping) (ws : List WideRecord) (w : WideRecord) (rejection : Rejection) : Type 0 where
+  pub place : rejection.place ≡ File at
+  pub why : MayStop limits dropping ws w rejection.why
+
+-- records at that offset are refused, for that reason or out of memory
 pub record IsRefused (at : ℕ) (reason : Option Why) (refusal : Refusal) : Type 0 where
   pub place : refusal.at ≡ at
   pub why : (refusal.why ≡ Memory) ⊎ (reason ≡ Some refusal.why)

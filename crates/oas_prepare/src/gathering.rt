@@ -1,26 +1,26 @@
 //! All records of a file of the standard.
-ghost use Rattle.oas_file.specs.Gathering.{FindsEnd};
-ghost use Rattle.oas_prepare.specs.Gathering.{TakesNext, Gathers, GathersFile};
+ghost use Rattle.oas_canon.specs.oas_file.Gathering.{FindsEnd};
+ghost use Rattle.oas_prepare.specs.Gathering.{ConsumesNext, Gathers, GathersFile};
 
 use crate::heads::read_wide_head;
 use crate::inside::take_block;
 use crate::taking::Preparation;
 use oas_layout::{Limits, Profile};
+use oas_narrow::oas_wide::{BlockHead, WideEnd, WideRecord, WideRefusal, WideStart};
 use oas_narrow::{Dropping, Rejection};
 use oas_num::{Refusal, Source, SourceFault, Why};
-use oas_wide::{BlockHead, WideEnd, WideRecord, WideRefusal, WideStart};
 use std::alloc::Global;
 
-/// What stands next in a file.
+/// What comes next in a file.
 pub(crate) enum Next {
     /// A record before END.
     Record(WideRecord),
     End(WideEnd),
-    /// What stands before the bytes of a block.
+    /// What comes before the bytes of a block.
     Block(BlockHead),
 }
 
-/// What is made of all records, with END and its offset.
+/// The result of all records, with END and its offset.
 #[derive(Drop)]
 pub(crate) struct Gathered {
     pub(crate) preparation: Preparation,
@@ -34,7 +34,7 @@ pub(crate) fn take_next<S: Source>(
     source: &mut S,
     flag_in_end: bool,
 ) -> Result<Next, WideRefusal>
-    ensures { TakesNext flag_in_end (S.script source.old) result (S.script source.new) }
+    ensures { ConsumesNext flag_in_end (S.script source.old) result (S.script source.new) }
 {
     match WideRecord::read(alloc, source, flag_in_end)? {
         WideRecord::End(end) => Ok(Next::End(end)),
@@ -43,7 +43,7 @@ pub(crate) fn take_next<S: Source>(
     }
 }
 
-/// Takes the records up to END, and answers END and its offset.
+/// Takes the records up to END, and returns END and its offset.
 fn take_records<S: Source>(
     alloc: Global,
     source: &mut S,
@@ -79,7 +79,7 @@ fn find_end_of_input<S: Source>(source: &mut S) -> Result<(), Refusal>
     Err(Refusal { at, why })
 }
 
-/// Takes a whole file: its head, its records and END, behind which the input ends.
+/// Takes a whole file: its head, its records and END, after which the input ends.
 pub(crate) fn gather<S: Source>(
     alloc: Global,
     source: &mut S,

@@ -1,17 +1,17 @@
-//! The front of a file of the standard.
+//! The head of a file of the standard.
 ghost use Rattle.std.specs.Prelude.{◌≡◌};
-ghost use Rattle.oas_wide.specs.declared.reasons.WideWhy.TheVariants.{Profile};
+ghost use Rattle.oas_narrow.specs.oas_wide.declared.reasons.WideWhy.TheVariants.{Profile};
 ghost use Rattle.oas_prepare.specs.Places.{at_file};
 ghost use Rattle.oas_prepare.specs.Heads.{ReadsWideHead};
 
 use crate::units::unit_of;
+use oas_narrow::oas_wide::{WideStart, WideWhy};
 use oas_narrow::{Place, Rejection};
 use oas_num::{Fraction, Source, Why};
 use oas_record::read_magic;
-use oas_wide::{WideStart, WideWhy};
 use std::alloc::Global;
 
-/// Where START stands.
+/// The offset of START.
 const START_AT: u64 = 13;
 
 /// A rejection by the profile at an offset of the file.
@@ -24,8 +24,8 @@ fn rejected(at: u64, why: Why) -> Rejection
     }
 }
 
-/// Reads the magic and START, and answers START and the unit as the profile has it. It stops at 0 for the magic, and at 13
-/// for START; there by `FloatReal` where the unit is a fraction of which a part isn't below 2^64.
+/// Reads the magic and START, and returns START and the unit as the profile has it. It stops at 0 for the magic, and at 13
+/// for START; there with `FloatReal` where the unit is a fraction with a part that isn't below 2^64.
 pub(crate) fn read_wide_head<S: Source>(
     alloc: Global,
     source: &mut S,

@@ -1,21 +1,22 @@
 //! The records of a compressed block's data.
 ghost use Rattle.std.specs.Prelude.{◌≡◌};
-ghost use Rattle.oas_block.specs.declared.block.BlockEnd.{BlockEnd as End};
+ghost use Rattle.oas_narrow.specs.oas_block.declared.block.BlockEnd.{BlockEnd as End};
 ghost use Rattle.oas_prepare.specs.Places.{at_file};
-ghost use Rattle.oas_prepare.specs.Inside.{ReadsInside, TakesData, TakesBlock, fault_why, run_out_why, ended_by, in_block};
+ghost use Rattle.oas_prepare.specs.DataReasons.{run_out_why, fault_why};
+ghost use Rattle.oas_prepare.specs.Inside.{ReadsInside, ConsumesData, ConsumesBlock, ended_by, in_block};
 
 use crate::gathering::{Next, take_next};
 use crate::taking::Preparation;
-use oas_block::{BlockEnd, BlockFault, Inflated, InflatedSource, read_block};
+use oas_narrow::oas_block::{BlockEnd, BlockFault, Inflated, InflatedSource, read_block};
+use oas_narrow::oas_wide::{BlockHead, WideRecord, WideWhy};
 use oas_narrow::{Place, Rejection};
 use oas_num::{Source, Why};
-use oas_wide::{BlockHead, WideRecord, WideWhy};
 use std::alloc::Global;
 
 /// How many bytes of data a block may have at most, since they are held in memory: 2^30 (own rule).
 const DATA_MAX: usize = 1_073_741_824;
 
-/// At each multiple of how many bytes of a block's data a run of PADs begins anew: 2^20 (own rule).
+/// The interval, in bytes of a block's data, at whose multiples a run of PADs begins anew: 2^20 (own rule).
 const RUN_MAX: u64 = 1_048_576;
 
 /// A rejection at an offset in a file, or in a block's data.
@@ -28,7 +29,7 @@ pub(crate) fn stopped(at: u64, why: WideWhy) -> Rejection
     }
 }
 
-/// Reads the next record of a block's data, in which neither END nor a block may stand.
+/// Reads the next record of a block's data, where neither END nor a block is allowed.
 fn read_inside<S: Source>(
     alloc: Global,
     source: &mut S,
@@ -44,7 +45,7 @@ fn read_inside<S: Source>(
     }
 }
 
-/// Takes the records of a block's data, and answers where in the data the last of them begins, if there is one. A run of PADs
+/// Takes the records of a block's data, and returns where in the data the last of them begins, if there is one. A run of PADs
 /// counts as one: they change nothing, so they are taken at once.
 fn take_data(
     alloc: Global,
@@ -52,7 +53,7 @@ fn take_data(
     flag_in_end: bool,
     preparation: &mut Preparation,
 ) -> Result<Option<u64>, Rejection>
-    ensures { TakesData flag_in_end plain.now.items preparation.old result preparation.new }
+    ensures { ConsumesData flag_in_end plain.now.items preparation.old result preparation.new }
 {
     let length = plain.len() as u64;
     let mut source = InflatedSource::new(plain);
@@ -84,7 +85,7 @@ fn fault_why(fault: BlockFault) -> WideWhy
     }
 }
 
-/// Why a record that runs out of a block's data isn't prepared.
+/// Why a record that continues past the end of a block's data isn't prepared.
 fn run_out_why(end: BlockEnd) -> WideWhy
     ensures { result ≡ run_out_why end }
 {
@@ -95,7 +96,7 @@ fn run_out_why(end: BlockEnd) -> WideWhy
     }
 }
 
-/// Where and why a record in the block at that offset isn't prepared, whose place was given in the block's data.
+/// Where and why a record in the block at that offset isn't prepared, given its place in the block's data.
 fn in_block(block: u64, end: BlockEnd, inner: Rejection) -> Rejection
     ensures { result ≡ in_block block end inner }
 {
@@ -110,7 +111,7 @@ fn in_block(block: u64, end: BlockEnd, inner: Rejection) -> Rejection
     Rejection { place, why }
 }
 
-/// Whether a block whose records were all taken is at its end, and where and why it isn't prepared if not: at the last of
+/// Whether a block whose records were all taken ends as it should, and where and why it isn't prepared if not: at the last of
 /// them, or at the block where there is none.
 fn ended(block: u64, end: BlockEnd, last: Option<u64>) -> Result<(), Rejection>
     ensures { result ≡ ended_by block end last }
@@ -128,11 +129,11 @@ fn ended(block: u64, end: BlockEnd, last: Option<u64>) -> Result<(), Rejection>
     })
 }
 
-/// Takes a block whose head was read, which begins at byte `at`: its bytes, and the records of the data that they stand for.
+/// Takes a block whose head was read, which begins at byte `at`: its bytes, and the records of the data that they encode.
 ///
-/// It stops at the block where its bytes are no block's of that head, as far as they were inflated, and else at the record in
-/// its data. A stream that isn't finished, stands for too few bytes or leaves bytes over stops it at the last record that
-/// begins in what there is, of which a run of PADs is one.
+/// It stops at the block where its bytes are not those of a block with that head, as far as they were inflated, and otherwise
+/// at the record in its data. A stream that isn't finished, has too few bytes or leaves bytes over stops it at the last
+/// record that begins in what there is, where a run of PADs is one record.
 pub(crate) fn take_block<S: Source>(
     alloc: Global,
     source: &mut S,
@@ -141,7 +142,7 @@ pub(crate) fn take_block<S: Source>(
     flag_in_end: bool,
     preparation: &mut Preparation,
 ) -> Result<(), Rejection>
-    ensures { TakesBlock flag_in_end at head (S.script source.old) preparation.old result (S.script source.new) preparation.new }
+    ensures { ConsumesBlock flag_in_end at head (S.script source.old) preparation.old result (S.script source.new) preparation.new }
 {
     let block = match read_block(alloc, source, head, DATA_MAX) {
         Ok(block) => block,

@@ -1,4 +1,4 @@
-//! The laws of preparing, each the contract of a function that does nothing.
+//! The laws of preparing. Each is the contract of a function that does nothing.
 ghost use Rattle.oas_prepare.specs.Laws.{OneWideMeaning, SamePrepared, ProfileIsPrepared, ProfileAsCanonical, PreparedAgain, OneLastRecord};
 
 /// A file of the standard means one layout.
@@ -6,8 +6,8 @@ pub fn one_wide_meaning()
     ensures { OneWideMeaning }
 {}
 
-/// Two files whose records stand for the same layout are prepared to the same bytes, whatever the limits, and whatever was
-/// left out of each.
+/// Two files whose records are translated to the same layout are prepared to the same bytes, whatever the limits, and
+/// whatever was left out of each.
 pub fn same_prepared()
     ensures { SamePrepared }
 {}
@@ -24,7 +24,7 @@ pub fn prepared_again()
     ensures { PreparedAgain }
 {}
 
-/// The last record of a block's data stands at one place, at which a file stops whose block ends too early.
+/// The last record of a block's data is at one place; a file whose block ends too early stops there.
 pub fn one_last_record()
     ensures { OneLastRecord }
 {}

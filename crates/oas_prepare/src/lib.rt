@@ -1,23 +1,42 @@
-//! From a file of the standard to the canonical file of what its records stand for.
+//! From a file of the standard to the canonical file of the records that it is translated to.
 //!
 //! What this crate promises to the crates above it:
 //!
-//! - [`prepare`] answers Ok exactly where the source gives a file of the standard that is prepared, under the limits and by what
-//!   is named to be left out: then a writer took the canonical form of what the records of the profile mean for which its
-//!   records stand, and the answer has how many records of each kind were left out (`IsDone`, specs/Run.antt). Else nothing
-//!   was written, or the writer failed after a front of it.
-//! - On both sides: a rejection whose reason lies in the bytes says that no file that is prepared begins with what was taken,
-//!   and of a source that had given nothing before that its place is one at which every file stops that goes on so. A place in
-//!   a block is in one that is there: in its data, or in bytes that stand for none.
-//! - A block's data are held in memory while its records are taken, at most 2^30 bytes of them; more are refused for want of
+//! - [`prepare`] returns Ok exactly where the source gives a file of the standard that can be prepared, under the limits and
+//!   with what is named to be left out. Then a writer took the canonical form of the meaning of the profile's records that
+//!   its records are translated to, and the result has how many records of each kind were left out (`IsDone`,
+//!   specs/Run.antt). Otherwise nothing was written, or the writer failed after a prefix of it.
+//! - The clauses cover both outcomes. A rejection with a reason of the bytes says that no file that can be prepared begins
+//!   with what was taken. Where the source had given nothing before, it also says that its place is one at which every file
+//!   that continues these bytes stops. A place in a block is in one that is there: in its data, or in bytes that encode none.
+//! - Such a rejection's reason is the right one (`IsReasoned`, specs/Reasons.antt): the bytes that were taken decide it,
+//!   together with the place, also where several reasons hold for one place.
+//! - A block's data are held in memory while its records are taken, at most 2^30 bytes of them; more are refused as out of
 //!   memory (own rule).
-//! - The laws stand over the definitions alone ([`laws`]): a file means one layout; two files whose records stand for the same
-//!   layout are prepared to the same bytes; a file that the profile accepts is prepared to its canonical file with nothing
-//!   left out; what is prepared is prepared to itself; the last record of a block's data, of which a run of PADs is one, stands
-//!   at one place.
+//! - Laws, from the definitions alone ([`laws`]): a file means one layout. Two files whose records are translated to the same
+//!   layout are prepared to the same bytes. A file that the profile accepts is prepared to its canonical file with nothing
+//!   left out. What is prepared is prepared to itself. The last record of a block's data, where a run of PADs is one, is at
+//!   one place.
 //!
 //! The definitions of which files are prepared, and what they mean, are those of `oas_narrow`. The records of the profile go
 //! to the reader of `oas_modal`, and its layout to the writer of `oas_form`: there is one canonical form and one way to it.
+//!
+//! # How it is built
+//!
+//! - src/taking.rt: a `Preparation` is a reader and the `Resolver` of oas_foreign before it, with what is counted; it
+//!   represents a list of the standard's records (`Stands`).
+//! - src/gathering.rt: the loop over the records. proofs/Fronts.antt, Refusing.antt, Gathered.antt and Ending.antt correspond
+//!   to the files of the same kind in oas_file, which are for `read_layout`.
+//! - src/inside.rt: a block. Its data are read into memory, at most 2^30 bytes of them, and their records are taken from
+//!   there as those of the file are from its source (proofs/Inner.antt and InnerStops.antt). Only a run of PADs is taken at
+//!   once: proofs/Pads.antt says that a PAD changes nothing, Runs.antt where a run begins. Then its place is put before
+//!   theirs (`in_block`). How a file goes on after a block's head is proved once, in `block_goes_on` (proofs/Blocks.antt);
+//!   from it follow both that a block is one more item, and that a file stops at it or in it. That items have one reading
+//!   (proofs/Items.antt) rests on that of records and on oas_block's law of one data.
+//! - src/signing.rt: whether a signature is right, by the sums of the bytes before it. `read_named` (src/preparing.rt) reads
+//!   through a `SummedSource` of oas_sums, since what the signature covers is known only at END.
+//! - src/units.rt: a float's unit as a fraction in lowest terms; proofs/Doubling.antt has how lowest terms change when a
+//!   fraction is doubled.
 #![tactic(auto)]
 
 mod gathering;
@@ -29,4 +48,7 @@ mod signing;
 mod taking;
 mod units;
 
+// The crates below, for those above.
+pub use oas_narrow;
+pub use oas_narrow::oas_wide;
 pub use preparing::prepare;

@@ -1,25 +1,26 @@
-//! From a source to a writer: the canonical file of what a file of the standard means.
+//! From a source to a writer: the canonical file of the meaning of a file of the standard.
 ghost use Rattle.std.specs.Prelude.{◌≡◌, ◌⊎◌, IfOk, IfErr};
 ghost use Rattle.oas_num.specs.declared.refusals.Why.TheVariants.{Write as NotWritten};
-ghost use Rattle.oas_wide.specs.declared.reasons.WideWhy.TheVariants.{Profile as ByProfile};
+ghost use Rattle.oas_narrow.specs.oas_wide.declared.reasons.WideWhy.TheVariants.{Profile as ByProfile};
+ghost use Rattle.oas_prepare.specs.Reasons.{IsReasoned};
 ghost use Rattle.oas_prepare.specs.Run.{IsDone, IsCut, IsStopped, IsPlaced, Exactly};
 ghost use Rattle.oas_prepare.specs.Finishing.{Finishes, ReadsPrepared};
 
 use crate::gathering::{Gathered, gather};
 use crate::signing::came_whole;
 use crate::taking::Preparation;
-use oas_form::write_canonical;
+use oas_canon::oas_form::write_canonical;
 use oas_layout::{Layout, Limits, Profile};
+use oas_narrow::oas_wide::WideWhy;
 use oas_narrow::{Dropping, Place, Rejection, Report};
 use oas_num::Source;
 use oas_sums::{Start, SummedSource, Sums};
-use oas_wide::WideWhy;
 use std::alloc::Global;
 use std::io::Write;
 use std::marker::Brand;
 
-/// The layout of all that was gathered, and what was left out. The sums are those of the file's bytes before its signature. It
-/// stops at END: by `Checksum` where the signature is another, and then where END refuses its records.
+/// The layout of all that was gathered, and what was left out. The sums are those of the file's bytes before its signature.
+/// It stops at END: with `Checksum` where the signature is another, and then where END refuses its records.
 fn finish(gathered: Gathered, sums: &Sums) -> Result<(Layout, Report), Rejection>
     ensures { Finishes gathered sums.now result }
 {
@@ -53,7 +54,7 @@ fn read_prepared<S: Source>(
     read
 }
 
-/// The same, of the source that is named. It hands the borrow back, so that its lender knows it for its own.
+/// The same, for the source that is named. It hands the borrow back, so that its lender knows it as its own.
 fn read_named<'a, S: Source, K: Start>(
     alloc: Global,
     from: &'a mut S,
@@ -76,10 +77,10 @@ fn read_named<'a, S: Source, K: Start>(
     (read, from)
 }
 
-/// Writes the canonical file of what a file of the standard means, and answers what was left out of it.
+/// Writes the canonical file of the meaning of a file of the standard, and returns what was left out of it.
 ///
-/// Nothing is left out but what is named. Nothing is written before the whole file was read. After `Why::Write` the writer
-/// took the first bytes of the canonical file, as many as the rejection's place says.
+/// Only what is named is left out. Nothing is written before the whole file was read. After `Why::Write` the writer took the
+/// first bytes of the canonical file, as many as the rejection's place says.
 pub fn prepare<S: Source, W: Write>(
     alloc: Global,
     from: &mut S,
@@ -91,6 +92,7 @@ pub fn prepare<S: Source, W: Write>(
     ensures done { IfOk result (λ report. IsDone limits profile dropping (S.script from.old) (S.script from.new) (W.contents to.old) (W.contents to.new) report) }
     ensures stopped { IfErr result (λ e. (e.why ≡ ByProfile NotWritten) ⊎ IsStopped limits dropping (S.script from.old) e.why (S.script from.new)) }
     ensures placed { IfErr result (λ e. (e.why ≡ ByProfile NotWritten) ⊎ IsPlaced limits dropping (S.script from.old) e (S.script from.new)) }
+    ensures reasoned { IfErr result (λ e. (e.why ≡ ByProfile NotWritten) ⊎ IsReasoned limits dropping (S.script from.old) e (S.script from.new)) }
     ensures nothing { IfErr result (λ e. (e.why ≡ ByProfile NotWritten) ⊎ (to.new ≡ to.old)) }
     ensures cut { IfErr result (λ e. e.why ≡ ByProfile NotWritten → IsCut limits profile dropping (S.script from.old) (S.script from.new) (W.contents to.old) (W.contents to.new) e) }
     ensures exactly { Exactly limits dropping (S.script from.old) result (S.script from.new) }

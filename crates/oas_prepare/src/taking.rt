@@ -1,40 +1,40 @@
-//! Where the records of a file stand, one after another.
+//! The state after the records of a file, one after another.
 ghost use Rattle.std.specs.Prelude.{◌≡◌, ◌++◌, ◌∷◌, [], List, None, OnOk, IfErr};
-ghost use Rattle.oas_wide.specs.declared.records.WideRecord.{WideRecord as OneRecord};
-ghost use Rattle.oas_foreign.specs.Tracked.{handed};
-ghost use Rattle.oas_modal.specs.Stands.{StandsFor};
-ghost use Rattle.oas_modal.specs.Stores.{held_store};
+ghost use Rattle.oas_narrow.specs.oas_wide.declared.records.WideRecord.{WideRecord as OneRecord};
+ghost use Rattle.oas_narrow.specs.oas_foreign.Tracked.{handed};
+ghost use Rattle.oas_narrow.specs.oas_modal.Stands.{Represents};
+ghost use Rattle.oas_narrow.specs.oas_modal.Stores.{held_store};
 ghost use Rattle.oas_narrow.specs.Narrowing.{refused_of};
 ghost use Rattle.oas_record.specs.declared.records.Record.{Record as PlainRecord};
 ghost use Rattle.oas_prepare.specs.Taking.{Stands, SameRun, IsStop, IsRefused, obstacle_next};
 
 use crate::inside::stopped;
-use oas_foreign::{Resolved, Resolver};
 use oas_layout::{Limits, Profile};
-use oas_modal::Reader;
+use oas_narrow::oas_foreign::{Resolved, Resolver};
+use oas_narrow::oas_modal::Reader;
+use oas_narrow::oas_wide::WideRecord;
 use oas_narrow::{Dropping, Rejection, Report, Role, with_turns};
 use oas_num::{Fraction, Refusal};
 use oas_record::Record;
-use oas_wide::WideRecord;
 use std::alloc::Global;
 
-/// What is made of the records so far.
+/// The result of the records so far.
 #[derive(Drop)]
 pub(crate) struct Preparation {
-    /// The reader of those of the profile for which they stand.
+    /// The reader of the profile's records that they are translated to.
     pub(crate) reader: Reader,
-    /// What tells which these are.
+    /// What says which these are.
     pub(crate) resolver: Resolver,
-    /// Whether a cell is open behind them.
+    /// Whether a cell is open after them.
     pub(crate) in_cell: bool,
     /// What is named to be left out.
     pub(crate) dropping: Dropping,
-    /// What was.
+    /// What was left out.
     pub(crate) report: Report,
 }
 
 impl Preparation {
-    /// Of no records.
+    /// That of no records.
     pub(crate) fn new(
         alloc: Global,
         unit: Fraction,
@@ -57,10 +57,10 @@ impl Preparation {
         }
     }
 
-    /// Takes one record more, which starts at byte `at`.
+    /// Takes one more record, which starts at byte `at`.
     pub(crate) fn take(&mut self, alloc: Global, at: u64, next: WideRecord) -> Result<(), Rejection>
         ensures taken { (ws : List OneRecord) → Stands self.old ws → OnOk result ((obstacle_next self.old.reader.limits self.old.dropping ws next ≡ None) × Stands self.new (ws ++ next ∷ [])) }
-        ensures stopped { (ws : List OneRecord) → Stands self.old ws → IfErr result (IsStop at (obstacle_next self.old.reader.limits self.old.dropping ws next)) }
+        ensures stopped { (ws : List OneRecord) → Stands self.old ws → IfErr result (IsStop at self.old.reader.limits self.old.dropping ws next) }
         ensures same { OnOk result (SameRun self.old self.new) }
     {
         let role = Role::of(&next);
@@ -79,10 +79,10 @@ impl Preparation {
     }
 }
 
-/// Hands the reader the records of the profile for which a record that starts at byte `at` stands.
+/// Gives the reader the records of the profile that a record which starts at byte `at` is translated to.
 fn take_resolved(reader: &mut Reader, at: u64, resolved: Resolved) -> Result<(), Refusal>
-    ensures taken { (rs : List PlainRecord) → StandsFor held_store reader.old rs → OnOk result ((refused_of reader.old.limits rs (handed resolved) ≡ None) × StandsFor held_store reader.new (rs ++ handed resolved)) }
-    ensures refused { (rs : List PlainRecord) → StandsFor held_store reader.old rs → IfErr result (IsRefused at (refused_of reader.old.limits rs (handed resolved))) }
+    ensures taken { (rs : List PlainRecord) → Represents held_store reader.old rs → OnOk result ((refused_of reader.old.limits rs (handed resolved) ≡ None) × Represents held_store reader.new (rs ++ handed resolved)) }
+    ensures refused { (rs : List PlainRecord) → Represents held_store reader.old rs → IfErr result (IsRefused at (refused_of reader.old.limits rs (handed resolved))) }
     ensures unit { OnOk result (reader.new.unit ≡ reader.old.unit) }
     ensures limits { OnOk result (reader.new.limits ≡ reader.old.limits) }
     ensures profile { OnOk result (reader.new.profile ≡ reader.old.profile) }

@@ -4,10 +4,10 @@ ghost use Rattle.oas_num.specs.Ratio.{Ratio, Reduces};
 ghost use Rattle.oas_narrow.specs.Preparable.{IsUnitOf};
 ghost use Rattle.oas_prepare.specs.Units.{ratio, IsPast};
 
+use oas_narrow::oas_wide::WideReal;
 use oas_num::Fraction;
-use oas_wide::WideReal;
 
-/// A fraction in lowest terms, doubled so often, in lowest terms. None exactly where its numerator isn't below 2^64.
+/// A fraction in lowest terms, doubled this often, in lowest terms. None exactly where its numerator isn't below 2^64.
 fn doubled(num: u64, den: u64, times: u16) -> Option<(u64, u64)>
     ensures some { (a b : ℕ) → Reduces a b (ratio num den) → IfSome result (λ both. Reduces (a * 2 ^ times) b (ratio both.0 both.1)) }
     ensures none { (a b : ℕ) → Reduces a b (ratio num den) → IsNone result → IsPast (a * 2 ^ times) b }
@@ -28,7 +28,7 @@ fn doubled(num: u64, den: u64, times: u16) -> Option<(u64, u64)>
     Some((upper, lower))
 }
 
-/// The fraction that a real is, in lowest terms. None exactly where a part of it isn't below 2^64.
+/// The fraction of a real, in lowest terms. None exactly where a part of it isn't below 2^64.
 pub(crate) fn unit_of(real: WideReal) -> Option<Fraction>
     requires num { 0 < real.num }
     requires den { 0 < real.den }

@@ -1,13 +1,13 @@
--- Putting phrases one after another, with a comma before each but the first.
+-- Putting phrases one after another, with a comma before each except the first.
 use Rattle.std.proofs.Common.{◌≡◌, ◌≢◌, ℕ, zero, suc, ◌+◌, ◌<◌, ◌≤◌, Bool, true, false, List, [], ◌∷◌, ◌++◌, length, drop, get_or, drop-cons, refl, sym, ap, subst, ◌∙◌, add-one, append-nil, append_assoc, arith}
 use Rattle.std.specs.Prelude.{codes, filter, map, nat_lt, ◌==◌, ◌&&◌}
 use Rattle.std.proofs.lemmas.Bool.{lt-ltb, le-ltb, ltb-false}
-use Rattle.oas_num.specs.Writing.{Puts, PutsFront}
+use Rattle.oas_num.specs.Writing.{Puts, PutsPrefix}
 use Rattle.oas_num.proofs.PuttingLemmas.{PutSoFar, fails_at, ◌▸◌}
-use Rattle.oas_narrow.specs.declared.dropping.Extra.{Extra}
-use Rattle.oas_narrow.specs.declared.dropping.Extra.TheVariants.{PropertyName, Property, LayerName, ExtensionName, ExtensionElement}
-use Rattle.oas_narrow.specs.declared.dropping.Report.{Report}
-use Rattle.oas_narrow.specs.Dropping.{nothing_left_out}
+use Rattle.oas_prepare.specs.oas_narrow.declared.dropping.Extra.{Extra}
+use Rattle.oas_prepare.specs.oas_narrow.declared.dropping.Extra.TheVariants.{PropertyName, Property, LayerName, ExtensionName, ExtensionElement}
+use Rattle.oas_prepare.specs.oas_narrow.declared.dropping.Report.{Report}
+use Rattle.oas_prepare.specs.oas_narrow.Dropping.{nothing_left_out}
 use Rattle.oas_preparing.specs.Kinds.{kinds, left_out, name_for}
 use Rattle.oas_preparing.specs.Lines.{phrase, phrase_of, phrases, is_left_out, listed, line_of, report_line}
 
@@ -31,7 +31,7 @@ abbrev pub same_numbers : Report → Report → Bool
 same_numbers a b =
     (a.property_names == b.property_names) && ((a.properties == b.properties) && ((a.layer_names == b.layer_names) && ((a.extension_names == b.extension_names) && (a.extensions == b.extensions))))
 
--- one of which the other differs, which is that of nothing
+-- where one differs, it is that of nothing
 pub differs : (a b : Report) → false ≡ same_numbers a b → b ≡ nothing_left_out → a ≡ nothing_left_out → ⊥
 differs a b unlike is same =
     let e : false ≡ true = unlike ∙ ap (λ (r : Report). same_numbers r b) same ∙ ap (λ (r : Report). same_numbers nothing_left_out r) is in
@@ -42,7 +42,7 @@ abbrev numbers : ℕ → ℕ → ℕ → ℕ → ℕ → Report
 numbers a b c d e = record { property_names = a; properties = b; layer_names = c; extension_names = d; extensions = e }
 
 module _ (report : Report) where
-  -- a kind of which some was left out
+  -- a kind of which some were left out
   phrases-some : (kind : Extra) (more : List Extra) → is_left_out report kind ≡ true → phrases report (kind ∷ more) ≡ phrase_of report kind ∷ phrases report more
   phrases-some kind more is = rw is refl
 
@@ -107,5 +107,5 @@ module _ (report : Report) where
       pub kind_put : {new : K} → Puts given failures mid (lead ++ phrase n name) new → PutSoFar given failures whole (behind (codes ", ") (phrases report (drop (i + 1) xs))) old new
       kind_put q = next_left ▸ q
 
-      pub kind_fails : {new : K} → PutsFront given failures mid (lead ++ phrase n name) new → PutsFront given failures old whole new
+      pub kind_fails : {new : K} → PutsPrefix given failures mid (lead ++ phrase n name) new → PutsPrefix given failures old whole new
       kind_fails q = fails_at _ next_left q

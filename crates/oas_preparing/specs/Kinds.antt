@@ -1,10 +1,10 @@
 -- The kinds of records that are left out, in words.
 use Rattle.std.specs.Prelude.{ℕ, List, [], ◌∷◌, codes, ◌==◌, if◌then◌else◌}
-use Rattle.oas_narrow.specs.declared.dropping.Extra.{Extra}
-use Rattle.oas_narrow.specs.declared.dropping.Extra.TheVariants.{PropertyName, Property, LayerName, ExtensionName, ExtensionElement}
-use Rattle.oas_narrow.specs.declared.dropping.Report.{Report}
+use Rattle.oas_prepare.specs.oas_narrow.declared.dropping.Extra.{Extra}
+use Rattle.oas_prepare.specs.oas_narrow.declared.dropping.Extra.TheVariants.{PropertyName, Property, LayerName, ExtensionName, ExtensionElement}
+use Rattle.oas_prepare.specs.oas_narrow.declared.dropping.Report.{Report}
 
--- all kinds, in the order in which a line has them
+-- all kinds, in the order of a line
 abbrev pub kinds : List Extra
 kinds = Property ∷ PropertyName ∷ LayerName ∷ ExtensionElement ∷ ExtensionName ∷ []
 
@@ -32,6 +32,6 @@ plural LayerName = codes "layer names"
 plural ExtensionName = codes "extension names"
 plural ExtensionElement = codes "extensions"
 
--- so many of a kind
+-- this many of a kind
 abbrev pub name_for : ℕ → Extra → List ℕ
 name_for number kind = if number == 1 then singular kind else plural kind

@@ -1,16 +1,16 @@
 -- The lines that the command writes to its error output.
 use Rattle.std.specs.Prelude.{ℕ, Bool, List, [], ◌∷◌, ◌++◌, codes, decimal, map, filter, nat_lt}
-use Rattle.oas_narrow.specs.declared.dropping.Extra.{Extra}
-use Rattle.oas_narrow.specs.declared.dropping.Report.{Report}
-use Rattle.oas_narrow.specs.declared.places.Place.{Place}
-use Rattle.oas_narrow.specs.declared.places.Place.TheVariants.{File, Block}
-use Rattle.oas_narrow.specs.declared.places.Rejection.{Rejection}
-use Rattle.oas_wide.specs.Reasons.{wide_number_of}
+use Rattle.oas_prepare.specs.oas_narrow.declared.dropping.Extra.{Extra}
+use Rattle.oas_prepare.specs.oas_narrow.declared.dropping.Report.{Report}
+use Rattle.oas_prepare.specs.oas_narrow.declared.places.Place.{Place}
+use Rattle.oas_prepare.specs.oas_narrow.declared.places.Place.TheVariants.{File, Block}
+use Rattle.oas_prepare.specs.oas_narrow.declared.places.Rejection.{Rejection}
+use Rattle.oas_prepare.specs.oas_wide.Reasons.{wide_number_of}
 use Rattle.oas_preparing.specs.Kinds.{kinds, left_out, name_for}
 
 -- ---- what was left out
 
--- so many of what has this name
+-- this many with this name
 abbrev pub phrase : ℕ → List ℕ → List ℕ
 phrase number name = decimal number ++ (codes " " ++ name)
 
@@ -18,11 +18,11 @@ phrase number name = decimal number ++ (codes " " ++ name)
 abbrev pub phrase_of : Report → Extra → List ℕ
 phrase_of report kind = phrase (left_out report kind) (name_for (left_out report kind) kind)
 
--- some of a kind was left out
+-- some of a kind were left out
 abbrev pub is_left_out : Report → Extra → Bool
 is_left_out report kind = nat_lt 0 (left_out report kind)
 
--- those of the kinds of which some was left out
+-- the kinds of which some were left out
 abbrev pub phrases : Report → List Extra → List (List ℕ)
 phrases report kinds = map (phrase_of report) (filter (is_left_out report) kinds)
 
@@ -32,7 +32,7 @@ listed [] = []
 listed (one ∷ []) = one
 listed (one ∷ (next ∷ more)) = one ++ (codes ", " ++ listed (next ∷ more))
 
--- a line of these texts behind a name, and none of no text
+-- a line of these texts after a name, and none without a text
 abbrev pub line_of : List ℕ → List (List ℕ) → List ℕ
 line_of name [] = []
 line_of name (one ∷ more) = name ++ (codes ": left out " ++ (listed (one ∷ more) ++ 10 ∷ []))

@@ -3,9 +3,9 @@
 ghost use Rattle.std.specs.Prelude.{◌≡◌};
 ghost use Rattle.oas_preparing.specs.Kinds.{left_out, singular, plural, name_for};
 
-use oas_narrow::{Extra, Report};
+use oas_prepare::oas_narrow::{Extra, Report};
 
-/// All kinds, in the order in which a line has them.
+/// All kinds, in the order of a line.
 pub(crate) const KINDS: [Extra; 5] = [
     Extra::Property,
     Extra::PropertyName,
@@ -27,7 +27,7 @@ pub(crate) fn left_out(report: Report, kind: Extra) -> u64
     }
 }
 
-/// The name of so many records of a kind.
+/// The name of this many records of a kind.
 pub(crate) fn name_for(number: u64, kind: Extra) -> &'static str
     ensures { result.now ≡ name_for number kind }
 {

@@ -1,24 +1,42 @@
-//! The run of the command `oasprep`: from a file of the standard to the canonical file of what its records stand for. It is
-//! generic over its input and outputs, so that tests call it over memory; the program opens the streams of its process and
-//! calls it. What it promises to it:
+//! The run of the command `oasprep`: from a file of the standard to the canonical file of what its records are translated to.
+//! It is generic over its input and outputs, so that tests call it over memory; the program opens the streams of its process
+//! and calls it. What it promises to it:
 //!
-//! - [`run_prepare`] answers status 0 where `oas_prepare::prepare` answered Ok, and 1 where it stopped. What was read and
-//!   written is all that the contract of that call says of its answer (`Prepares`, specs/Runs.antt), and what the error
-//!   output took is a front of one line: after an Ok of that which says what was left out, which is none where nothing was,
-//!   and else of that of the rejection (`said`).
+//! - [`run_prepare`] returns status 0 where `oas_prepare::prepare` returned Ok, and 1 where it stopped. What was read and
+//!   written is all that the contract of that call says for its result (`Prepares`, specs/Runs.antt). What the error output
+//!   took is a prefix of one line: after an Ok of the line that says what was left out, which is empty where nothing was;
+//!   otherwise of the rejection's line (`said`).
 //! - [`prepare_telling`] is the same over a sink for that line, whose contract counts failures: the line was put, unless the
 //!   sink failed (`Ends`).
 //! - [`put_report`] puts the line `NAME: left out 12 properties, 3 layer names`, or nothing (`report_line`, specs/Lines.antt),
 //!   and [`put_rejection`] the line `NAME: refused N at OFFSET`, or `NAME: refused N at P+Q` for a place in a block
 //!   (`rejection_line`).
 //!
-//! It prepares by the profile by which the command `oascanon` answers (`oas_canon::PROFILE`), so what it writes is canonical
-//! to that command.
+//! It prepares by the profile of the command `oascanon` (`oas_canon::PROFILE`), so what it writes is canonical to that
+//! command.
+//!
+//! # How it is built
+//!
+//! - src/lines.rt, specs/Lines.antt: the line of what was left out is its phrases, one for each kind of which there is a
+//!   record, with a comma between two; without a phrase there is no line. The loop puts the separator before each phrase,
+//!   which is nothing before the first (`behind`, proofs/PhraseLemmas.antt). There is a phrase exactly where something was
+//!   left out, which is proved there too.
+//! - src/kinds.rt: the kinds in words. src/runs.rt: the run.
+//!
+//! `oasprep` has its words in src/usage.rt (`parse`), and `main` opens the streams, as oascanon's does. Its profile is
+//! `PROFILE` of oas_canon, which is that of the first command. Its src/session.rt has meters and explains as oascanon's does,
+//! by `oas_explain`, which also recognizes the place in a block.
 #![tactic(auto)]
 
 mod kinds;
 mod lines;
 mod runs;
 
+// The crates below, for those above.
 pub use lines::{put_rejection, put_report};
+pub use oas_explain;
+pub use oas_explain::oas_command;
+pub use oas_explain::oas_command::oas_canon;
+pub use oas_prepare;
+pub use oas_prepare::{oas_narrow, oas_wide};
 pub use runs::{prepare_telling, run_prepare};

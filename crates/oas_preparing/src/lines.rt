@@ -2,15 +2,15 @@
 
 ghost use Rattle.std.specs.Prelude.{◌≡◌, ◌++◌, flat_map};
 ghost use Rattle.oas_num.specs.Writing.{Writes};
-ghost use Rattle.oas_narrow.specs.Dropping.{nothing_left_out};
+ghost use Rattle.oas_prepare.specs.oas_narrow.Dropping.{nothing_left_out};
 ghost use Rattle.oas_preparing.specs.Lines.{phrase, phrases, listed, report_line, rejection_line};
 
 use crate::kinds::{KINDS, left_out, name_for};
 use itoa::Buffer;
-use oas_narrow::{Extra, Place, Rejection, Report};
 use oas_num::{Sink, SinkFault};
+use oas_prepare::oas_narrow::{Extra, Place, Rejection, Report};
 
-/// Puts pieces behind one another.
+/// Puts pieces one after another.
 fn put_pieces<K: Sink>(told: &mut K, pieces: &[&[u8]]) -> Result<(), SinkFault>
     ensures { Writes K.given K.failures told.old (flat_map (λ piece. piece.now) pieces.now) result told.new }
 {
@@ -33,7 +33,7 @@ pub fn put_report<K: Sink>(told: &mut K, name: &str, report: Report) -> Result<(
     told.put_all(b"\n")
 }
 
-/// Puts the phrases of those of these kinds of which some was left out, with a comma between two.
+/// Puts the phrases of those of these kinds of which some were left out, with a comma between two.
 fn put_phrases<K: Sink>(told: &mut K, report: Report, kinds: &[Extra]) -> Result<(), SinkFault>
     ensures { Writes K.given K.failures told.old (listed (phrases report kinds.now)) result told.new }
 {
@@ -48,7 +48,7 @@ fn put_phrases<K: Sink>(told: &mut K, report: Report, kinds: &[Extra]) -> Result
     Ok(())
 }
 
-/// Puts how many there are of what has this name, behind what stands between two such.
+/// Puts how many there are with this name, after a separator.
 fn put_phrase<K: Sink>(
     told: &mut K,
     between: &[u8],

@@ -1,16 +1,16 @@
 //! The run of the command.
 
 ghost use Rattle.std.specs.Prelude.{◌≡◌, Result};
-ghost use Rattle.oas_narrow.specs.declared.dropping.Report.{Report as LeftOut};
-ghost use Rattle.oas_narrow.specs.declared.places.Rejection.{Rejection as Rejected};
-ghost use Rattle.oas_command.specs.Runs.{AppendsFront};
+ghost use Rattle.oas_prepare.specs.oas_narrow.declared.dropping.Report.{Report as LeftOut};
+ghost use Rattle.oas_prepare.specs.oas_narrow.declared.places.Rejection.{Rejection as Rejected};
+ghost use Rattle.oas_explain.specs.oas_command.Runs.{AppendsPrefix};
 ghost use Rattle.oas_preparing.specs.Runs.{Prepares, status_of, said, Ends};
 
 use crate::lines::{put_rejection, put_report};
-use oas_canon::PROFILE;
+use oas_explain::oas_command::oas_canon::PROFILE;
 use oas_layout::Limits;
-use oas_narrow::{Dropping, Rejection, Report};
 use oas_num::{Outlet, Sink, Source};
+use oas_prepare::oas_narrow::{Dropping, Rejection, Report};
 use oas_prepare::prepare;
 use std::alloc::Global;
 use std::io::Write;
@@ -21,9 +21,9 @@ const DONE: u8 = 0;
 /// The status of a run that refused its input.
 const REFUSED: u8 = 1;
 
-/// Writes the canonical bytes of what the records of all that `from` gives stand for, within these limits and without what is
-/// named to be left out, to `out`, and answers the status of the command: 0, or 1 after a refusal. What was left out, or the
-/// refusal, is named on `err` in a line that begins with `name`. A fault of `err` changes nothing.
+/// Writes the canonical bytes of what the records of all that `from` gives are translated to, within these limits and without
+/// what is named to be left out, to `out`. Returns the status of the command: 0, or 1 after a refusal. What was left out, or
+/// the refusal, is named on `err` in a line that begins with `name`. A fault of `err` changes nothing.
 pub fn run_prepare<S: Source, W: Write, E: Write>(
     alloc: Global,
     name: &str,
@@ -35,7 +35,7 @@ pub fn run_prepare<S: Source, W: Write, E: Write>(
 ) -> u8
     ensures { (answer : Result LeftOut Rejected) × (result ≡ status_of answer)
         × Prepares W.contents limits dropping (S.script from.old) out.old answer (S.script from.new) out.new
-        × AppendsFront (E.contents err.old) (E.contents err.new) (said name.now answer) }
+        × AppendsPrefix (E.contents err.old) (E.contents err.new) (said name.now answer) }
 {
     let mut told = Outlet::new(err);
     let status = prepare_telling(alloc, name, from, out, &mut told, limits, dropping);
@@ -43,7 +43,7 @@ pub fn run_prepare<S: Source, W: Write, E: Write>(
     status
 }
 
-/// As `run_prepare`, with a sink for the line.
+/// Like `run_prepare`, with a sink for the line.
 pub fn prepare_telling<S: Source, W: Write, K: Sink>(
     alloc: Global,
     name: &str,
@@ -61,7 +61,7 @@ pub fn prepare_telling<S: Source, W: Write, K: Sink>(
     conclude(name, answer, told)
 }
 
-/// Ends a run: names what was left out, or the rejection, and answers its status.
+/// Ends a run: names what was left out, or the rejection, and returns its status.
 fn conclude<K: Sink>(name: &str, answer: Result<Report, Rejection>, told: &mut K) -> u8
     ensures answers { result ≡ status_of answer }
     ensures ends { Ends K.given K.failures name.now told.old answer told.new }

@@ -8,21 +8,21 @@ use std::io::{Read, Write};
 
 /// Reads what is below it, and counts the bytes.
 #[derive(Drop)]
-pub struct Reading<R, E> {
+pub struct Reading<'a, R, E> {
     inner: R,
-    meter: Option<Meter<E>>,
+    meter: Option<Meter<'a, E>>,
 }
 
-impl<R: Read, E: Write> Reading<R, E> {
+impl<'a, R: Read, E: Write> Reading<'a, R, E> {
     /// One over this reader. Without a meter it shows nothing.
-    pub fn new(inner: R, meter: Option<Meter<E>>) -> Reading<R, E>
+    pub fn new(inner: R, meter: Option<Meter<'a, E>>) -> Reading<'a, R, E>
         ensures { result.inner ≡ inner }
     {
         Reading { inner, meter }
     }
 }
 
-impl<R: Read, E: Write> Read for Reading<R, E> {
+impl<R: Read, E: Write> Read for Reading<'_, R, E> {
     ghost use Rattle.std.specs.Io.{ReadsAtMost};
     ghost use Rattle.std.specs.Io.KnownBytes.{ReadConsumes};
 

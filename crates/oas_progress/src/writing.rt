@@ -6,18 +6,18 @@ use crate::meter::Meter;
 use std::io;
 use std::io::Write;
 
-/// Writes what is below it, and counts the bytes. Before the first of them it takes the line away that a reader's meter
-/// may have left.
+/// Writes what is below it, and counts the bytes. Before the first of them it removes the line that a reader's meter may have
+/// left.
 #[derive(Drop)]
-pub struct Writing<W, E> {
+pub struct Writing<'a, W, E> {
     inner: W,
-    meter: Option<Meter<E>>,
+    meter: Option<Meter<'a, E>>,
     begun: bool,
 }
 
-impl<W: Write, E: Write> Writing<W, E> {
+impl<'a, W: Write, E: Write> Writing<'a, W, E> {
     /// One over this writer. Without a meter it shows nothing.
-    pub fn new(inner: W, meter: Option<Meter<E>>) -> Writing<W, E>
+    pub fn new(inner: W, meter: Option<Meter<'a, E>>) -> Writing<'a, W, E>
         ensures { result.inner ≡ inner }
     {
         Writing {
@@ -28,7 +28,7 @@ impl<W: Write, E: Write> Writing<W, E> {
     }
 }
 
-impl<W: Write, E: Write> Write for Writing<W, E> {
+impl<W: Write, E: Write> Write for Writing<'_, W, E> {
     ghost use Rattle.std.specs.Io.{WritesAtMost};
     ghost use Rattle.std.specs.Io.KnownBytes.{Keeps, WriteAppends};
 

@@ -1,14 +1,14 @@
--- What a test says, and a number that may be there.
+-- What a test says, and an optional number.
 use Rattle.std.proofs.Common.{◌≡◌, Bool, true, false, IsTrue}
 use Rattle.std.specs.Prelude.{◌↔◌}
-use Rattle.oas_num.specs.Grammar.{OneFront, IsThere}
-use Rattle.oas_num.specs.Laws.GrammarLaws.{OneFront-there}
+use Rattle.oas_num.specs.Grammar.{PrefixFree, IsThere}
+use Rattle.oas_num.specs.Laws.GrammarLaws.{PrefixFree-there}
 use Rattle.oas_num.specs.Integers.{IsUnsigned}
-use Rattle.oas_num.specs.Laws.IntegerLaws.{OneFront-IsUnsigned}
+use Rattle.oas_num.specs.Laws.IntegerLaws.{PrefixFree-IsUnsigned}
 
--- a number that may be there
-pub OneFront-number_if : (there : Bool) → OneFront (IsThere there IsUnsigned)
-OneFront-number_if there = OneFront-there there IsUnsigned OneFront-IsUnsigned
+-- an optional number
+pub PrefixFree-number_if : (there : Bool) → PrefixFree (IsThere there IsUnsigned)
+PrefixFree-number_if there = PrefixFree-there there IsUnsigned PrefixFree-IsUnsigned
 
 -- what a test says
 pub allowed_by : {P : Type 0} {test : Bool} → (IsTrue test ↔ P) → test ≡ true → P

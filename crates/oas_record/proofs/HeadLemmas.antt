@@ -1,30 +1,30 @@
--- Reading the version, the unit, START, and with the magic the front of a file.
-use Rattle.std.proofs.Common.{◌≡◌, ◌≢◌, ℕ, ◌+◌, ◌*◌, ◌<◌, ◌≤◌, false, List, [], ◌∷◌, ◌++◌, length, Err, IsTrue, inl, inr, refl, sym, ap, subst, ◌∙◌, arith}
+-- Reading the version, the unit, START, and with the magic the head of a file.
+use Rattle.std.proofs.Common.{◌≡◌, ◌≢◌, ℕ, ◌*◌, ◌<◌, ◌≤◌, false, List, [], ◌∷◌, ◌++◌, length, Err, IsTrue, inl, inr, refl, sym, ap, subst, ◌∙◌, arith}
 use Rattle.std.specs.Prelude.{◌⊎◌}
 use Rattle.std.proofs.lemmas.Nat.{mul-le}
 use Rattle.oas_num.specs.declared.refusals.Why.{Why}
 use Rattle.oas_num.specs.declared.refusals.Why.TheVariants.{Version, Unit as UnitIsRefused}
 use Rattle.oas_num.specs.declared.reals.Real.{Real}
-use Rattle.oas_num.specs.Script.{Script, Takes}
+use Rattle.oas_num.specs.Script.{Script}
 use Rattle.oas_num.specs.Ratio.{Ratio}
-use Rattle.oas_num.specs.Grammar.{OneFront, IsPair, IsSuch, IsByte}
+use Rattle.oas_num.specs.Grammar.{PrefixFree, IsPair, IsSuch, IsByte}
 use Rattle.oas_num.specs.Integers.{IsUnsigned}
 use Rattle.oas_num.specs.Style.{Any}
 use Rattle.oas_num.specs.Texts.{IsLabelByte, IsText, label_in, SpellsLabel}
-use Rattle.oas_num.specs.Laws.IntegerLaws.{OneFront-IsUnsigned}
+use Rattle.oas_num.specs.Laws.IntegerLaws.{PrefixFree-IsUnsigned}
 use Rattle.oas_num.specs.Pieces.{PairTook}
-use Rattle.oas_num.specs.Laws.TextLaws.{OneFront-label, OneFront-class}
+use Rattle.oas_num.specs.Laws.TextLaws.{PrefixFree-label, PrefixFree-class}
 use Rattle.oas_num.specs.Reals.{real_in, RealTook}
-use Rattle.oas_num.specs.Laws.RealLaws.{OneFront-real}
+use Rattle.oas_num.specs.Laws.RealLaws.{PrefixFree-real}
 use Rattle.oas_num.specs.Reading.{ReadsValue, Fails, FailsPiece, IntegerMay, ClassMay}
-use Rattle.oas_num.proofs.ReadLemmas.{Takes-none, Takes-then}
+use Rattle.oas_num.proofs.ReadLemmas.{Consumed-none, Consumed-then}
 use Rattle.oas_num.proofs.PieceLemmas.{fails_behind, first_fails, second_fails, keyed_fails, item_fails}
 use Rattle.oas_num.proofs.GrammarLemmas.{such_read, Listed, listed_none, listed_more, listed_all}
 use Rattle.oas_record.specs.declared.heads.Head.{Head}
 use Rattle.oas_record.specs.Ends.{IsNumber}
-use Rattle.oas_record.specs.Heads.{magic, IsMagic, MagicMay, IsPassedLabel, PassedTook, version, version_in, VersionTook, IsPositiveReal, IsUnit, SpellsUnit, UnitTook, IsFlag}
+use Rattle.oas_record.specs.Heads.{magic, IsMagic, MagicMay, IsPassedLabel, SkippedTook, version, version_in, VersionTook, IsPositiveReal, IsUnit, SpellsUnit, UnitTook, IsFlag}
 use Rattle.oas_record.specs.Heads.{flag_in, start_in, StartTook, head_in, ReadsHead}
-use Rattle.oas_record.specs.Laws.HeadLaws.{OneFront-start_id, OneFront-flag}
+use Rattle.oas_record.specs.Laws.HeadLaws.{PrefixFree-start_id, PrefixFree-flag}
 
 -- ---- the version
 
@@ -32,34 +32,34 @@ abbrev label_parts : ℕ × List ℕ → List ℕ → Type 0
 label_parts = IsPair IsUnsigned (λ count. IsText IsLabelByte count)
 
 -- the a-string fails
-label_fails : {old new : Script} {why : Why} → FailsPiece SpellsLabel (PairTook IsUnsigned IntegerMay PassedTook) old why new → FailsPiece (version_in Any) VersionTook old why new
-label_fails {old = old} f = fails_behind (version_in Any) SpellsLabel [] (λ _ h. inl h) (Takes-none old) (record { wants = λ v p r rest s e. (version, p, r, s, e) }) f
+label_fails : {old new : Script} {why : Why} → FailsPiece SpellsLabel (PairTook IsUnsigned IntegerMay SkippedTook) old why new → FailsPiece (version_in Any) VersionTook old why new
+label_fails {old = old} f = fails_behind (version_in Any) SpellsLabel [] (λ _ h. inl h) (Consumed-none old) (record { wants = λ v p r rest s e. (version, p, r, s, e) }) f
 
 -- its length fails
 pub version_length_fails : {old new : Script} {why : Why} → FailsPiece IsUnsigned IntegerMay old why new → FailsPiece (version_in Any) VersionTook old why new
 version_length_fails {old = old} {new = new} {why = why} f =
-    let g : FailsPiece label_parts (PairTook IsUnsigned IntegerMay PassedTook) old why new = first_fails f in
+    let g : FailsPiece label_parts (PairTook IsUnsigned IntegerMay SkippedTook) old why new = first_fails f in
     label_fails (keyed_fails length g)
 
 -- its bytes fail
 label_text_fails : {old mid new : Script} {n : ℕ} {why : Why} → ReadsValue IsUnsigned old n mid
-    → FailsPiece (IsText IsLabelByte n) (PassedTook n) mid why new → FailsPiece (version_in Any) VersionTook old why new
+    → FailsPiece (IsText IsLabelByte n) (SkippedTook n) mid why new → FailsPiece (version_in Any) VersionTook old why new
 label_text_fails {old = old} {new = new} {why = why} read f =
-    let g : FailsPiece label_parts (PairTook IsUnsigned IntegerMay PassedTook) old why new = second_fails OneFront-IsUnsigned read f in
+    let g : FailsPiece label_parts (PairTook IsUnsigned IntegerMay SkippedTook) old why new = second_fails PrefixFree-IsUnsigned read f in
     label_fails (keyed_fails length g)
 
 -- the bytes of a text of another length fail
 pub version_pass_fails : {old mid new : Script} {n : ℕ} {why : Why} → ReadsValue IsUnsigned old n mid
-    → FailsPiece (IsPassedLabel n) (PassedTook n) mid why new → FailsPiece (version_in Any) VersionTook old why new
+    → FailsPiece (IsPassedLabel n) (SkippedTook n) mid why new → FailsPiece (version_in Any) VersionTook old why new
 version_pass_fails {mid = mid} {n = n} read f =
-    label_text_fails read (fails_behind (IsText IsLabelByte n) (IsPassedLabel n) [] (λ _ h. h) (Takes-none mid)
+    label_text_fails read (fails_behind (IsText IsLabelByte n) (IsPassedLabel n) [] (λ _ h. h) (Consumed-none mid)
     (record { wants = λ v p r rest s e. (tt, p, r, record { from = v; is = refl; spelled = s }, e) }) f)
 
 -- a byte of a text of three bytes fails
 pub version_byte_fails : {old mid now new : Script} {n : ℕ} {why : Why} (text : List ℕ) → n ≡ 3 → ReadsValue IsUnsigned old n mid
     → Listed (IsSuch IsLabelByte IsByte) mid now text → length text < 3 → FailsPiece (IsSuch IsLabelByte IsByte) (ClassMay IsLabelByte) now why new
     → FailsPiece (version_in Any) VersionTook old why new
-version_byte_fails text three read listed lt f = label_text_fails read (item_fails (OneFront-class IsLabelByte) (λ _ h. h) (omega (arith, lt, three)) listed f)
+version_byte_fails text three read listed lt f = label_text_fails read (item_fails (PrefixFree-class IsLabelByte) (λ _ h. h) (omega (arith, lt, three)) listed f)
 
 -- the text as a label
 as_label : {old mid new : Script} {n : ℕ} (text : List ℕ) → ReadsValue IsUnsigned old n mid → ReadsValue (IsText IsLabelByte n) mid text new → ReadsValue (label_in Any) old text new
@@ -67,7 +67,7 @@ as_label {old = old} {mid = mid} {new = new} {n = n} text read bytes =
     let same : length text ≡ n = bytes.spelled.len in
     record {
       bytes = read.bytes ++ bytes.bytes;
-      takes = Takes-then old mid new read.bytes bytes.bytes read.takes bytes.takes;
+      takes = Consumed-then old mid new read.bytes bytes.bytes read.takes bytes.takes;
       spelled = record { front = read.bytes; back = bytes.bytes; first = rw (← same) at read.spelled; second = record { len = refl; each = bytes.spelled.each }; joined = refl };
     }
 
@@ -80,7 +80,7 @@ version_wrong {old = old} {new = new} text isnt read bytes =
       bytes = label.bytes;
       takes = label.takes;
       reason = record { front = []; last = label.bytes; joined = refl; begun = refl; holds = inr (text, label.spelled, (refl, isnt)) };
-      format = λ _. record { none = λ v p r more s e. let one = (OneFront-label Any).one version text p label.bytes r more s label.spelled e in isnt (sym one.1) };
+      format = λ _. record { none = λ v p r more s e. let one = (PrefixFree-label Any).one version text p label.bytes r more s label.spelled e in isnt (sym one.1) };
       cut = λ is. absurd cc;
       truncated = λ is. absurd cc;
       device = λ is. absurd cc;
@@ -138,7 +138,7 @@ positive_unit r unit h = (
 )
 
 pub unit_fails : {old new : Script} {why : Why} → FailsPiece (real_in Any) RealTook old why new → FailsPiece SpellsUnit UnitTook old why new
-unit_fails {old = old} f = fails_behind SpellsUnit (real_in Any) [] (λ _ h. inl h) (Takes-none old) (record { wants = λ v p r rest s e. (s.real, p, r, s.spelled, e) }) f
+unit_fails {old = old} f = fails_behind SpellsUnit (real_in Any) [] (λ _ h. inl h) (Consumed-none old) (record { wants = λ v p r rest s e. (s.real, p, r, s.spelled, e) }) f
 
 pub unit_refused : {old new : Script} (r : Real) → ¬ IsPositiveReal r → ReadsValue (real_in Any) old r new → FailsPiece SpellsUnit UnitTook old UnitIsRefused new
 unit_refused r isnt read = record {
@@ -146,7 +146,7 @@ unit_refused r isnt read = record {
   takes = read.takes;
   reason = record { front = []; last = read.bytes; joined = refl; begun = refl; holds = inr (r, read.spelled, (refl, isnt)) };
   format = λ _. record {
-    none = λ u p rest more s e. let one = (OneFront-real Any).one s.real r p read.bytes rest more s.spelled read.spelled e in
+    none = λ u p rest more s e. let one = (PrefixFree-real Any).one s.real r p read.bytes rest more s.spelled read.spelled e in
         isnt (subst IsPositiveReal one.1 (positive_unit s.real u s.is_unit));
   };
   cut = λ is. absurd cc;
@@ -163,16 +163,16 @@ zero_isnt r is h = elim is [ inl e ↦ omega (arith, e, h.1.0) | inr e ↦ omega
 
 -- ---- START
 
-pub id_field : {old new : Script} {id : ℕ} → id ≡ 1 → ReadsValue IsUnsigned old id new → OneFront (IsSuch (IsNumber 1) IsUnsigned) × ReadsValue (IsSuch (IsNumber 1) IsUnsigned) old id new
-id_field {old = old} {new = new} {id = id} is read = (OneFront-start_id Any, such_read (IsNumber 1) IsUnsigned old new id is read)
+pub id_field : {old new : Script} {id : ℕ} → id ≡ 1 → ReadsValue IsUnsigned old id new → PrefixFree (IsSuch (IsNumber 1) IsUnsigned) × ReadsValue (IsSuch (IsNumber 1) IsUnsigned) old id new
+id_field {old = old} {new = new} {id = id} is read = (PrefixFree-start_id Any, such_read (IsNumber 1) IsUnsigned old new id is read)
 
-pub flag_field : {old new : Script} {flag : ℕ} → flag ≤ 1 → ReadsValue IsUnsigned old flag new → OneFront (flag_in Any) × ReadsValue (flag_in Any) old flag new
-flag_field {old = old} {new = new} {flag = flag} le read = (OneFront-flag Any, such_read IsFlag IsUnsigned old new flag (omega (arith, le)) read)
+pub flag_field : {old new : Script} {flag : ℕ} → flag ≤ 1 → ReadsValue IsUnsigned old flag new → PrefixFree (flag_in Any) × ReadsValue (flag_in Any) old flag new
+flag_field {old = old} {new = new} {flag = flag} le read = (PrefixFree-flag Any, such_read IsFlag IsUnsigned old new flag (omega (arith, le)) read)
 
 pub other_flag : {flag : ℕ} → 1 < flag → ¬ IsFlag flag
 other_flag large lt = omega (arith, lt, large)
 
--- ---- the front
+-- ---- the head
 
 pub magic_refused : {old new : Script} {why : Why} → Fails IsMagic MagicMay old why new → ReadsHead old (Err (record { at = 0; why = why })) new
 magic_refused f = inl (record { at = refl; fails = f })
@@ -184,6 +184,6 @@ start_refused {old = old} {mid = mid} {new = new} read f = inr (record { at = re
 pub front_read : {old mid new : Script} {head : Head} {v : Unit {0}} → ReadsValue IsMagic old v mid → ReadsValue (start_in Any) mid head new → ReadsValue (head_in Any) old head new
 front_read {old = old} {mid = mid} {new = new} {head = head} {v = v} read rest = record {
   bytes = read.bytes ++ rest.bytes;
-  takes = Takes-then old mid new read.bytes rest.bytes read.takes rest.takes;
+  takes = Consumed-then old mid new read.bytes rest.bytes read.takes rest.takes;
   spelled = record { from = (tt, head); is = refl; spelled = record { front = read.bytes; back = rest.bytes; first = read.spelled; second = rest.spelled; joined = refl } };
 }

@@ -3,12 +3,12 @@ use Rattle.std.proofs.Common.{◌≡◌, ◌≢◌, ℕ, ◌+◌, ◌<◌, List,
 use Rattle.std.proofs.lemmas.List.{append-nil, append_cancel_left, length-append}
 use Rattle.oas_num.specs.declared.refusals.Why.{Why}
 use Rattle.oas_num.specs.declared.refusals.Why.TheVariants.{Magic, Truncated, Read, InputTooLong}
-use Rattle.oas_num.specs.Script.{Script, Takes}
+use Rattle.oas_num.specs.Script.{Script, Consumed}
 use Rattle.oas_num.specs.Grammar.{IsByte}
 use Rattle.oas_num.specs.Texts.{IsOf}
 use Rattle.oas_num.specs.Begun.{Begins}
 use Rattle.oas_num.specs.Reading.{ReadsValue, Fails, FailsPiece, ByteMay}
-use Rattle.oas_num.proofs.ReadLemmas.{Takes-none, Takes-then, Wants, Fails-after}
+use Rattle.oas_num.proofs.ReadLemmas.{Consumed-none, Consumed-then, Wants, Fails-after}
 use Rattle.oas_record.specs.Heads.{magic, IsMagic, MagicMay}
 use Rattle.oas_num.specs.Laws.BegunLaws.{Begins-none, HasSome-exactly}
 
@@ -20,16 +20,16 @@ MagicMay-byte Read last h = h
 MagicMay-byte InputTooLong last h = h
 MagicMay-byte _ last h = absurd h
 
--- so much of it was read
+-- this much of it was read
 pub record Matched (old now : Script) (count : ℕ) : Type 0 where
   pub front : List ℕ
   pub rest : List ℕ
   pub is_magic : magic ≡ front ++ rest
   pub len : length front ≡ count
-  pub takes : Takes old front now
+  pub takes : Consumed old front now
 
 pub matched_none : (s : Script) → Matched s s 0
-matched_none s = record { front = []; rest = magic; is_magic = refl; len = refl; takes = Takes-none s }
+matched_none s = record { front = []; rest = magic; is_magic = refl; len = refl; takes = Consumed-none s }
 
 magic_small : IsOf (λ b. b < 256) magic
 magic_small = (
@@ -50,7 +50,7 @@ rest_of_class : (class : ℕ → Type 0) (front rest : List ℕ) → IsOf class 
 rest_of_class class [] rest h = h
 rest_of_class class (b ∷ front) rest h = rest_of_class class front rest h.1
 
--- what follows the front
+-- what follows the prefix
 at_length : (front rest : List ℕ) (w : ℕ) → get_or (front ++ w ∷ rest) (length front) 0 ≡ w
 at_length [] rest w = refl
 at_length (b ∷ front) rest w = at_length front rest w
@@ -64,7 +64,7 @@ magic_wants front rest w is = record {
       (w, w ∷ [], rest ++ r, record { only = refl; small = small.0 }, same);
 }
 
--- one more byte is wanted
+-- one more byte is needed
 some_left : (front rest : List ℕ) (count : ℕ) → magic ≡ front ++ rest → length front ≡ count → count < 13 → (w : ℕ) × (more : List ℕ) × (rest ≡ w ∷ more)
 some_left front [] count is len lt = let l : 13 ≡ length (front ++ []) = ap length is in absurd (omega (arith, l, len, lt, length-append front []))
 some_left front (w ∷ more) count is len lt = (w, more, refl)
@@ -87,7 +87,7 @@ module _ (old mid new : Script) (count : ℕ) (lt : count < 13) (m : Matched old
         rest = left.1;
         is_magic = is ∙ ap (λ (c : ℕ). m.front ++ c ∷ left.1) (sym w) ∙ sym (append_assoc m.front (byte ∷ []) left.1);
         len = omega (arith, length-append m.front (byte ∷ []), m.len);
-        takes = let only = read.spelled.only in Takes-then old mid new m.front (byte ∷ []) m.takes (rw only at read.takes);
+        takes = let only = read.spelled.only in Consumed-then old mid new m.front (byte ∷ []) m.takes (rw only at read.takes);
       }
 
   pub magic_wrong : (byte : ℕ) → byte ≢ get_or magic count 0 → ReadsValue IsByte mid byte new → Fails IsMagic MagicMay old Magic new
@@ -99,7 +99,7 @@ module _ (old mid new : Script) (count : ℕ) (lt : count < 13) (m : Matched old
       let only = read.spelled.only in
       record {
         bytes = m.front ++ byte ∷ [];
-        takes = Takes-then old mid new m.front (byte ∷ []) m.takes (rw only at read.takes);
+        takes = Consumed-then old mid new m.front (byte ∷ []) m.takes (rw only at read.takes);
         reason = record {
           front = [];
           last = m.front ++ byte ∷ [];

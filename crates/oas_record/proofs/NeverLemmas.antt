@@ -1,4 +1,4 @@
--- No read is refused for a fault of writing.
+-- No read fails with a fault of writing.
 use Rattle.std.proofs.Common.{◌≡◌, ℕ, Bool, List, inl, inr}
 use Rattle.std.specs.Prelude.{◌==◌}
 use Rattle.oas_num.specs.declared.refusals.Why.TheVariants.{Write, OffsetFlag, Version, Unit as UnitIsRefused, OutOfPlace}

@@ -1,4 +1,4 @@
--- Which reasons the tables leave: of an id that no record has, and of an info byte.
+-- Which reasons the tables leave: for an id that no record has, and for an info byte.
 use Rattle.std.proofs.Common.{◌≡◌, ◌≢◌, ℕ, ◌+◌, ◌*◌, ◌%◌, ◌^◌, ◌<◌, suc, Bool, List, [], ◌∷◌, ◌++◌, length, inl, inr, refl, sym, ap, subst, ◌∙◌, arith}
 use Rattle.std.proofs.lemmas.List.{length-append, append-nil}
 use Rattle.std.proofs.Math.Nat.{pow-suc}
@@ -6,12 +6,12 @@ use Rattle.oas_num.specs.declared.refusals.Why.{Why}
 use Rattle.oas_num.specs.declared.refusals.Why.TheVariants.{Truncated, IntegerRange, OutOfPlace, InfoByte, Read, InputTooLong}
 use Rattle.oas_num.specs.Laws.GrammarLaws.{after_same}
 use Rattle.oas_num.specs.Integers.{IsClosed, IsUnsigned, value_of}
-use Rattle.oas_num.specs.Laws.IntegerLaws.{open_front, OneFront-IsUnsigned}
+use Rattle.oas_num.specs.Laws.IntegerLaws.{open_prefix, PrefixFree-IsUnsigned}
 use Rattle.oas_num.specs.Reading.{ByteMay, IntegerMay, IsUnended, IsOutOfRange}
 use Rattle.oas_record.specs.Heads.{StartTook}
 use Rattle.oas_record.specs.Circles.{IsCircleInfo, CircleTook}
-use Rattle.oas_record.specs.Refusals.{IsKnown, IsRefusedId, AfterTook, RecordTook}
-use Rattle.oas_record.proofs.IdLemmas.{either_id}
+use Rattle.oas_record.specs.Refusals.{is_known, IsKnown, IsRefusedId, AfterTook, RecordTook}
+use Rattle.oas_record.proofs.IdLemmas.{after_known}
 use Rattle.oas_record.proofs.RecordLemmas.{refused_unknown}
 
 value_of-push : (front : List ℕ) (b : ℕ) → value_of (front ++ b ∷ []) ≡ value_of front + b % 128 * 128 ^ length front
@@ -43,13 +43,13 @@ tenth front (d ∷ q) r more b n len above h s e =
 
 not_unended : (n : ℕ) (front rest : List ℕ) → IsUnsigned n front → IsUnended (front ++ rest) → ⊥
 not_unended n front rest s h =
-    let m = open_front (front ++ rest) front rest [] h.open_front s.closed (sym (append-nil (front ++ rest))) in
+    let m = open_prefix (front ++ rest) front rest [] h.open_prefix s.closed (sym (append-nil (front ++ rest))) in
     let l : length front ≡ length ((front ++ rest) ++ m.0) = ap length m.1 in
     omega (arith, l, length-append (front ++ rest) m.0, length-append front rest, closed_long m.0 m.2)
 
 not_out_of_range : (n : ℕ) (front rest : List ℕ) → IsUnsigned n front → IsOutOfRange (front ++ rest) → ⊥
 not_out_of_range n front rest s h =
-    let m = open_front h.front front rest (h.tenth ∷ []) h.open_front s.closed h.joined in
+    let m = open_prefix h.front front rest (h.tenth ∷ []) h.open_prefix s.closed h.joined in
     tenth h.front m.0 rest [] h.tenth n h.nine h.above m.2 (rw m.1 at s) m.3
 
 pub number_front : (why : Why) (n : ℕ) (front rest : List ℕ) → IsUnsigned n front → IntegerMay why (front ++ rest) → ⊥
@@ -66,110 +66,39 @@ whole_number why n bytes s h = number_front why n bytes [] s (subst (IntegerMay 
 
 pub first_other : (id : ℕ) (bytes : List ℕ) (why : Why) → IsUnsigned id bytes → id ≢ 1 → StartTook why bytes → why ≡ OutOfPlace id
 first_other id bytes why s isnt (inl (inl h)) = absurd (whole_number why id bytes s h)
-first_other id bytes why s isnt (inl (inr h)) = let one = OneFront-IsUnsigned.one h.0 id bytes bytes [] [] h.1 s refl in h.2.0 ∙ ap OutOfPlace one.1
+first_other id bytes why s isnt (inl (inr h)) = let one = PrefixFree-IsUnsigned.one h.0 id bytes bytes [] [] h.1 s refl in h.2.0 ∙ ap OutOfPlace one.1
 first_other id bytes why s isnt (inr b) =
-    let one = OneFront-IsUnsigned.one b.value id b.front bytes b.last [] b.spelled.spelled s (sym b.joined ∙ sym (append-nil bytes)) in
+    let one = PrefixFree-IsUnsigned.one b.value id b.front bytes b.last [] b.spelled.spelled s (sym b.joined ∙ sym (append-nil bytes)) in
     absurd (isnt (sym one.1 ∙ b.spelled.holds))
 
 -- ---- a record
 
-after_known : (in_end : Bool) (id : ℕ) (why : Why) (bytes : List ℕ) → AfterTook in_end id why bytes → IsKnown id
-after_known in_end id why bytes h =
-    elim (either_id id 0 _ _ why bytes h) [
-      | inl p ↦ absurd p.1
-      | inr r ↦
-          elim (either_id id 2 _ _ why bytes r) [
-            | inl p ↦ inr (inl (omega (arith, p.0), omega (arith, p.0)))
-            | inr r ↦
-                elim (either_id id 3 _ _ why bytes r) [
-                  | inl p ↦ inr (inl (omega (arith, p.0), omega (arith, p.0)))
-                  | inr r ↦
-                      elim (either_id id 4 _ _ why bytes r) [
-                        | inl p ↦ inr (inl (omega (arith, p.0), omega (arith, p.0)))
-                        | inr r ↦
-                            elim (either_id id 5 _ _ why bytes r) [
-                              | inl p ↦ inr (inl (omega (arith, p.0), omega (arith, p.0)))
-                              | inr r ↦
-                                  elim (either_id id 6 _ _ why bytes r) [
-                                    | inl p ↦ inr (inl (omega (arith, p.0), omega (arith, p.0)))
-                                    | inr r ↦
-                                        elim (either_id id 13 _ _ why bytes r) [
-                                          | inl p ↦ inr (inr (inl (omega (arith, p.0), omega (arith, p.0))))
-                                          | inr r ↦
-                                              elim (either_id id 14 _ _ why bytes r) [
-                                                | inl p ↦ inr (inr (inl (omega (arith, p.0), omega (arith, p.0))))
-                                                | inr r ↦
-                                                    elim (either_id id 15 _ _ why bytes r) [
-                                                      | inl p ↦ absurd p.1
-                                                      | inr r ↦
-                                                          elim (either_id id 16 _ _ why bytes r) [
-                                                            | inl p ↦ absurd p.1
-                                                            | inr r ↦
-                                                                elim (either_id id 17 _ _ why bytes r) [
-                                                                  | inl p ↦ inr (inr (inl (omega (arith, p.0), omega (arith, p.0))))
-                                                                  | inr r ↦
-                                                                      elim (either_id id 18 _ _ why bytes r) [
-                                                                        | inl p ↦ inr (inr (inl (omega (arith, p.0), omega (arith, p.0))))
-                                                                        | inr r ↦
-                                                                            elim (either_id id 19 _ _ why bytes r) [
-                                                                              | inl p ↦ inr (inr (inl (omega (arith, p.0), omega (arith, p.0))))
-                                                                              | inr r ↦
-                                                                                  elim (either_id id 20 _ _ why bytes r) [
-                                                                                    | inl p ↦ inr (inr (inl (omega (arith, p.0), omega (arith, p.0))))
-                                                                                    | inr r ↦
-                                                                                        elim (either_id id 21 _ _ why bytes r) [
-                                                                                          | inl p ↦ inr (inr (inl (omega (arith, p.0), omega (arith, p.0))))
-                                                                                          | inr r ↦
-                                                                                              elim (either_id id 22 _ _ why bytes r) [
-                                                                                                | inl p ↦ inr (inr (inl (omega (arith, p.0), omega (arith, p.0))))
-                                                                                                | inr r ↦
-                                                                                                    elim (either_id id 27 _ _ why bytes r) [
-                                                                                                      | inl p ↦ inr (inr (inr p.0))
-                                                                                                      | inr r ↦
-                                                                                                          absurd r
-                                                                                                    ]
-                                                                                              ]
-                                                                                        ]
-                                                                                  ]
-                                                                            ]
-                                                                      ]
-                                                                ]
-                                                          ]
-                                                    ]
-                                              ]
-                                        ]
-                                  ]
-                            ]
-                      ]
-                ]
-          ]
-    ]
-
 -- an id that no record has is refused as such
 pub id_reason : (in_end : Bool) (id : ℕ) (bytes : List ℕ) (why : Why) → IsUnsigned id bytes → ¬ IsKnown id → RecordTook in_end why bytes → IsRefusedId id why
+unfolding is_known
 id_reason in_end id bytes why s isnt (inl (inl (inl h))) = absurd (whole_number why id bytes s h)
-id_reason in_end id bytes why s isnt (inl (inl (inr h))) = let one = OneFront-IsUnsigned.one h.0 id bytes bytes [] [] h.1 s refl in subst (λ k. IsRefusedId k why) one.1 h.2
+id_reason in_end id bytes why s isnt (inl (inl (inr h))) = let one = PrefixFree-IsUnsigned.one h.0 id bytes bytes [] [] h.1 s refl in subst (λ k. IsRefusedId k why) one.1 h.2
 id_reason in_end id bytes why s isnt (inl (inr b)) =
-    let one = OneFront-IsUnsigned.one b.value id b.front bytes b.last [] b.spelled s (sym b.joined ∙ sym (append-nil bytes)) in
+    let one = PrefixFree-IsUnsigned.one b.value id b.front bytes b.last [] b.spelled s (sym b.joined ∙ sym (append-nil bytes)) in
     absurd (isnt (subst IsKnown one.1 (after_known in_end b.value why b.last b.holds)))
 id_reason in_end id bytes why s isnt (inr e) =
     let w = e.1 in
-    let one = OneFront-IsUnsigned.one 2 id w.id bytes w.back [] w.is_end s (sym w.joined ∙ sym (append-nil bytes)) in
-    absurd (isnt (subst IsKnown one.1 (inr (inl (omega arith, omega arith)))))
+    let one = PrefixFree-IsUnsigned.one 2 id w.id bytes w.back [] w.is_end s (sym w.joined ∙ sym (append-nil bytes)) in
+    absurd (isnt (subst IsKnown one.1 refl))
 
--- behind the id of a record it is what follows that goes wrong
+-- after the id of a record it is what follows that goes wrong
 pub behind_id : (in_end : Bool) (id : ℕ) (front rest : List ℕ) (why : Why) → IsUnsigned id front → IsKnown id → id ≢ 2 → RecordTook in_end why (front ++ rest) → AfterTook in_end id why rest
 behind_id in_end id front rest why s known isnt (inl (inl (inl h))) = absurd (number_front why id front rest s h)
 behind_id in_end id front rest why s known isnt (inl (inl (inr h))) =
-    let one = OneFront-IsUnsigned.one h.0 id (front ++ rest) front [] rest h.1 s (append-nil (front ++ rest)) in
+    let one = PrefixFree-IsUnsigned.one h.0 id (front ++ rest) front [] rest h.1 s (append-nil (front ++ rest)) in
     absurd ((refused_unknown h.0 why h.2).0 (subst IsKnown (sym one.1) known))
 behind_id in_end id front rest why s known isnt (inl (inr b)) =
-    let one = OneFront-IsUnsigned.one b.value id b.front front b.last rest b.spelled s (sym b.joined) in
+    let one = PrefixFree-IsUnsigned.one b.value id b.front front b.last rest b.spelled s (sym b.joined) in
     let same : b.last ≡ rest = after_same b.front front b.last rest one.0 (sym b.joined) in
     subst (λ c. AfterTook in_end id why c) same (subst (λ k. AfterTook in_end k why b.last) one.1 b.holds)
 behind_id in_end id front rest why s known isnt (inr e) =
     let w = e.1 in
-    let one = OneFront-IsUnsigned.one 2 id w.id front w.back rest w.is_end s (sym w.joined) in
+    let one = PrefixFree-IsUnsigned.one 2 id w.id front w.back rest w.is_end s (sym w.joined) in
     absurd (isnt (sym one.1))
 
 -- ---- a circle
@@ -189,4 +118,5 @@ circle_info info why isnt (inr b) =
     absurd (isnt (subst IsCircleInfo head b.spelled.holds))
 
 pub circle_reason : (in_end : Bool) (front : List ℕ) (info : ℕ) (why : Why) → IsUnsigned 27 front → ¬ IsCircleInfo info → RecordTook in_end why (front ++ info ∷ []) → why ≡ InfoByte
-circle_reason in_end front info why s isnt h = circle_info info why isnt (behind_id in_end 27 front (info ∷ []) why s (inr (inr (inr refl))) (λ e. omega (arith, e)) h)
+unfolding is_known
+circle_reason in_end front info why s isnt h = circle_info info why isnt (behind_id in_end 27 front (info ∷ []) why s refl (λ e. omega (arith, e)) h)

@@ -5,25 +5,25 @@ use Rattle.oas_num.specs.declared.refusals.Why.TheVariants.{Truncated, RecordLef
 use Rattle.oas_num.specs.Script.{Script}
 use Rattle.oas_num.specs.Laws.GrammarLaws.{after_same}
 use Rattle.oas_num.specs.Integers.{IsUnsigned}
-use Rattle.oas_num.specs.Laws.IntegerLaws.{OneFront-IsUnsigned}
+use Rattle.oas_num.specs.Laws.IntegerLaws.{PrefixFree-IsUnsigned}
 use Rattle.oas_num.specs.Begun.{HasSome}
 use Rattle.oas_num.specs.Laws.BegunLaws.{HasSome-image}
 use Rattle.oas_num.specs.Style.{Any}
 use Rattle.oas_num.specs.Reading.{is_format, ReadsPiece, ReadsValue, FailsPiece, IntegerMay}
-use Rattle.oas_num.proofs.ReadLemmas.{Takes-none, Wants}
-use Rattle.oas_num.proofs.MidwayLemmas.{Midway, begins, uncut}
+use Rattle.oas_num.proofs.ReadLemmas.{Consumed-none, Wants}
+use Rattle.oas_num.proofs.MidwayLemmas.{image_fails, Midway, begins, uncut}
 use Rattle.oas_num.proofs.GrammarLemmas.{key_read, is_read}
 use Rattle.oas_record.specs.declared.records.Record.{Record}
 use Rattle.oas_record.specs.declared.records.Record.TheVariants as record_of
 use Rattle.oas_record.specs.Ends.{end_in, EndTook, end_kind}
 use Rattle.oas_record.specs.Records.{id_of, end, after_id, parts_in, record_in}
-use Rattle.oas_record.specs.Laws.RecordLaws.{OneFront-parts}
+use Rattle.oas_record.specs.Laws.RecordLaws.{PrefixFree-parts}
 use Rattle.oas_record.proofs.SomeLemmas.{HasSome-parts}
 use Rattle.oas_record.specs.Refusals.{AfterTook, RecordTook, IsKnown, IsRefusedId, RefusesId, IsWrongEnd}
 use Rattle.oas_num.proofs.PieceLemmas.{fails_behind}
 use Rattle.oas_num.proofs.HalfwayLemmas.{by_format}
 use Rattle.oas_record.proofs.IdLemmas.{id_after, known_id, left_out_unknown, large_unknown, one_unknown}
-use Rattle.oas_record.proofs.AfterLemmas.{fails_2, read_2}
+use Rattle.oas_record.proofs.AfterLemmas.{fails_at, read_at, kind_read}
 
 -- ---- the id
 
@@ -36,11 +36,11 @@ record_wants : (in_end : Bool) → Wants (record_in Any in_end) [] IsUnsigned
 record_wants in_end = record { wants = λ v p r rest s e. let b = s.parts in (id_of v, b.front, b.back ++ r, b.first, id_joined in_end v p r rest b e) }
 
 pub id_fails : {old new : Script} {why : Why} (in_end : Bool) → FailsPiece IsUnsigned IntegerMay old why new → FailsPiece (record_in Any in_end) (RecordTook in_end) old why new
-id_fails {old = old} in_end f = fails_behind (record_in Any in_end) IsUnsigned [] (λ _ h. inl (inl (inl h))) (Takes-none old) (record_wants in_end) f
+id_fails {old = old} in_end f = fails_behind (record_in Any in_end) IsUnsigned [] (λ _ h. inl (inl (inl h))) (Consumed-none old) (record_wants in_end) f
 
 with_id : {old new : Script} {id : ℕ} (in_end : Bool) → HasSome (after_id Any in_end id) → ReadsValue IsUnsigned old id new → Midway (parts_in Any in_end) (after_id Any in_end id) (λ v. v) old new
 with_id {old = old} {new = new} {id = id} in_end some read = key_read (parts_in Any in_end) id_of IsUnsigned (after_id Any in_end) (λ v. v) old old
-    new id OneFront-IsUnsigned (id_after in_end id) some (begins (parts_in Any in_end) (HasSome-parts in_end) old) read
+    new id PrefixFree-IsUnsigned (id_after in_end id) some (begins (parts_in Any in_end) (HasSome-parts in_end) old) read
 
 -- no record has an id that is refused
 pub refused_unknown : (id : ℕ) (why : Why) → IsRefusedId id why → (¬ IsKnown id) × IsTrue (is_format why)
@@ -60,7 +60,7 @@ refused_by_id {id = id} {why = why} in_end h read =
       format = λ _. record {
         none = λ v p r more s e.
             let b = s.parts in
-            let one = OneFront-IsUnsigned.one (id_of v) id b.front read.bytes (b.back ++ r) more b.first read.spelled (id_joined in_end v p r (read.bytes ++ more) b e) in
+            let one = PrefixFree-IsUnsigned.one (id_of v) id b.front read.bytes (b.back ++ r) more b.first read.spelled (id_joined in_end v p r (read.bytes ++ more) b e) in
             isnt.0 (subst IsKnown one.1 (known_id v));
       };
       cut = λ is. absurd (uncut why (by_format Truncated isnt.1 (λ g. cc)) (by_format Read isnt.1 (λ g. cc)) (by_format InputTooLong isnt.1 (λ g. cc)) is);
@@ -76,7 +76,7 @@ after_wants {id = id} in_end read = record {
   wants = λ v p r rest s e.
       let b = s.parts in
       let joined = id_joined in_end v p r (read.bytes ++ rest) b e in
-      let one = OneFront-IsUnsigned.one (id_of v) id b.front read.bytes (b.back ++ r) rest b.first read.spelled joined in
+      let one = PrefixFree-IsUnsigned.one (id_of v) id b.front read.bytes (b.back ++ r) rest b.first read.spelled joined in
       (v, b.back, r, subst (λ k. after_id Any in_end k v b.back) one.1 b.second, after_same b.front read.bytes (b.back ++ r) rest one.0 joined);
 }
 
@@ -115,11 +115,11 @@ with_end {id = id} in_end is read = with_id in_end (subst (λ k. HasSome (after_
 
 pub end_fails : {old mid new : Script} {id : ℕ} {why : Why} (in_end : Bool) → id ≡ 2 → ReadsValue IsUnsigned old id mid
     → FailsPiece (end_in Any in_end) (EndTook in_end) mid why new → FailsPiece (record_in Any in_end) (RecordTook in_end) old why new
-end_fails {id = id} in_end is read f = after_fails in_end read (fails_2 in_end id is f)
+end_fails {id = id} in_end is read f = after_fails in_end read (fails_at in_end id 2 is (image_fails end f))
 
 pub end_parts_read : {old mid new : Script} {id : ℕ} {v : Unit {0}} (in_end : Bool) → id ≡ 2 → ReadsValue IsUnsigned old id mid
     → ReadsValue (end_in Any in_end) mid v new → ReadsValue (parts_in Any in_end) old record_of.End new
-end_parts_read {id = id} {v = v} in_end is read rest = is_read (with_end in_end is read) (read_2 in_end id v is rest)
+end_parts_read {id = id} {v = v} in_end is read rest = is_read (with_end in_end is read) (read_at in_end id 2 is (kind_read end rest))
 
 wrong_end : (in_end : Bool) (bytes : List ℕ) → parts_in Any in_end record_of.End bytes → length bytes ≢ 256 → IsWrongEnd in_end bytes
 wrong_end in_end bytes p wrong = record { id = p.front; back = p.back; is_end = p.first; parts = p.second.spelled; joined = p.joined; wrong = wrong }
@@ -134,7 +134,7 @@ end_refused {old = old} {new = new} in_end wrong read =
       reason = record { front = []; last = read.bytes; joined = refl; begun = refl; holds = inr (refl, wrong_end in_end read.bytes read.spelled long) };
       format = λ _. record {
         none = λ v p rest more s same.
-            let one = (OneFront-parts Any in_end).one v record_of.End p read.bytes rest more s.parts read.spelled same in
+            let one = (PrefixFree-parts Any in_end).one v record_of.End p read.bytes rest more s.parts read.spelled same in
             long (sym (ap length one.0) ∙ s.whole one.1);
       };
       cut = λ is. absurd cc;

@@ -1,5 +1,5 @@
--- There is a front of a file, and a record of each id.
-use Rattle.std.proofs.Common.{◌≡◌, ◌≢◌, ℕ, ◌<◌, ◌^◌, Bool, true, false, List, [], ◌∷◌, ◌++◌, replicate, length, Some, None, inl, inr, refl, sym, ap, subst, ◌∙◌, arith}
+-- There is a prefix of a file, and a record of each id.
+use Rattle.std.proofs.Common.{◌≡◌, ◌≢◌, ℕ, ◌<◌, ◌^◌, Bool, true, false, List, [], ◌∷◌, ◌++◌, replicate, Some, None, inl, inr, refl, sym, ap, subst, ◌∙◌, arith}
 use Rattle.std.specs.Prelude.{◌==◌}
 use Rattle.std.proofs.lemmas.Nat.Gcd.{dvd_refl}
 use Rattle.std.proofs.lemmas.Bool.{eq-eqb}
@@ -15,32 +15,23 @@ use Rattle.oas_num.specs.Writing.{shortest}
 use Rattle.oas_num.specs.Style.{Any}
 use Rattle.oas_num.specs.Laws.StyleLaws.{unsigned_spelled}
 use Rattle.oas_num.specs.Laws.TextLaws.{IsWithin-label, label_spelled}
-use Rattle.oas_record.specs.declared.records.Record.{Record}
 use Rattle.oas_record.specs.declared.records.Record.TheVariants as record_of
-use Rattle.oas_record.specs.Trees.{exactly, image_any}
-use Rattle.oas_record.specs.References.{cell_kind}
-use Rattle.oas_record.specs.NameRecords.{cell_name_kind, text_string_kind}
-use Rattle.oas_record.specs.Placements.{quarters_kind, degrees_kind}
-use Rattle.oas_record.specs.Texts.{text_kind}
-use Rattle.oas_record.specs.Rectangles.{rectangle_kind}
-use Rattle.oas_record.specs.Polygons.{polygon_kind}
-use Rattle.oas_record.specs.Paths.{path_kind}
-use Rattle.oas_record.specs.Circles.{circle_kind}
-use Rattle.oas_record.specs.Ends.{nothing, offsets_part, zeros, zero_group, end_bytes, end_kind, end_parts}
+use Rattle.oas_record.specs.Trees.{Row, by_table, has_row}
+use Rattle.oas_record.specs.Ends.{offsets_part, zeros, zero_group, end_bytes, end_kind, end_parts}
 use Rattle.oas_record.specs.Heads.{magic, IsMagic, version, version_in, SpellsUnit, IsFlag, flag_in, twelve_zeros, offsets_in, start_parts, head_of, start_in, head_after, head_in}
 use Rattle.oas_record.specs.Laws.HeadLaws.{offsets_within, itself}
-use Rattle.oas_record.specs.Records.{id_of, pad, end, xy_absolute, xy_relative, cell_name, text_string, a_cell, placement, text, rectangle, polygon, path, circle, after_id, parts_in, record_in}
-use Rattle.oas_record.specs.Refusals.{IsKnown, HasRecord}
-use Rattle.oas_record.proofs.IdLemmas.{id_after}
+use Rattle.oas_record.specs.Records.{id_of, table, after_id, parts_in}
+use Rattle.oas_record.specs.Refusals.{is_known, IsKnown, HasRecord}
+use Rattle.oas_record.proofs.IdLemmas.{id_after, other_row, known_within}
 
 one_one : IsUnsigned 1 (1 ∷ [])
 one_one = record { closed = inl (omega arith, refl); short = omega arith; value = omega arith; fits = omega arith }
 
--- a number of which that holds, as it does of 0
+-- a number for which that holds, as it does for 0
 zero_such : (P : ℕ → Type 0) → P 0 → HasSome (IsSuch P IsUnsigned)
 zero_such P holds = record { value = 0; bytes = 0 ∷ []; spelled = record { holds = holds; spelled = zero_spelled } }
 
--- ---- the front of a file
+-- ---- the head of a file
 
 pub HasSome-magic : HasSome IsMagic
 HasSome-magic = HasSome-exactly magic
@@ -113,40 +104,13 @@ either_some id n A B false is first rest = let some = rest (λ e. let same = eq-
 by_id : {V : Type 0} {A B : V → List ℕ → Type 0} (id n : ℕ) → HasSome A → (id ≢ n → HasSome B) → HasSome (IsEither (id == n) A B)
 by_id {A = A} {B = B} id n first rest = either_some id n A B (id == n) refl first rest
 
--- a known id is one of these
-none_other : (id : ℕ) → IsKnown id → id ≢ 0 → id ≢ 2 → id ≢ 3 → id ≢ 4 → id ≢ 5 → id ≢ 6 → id ≢ 13 → id ≢ 14 → id ≢ 15 → id ≢ 16 → id ≢ 17 → id ≢ 18
-    → id ≢ 19 → id ≢ 20 → id ≢ 21 → id ≢ 22 → id ≢ 27 → ⊥
-none_other id known a b c d e f g h i j k l m n o p q =
-    elim known [
-      | inl is ↦ a is
-      | inr r ↦ elim r [
-        | inl is ↦ omega (arith, is.0, is.1, b, c, d, e, f)
-        | inr r ↦ elim r [ inl is ↦ omega (arith, is.0, is.1, g, h, i, j, k, l, m, n, o, p) | inr is ↦ q is ]
-      ]
-    ]
+some_by : {V : Type 0} (id : ℕ) (rows : List (Row V)) → has_row id rows ≡ true → HasSome (by_table id rows).any
+some_by id [] known = absurd cc
+some_by id (r ∷ rows) known = by_id id r.number r.kind.some (λ isnt. some_by id rows (other_row id r.number (has_row id rows) isnt known))
 
 after_some : (in_end : Bool) (id : ℕ) → IsKnown id → HasSome (after_id Any in_end id)
-after_some in_end id known =
-    by_id id 0 (HasSome-image pad _ (exactly []).some) (λ a.
-    by_id id 2 (HasSome-image end _ (end_kind in_end).some) (λ b.
-    by_id id 3 (HasSome-image cell_name _ (cell_name_kind false).some) (λ c.
-    by_id id 4 (HasSome-image cell_name _ (cell_name_kind true).some) (λ d.
-    by_id id 5 (HasSome-image text_string _ (text_string_kind false).some) (λ e.
-    by_id id 6 (HasSome-image text_string _ (text_string_kind true).some) (λ f.
-    by_id id 13 (HasSome-image a_cell _ (cell_kind true).some) (λ g.
-    by_id id 14 (HasSome-image a_cell _ (cell_kind false).some) (λ h.
-    by_id id 15 (HasSome-image xy_absolute _ (exactly []).some) (λ i.
-    by_id id 16 (HasSome-image xy_relative _ (exactly []).some) (λ j.
-    by_id id 17 (HasSome-image placement _ quarters_kind.some) (λ k.
-    by_id id 18 (HasSome-image placement _ degrees_kind.some) (λ l.
-    by_id id 19 (HasSome-image text _ text_kind.some) (λ m.
-    by_id id 20 (HasSome-image rectangle _ rectangle_kind.some) (λ n.
-    by_id id 21 (HasSome-image polygon _ polygon_kind.some) (λ o.
-    by_id id 22 (HasSome-image path _ path_kind.some) (λ p.
-    by_id id 27 (HasSome-image circle _ circle_kind.some) (λ q.
-    absurd (none_other id known a b c d e f g h i j k l m n o p q))))))))))))))))))
-
--- ---- a record of each id
+unfolding is_known
+after_some in_end id known = some_by id (table in_end) known
 
 two_spelled : IsUnsigned 2 (2 ∷ [])
 two_spelled = record { closed = inl (omega arith, refl); short = omega arith; value = omega arith; fits = omega arith }
@@ -212,10 +176,7 @@ end_record true =
     )
 
 known_small : (id : ℕ) → IsKnown id → id < 2 ^ 64
-known_small id known = elim known [
-  | inl is ↦ omega (arith, is)
-  | inr r ↦ elim r [ inl is ↦ omega (arith, is.1) | inr r ↦ elim r [ inl is ↦ omega (arith, is.1) | inr is ↦ omega (arith, is) ] ]
-]
+known_small id known = omega (arith, (known_within id known).1)
 
 inner_record : (in_end : Bool) (id : ℕ) → id ≢ 2 → id < 2 ^ 64 → HasSome (after_id Any in_end id) → HasRecord in_end id
 inner_record in_end id isnt small some =

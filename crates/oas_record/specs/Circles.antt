@@ -48,6 +48,6 @@ circle_kind =
 abbrev pub circle_in : Style → Circle → List ℕ → Type 0
 circle_in style = spelled_in style circle_kind
 
--- where in it a read of a circle may fail: in its info byte, or in a field that this gives, those before it being whole
+-- where a read of a circle may fail: in its info byte, or in a field that this gives, with those before it whole
 abbrev pub CircleTook : Why → List ℕ → Type 0
 CircleTook = circle_kind.took

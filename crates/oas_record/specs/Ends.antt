@@ -25,11 +25,11 @@ offsets_kind = image_any nothing (items 12 number)
 abbrev pub IsOffsets : Unit {0} → List ℕ → Type 0
 IsOffsets = offsets_kind.any
 
--- where in them a read may fail
+-- where a read of them may fail
 abbrev pub OffsetsTook : Why → List ℕ → Type 0
 OffsetsTook = offsets_kind.took
 
--- the same, where they are there
+-- the same, where there are any
 abbrev pub offsets_part : Bool → Kind (Unit {0})
 offsets_part there = either there offsets_kind (exactly [])
 
@@ -41,7 +41,7 @@ OffsetsIfTook there = (offsets_part there).took
 
 -- ---- END
 
--- a number that is that one
+-- a number that is this one
 abbrev pub IsNumber : ℕ → ℕ → Type 0
 IsNumber wanted n = n ≡ wanted
 
@@ -62,7 +62,7 @@ no_padding = replicate 252 0
 unfoldable pub end_bytes : List ℕ
 end_bytes = (252 ∷ 1 ∷ no_padding) ++ (0 ∷ [])
 
--- table-offsets stand in no canonical END
+-- no canonical END has table-offsets
 abbrev pub shortest_end : Bool → Unit {0} → List ℕ → Type 0
 shortest_end true done bytes = ⊥
 shortest_end false done bytes = bytes ≡ end_bytes
@@ -121,6 +121,6 @@ end_kind in_end = shortest_as (image_any nothing (end_parts in_end)) (shortest_e
 abbrev pub end_in : Style → Bool → Unit {0} → List ℕ → Type 0
 end_in style in_end = spelled_in style (end_kind in_end)
 
--- where in it a read of what follows END's id may fail
+-- where a read of what follows END's id may fail
 abbrev pub EndTook : Bool → Why → List ℕ → Type 0
 EndTook in_end = (end_kind in_end).took

@@ -50,7 +50,7 @@ spot_of fields = record { x = fields.0; y = fields.1.0; repetition = fields.1.1 
 abbrev spot_back : Spot → Option ℤ × (Option ℤ × Option RepField)
 spot_back spot = (spot.x, (spot.y, spot.repetition))
 
--- x, y and repetition, each where it is there
+-- x, y and repetition, each where it is given
 abbrev pub spot : Bool → Bool → Bool → Kind Spot
 spot x y r = image spot_of spot_back (pair (there x signed) (λ _. pair (there y signed) (λ _. there r repetition))) (λ u bytes p. refl)
 

@@ -1,4 +1,4 @@
--- Numbers, strings, point lists and repetitions: whether one stands at the front of some bytes can be settled.
+-- Numbers, strings, point lists and repetitions: it is decidable whether some bytes begin with one.
 use Rattle.std.proofs.Common.{◌≡◌, ℕ, ℤ, ◌<◌, ◌≤◌, ◌^◌, ◌+◌, ◌%◌, Bool, true, false, List, [], ◌∷◌, ◌++◌, length, ◌⊎◌, inl, inr, refl, sym, ap, subst, ◌∙◌, arith}
 use Rattle.std.proofs.lemmas.Bool.{cases_lt}
 use Rattle.std.proofs.lemmas.Int.{ints, by_lt_z}
@@ -7,9 +7,9 @@ use Rattle.std.specs.List.{AllByRecursion}
 use Rattle.oas_num.specs.declared.deltas.Delta1.{Delta1}
 use Rattle.oas_num.specs.declared.deltas.GDelta.{GDelta}
 use Rattle.oas_num.specs.Grammar.{IsPair, IsSuch, IsImage, IsThere, IsCount, IsByte}
-use Rattle.oas_num.specs.Laws.GrammarLaws.{OneFront-byte}
+use Rattle.oas_num.specs.Laws.GrammarLaws.{PrefixFree-byte}
 use Rattle.oas_num.specs.Integers.{IsClosed, value_of, IsUnsigned, IsSigned, signed_of}
-use Rattle.oas_num.specs.Laws.IntegerLaws.{closed_same, OneFront-IsUnsigned}
+use Rattle.oas_num.specs.Laws.IntegerLaws.{closed_same, PrefixFree-IsUnsigned}
 use Rattle.oas_num.specs.Style.{Any}
 use Rattle.oas_num.specs.Texts.{IsBetween, IsText, IsPositive, name_in, label_in, padding_of, padding_length, SpellsPadding}
 use Rattle.oas_num.specs.Reals.{has_num, has_den, IsFraction, real_of, SpellsReal}
@@ -24,7 +24,7 @@ use Rattle.oas_shape.specs.ListUses.{IsFitting}
 use Rattle.oas_shape.specs.PointLists.{IsListKind, alternating, step2, step3, stepg, deltas_in, polyline_of, point_list_in}
 use Rattle.oas_shape.specs.Repetitions.{IsRepetitionKind, AreTwo, matrix_of, columns_of, rows_of, lattice_of, line_of, x_space, y_space, grid_of, listed_of, repetition_by, again}
 use Rattle.oas_shape.specs.Repetitions.{field_by, field_of, rep_field_in}
-use Rattle.oas_record.specs.Found.{NoneStands, Settled, settled_number, settled_both, settled_either, Stands, IsFound, only, found_as, found_such, found_image, found_pair}
+use Rattle.oas_record.specs.Found.{NoneIsSpelled, Settled, settled_number, settled_both, settled_either, Stands, IsFound, only, found_as, found_such, found_image, found_pair}
 use Rattle.oas_record.specs.Found.{found_keyed, found_exactly, found_either, found_there, found_count}
 
 -- ---- orders
@@ -49,7 +49,7 @@ none_in_nil (c ∷ cs) rest p e = cc
 
 module _ (b : ℕ) (bs : List ℕ) (large : 128 ≤ b) where
   -- more groups have to follow
-  unfinished : NoneStands Closed bs → (front rest : List ℕ) → IsClosed front → b ∷ bs ≡ front ++ rest → ⊥
+  unfinished : NoneIsSpelled Closed bs → (front rest : List ℕ) → IsClosed front → b ∷ bs ≡ front ++ rest → ⊥
   unfinished lacks [] rest p e = p
   unfinished lacks (c ∷ cs) rest p e =
       let head : b ≡ c = cc in
@@ -63,7 +63,7 @@ module _ (b : ℕ) (bs : List ℕ) (large : 128 ≤ b) where
       let head : b ≡ c = cc in
       elim p [ inl last ↦ omega (arith, large, head, last.0) | inr more ↦ omega (arith, past, head, more.1) ]
 
-closed_at : (left : List ℕ) → Stands Closed left ⊎ NoneStands Closed left
+closed_at : (left : List ℕ) → Stands Closed left ⊎ NoneIsSpelled Closed left
 closed_at [] = inr (record { none = λ v front rest p e. none_in_nil front rest p e })
 closed_at (b ∷ bs) = elim (cases_lt b 128) [
   | inl small ↦ inl (record { value = tt; front = b ∷ []; rest = bs; spelled = inl (small, refl); joined = refl })
@@ -80,8 +80,8 @@ found_closed : IsFound Closed
 found_closed = record { one = record { one = λ v w a b x y p q e. (closed_same a b x y p q e, refl) }; find = closed_at }
 
 pub found_unsigned : IsFound IsUnsigned
-found_unsigned = record { one = OneFront-IsUnsigned; find = find } where
-  fits : (left : List ℕ) (s : Stands Closed left) → Settled ((length s.front ≤ 10) × (value_of s.front < 2 ^ 64)) → Stands IsUnsigned left ⊎ NoneStands IsUnsigned left
+found_unsigned = record { one = PrefixFree-IsUnsigned; find = find } where
+  fits : (left : List ℕ) (s : Stands Closed left) → Settled ((length s.front ≤ 10) × (value_of s.front < 2 ^ 64)) → Stands IsUnsigned left ⊎ NoneIsSpelled IsUnsigned left
   fits left s (inl both) = inl (record {
     value = value_of s.front;
     front = s.front;
@@ -95,7 +95,7 @@ found_unsigned = record { one = OneFront-IsUnsigned; find = find } where
         not (subst (λ (c : List ℕ). length c ≤ 10) (sym same) p.short, subst (λ (n : ℕ). n < 2 ^ 64) (p.value ∙ ap value_of (sym same)) p.fits);
   })
 
-  find : (left : List ℕ) → Stands IsUnsigned left ⊎ NoneStands IsUnsigned left
+  find : (left : List ℕ) → Stands IsUnsigned left ⊎ NoneIsSpelled IsUnsigned left
   find left = elim (found_closed.find left) [
     | inl s ↦ fits left s (settled_both (settled_upto (length s.front) 10) (settled_below (value_of s.front) (2 ^ 64)))
     | inr lacks ↦ inr (record { none = λ v front rest p e. lacks.none tt front rest p.closed e })
@@ -107,7 +107,7 @@ found_signed = found_image signed_of found_unsigned
 -- ---- strings
 
 pub found_byte : IsFound IsByte
-found_byte = record { one = OneFront-byte; find = find } where
+found_byte = record { one = PrefixFree-byte; find = find } where
   first : (b : ℕ) (bs : List ℕ) (v : ℕ) (front rest : List ℕ) → IsByte v front → b ∷ bs ≡ front ++ rest → b < 256
   first b bs v front rest p e =
       let h : b ∷ bs ≡ v ∷ rest = e ∙ ap (λ (c : List ℕ). c ++ rest) p.only in
@@ -117,7 +117,7 @@ found_byte = record { one = OneFront-byte; find = find } where
   nothing : (v : ℕ) (front rest : List ℕ) → IsByte v front → [] ≡ front ++ rest → ⊥
   nothing v front rest p e = let h : [] ≡ v ∷ rest = e ∙ ap (λ (c : List ℕ). c ++ rest) p.only in cc
 
-  find : (left : List ℕ) → Stands IsByte left ⊎ NoneStands IsByte left
+  find : (left : List ℕ) → Stands IsByte left ⊎ NoneIsSpelled IsByte left
   find [] = inr (record { none = nothing })
   find (b ∷ bs) = elim (settled_below b 256) [
     | inl small ↦ inl (record { value = b; front = b ∷ []; rest = bs; spelled = record { only = refl; small = small }; joined = refl })
@@ -193,7 +193,7 @@ settled_sums (d ∷ ds) = settled_both (by (settled_both (settled_near (2 ^ 62) 
   by (inl both) = inl (record { x = both.0; y = both.1 })
   by (inr not) = inr (λ near. not (near.x, near.y))
 
--- a list of displacements that are so spelled
+-- a list of displacements that are spelled like this
 found_listed : {D : GDelta → List ℕ → Type 0} (has_grid : Bool) → IsFound D
     → IsFound (IsImage listed_of (IsPair IsUnsigned (λ dim. IsPair (IsThere has_grid IsUnsigned)
     (λ grid. IsSuch (AllByRecursion IsPartialSum) (IsImage (offsets_by (grid_of grid)) (IsCount D (dim + 1)))))))

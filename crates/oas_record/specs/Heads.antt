@@ -1,4 +1,4 @@
--- How the front of a file is spelled: the magic and START (SEMI P39, START record).
+-- How the head of a file is spelled: the magic and START (SEMI P39, START record).
 use Rattle.std.specs.Prelude.{◌≡◌, ◌≢◌, ℕ, ◌<◌, ◌==◌, Bool, false, List, [], ◌∷◌, ◌++◌, Result, Ok, Err, ◌⊎◌}
 use Rattle.oas_num.specs.declared.refusals.Why.{Why}
 use Rattle.oas_num.specs.declared.refusals.Why.TheVariants.{Magic, Truncated, Unit as UnitIsRefused, Version, OffsetFlag, OutOfPlace, InputTooLong, Read}
@@ -13,7 +13,7 @@ use Rattle.oas_num.specs.Texts.{IsLabelByte, IsText, label_in}
 use Rattle.oas_num.specs.Reals.{real_in, RealTook}
 use Rattle.oas_num.specs.Pieces.{PairTook, CountTook, SuchTook, Unless}
 use Rattle.oas_num.specs.Reading.{IntegerMay, ClassMay, ReadsValue, Fails, FailsPiece}
-use Rattle.oas_num.specs.Script.{Script, Takes}
+use Rattle.oas_num.specs.Script.{Script, Consumed}
 use Rattle.oas_record.specs.declared.heads.Head.{Head}
 use Rattle.oas_record.specs.Ends.{nothing, IsNumber, offsets_if, OffsetsIfTook}
 
@@ -24,7 +24,7 @@ magic = 0x25 ∷ 0x53 ∷ 0x45 ∷ 0x4D ∷ 0x49 ∷ 0x2D ∷ 0x4F ∷ 0x41 ∷ 
 abbrev pub IsMagic : Unit {0} → List ℕ → Type 0
 IsMagic = IsExactly magic
 
--- so many bytes of an a-string, not kept
+-- this many bytes of an a-string, not kept
 abbrev pub IsPassedLabel : ℕ → Unit {0} → List ℕ → Type 0
 IsPassedLabel count = IsImage nothing (IsText IsLabelByte count)
 
@@ -45,7 +45,7 @@ pub record IsUnit (r : Real) (unit : Ratio) : Type 0 where
   pub positive : r.negative ≡ false
   pub reduces : Reduces r.num r.den unit
 
--- a unit: any real of that value; in the shortest style that in lowest terms
+-- a unit: any real with that value; in the shortest style the one in lowest terms
 pub record SpellsUnit (unit : Ratio) (bytes : List ℕ) : Type 0 where
   pub real : Real
   pub is_unit : IsUnit real unit
@@ -101,7 +101,7 @@ head_after p = p.1
 abbrev pub head_in : Style → Head → List ℕ → Type 0
 head_in style = IsImage head_after (IsPair IsMagic (λ _. start_in style))
 
--- the front of the magic, and then another byte
+-- a prefix of the magic, and then another byte
 pub record IsOffMagic (bytes : List ℕ) : Type 0 where
   pub front : List ℕ
   pub wanted : ℕ
@@ -111,8 +111,8 @@ pub record IsOffMagic (bytes : List ℕ) : Type 0 where
   pub joined : bytes ≡ front ++ byte ∷ []
   pub other : byte ≢ wanted
 
--- Of the magic the table says of each reason what the bytes are that decided: those with which what was read ends. What was
--- read before them begins the magic.
+-- For the magic the table says for each reason what the bytes are that decided: those at the end of what was read. What was
+-- read before them is a prefix of the magic.
 
 -- where a read of the magic may fail
 abbrev pub MagicMay : Why → List ℕ → Type 0
@@ -122,24 +122,24 @@ MagicMay Read last = last ≡ []
 MagicMay InputTooLong last = last ≡ []
 MagicMay _ last = ⊥
 
--- The tables below say of each reason what all bytes are that were taken.
+-- The tables below say for each reason what all the bytes are that were taken.
 
--- where in them a read of so many bytes of an a-string that aren't kept may fail
-abbrev pub PassedTook : ℕ → Why → List ℕ → Type 0
-PassedTook count = CountTook (IsSuch IsLabelByte IsByte) count (ClassMay IsLabelByte)
+-- where a read of this many bytes of an a-string that aren't kept may fail
+abbrev pub SkippedTook : ℕ → Why → List ℕ → Type 0
+SkippedTook count = CountTook (IsSuch IsLabelByte IsByte) count (ClassMay IsLabelByte)
 
--- where in it a read of the version may fail: in the a-string that stands for it, or this is another
+-- where a read of the version may fail: in its a-string, or that is another
 abbrev pub IsVersion : List ℕ → Type 0
 IsVersion text = text ≡ version
 
 abbrev pub VersionTook : Why → List ℕ → Type 0
-VersionTook = SuchTook (label_in Any) (PairTook IsUnsigned IntegerMay PassedTook) (Unless IsVersion Version)
+VersionTook = SuchTook (label_in Any) (PairTook IsUnsigned IntegerMay SkippedTook) (Unless IsVersion Version)
 
--- where in it a read of the unit may fail: in the real, or this isn't positive
+-- where a read of the unit may fail: in the real, or that isn't positive
 abbrev pub UnitTook : Why → List ℕ → Type 0
 UnitTook = SuchTook (real_in Any) RealTook (Unless IsPositiveReal UnitIsRefused)
 
--- where in it a read of START may fail, part by part: its id, the version, the unit, the flag, the table-offsets
+-- where a read of START may fail, part by part: its id, the version, the unit, the flag, the table-offsets
 abbrev pub IsOtherId : ℕ → Why → Type 0
 IsOtherId id why = (why ≡ OutOfPlace id) × (id ≢ 1)
 
@@ -158,14 +158,14 @@ pub record RefusesMagic (old : Script) (refusal : Refusal) (new : Script) : Type
   pub at : refusal.at ≡ 0
   pub fails : Fails IsMagic MagicMay old refusal.why new
 
--- the magic stands, and START is refused, at 13
+-- the magic is there, and START is refused, at 13
 pub record RefusesStart (old : Script) (refusal : Refusal) (new : Script) : Type 0 where
   pub at : refusal.at ≡ 13
   pub mid : Script
-  pub takes : Takes old magic mid
+  pub takes : Consumed old magic mid
   pub fails : FailsPiece (start_in Any) StartTook mid refusal.why new
 
--- What a read of the front of a file does.
+-- What a read of the head of a file does.
 abbrev pub ReadsHead : Script → Result Head Refusal → Script → Type 0
 ReadsHead old (Ok head) new = ReadsValue (head_in Any) old head new
 ReadsHead old (Err refusal) new = RefusesMagic old refusal new ⊎ RefusesStart old refusal new

@@ -11,7 +11,7 @@ use Rattle.oas_num.specs.Pieces.{SuchTook, Unless}
 abbrev pub has : ℕ → ℕ → Bool
 has info weight = not (bit_and info weight == 0)
 
--- an info byte of which that holds, and in the shortest style this too
+-- an info byte that meets this condition, and in the shortest style also that one
 abbrev pub info_in : (ℕ → Type 0) → (ℕ → Type 0) → Style → ℕ → List ℕ → Type 0
 info_in allowed canonical Any = IsSuch allowed IsByte
 info_in allowed canonical Shortest = IsSuch (λ info. allowed info × canonical info) IsByte

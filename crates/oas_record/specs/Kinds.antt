@@ -1,13 +1,13 @@
--- A part of the grammar with all that is known of it: how it is spelled, in any style and in the shortest, where a read of it
--- goes wrong, and its laws. Parts are built from parts (Trees), so a kind of record is one tree.
+-- A part of the grammar with all that is known about it: how it is spelled, in any style and in the shortest, where a read of
+-- it goes wrong, and its laws. Parts are built from parts (Trees), so a kind of record is one tree.
 use Rattle.std.proofs.Common.{ℕ, ℤ, Bool, true, false, inl, inr, List, [], ◌∷◌, refl, arith}
 use Rattle.oas_num.specs.declared.refusals.Why.{Why}
 use Rattle.oas_num.specs.declared.refusals.Why.TheVariants.{Write}
 use Rattle.oas_num.specs.declared.reals.Real.{Real}
 use Rattle.oas_num.specs.declared.padding.Padding.{Padding}
-use Rattle.oas_num.specs.Grammar.{OneFront, IsByte}
+use Rattle.oas_num.specs.Grammar.{PrefixFree, IsByte}
 use Rattle.oas_num.specs.Combinators.{IsNever, OneSpelling, IsWithin}
-use Rattle.oas_num.specs.Laws.CombinatorLaws.{OneFront-within, OneSpelling-never, OneSpelling-byte, IsWithin-itself}
+use Rattle.oas_num.specs.Laws.CombinatorLaws.{PrefixFree-within, OneSpelling-never, OneSpelling-byte, IsWithin-itself}
 use Rattle.oas_num.specs.Begun.{HasSome}
 use Rattle.oas_num.specs.Integers.{IsUnsigned, IsSigned}
 use Rattle.oas_num.specs.Laws.IntegerLaws.{HasSome-IsUnsigned, HasSome-IsSigned}
@@ -22,20 +22,20 @@ use Rattle.oas_num.specs.Reading.{ByteMay, IntegerMay, NameTook, LabelTook, Padd
 use Rattle.oas_record.specs.Found.{IsFound}
 use Rattle.oas_record.specs.FoundParts.{found_unsigned, found_signed, found_byte, found_name, found_label, found_padding, found_real}
 
--- a read doesn't fail for a fault of writing
+-- a read doesn't fail with a fault of writing
 pub record Never (took : Why → List ℕ → Type 0) : Type 0 where
   pub none : (bytes : List ℕ) → took Write bytes → ⊥
 
 pub record Kind (V : Type 0) : Type 1 where
   pub any : V → List ℕ → Type 0
   pub shortest : V → List ℕ → Type 0
-  -- where in the bytes that were read they go wrong, and for which reason
+  -- where the bytes that were read go wrong, and for which reason
   pub took : Why → List ℕ → Type 0
-  -- no spelling begins another, and whether one stands at a place can be settled
+  -- no spelling is a prefix of another, and it is decidable whether there is one at a place
   pub found : IsFound any
   -- in the shortest style a value has one spelling
   pub one : OneSpelling shortest
-  -- and it is one that the standard has
+  -- and it is one that the standard allows
   pub within : IsWithin shortest any
   -- there is a spelling
   pub some : HasSome any
@@ -46,10 +46,10 @@ abbrev pub spelled_in : {V : Type 0} → Style → Kind V → V → List ℕ →
 spelled_in Any A = A.any
 spelled_in Shortest A = A.shortest
 
--- in no style does a spelling begin another
-pub front_in : {V : Type 0} (style : Style) (A : Kind V) → OneFront (spelled_in style A)
+-- in no style is a spelling a prefix of another
+pub front_in : {V : Type 0} (style : Style) (A : Kind V) → PrefixFree (spelled_in style A)
 front_in Any A = A.found.one
-front_in Shortest A = OneFront-within A.shortest A.any A.within A.found.one
+front_in Shortest A = PrefixFree-within A.shortest A.any A.within A.found.one
 
 -- ---- parts
 
@@ -124,7 +124,7 @@ label = record {
   never = pair_never (record { none = λ bytes h. h }) (λ n. record { none = λ bytes b. b.holds.1 });
 }
 
--- a string that is passed over, of which no canonical file has one so
+-- a skipped string, which no canonical file has
 abbrev pub padding : Kind Padding
 padding = record {
   any = SpellsPadding;

@@ -1,3 +1,3 @@
--- What follows of the definitions. Nothing here has to be believed.
+-- What follows from the definitions. Nothing here has to be trusted.
 pub mod HeadLaws
 pub mod RecordLaws

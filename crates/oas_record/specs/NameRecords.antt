@@ -5,7 +5,7 @@ use Rattle.oas_num.specs.declared.refusals.Why.{Why}
 use Rattle.oas_record.specs.Kinds.{Kind, spelled_in, number, name, label}
 use Rattle.oas_record.specs.Trees.{pair, there}
 
--- a cell's name, and its number where it is there
+-- a cell's name, and its number where there is one
 abbrev pub cell_name_kind : Bool → Kind (List ℕ × Option ℕ)
 cell_name_kind numbered = pair name (λ _. there numbered number)
 
@@ -15,7 +15,7 @@ cell_name_in style numbered = spelled_in style (cell_name_kind numbered)
 abbrev pub CellNameTook : Bool → Why → List ℕ → Type 0
 CellNameTook numbered = (cell_name_kind numbered).took
 
--- a text string, and its number where it is there
+-- a text string, and its number where there is one
 abbrev pub text_string_kind : Bool → Kind (List ℕ × Option ℕ)
 text_string_kind numbered = pair label (λ _. there numbered number)
 

@@ -22,7 +22,7 @@ use Rattle.oas_record.specs.Fields.{Layers, layers, spot, points}
 
 -- ---- extensions
 
--- the extension of a code: 0 modal, 1 flush, 2 the half-width, 3 the number that stands with it
+-- the extension of a code: 0 modal, 1 flush, 2 the half-width, 3 the number that follows
 abbrev pub extension_of : ℕ → Option ℤ → Extension
 extension_of code (Some n) = extension.Explicit n
 extension_of code None = if code == 0 then extension.Modal else (if code == 1 then extension.Flush else extension.Half)
@@ -44,7 +44,7 @@ scheme_kind = such_as number IsScheme IsCanonicalScheme (Unless IsScheme InfoByt
 abbrev pub Numbers : Type 0
 Numbers = Option ℤ × Option ℤ
 
--- the numbers that the scheme asks for, the start's before the end's
+-- the numbers that the scheme requires, that of the start first
 abbrev pub numbers : ℕ → Kind Numbers
 numbers scheme = pair (there (scheme / 4 == 3) signed) (λ _. there (scheme % 4 == 3) signed)
 
@@ -84,7 +84,7 @@ extensions_kind = image extensions_of extensions_back (pair scheme_kind numbers)
 abbrev pub extensions_in : Style → Extensions → List ℕ → Type 0
 extensions_in style = spelled_in style extensions_kind
 
--- where in them a read of extensions may fail
+-- where a read of extensions may fail
 abbrev pub ExtensionsTook : Why → List ℕ → Type 0
 ExtensionsTook = extensions_kind.took
 
@@ -130,6 +130,6 @@ path_kind =
 abbrev pub path_in : Style → Path → List ℕ → Type 0
 path_in style = spelled_in style path_kind
 
--- where in it a read of a path may fail: in its info byte, or in a field that this gives, those before it being whole
+-- where a read of a path may fail: in its info byte, or in a field that this gives, with those before it whole
 abbrev pub PathTook : Why → List ℕ → Type 0
 PathTook = path_kind.took

@@ -78,7 +78,7 @@ quarters_kind =
 abbrev pub quarters_in : Style → Placement → List ℕ → Type 0
 quarters_in style = spelled_in style quarters_kind
 
--- where in it a read of a placement may fail: in its info byte, or in a field that this gives, those before it being whole
+-- where a read of a placement may fail: in its info byte, or in a field that this gives, with those before it whole
 abbrev pub QuarterTook : Why → List ℕ → Type 0
 QuarterTook = quarters_kind.took
 

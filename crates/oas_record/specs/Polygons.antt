@@ -50,6 +50,6 @@ polygon_kind =
 abbrev pub polygon_in : Style → Polygon → List ℕ → Type 0
 polygon_in style = spelled_in style polygon_kind
 
--- where in it a read of a polygon may fail: in its info byte, or in a field that this gives, those before it being whole
+-- where a read of a polygon may fail: in its info byte, or in a field that this gives, with those before it whole
 abbrev pub PolygonTook : Why → List ℕ → Type 0
 PolygonTook = polygon_kind.took

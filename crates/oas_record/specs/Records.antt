@@ -1,6 +1,5 @@
 -- How records are spelled, and lists of them.
-use Rattle.std.proofs.Common.{◌≡◌, ◌≢◌, ℕ, Bool, true, false, List, [], length, Option, Some, None, refl}
-use Rattle.std.specs.Prelude.{◌==◌}
+use Rattle.std.proofs.Common.{◌≡◌, ◌≢◌, ℕ, Bool, true, false, List, [], ◌∷◌, length, Option, Some, None, refl}
 use Rattle.oas_num.specs.Grammar.{IsPair, IsSuch, IsEach}
 use Rattle.oas_num.specs.Combinators.{IsKeyed}
 use Rattle.oas_num.specs.Style.{Style, unsigned_in}
@@ -15,7 +14,7 @@ use Rattle.oas_record.specs.declared.rectangles.Rectangle.{Rectangle}
 use Rattle.oas_record.specs.declared.polygons.Polygon.{Polygon}
 use Rattle.oas_record.specs.declared.paths.Path.{Path}
 use Rattle.oas_record.specs.declared.circles.Circle.{Circle}
-use Rattle.oas_record.specs.Trees.{Choice, exactly, image, image_any, by_number, no_other, chosen_in}
+use Rattle.oas_record.specs.Trees.{Choice, Row, exactly, image, image_any, row, by_table, chosen_in}
 use Rattle.oas_record.specs.References.{cell_kind}
 use Rattle.oas_record.specs.NameRecords.{cell_name_kind, text_string_kind}
 use Rattle.oas_record.specs.Ends.{end_kind}
@@ -119,27 +118,29 @@ abbrev circle_back : Record → Circle
 circle_back (record_of.Circle v) = v
 circle_back _ = record { layer = None; datatype = None; radius = None; spot = (record { x = None; y = None; repetition = None }) }
 
--- what follows an id
+-- what follows each id
+abbrev pub table : Bool → List (Row Record)
+table in_end =
+    row 0 (image_any pad (exactly [])) ∷
+    row 2 (image end (λ _. tt) (end_kind in_end) (λ u bytes p. refl)) ∷
+    row 3 (image_any cell_name (cell_name_kind false)) ∷
+    row 4 (image_any cell_name (cell_name_kind true)) ∷
+    row 5 (image_any text_string (text_string_kind false)) ∷
+    row 6 (image_any text_string (text_string_kind true)) ∷
+    row 13 (image_any a_cell (cell_kind true)) ∷
+    row 14 (image a_cell a_cell_back (cell_kind false) (λ u bytes p. refl)) ∷
+    row 15 (image_any xy_absolute (exactly [])) ∷
+    row 16 (image_any xy_relative (exactly [])) ∷
+    row 17 (image placement placement_back quarters_kind (λ u bytes p. refl)) ∷
+    row 18 (image placement placement_back degrees_kind (λ u bytes p. refl)) ∷
+    row 19 (image text text_back text_kind (λ u bytes p. refl)) ∷
+    row 20 (image rectangle rectangle_back rectangle_kind (λ u bytes p. refl)) ∷
+    row 21 (image polygon polygon_back polygon_kind (λ u bytes p. refl)) ∷
+    row 22 (image path path_back path_kind (λ u bytes p. refl)) ∷
+    row 27 (image circle circle_back circle_kind (λ u bytes p. refl)) ∷ []
+
 abbrev pub after : Bool → ℕ → Choice Record
-after in_end id =
-    by_number (id == 0) (image_any pad (exactly []))
-    (by_number (id == 2) (image end (λ _. tt) (end_kind in_end) (λ u bytes p. refl))
-    (by_number (id == 3) (image_any cell_name (cell_name_kind false))
-    (by_number (id == 4) (image_any cell_name (cell_name_kind true))
-    (by_number (id == 5) (image_any text_string (text_string_kind false))
-    (by_number (id == 6) (image_any text_string (text_string_kind true))
-    (by_number (id == 13) (image_any a_cell (cell_kind true))
-    (by_number (id == 14) (image a_cell a_cell_back (cell_kind false) (λ u bytes p. refl))
-    (by_number (id == 15) (image_any xy_absolute (exactly []))
-    (by_number (id == 16) (image_any xy_relative (exactly []))
-    (by_number (id == 17) (image placement placement_back quarters_kind (λ u bytes p. refl))
-    (by_number (id == 18) (image placement placement_back degrees_kind (λ u bytes p. refl))
-    (by_number (id == 19) (image text text_back text_kind (λ u bytes p. refl))
-    (by_number (id == 20) (image rectangle rectangle_back rectangle_kind (λ u bytes p. refl))
-    (by_number (id == 21) (image polygon polygon_back polygon_kind (λ u bytes p. refl))
-    (by_number (id == 22) (image path path_back path_kind (λ u bytes p. refl))
-    (by_number (id == 27) (image circle circle_back circle_kind (λ u bytes p. refl))
-    no_other))))))))))))))))
+after in_end id = by_table id (table in_end)
 
 abbrev pub after_id : Style → Bool → ℕ → Record → List ℕ → Type 0
 after_id style in_end id = chosen_in style (after in_end id)
@@ -152,7 +153,7 @@ parts_in style in_end = IsKeyed id_of (unsigned_in style) (after_id style in_end
 abbrev pub IsWhole : Record → List ℕ → Type 0
 IsWhole r bytes = r ≡ record_of.End → length bytes ≡ 256
 
--- the bytes spell the record, in a file whose START says where the table-offsets stand
+-- the bytes spell the record, in a file whose START says where the table-offsets are
 pub record record_in (style : Style) (in_end : Bool) (r : Record) (bytes : List ℕ) : Type 0 where
   pub whole : IsWhole r bytes
   pub parts : parts_in style in_end r bytes

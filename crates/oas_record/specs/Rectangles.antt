@@ -50,6 +50,6 @@ rectangle_kind =
 abbrev pub rectangle_in : Style → Rectangle → List ℕ → Type 0
 rectangle_in style = spelled_in style rectangle_kind
 
--- where in it a read of a rectangle may fail: in its info byte, or in a field that this gives, those before it being whole
+-- where a read of a rectangle may fail: in its info byte, or in a field that this gives, with those before it whole
 abbrev pub RectangleTook : Why → List ℕ → Type 0
 RectangleTook = rectangle_kind.took

@@ -1,4 +1,4 @@
--- Cells and text strings, themselves or by their numbers.
+-- Cells and text strings, by themselves or by their numbers.
 use Rattle.std.proofs.Common.{ℕ, Bool, List, [], refl}
 use Rattle.oas_num.specs.Style.{Style}
 use Rattle.oas_record.specs.declared.references.CellRef.{CellRef}

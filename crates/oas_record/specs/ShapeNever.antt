@@ -1,4 +1,4 @@
--- No read of a point list or of a repetition is refused for a fault of writing.
+-- No read of a point list or of a repetition fails with a fault of writing.
 use Rattle.std.proofs.Common.{◌≡◌, ℕ, Bool, true, false, List, Option, inl, inr}
 use Rattle.std.specs.Prelude.{◌==◌}
 use Rattle.oas_num.specs.declared.refusals.Why.{Why}
@@ -6,7 +6,7 @@ use Rattle.oas_num.specs.declared.refusals.Why.TheVariants.{Write, Memory, ListK
 use Rattle.oas_num.specs.Grammar.{IsThere}
 use Rattle.oas_num.specs.Integers.{IsUnsigned}
 use Rattle.oas_num.specs.Deltas.{GDeltaTook}
-use Rattle.oas_num.specs.Pieces.{IsBehind, PairTook, ThereTook, SuchTook, ListTook}
+use Rattle.oas_num.specs.Pieces.{IsAfter, PairTook, ThereTook, SuchTook, ListTook}
 use Rattle.oas_num.specs.Reading.{IntegerMay}
 use Rattle.oas_shape.specs.declared.list_use.ListUse.{ListUse}
 use Rattle.oas_shape.specs.PointLists.{DeltasTook, PointListTook}
@@ -37,10 +37,10 @@ point_list_never purpose =
 two_never : Never TwoTook
 two_never = pair_never number.never (λ _. number.never)
 
--- after others, of which that holds
+-- after others, for which that holds
 next_never : {U V : Type 0} {A : U → List ℕ → Type 0} {B : V → List ℕ → Type 0} {P Q : U → Type 0} {took : Why → List ℕ → Type 0}
     {refuses : U → V → Why → Type 0} → Never took → ((before : U) (v : V) → refuses before v Write → ⊥)
-    → Never (λ why bytes. IsBehind A (λ before last. P before × Q before × SuchTook B took (refuses before) why last) bytes)
+    → Never (λ why bytes. IsAfter A (λ before last. P before × Q before × SuchTook B took (refuses before) why last) bytes)
 next_never f other = record { none = λ bytes b. elim b.holds.2 [ inl h ↦ f.none b.last h | inr h ↦ other b.value h.0 h.2 ] }
 
 listed_never : (grid_there : Bool) {offsets : ℕ → Option ℕ → Why → List ℕ → Type 0} → ((dim : ℕ) (grid : Option ℕ) → Never (offsets dim grid))

@@ -50,6 +50,6 @@ text_kind =
 abbrev pub text_record_in : Style → Text → List ℕ → Type 0
 text_record_in style = spelled_in style text_kind
 
--- where in it a read of a text may fail: in its info byte, or in a field that this gives, those before it being whole
+-- where a read of a text may fail: in its info byte, or in a field that this gives, with those before it whole
 abbrev pub TextTook : Why → List ℕ → Type 0
 TextTook = text_kind.took

@@ -1,5 +1,7 @@
--- Kinds that are made of kinds: one after another, there or not, one of several, what they stand for, what has to be such.
+-- Kinds that are made of kinds: one after another, optional ones, one of several, what they denote, what must meet a
+-- condition.
 use Rattle.std.proofs.Common.{◌≡◌, ℕ, Bool, true, false, inl, inr, List, [], ◌∷◌, Option, sym, ap, subst, ◌∙◌}
+use Rattle.std.specs.Prelude.{◌==◌, ◌||◌}
 use Rattle.oas_num.specs.declared.refusals.Why.{Why}
 use Rattle.oas_num.specs.declared.refusals.Why.TheVariants.{Write, InfoByte}
 use Rattle.oas_num.specs.Grammar.{IsPair, IsSuch, IsImage, IsThere, IsCount, IsByte}
@@ -13,7 +15,7 @@ use Rattle.oas_num.specs.Laws.IntegerLaws.{zero_spelled}
 use Rattle.oas_num.specs.Style.{Style, Any, Shortest}
 use Rattle.oas_num.specs.Pieces.{PairTook, ThereTook, CountTook, SuchTook, Unless}
 use Rattle.oas_record.specs.Found.{Settled, IsFound, found_such, found_image, found_pair, found_exactly, found_either, found_there, found_count, found_never}
-use Rattle.oas_record.specs.Kinds.{Never, Kind, pair_never, there_never, zero_byte, number, byte}
+use Rattle.oas_record.specs.Kinds.{Never, Kind, pair_never, there_never, zero_byte, byte}
 
 -- ---- what is made of parts
 
@@ -30,7 +32,7 @@ pair A B = record {
   never = pair_never A.never (λ v. (B v).never);
 }
 
--- a field that is there, or not
+-- an optional field
 abbrev pub there : {V : Type 0} → Bool → Kind V → Kind (Option V)
 there here A = record {
   any = IsThere here A.any;
@@ -43,7 +45,7 @@ there here A = record {
   never = there_never here A.took A.never;
 }
 
--- so many items
+-- this many items
 abbrev pub items : {V : Type 0} → ℕ → Kind V → Kind (List V)
 items count A = record {
   any = IsCount A.any count;
@@ -56,7 +58,7 @@ items count A = record {
   never = record { none = λ bytes b. A.never.none b.last b.holds.1 };
 }
 
--- these bytes: no read of its own, so nothing that goes wrong
+-- these bytes: no read of their own, so nothing that goes wrong
 abbrev pub exactly : List ℕ → Kind (Unit {0})
 exactly wanted = record {
   any = IsExactly wanted;
@@ -86,7 +88,7 @@ either test A B = record {
   never = either_never test A.took B.took A.never B.never;
 }
 
--- what stands for one value only, as far as it is spelled
+-- what denotes one value only, as far as it is spelled
 pub OneSpelling-image_by : {U V : Type 0} (f : U → V) (back : V → U) (A : U → List ℕ → Type 0) → ((u : U) (a : List ℕ) → A u a → back (f u) ≡ u) → OneSpelling A → OneSpelling (IsImage f A)
 OneSpelling-image_by f back A inverse law = record {
   same = λ v a b p q.
@@ -94,7 +96,7 @@ OneSpelling-image_by f back A inverse law = record {
       law.same q.from a b (subst (λ u. A u a) e p.spelled) q.spelled;
 }
 
--- what a value stands for, and only that one, as far as it is spelled in the shortest style
+-- what a value denotes, and only that one, as far as it is spelled in the shortest style
 abbrev pub image : {U V : Type 0} (f : U → V) (back : V → U) (A : Kind U) → ((u : U) (bytes : List ℕ) → A.shortest u bytes → back (f u) ≡ u) → Kind V
 image f back A inverse = record {
   any = IsImage f A.any;
@@ -107,7 +109,7 @@ image f back A inverse = record {
   never = A.never;
 }
 
--- what is spelled so in the shortest style
+-- what is spelled like this in the shortest style
 abbrev pub shortest_as : {V : Type 0} (A : Kind V) (shortest : V → List ℕ → Type 0) → OneSpelling shortest → IsWithin shortest A.any → Kind V
 shortest_as A shortest one within = record {
   any = A.any;
@@ -120,9 +122,9 @@ shortest_as A shortest one within = record {
   never = A.never;
 }
 
--- ---- what has to be such
+-- ---- what must meet a condition
 
--- whether that holds of a value can be settled, it does of some, and for these reasons others are refused
+-- whether a value meets the condition is decidable, some do, and others are refused for these reasons
 pub record IsTest {V : Type 0} (spells : V → List ℕ → Type 0) (P : V → Type 0) (refuses : V → Why → Type 0) : Type 0 where
   pub settled : (v : V) → Settled (P v)
   pub some : HasSome (IsSuch P spells)
@@ -131,7 +133,7 @@ pub record IsTest {V : Type 0} (spells : V → List ℕ → Type 0) (P : V → T
 pub such_never : {V : Type 0} {A : V → List ℕ → Type 0} {took : Why → List ℕ → Type 0} {refuses : V → Why → Type 0} → ((v : V) → refuses v Write → ⊥) → Never took → Never (SuchTook A took refuses)
 such_never other f = record { none = λ bytes h. elim h [ inl h ↦ f.none bytes h | inr h ↦ other h.0 h.2 ] }
 
--- a value of which that holds: others are read whole and refused
+-- a value that meets the condition: others are read whole and refused
 abbrev pub such : {V : Type 0} (A : Kind V) (P : V → Type 0) (refuses : V → Why → Type 0) → IsTest A.any P refuses → Kind V
 such A P refuses test = record {
   any = IsSuch P A.any;
@@ -144,17 +146,17 @@ such A P refuses test = record {
   never = such_never test.never A.never;
 }
 
--- the same, of which in the shortest style more has to hold
+-- the same, where the shortest style requires more
 abbrev pub such_as : {V : Type 0} (A : Kind V) (P canonical : V → Type 0) (refuses : V → Why → Type 0) → IsTest A.any P refuses → Kind V
 such_as A P canonical refuses test =
     shortest_as (such A P refuses test) (IsSuch (λ v. P v × canonical v) A.shortest) (OneSpelling-such (λ v. P v × canonical v) A.shortest A.one)
     (record { within = λ v bytes p. record { holds = p.holds.0; spelled = A.within.within v bytes p.spelled } })
 
--- a number of which that holds, as it does of 0
+-- a number for which that holds, as it does for 0
 pub number_test : (P : ℕ → Type 0) (reason : Why) → ((n : ℕ) → Settled (P n)) → P 0 → (Write ≡ reason → ⊥) → IsTest IsUnsigned P (Unless P reason)
 number_test P reason settled holds other = record { settled = settled; some = HasSome-such P IsUnsigned 0 (0 ∷ []) zero_spelled holds; never = λ v h. other h.0 }
 
--- an info byte, of which 0 is one
+-- an info byte, where 0 is one
 pub info_test : (allowed : ℕ → Type 0) → ((info : ℕ) → Settled (allowed info)) → allowed 0 → IsTest IsByte allowed (Unless allowed InfoByte)
 info_test allowed settled holds = record { settled = settled; some = HasSome-such allowed IsByte 0 (0 ∷ []) zero_byte holds; never = λ v h. let e : Write ≡ InfoByte = h.0 in cc }
 
@@ -163,7 +165,7 @@ info_byte allowed canonical settled holds = such_as byte allowed canonical (Unle
 
 -- ---- what no canonical file has
 
--- a value that others stand for too
+-- a value that others denote too
 abbrev pub image_any : {U V : Type 0} (f : U → V) → Kind U → Kind V
 image_any f A = record {
   any = IsImage f A.any;
@@ -178,7 +180,7 @@ image_any f A = record {
 
 -- ---- one of several
 
--- By a number. Of each number that has one there is a kind; of the others nothing is spelled.
+-- By a number. There is a kind for each number that has one; for the others nothing is spelled.
 pub record Choice (V : Type 0) : Type 1 where
   pub any : V → List ℕ → Type 0
   pub shortest : V → List ℕ → Type 0
@@ -210,10 +212,33 @@ by_number test A B = record {
   never = either_never test A.took B.took A.never B.never;
 }
 
+-- a row of a table: a number, and what follows it
+pub record Row (V : Type 0) : Type 1 where
+  pub number : ℕ
+  pub kind : Kind V
+
+abbrev pub row : {V : Type 0} → ℕ → Kind V → Row V
+row n A = record { number = n; kind = A }
+
+-- by a table, in which no number occurs twice
+abbrev pub by_table : {V : Type 0} → ℕ → List (Row V) → Choice V
+by_table n [] = no_other
+by_table n (r ∷ rows) = by_number (n == r.number) r.kind (by_table n rows)
+
+-- whether a row has that number
+abbrev pub has_row : {V : Type 0} → ℕ → List (Row V) → Bool
+has_row n [] = false
+has_row n (r ∷ rows) = (n == r.number) || has_row n rows
+
+-- what holds for each row
+abbrev pub EachRow : {V : Type 0} → (Row V → Type 0) → List (Row V) → Type 0
+EachRow P [] = Unit {0}
+EachRow P (r ∷ rows) = P r × EachRow P rows
+
 abbrev pub chosen_in : {V : Type 0} → Style → Choice V → V → List ℕ → Type 0
 chosen_in Any A = A.any
 chosen_in Shortest A = A.shortest
 
--- info bytes of a canonical file, that are one number
+-- info bytes of a canonical file, which are one number
 pub info_is : {F : Type 0} {n : ℕ} (u : ℕ × F) → u.0 ≡ n → ◌≡◌ {A = ℕ × F} (n, u.1) u
 info_is {F = F} u is = ap (λ (info : ℕ). let v : ℕ × F = (info, u.1) in v) (sym is)

@@ -7,7 +7,7 @@ use crate::passing::pass_offsets;
 use oas_num::{Padding, Source, Spelled, Why, read_unsigned};
 use std::alloc::Global;
 
-/// Table-offsets, where they are there.
+/// Table-offsets, where there are any.
 pub fn pass_offsets_if<S: Source>(there: bool, source: &mut S) -> Result<(), Why>
     ensures { ReadsPiece (offsets_if there) (OffsetsIfTook there) (S.script source.old) result (S.script source.new) }
 {
@@ -17,8 +17,8 @@ pub fn pass_offsets_if<S: Source>(there: bool, source: &mut S) -> Result<(), Why
     Ok(())
 }
 
-/// What follows END's id (SEMI P39, END record): table-offsets where START says so, padding, and validation-scheme 0. That
-/// END is 256 bytes, its id included, is for the caller to see.
+/// What follows END's id (SEMI P39, END record): table-offsets where START says so, padding, and validation-scheme 0. The
+/// caller must check that END is 256 bytes, its id included.
 pub(crate) fn read_end<S: Source>(alloc: Global, in_end: bool, source: &mut S) -> Result<(), Why>
     ensures { ReadsPiece (end_in Any in_end) (EndTook in_end) (S.script source.old) result (S.script source.new) }
 {

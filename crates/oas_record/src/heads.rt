@@ -1,4 +1,4 @@
-//! The front of a file: its first bytes and START.
+//! The head of a file: its first bytes and START.
 ghost use Rattle.oas_num.specs.Reading.{Reads, ReadsPiece};
 ghost use Rattle.oas_num.specs.Style.{Any};
 ghost use Rattle.oas_record.specs.Heads.{IsMagic, MagicMay, version_in, VersionTook, unit_in, UnitTook, start_in, StartTook, ReadsHead};
@@ -15,15 +15,15 @@ const MAGIC: [u8; 13] = [
     0x25, 0x53, 0x45, 0x4D, 0x49, 0x2D, 0x4F, 0x41, 0x53, 0x49, 0x53, 0x0D, 0x0A,
 ];
 
-/// Where START stands.
+/// The offset of START.
 const START_AT: u64 = 13;
 
-/// What the front of a file says.
+/// What the head of a file gives.
 #[derive(Clone, Copy, Debug, PartialEq, Eq)]
 pub struct Head {
     /// Grid steps per micron.
     pub unit: Fraction,
-    /// Whether the table-offsets stand in END, and not in START.
+    /// Whether the table-offsets are in END, and not in START.
     pub flag_in_end: bool,
 }
 
@@ -40,7 +40,7 @@ pub fn read_magic<S: Source>(source: &mut S) -> Result<(), Why>
     Ok(())
 }
 
-/// The version, an a-string that has to be `1.0`. It is compared as it is read, so no memory is taken.
+/// The version, an a-string that has to be `1.0`. It is compared as it is read, so nothing is allocated.
 pub fn read_version<S: Source>(source: &mut S) -> Result<(), Why>
     ensures { ReadsPiece (version_in Any) VersionTook (S.script source.old) result (S.script source.new) }
 {
@@ -93,9 +93,9 @@ fn read_start<S: Source>(alloc: Global, source: &mut S) -> Result<Head, Why>
     })
 }
 
-/// Reads the front of a file: the magic and START. It takes no memory; `alloc` is handed on.
+/// Reads the head of a file: the magic and START. It allocates nothing; `alloc` is passed on.
 ///
-/// It is refused at 0 for the magic, and at 13 for START.
+/// It fails at 0 for the magic, and at 13 for START.
 pub fn read_head<S: Source>(alloc: Global, source: &mut S) -> Result<Head, Refusal>
     ensures { ReadsHead (S.script source.old) result (S.script source.new) }
 {

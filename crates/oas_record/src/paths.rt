@@ -15,18 +15,18 @@ use std::alloc::Global;
 /// How far a path goes on past its first or last point (SEMI P39, PATH record, extension-scheme).
 #[derive(Clone, Copy, Debug, PartialEq, Eq)]
 pub enum Extension {
-    /// The number that the modal extension is.
+    /// The number of the modal extension.
     Modal,
     /// Nothing.
     Flush,
     /// The half-width.
     Half,
-    /// So far, in grid steps.
+    /// This far, in grid steps.
     Explicit(i64),
 }
 
 impl Extension {
-    /// The extension of a code, 0 to 3; the number stands with code 3 alone.
+    /// The extension of a code, 0 to 3; only code 3 has the number.
     fn of(code: u64, number: Option<i64>) -> Extension
         ensures { result ≡ extension_of code number }
     {
@@ -49,7 +49,7 @@ pub struct Extensions {
 }
 
 impl Extensions {
-    /// The extension-scheme, `0000SSEE`, and the numbers that it asks for, the start's before the end's.
+    /// The extension-scheme, `0000SSEE`, and the numbers that it requires, that of the start first.
     fn read<S: Source>(source: &mut S) -> Result<Extensions, Why>
         ensures { ReadsPiece (extensions_in Any) ExtensionsTook (S.script source.old) result (S.script source.new) }
     {

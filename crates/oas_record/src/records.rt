@@ -2,13 +2,13 @@
 ghost use Rattle.std.specs.Prelude.{◌≡◌, ◌≢◌, ◌<◌, ◌≤◌, Bool};
 ghost use Rattle.oas_num.specs.Reading.{ReadsPiece};
 ghost use Rattle.oas_num.specs.Style.{Any};
-ghost use Rattle.oas_record.specs.Refusals.{AfterTook, RecordTook, ReadsAt, IsKnown, RefusesId};
+ghost use Rattle.oas_record.specs.Refusals.{AfterTook, RecordTook, ReadsAt, is_known, IsKnown, RefusesId};
 
 use crate::circles::Circle;
 use crate::ends::read_end;
 use crate::name_records::{read_cell_name, read_text_string};
 use crate::paths::Path;
-use crate::placements::Placement;
+use crate::placements::{Placement, Turn};
 use crate::polygons::Polygon;
 use crate::rectangles::Rectangle;
 use crate::references::{CellRef, read_cell};
@@ -19,7 +19,7 @@ use std::alloc::Global;
 /// How long END is, in bytes, its id included.
 const END_LENGTH: u64 = 256;
 
-/// A record of the file, START left out (SEMI P39, records).
+/// A record of the file, except START (SEMI P39, records).
 #[derive(Debug, Drop)]
 pub enum Record {
     /// Id 0.
@@ -50,7 +50,15 @@ pub enum Record {
     Circle(Circle),
 }
 
-/// Why no record may have that id here, if it may not. The ids of the standard that are left out are an own rule.
+/// Whether the profile has records of that id.
+#[tactic(auto, unfolding(crate::specs::Refusals::is_known))]
+fn is_known(id: u64) -> bool
+    ensures { result ≡ is_known id }
+{
+    matches!(id, 0 | 2..=6 | 13..=22 | 27)
+}
+
+/// Why no record may have that id here, if so. The ids of the standard that are left out are an own rule.
 fn refused_id(id: u64) -> Option<Why>
     ensures { RefusesId id result }
 {
@@ -60,7 +68,7 @@ fn refused_id(id: u64) -> Option<Why>
     if id > 34 {
         return Some(Why::UnknownRecord(id));
     }
-    if id <= 6 || (id >= 13 && id <= 22) || id == 27 {
+    if is_known(id) {
         None
     } else {
         Some(Why::RecordLeftOut(id))
@@ -68,14 +76,14 @@ fn refused_id(id: u64) -> Option<Why>
 }
 
 impl Record {
-    ghost use Rattle.oas_record.specs.Records.{is_end, record_in, after_id};
+    ghost use Rattle.oas_record.specs.Records.{id_of, is_end, record_in, after_id};
 
-    /// Reads a record, by the place of the table-offsets that START gives. The place of a refusal is that of the record's
-    /// first byte.
+    /// Reads a record, given the place of the table-offsets from START. The place of a refusal is that of the record's first
+    /// byte.
     ///
-    /// Ids that the profile leaves out are refused by `RecordLeftOut`, those that the standard doesn't have by
-    /// `UnknownRecord`, and START by `OutOfPlace`. END is refused by `ValidationScheme` before `EndLength`. What can't be
-    /// read whole is refused by a reason of reading.
+    /// Ids that the profile leaves out are refused with `RecordLeftOut`, those that the standard doesn't have with
+    /// `UnknownRecord`, and START with `OutOfPlace`. END is refused with `ValidationScheme` before `EndLength`. What can't be
+    /// read whole is refused with a reason of reading.
     pub fn read<S: Source>(
         alloc: Global,
         source: &mut S,
@@ -87,6 +95,33 @@ impl Record {
         match Record::read_whole(alloc, flag_in_end, source) {
             Ok(record) => Ok(record),
             Err(why) => Err(Refusal { at, why }),
+        }
+    }
+
+    /// Its id (SEMI P39, records).
+    pub fn id(&self) -> u64
+        ensures { result ≡ id_of self.now }
+    {
+        match self {
+            Record::Pad => 0,
+            Record::End => 2,
+            Record::CellName { number: None, .. } => 3,
+            Record::CellName { .. } => 4,
+            Record::TextString { number: None, .. } => 5,
+            Record::TextString { .. } => 6,
+            Record::Cell(CellRef::Number(_)) => 13,
+            Record::Cell(CellRef::Name(_)) => 14,
+            Record::XyAbsolute => 15,
+            Record::XyRelative => 16,
+            Record::Placement(placed) => match placed.turn {
+                Turn::Quarters(_) => 17,
+                Turn::Degrees { .. } => 18,
+            },
+            Record::Text(_) => 19,
+            Record::Rectangle(_) => 20,
+            Record::Polygon(_) => 21,
+            Record::Path(_) => 22,
+            Record::Circle(_) => 27,
         }
     }
 
@@ -117,7 +152,7 @@ impl Record {
         Record::read_after(alloc, id, source)
     }
 
-    /// What follows an id that the profile has, but END's. Where a record is its id alone, nothing is taken.
+    /// What follows an id of the profile, except that of END. Where a record is its id alone, nothing is taken.
     pub fn read_after<S: Source>(alloc: Global, id: u64, source: &mut S) -> Result<Record, Why>
         requires known { IsKnown id }
         requires inner { id ≢ 2 }
@@ -164,31 +199,14 @@ impl Record {
         requires above { 16 < id }
         ensures { (in_end : Bool) → ReadsPiece (after_id Any in_end id) (AfterTook in_end id) (S.script source.old) result (S.script source.new) }
     {
-        if id == 17 {
-            let quarters = Placement::read_quarters(alloc, source)?;
-            return Ok(Record::Placement(quarters));
+        match id {
+            17 => Ok(Record::Placement(Placement::read_quarters(alloc, source)?)),
+            18 => Ok(Record::Placement(Placement::read_degrees(alloc, source)?)),
+            19 => Ok(Record::Text(Text::read(alloc, source)?)),
+            20 => Ok(Record::Rectangle(Rectangle::read(alloc, source)?)),
+            21 => Ok(Record::Polygon(Polygon::read(alloc, source)?)),
+            22 => Ok(Record::Path(Path::read(alloc, source)?)),
+            _ => Ok(Record::Circle(Circle::read(alloc, source)?)),
         }
-        if id == 18 {
-            let degrees = Placement::read_degrees(alloc, source)?;
-            return Ok(Record::Placement(degrees));
-        }
-        if id == 19 {
-            let text = Text::read(alloc, source)?;
-            return Ok(Record::Text(text));
-        }
-        if id == 20 {
-            let rectangle = Rectangle::read(alloc, source)?;
-            return Ok(Record::Rectangle(rectangle));
-        }
-        if id == 21 {
-            let polygon = Polygon::read(alloc, source)?;
-            return Ok(Record::Polygon(polygon));
-        }
-        if id == 22 {
-            let path = Path::read(alloc, source)?;
-            return Ok(Record::Path(path));
-        }
-        let circle = Circle::read(alloc, source)?;
-        Ok(Record::Circle(circle))
     }
 }

@@ -15,7 +15,7 @@ pub enum CellRef {
     Name(Name),
 }
 
-/// A text string, itself or by the number of a name record.
+/// A text string, by itself or by the number of a name record.
 #[derive(Debug, Drop)]
 pub enum TextRef {
     Number(u64),

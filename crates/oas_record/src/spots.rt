@@ -9,15 +9,15 @@ use oas_num::{Source, Why, read_signed_if, read_unsigned_if};
 use oas_shape::RepField;
 use std::alloc::Global;
 
-/// Where an element stands, and how often: the fields that every element record has (SEMI P39, modal variables). A field
-/// that isn't given takes the value of its modal variable.
+/// The position of an element, and its repetition: the fields that every element record has (SEMI P39, modal variables). A
+/// field that isn't given takes the value of its modal variable.
 #[derive(Debug, Drop)]
 pub struct Spot {
     /// In absolute mode the position, in relative mode a step from the modal one, in grid steps.
     pub x: Option<i64>,
     /// The same along y.
     pub y: Option<i64>,
-    /// Without one the element stands once.
+    /// Without one the element occurs once.
     pub repetition: Option<RepField>,
 }
 
@@ -45,7 +45,7 @@ fn read_repetition_if<S: Source>(
     }
 }
 
-/// x, y and the repetition, each where it is there.
+/// x, y and the repetition, each where it is given.
 pub fn read_spot<S: Source>(
     alloc: Global,
     x: bool,

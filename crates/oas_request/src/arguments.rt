@@ -11,7 +11,7 @@ pub struct Argument<'a> {
     help: &'a str,
 }
 
-/// What kind of argument it is; an option has a name of its value.
+/// What kind of argument it is; an option has a name for its value.
 #[derive(Clone, Copy)]
 enum Kind<'a> {
     /// A word that may be left out.
@@ -21,11 +21,17 @@ enum Kind<'a> {
     /// As many words as there are.
     Many,
     Flag,
+    /// A flag that has a letter too.
+    ShortFlag(char),
+    /// Such a flag, which is allowed only with this option.
+    FlagOf(char, &'a str),
     Option(&'a str),
     /// An option whose value is a number.
     Number(&'a str),
     /// An option in place of the words `IN`.
     InPlaceOfInputs(&'a str),
+    /// An option in place of these words and of the option for their list.
+    InPlaceOfNames(&'a str),
 }
 
 pub const LARGE: Argument<'static> = Argument {
@@ -37,7 +43,7 @@ pub const LARGE: Argument<'static> = Argument {
 pub const EXPLAIN: Argument<'static> = Argument {
     name: "explain",
     kind: Kind::Flag,
-    help: "Says below a refusal what its reason means",
+    help: "Says below a refusal what it means, and what to try",
 };
 
 pub const PROGRESS: Argument<'static> = Argument {
@@ -58,6 +64,12 @@ pub const OUT: Argument<'static> = Argument {
     help: "The file to write, or replace, once IN was read whole [default: standard output]",
 };
 
+pub const NO_CLOBBER: Argument<'static> = Argument {
+    name: "no-clobber",
+    kind: Kind::Flag,
+    help: "Refuses an OUT that exists",
+};
+
 pub const INPUTS: Argument<'static> = Argument {
     name: "IN",
     kind: Kind::Many,
@@ -74,6 +86,24 @@ pub const LIST: Argument<'static> = Argument {
     name: "files0-from",
     kind: Kind::InPlaceOfInputs("F"),
     help: "Reads names from F, each ended by a zero byte",
+};
+
+pub const ZERO: Argument<'static> = Argument {
+    name: "zero",
+    kind: Kind::ShortFlag('z'),
+    help: "Ends lines by a zero byte, with each name as it is",
+};
+
+pub const CHECK: Argument<'static> = Argument {
+    name: "check",
+    kind: Kind::InPlaceOfNames("LIST"),
+    help: "Says whether the keys in LIST still hold",
+};
+
+pub const QUIET: Argument<'static> = Argument {
+    name: "quiet",
+    kind: Kind::FlagOf('q', "check"),
+    help: "Says of the keys in LIST only which don't hold",
 };
 
 pub const A: Argument<'static> = Argument {
@@ -127,7 +157,7 @@ pub const NEW: Argument<'static> = Argument {
 pub const NUMBER: Argument<'static> = Argument {
     name: "N",
     kind: Kind::Optional,
-    help: "The number of a reason, 1 to 34 [default: all]",
+    help: "The number or the name of a reason [default: all]",
 };
 
 /// Puts these arguments.
@@ -151,6 +181,13 @@ fn argument_of<'a>(alloc: Global, argument: &Argument<'a>) -> Result<Arg<'a>, Al
         Kind::Required => Ok(word.required(true)),
         Kind::Many => Ok(word.action(ArgAction::Append).num_args(0..)),
         Kind::Flag => Ok(word.long(option).action(ArgAction::SetTrue)),
+        Kind::ShortFlag(letter) => {
+            Ok(word.long(option).short(letter).action(ArgAction::SetTrue))
+        }
+        Kind::FlagOf(letter, needed) => {
+            let flag = word.long(option).short(letter);
+            flag.action(ArgAction::SetTrue).requires_arg(needed)
+        }
         Kind::Option(value) => Ok(word.long(option).value_name(value)),
         Kind::Number(value) => {
             let number = value_parser!(u64);
@@ -158,6 +195,10 @@ fn argument_of<'a>(alloc: Global, argument: &Argument<'a>) -> Result<Arg<'a>, Al
         }
         Kind::InPlaceOfInputs(value) => {
             word.long(option).value_name(value).conflicts_with(IN.name)
+        }
+        Kind::InPlaceOfNames(value) => {
+            let option = word.long(option).value_name(value);
+            option.conflicts_with_all(&[IN.name, LIST.name])
         }
     }
 }

@@ -1,14 +1,15 @@
-//! What the words of the command line ask for.
+//! What the words of the command line request.
 
+use crate::questions::{Ending, Inputs, Question, key_of, question_of};
 use crate::usage::oascanon;
 use clap::error::ErrorKind;
 use clap::{ArgMatches, Command, Error};
 use oas_difference::{Detail, Options};
-use oas_files::file_meant;
+use oas_files::file_of_word;
 use std::alloc::{AllocError, Global};
 use std::convert::AsStr;
 
-/// What a command line asks for.
+/// What a command line requests.
 #[derive(Debug, Drop, PartialEq, Eq)]
 pub struct Request<'a> {
     pub task: Task<'a>,
@@ -18,6 +19,8 @@ pub struct Request<'a> {
     pub explains: bool,
     /// Whether long work shows how far it is.
     pub shows_progress: bool,
+    /// Whether `-` names standard output, so that a file goes there even if it is a terminal.
+    pub insists: bool,
 }
 
 /// A command, and its files by name. Without a name an input is standard input, and an output standard output.
@@ -26,10 +29,20 @@ pub enum Task<'a> {
     Canon {
         input: Option<&'a str>,
         output: Option<&'a str>,
+        /// Whether a file under the output's name stays.
+        keeps_old: bool,
     },
     Ask {
         question: Question,
         inputs: Inputs<'a>,
+    },
+    /// Whether the keys in a list are still valid.
+    CheckKeys {
+        /// The list: each line is the key of a file and its name.
+        list: Option<&'a str>,
+        ending: Ending,
+        /// Whether nothing is printed for a key that is valid.
+        is_quiet: bool,
     },
     Same {
         first: Option<&'a str>,
@@ -39,7 +52,7 @@ pub enum Task<'a> {
         first: Option<&'a str>,
         second: Option<&'a str>,
         options: Options,
-        /// The file for the markers, if they are asked for.
+        /// The file for the markers, if they are requested.
         markers: Option<&'a str>,
     },
     Show {
@@ -50,7 +63,7 @@ pub enum Task<'a> {
     },
     Info {
         input: Option<&'a str>,
-        /// Whether the answer is JSON.
+        /// Whether the output is JSON.
         is_json: bool,
     },
     Rekey {
@@ -62,33 +75,13 @@ pub enum Task<'a> {
     },
 }
 
-/// What can be asked of many files.
-#[derive(Clone, Copy, Debug, PartialEq, Eq)]
-pub enum Question {
-    /// Whether it is canonical.
-    Check,
-    /// Its key.
-    Key,
-}
-
-/// The inputs of a question.
-#[derive(Debug, Drop, PartialEq, Eq)]
-pub enum Inputs<'a> {
-    /// One, whose answer has no name.
-    One(Option<&'a str>),
-    /// These: each answer has a name.
-    Named(Vec<Option<&'a str>>),
-    /// The files that the list of this name, or that on standard input, names.
-    Listed(Option<&'a str>),
-}
-
-/// What the words ask for.
+/// What the words request.
 pub fn parse<'a, S: AsStr>(alloc: Global, words: &'a [S]) -> Result<Request<'a>, Error> {
     let mut command = oascanon(alloc)?;
     request_by(alloc, &mut command, words)
 }
 
-/// What the words ask this command line for.
+/// What the words of this command line request.
 fn request_by<'a, S: AsStr>(
     alloc: Global,
     command: &mut Command<'a>,
@@ -100,7 +93,7 @@ fn request_by<'a, S: AsStr>(
     }
 }
 
-/// What the words ask this command line for, where [`request_of`] their matches answers something.
+/// What the words of this command line request, where [`request_of`] returns something for their matches.
 fn found_by<'a, S: AsStr>(
     alloc: Global,
     command: &mut Command<'a>,
@@ -110,7 +103,7 @@ fn found_by<'a, S: AsStr>(
     Ok(request_of(alloc, &matches)?)
 }
 
-/// The error of words that ask for standard input or output twice.
+/// The error for words that name standard input or output twice.
 fn conflict(command: &mut Command<'_>) -> Error {
     let message = "standard input and standard output can each stand for one file only";
     match command.error(ErrorKind::ArgumentConflict, message) {
@@ -119,8 +112,7 @@ fn conflict(command: &mut Command<'_>) -> Error {
     }
 }
 
-/// What these matches ask for. There is none where standard input would be read twice, or two texts written to standard
-/// output.
+/// What these matches request. None where standard input would be read twice, or two texts written to standard output.
 pub fn request_of<'a>(
     alloc: Global,
     matches: &ArgMatches<'a>,
@@ -136,10 +128,11 @@ pub fn request_of<'a>(
         is_large: found.get_flag("large"),
         explains: found.get_flag("explain"),
         shows_progress: found.get_flag("progress"),
+        insists: is_dash(found, "OUT") || is_dash(found, "NEW"),
     }))
 }
 
-/// The task of the command of this name.
+/// The task of the command with this name.
 fn task_of<'a>(
     alloc: Global,
     name: &str,
@@ -147,10 +140,11 @@ fn task_of<'a>(
 ) -> Result<Option<Task<'a>>, AllocError> {
     match name {
         "check" => question_of(alloc, Question::Check, found),
-        "key" => question_of(alloc, Question::Key, found),
+        "key" => key_of(alloc, found),
         "canon" => Ok(Some(Task::Canon {
             input: file_of(found, "IN"),
             output: file_of(found, "OUT"),
+            keeps_old: found.get_flag("no-clobber"),
         })),
         "show" => Ok(Some(Task::Show {
             input: file_of(found, "IN"),
@@ -175,9 +169,14 @@ fn task_of<'a>(
     }
 }
 
+/// Whether an argument is `-`.
+fn is_dash(found: &ArgMatches<'_>, argument: &str) -> bool {
+    found.get_str(argument) == Some("-")
+}
+
 /// The file of an argument, if it names one.
-fn file_of<'a>(found: &ArgMatches<'a>, argument: &str) -> Option<&'a str> {
-    file_meant(found.get_str(argument)?)
+pub fn file_of<'a>(found: &ArgMatches<'a>, argument: &str) -> Option<&'a str> {
+    file_of_word(found.get_str(argument)?)
 }
 
 /// The task of `same`, unless both files are standard input.
@@ -186,11 +185,11 @@ fn same_of<'a>(found: &ArgMatches<'a>) -> Option<Task<'a>> {
     Some(Task::Same { first, second })
 }
 
-/// The task of `diff`, unless both files are standard input, or the markers are to go to standard output.
+/// The task of `diff`, unless both files are standard input, or the markers would go to standard output.
 fn diff_of<'a>(found: &ArgMatches<'a>) -> Option<Task<'a>> {
     let (first, second) = two_of(found)?;
     let markers = match found.get_str("markers") {
-        Some(word) => Some(file_meant(word)?),
+        Some(word) => Some(file_of_word(word)?),
         None => None,
     };
     Some(Task::Diff {
@@ -201,7 +200,7 @@ fn diff_of<'a>(found: &ArgMatches<'a>) -> Option<Task<'a>> {
     })
 }
 
-/// How `diff` is asked to tell the difference.
+/// How `diff` should print the difference.
 fn options_of(found: &ArgMatches<'_>) -> Options {
     let detail = if found.get_flag("brief") {
         Detail::Counts
@@ -221,50 +220,4 @@ fn two_of<'a>(found: &ArgMatches<'a>) -> Option<(Option<&'a str>, Option<&'a str
         return None;
     }
     Some((first, second))
-}
-
-/// The task of a question, unless two of its inputs are standard input.
-fn question_of<'a>(
-    alloc: Global,
-    question: Question,
-    found: &ArgMatches<'a>,
-) -> Result<Option<Task<'a>>, AllocError> {
-    let Some(inputs) = inputs_of(alloc, found)? else {
-        return Ok(None);
-    };
-    Ok(Some(Task::Ask { question, inputs }))
-}
-
-/// The inputs of a question.
-fn inputs_of<'a>(alloc: Global, found: &ArgMatches<'a>) -> Result<Option<Inputs<'a>>, AllocError> {
-    if let Some(list) = found.get_str("files0-from") {
-        return Ok(Some(Inputs::Listed(file_meant(list))));
-    }
-    let words = found.get_strs("IN").unwrap_or(&[]);
-    if words.len() <= 1 && !found.get_flag("names") {
-        return Ok(Some(Inputs::One(file_of(found, "IN"))));
-    }
-    let mut inputs = Vec::with_capacity(alloc, words.len().max(1))?;
-    put_inputs(&mut inputs, words)?;
-    Ok(named(inputs))
-}
-
-/// Puts the inputs that these words name. No word is standard input.
-fn put_inputs<'a>(inputs: &mut Vec<Option<&'a str>>, words: &[&'a str]) -> Result<(), AllocError> {
-    if words.is_empty() {
-        inputs.push(None)?;
-    }
-    for word in words {
-        inputs.push(file_meant(word))?;
-    }
-    Ok(())
-}
-
-/// These inputs, unless two of them are standard input.
-fn named<'a>(inputs: Vec<Option<&'a str>>) -> Option<Inputs<'a>> {
-    if inputs.iter().filter(|input| input.is_none()).count() > 1 {
-        None
-    } else {
-        Some(Inputs::Named(inputs))
-    }
 }

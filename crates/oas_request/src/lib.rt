@@ -1,12 +1,26 @@
-//! What the words of a command line ask for.
+//! What the words of a command line request.
 //!
-//! Which words `clap` understands, and what [`parse`] answers for them, no clause says: program_tests has tests of it. The
-//! commands stand in src/usage.rt, and their arguments in src/arguments.rt. Calls of `clap` are long to prove, so this crate has
+//! No contract says which words `clap` understands, and what [`parse`] returns for them; program_tests tests it. The commands
+//! are in src/usage.rt, and their arguments in src/arguments.rt. Calls of `clap` take long to prove, so this crate has
 //! neither tests nor wrong bodies, for which the gate would prove it again.
+//!
+//! # How it is built
+//!
+//! It promises nothing to the crates above: no contract says what words request, which is tested (`words.rt` and `options.rt`
+//! in `src/requests` of program_tests). `usage.rt` has a table of the commands and their help, and makes them for `clap`.
+//! `arguments.rt` has their arguments, by kinds, and makes each by itself, since a call of `clap` is expensive to prove with
+//! others at hand. `commands.rt` has what words request, and `questions.rt` what can be asked about many files. A `Request`
+//! borrows its names from the words, so nothing is copied. The crate has neither tests nor wrong bodies, so that the gate
+//! proves it once; its parts with contracts are in oas_command (`limits_of`) and oas_files (`file_of_word`).
 #![tactic(auto)]
 
 mod arguments;
 mod commands;
+mod questions;
 mod usage;
 
-pub use commands::{Inputs, Question, Request, Task, parse, request_of};
+// The crates below, for those above.
+pub use commands::{Request, Task, parse, request_of};
+pub use oas_difference;
+pub use oas_files;
+pub use questions::{Ending, Inputs, Question};

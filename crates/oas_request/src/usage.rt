@@ -1,13 +1,13 @@
 //! The command line: its commands and the help on them, by `clap`.
 
 use crate::arguments::{
-    A, Argument, B, BRIEF, EXPLAIN, IN, INPUTS, JSON, LARGE, LIMIT, LIST, MARKERS, NAMES, NEW,
-    NUMBER, OLD, OUT, PROGRESS, put_arguments,
+    A, Argument, B, BRIEF, CHECK, EXPLAIN, IN, INPUTS, JSON, LARGE, LIMIT, LIST, MARKERS, NAMES,
+    NEW, NO_CLOBBER, NUMBER, OLD, OUT, PROGRESS, QUIET, ZERO, put_arguments,
 };
 use clap::{Command, Error};
 use std::alloc::Global;
 
-/// A command: what it is for, in a line, what stands below its help, and its arguments.
+/// A command: its purpose in a line, the text below its help, and its arguments.
 #[derive(Clone, Copy)]
 struct Described<'a> {
     name: &'a str,
@@ -17,21 +17,26 @@ struct Described<'a> {
 }
 
 /// The program's version, and the profiles that it knows.
-const VERSION: &str = "0.2.0 (profiles one and two; answers by profile two)";
+const VERSION: &str = "0.3.0-dev (profiles one and two; answers by profile two)";
 
-/// What stands below the program's help.
+/// The text below the program's help.
 const EXAMPLES: &str = "\
 Examples: oascanon same before.oas after.oas
           oascanon key --names *.oas >keys
           oascanon canon chip.oas canonical.oas";
 
-/// What stands below the help of a command: an example, and how it ends.
+/// The text below the help of a command: an example, and how it ends.
 const AFTER_CANON: &str = "Example:
   oascanon canon chip.oas canonical.oas
 
+It reads chip.oas, and writes canonical.oas: a file that stands there is
+replaced once the new one is whole. So of `canon *.oas` the second name is
+written; --no-clobber refuses an OUT that exists.
+
 Status:
   0  done
-  1  refused (NAME: refused REASON at OFFSET), or a file can't be opened
+  1  refused (NAME: refused REASON at OFFSET), a file can't be opened, or
+     OUT exists and isn't to be replaced
   2  the command line isn't understood";
 
 const AFTER_CHECK: &str = "Example:
@@ -71,12 +76,14 @@ Status:
   2  the command line isn't understood";
 
 const AFTER_KEY: &str = "Example:
-  find vault -name '*.oas' -print0 | oascanon key --files0-from=-
+  find vault -name '*.oas' -print0 | oascanon key --files0-from=- >keys
+  oascanon key --check keys --quiet
 
 Status:
-  0  done
+  0  done; with --check, each key holds
   1  refused (NAME: refused REASON at OFFSET), or a file can't be opened
-  2  the command line isn't understood";
+  2  the command line isn't understood
+  3  with --check: a key has changed, and no file was refused";
 
 const AFTER_KEYS: &str = "Example:
   oascanon keys chip.oas >cells
@@ -108,11 +115,12 @@ Status:
 
 const AFTER_EXPLAIN: &str = "Example:
   oascanon explain 23
+  oascanon explain CoordinateRange
 
 Status:
   0  done
   1  standard output failed
-  2  the command line isn't understood, or no reason has the number";
+  2  the command line isn't understood, or no reason is called so";
 
 /// The commands, in the order of the help.
 const COMMANDS: [Described<'static>; 10] = [
@@ -120,7 +128,7 @@ const COMMANDS: [Described<'static>; 10] = [
         name: "canon",
         about: "Writes the canonical form of a file",
         after: AFTER_CANON,
-        arguments: &[LARGE, EXPLAIN, PROGRESS, IN, OUT],
+        arguments: &[LARGE, EXPLAIN, PROGRESS, IN, OUT, NO_CLOBBER],
     },
     Described {
         name: "check",
@@ -150,7 +158,9 @@ const COMMANDS: [Described<'static>; 10] = [
         name: "key",
         about: "Writes the SHA-256 of the canonical forms of files",
         after: AFTER_KEY,
-        arguments: &[LARGE, EXPLAIN, PROGRESS, INPUTS, NAMES, LIST],
+        arguments: &[
+            LARGE, EXPLAIN, PROGRESS, INPUTS, NAMES, LIST, ZERO, CHECK, QUIET,
+        ],
     },
     Described {
         name: "keys",
@@ -183,7 +193,7 @@ pub fn oascanon<'a>(alloc: Global) -> Result<Command<'a>, Error> {
     let mut commands = Vec::with_capacity(alloc, COMMANDS.len())?;
     put_commands(&mut commands, alloc, &COMMANDS)?;
     let line = Command::new(alloc, "oascanon")
-        .about("The canonical form of OASIS mask layouts (SEMI P39)")
+        .about("The canonical form of OASIS mask layouts (SEMI P39); of other files by oasprep")
         .after_help(EXAMPLES)
         .version(VERSION)
         .subcommand_required(true);

@@ -1,4 +1,4 @@
--- The race of two candidates for the least rotation: each comparison keeps it, and its end is won by a least rotation.
+-- The race of two candidates for the least rotation: each comparison keeps it, and at its end a least rotation has won.
 use Rattle.std.proofs.Common.{◌≡◌, ℕ, zero, suc, ◌+◌, ◌-◌, ◌<◌, ◌≤◌, ◌≢◌, max, List, [], ◌∷◌, ◌++◌, length, take, drop, Ordering, refl, sym, ap, subst, ◌∙◌, ⊎_elim, append_assoc, arith}
 use Rattle.std.specs.Prelude.{◌⊎◌}
 use Rattle.std.specs.Ordering.{ordering_then, ordering_reverse}
@@ -18,7 +18,7 @@ use Rattle.oas_ring.specs.Laws.PointsLaws.{not_below_itself, below_one_way, not_
 use Rattle.oas_ring.specs.Laws.ReadingsLaws.{place_within}
 use Rattle.oas_ring.proofs.ReadingLemmas.{list_cmp_decided}
 
--- a common front does not matter
+-- a common prefix does not matter
 pub list_cmp-append : (c a b : List Point) → list_cmp (c ++ a) (c ++ b) ≡ list_cmp a b
 list_cmp-append [] a b = refl
 list_cmp-append (x ∷ c) a b =
@@ -47,20 +47,20 @@ rotation-rotation a b q h =
     ∙ append_assoc (drop (a + b) q) t (take b d)
     ∙ ap (λ x. drop (a + b) q ++ x) (sym (take-add a b q))
 
--- the front and a point of a rotation
+-- the prefix and a point of a rotation
 take-rotation : (m d : ℕ) (w : List Point) → m + d ≤ length w → take d (rotation m w) ≡ drop m (take (m + d) w)
 take-rotation m d w h =
     let ld = length-drop m w in
     take-append-le d (drop m w) (take m w) (omega arith) ∙ sym (drop-take m d w)
 
--- and a point behind that front
+-- and a point after that prefix
 point_at-rotation : (m d : ℕ) (w : List Point) → m + d < length w
     → point_at (rotation m w) d ≡ point_at w (m + d)
 point_at-rotation m d w h =
     let ld = length-drop m w in
     get_or_append_left (drop m w) (take m w) origin d (omega arith) ∙ get_or-drop m w d origin
 
--- lists that agree up to a place where w is below u stay so ordered when both are rotated by no more than that
+-- lists that agree up to a place where w is below u stay in that order when both are rotated by no more than that
 pub rotated_below : (u w : List Point) (m d : ℕ) → length u ≡ length w → m + d < length u
     → take (m + d) w ≡ take (m + d) u → point_cmp (point_at w (m + d)) (point_at u (m + d)) ≡ Less
     → list_cmp (rotation m w) (rotation m u) ≡ Less
@@ -94,7 +94,7 @@ beaten_from q i j k s h e l from to within =
     let w = rotation m (rotation j q) in
     (w, rotated_twice q (rotation j q) w (j, refl) (m, refl), ap (list_cmp w) (sym at) ∙ below)
 
--- where the next points are equal, the candidates agree in one point more
+-- where the next points are equal, the candidates agree in one more point
 pub race_equal : (q : List Point) (r : Race) → IsRace q r → r.agreed < length q → next_order q r ≡ Equal
     → IsRace q (record { best = r.best; rival = r.rival; agreed = r.agreed + 1 })
 race_equal q r h k e =
@@ -108,7 +108,7 @@ race_equal q r h k e =
       beaten = h.beaten;
     }
 
--- where the best has the lesser one, the rival and the starts that it passes are beaten
+-- where the best has the lesser one, the rival and the starts that it skips are beaten
 pub race_less : (q : List Point) (r : Race) → IsRace q r → r.agreed < length q → next_order q r ≡ Less
     → IsRace q (record { best = r.best; rival = r.rival + r.agreed + 1; agreed = 0 })
 race_less q r h k e = record {
@@ -121,7 +121,7 @@ race_less q r h k e = record {
       (cases_lt s r.rival);
 }
 
--- where the rival has the lesser one, it is the best, and the next rival stands behind both
+-- where the rival has the lesser one, it is the best, and the next rival comes after both
 pub race_greater : (q : List Point) (r : Race) (next : ℕ) → next ≡ max (r.best + r.agreed + 1) (r.rival + 1) → IsRace q r
     → r.rival < length q → r.agreed < length q → next_order q r ≡ Greater
     → IsRace q (record { best = r.rival; rival = next; agreed = 0 })
@@ -148,7 +148,7 @@ pub record LeastUpTo (q : List Point) (m : ℕ) : Type 0 where
   pub within : start ≤ m
   pub least : (t : ℕ) → t ≤ m → list_cmp (rotation t q) (rotation start q) ≢ Less
 
--- one rotation more
+-- one more rotation
 new_least : (q : List Point) (m : ℕ) (h : LeastUpTo q m)
     → list_cmp (rotation (suc m) q) (rotation h.start q) ≡ Less → LeastUpTo q (suc m)
 new_least q m h e = record {
@@ -232,7 +232,7 @@ descend q r h same (suc n) s f within least =
     (λ t l. subst (λ (x : List Point). list_cmp (rotation t q) x ≢ Less) back (least t l)))
     (cases_lt s r.rival)
 
--- at its end the race is won by a least rotation
+-- at the end of the race a least rotation has won
 pub race_won : (q : List Point) (r : Race) → IsRace q r → (length q ≤ r.rival) ⊎ (length q ≤ r.agreed)
     → IsLeastTurn q r.best
 race_won q r h over =

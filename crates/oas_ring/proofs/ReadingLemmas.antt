@@ -14,7 +14,7 @@ use Rattle.oas_ring.specs.Race.{IsLeastTurn}
 use Rattle.oas_ring.specs.Laws.RingsLaws.{same_ring_twice}
 use Rattle.oas_ring.specs.Laws.PointsLaws.{not_below_twice}
 
--- one point more of two lists
+-- one more point of two lists
 pub list_cmp_more : (a b : List Point) (k : ℕ) (o : Ordering) → k < length a → k < length b
     → o ≡ point_cmp (point_at a k) (point_at b k)
     → list_cmp (drop k a) (drop k b) ≡ ordering_then o (list_cmp (drop (k + 1) a) (drop (k + 1) b))
@@ -35,7 +35,7 @@ list_cmp_decided a b k o h g e ne =
     first Equal r ne = absurd (ne refl)
     first Greater r ne = refl
 
--- what is left of two readings decides as before, where they agree in one point more
+-- what is left of two readings decides as before, where they agree in one more point
 pub readings_more : (p : List Point) (a b : Reading) (k i j : ℕ) (o all : Ordering) → k < length p
     → point_at (reading_of p a) k ≡ point_at p i → point_at (reading_of p b) k ≡ point_at p j
     → o ≡ point_cmp (point_at p i) (point_at p j) → o ≡ Equal
@@ -59,7 +59,7 @@ readings_decided p a b k i j o all h pa pb e ne so_far =
     let e' : o ≡ point_cmp (point_at (reading_of p a) k) (point_at (reading_of p b) k) = cc in
     sym (list_cmp_decided (reading_of p a) (reading_of p b) k o (omega arith) (omega arith) e' ne) ∙ so_far
 
--- one point more of a reading
+-- one more point of a reading
 pub reading_push : (p : List Point) (r : Reading) (k i : ℕ) → k < length p
     → point_at (reading_of p r) k ≡ point_at p i
     → take (k + 1) (reading_of p r) ≡ take k (reading_of p r) ++ point_at p i ∷ []
@@ -72,7 +72,7 @@ pub reading_all : (p : List Point) (r : Reading) (k : ℕ) → length p ≤ k
     → take k (reading_of p r) ≡ reading_of p r
 reading_all p r k h = let l = length-reading_of p r in take_all k (reading_of p r) (omega arith)
 
--- one point more on which two readings agree
+-- one more point on which two readings agree
 pub agree_more : (p q : List Point) (a b : Reading) (k i j : ℕ) → k < length p → length p ≡ length q
     → point_at (reading_of p a) k ≡ point_at p i → point_at (reading_of q b) k ≡ point_at q j
     → point_at p i ≡ point_at q j → take k (reading_of p a) ≡ take k (reading_of q b)
@@ -83,7 +83,7 @@ agree_more p q a b k i j h same pa qb e so_far =
     take_more_same (reading_of p a) (reading_of q b) k origin
     (omega arith) (omega arith) so_far (pa ∙ e ∙ sym qb)
 
--- a reading that none is below is a least one
+-- a reading that has none below it is a least one
 pub least_from_all : (p : List Point) (best : Reading) → 0 < length p
     → ((r : Reading) → r.start < length p → list_cmp (reading_of p r) (reading_of p best) ≢ Less)
     → IsLeastReadingOf p (reading_of p best)
@@ -96,7 +96,7 @@ least_from_all p best some below =
           subst (λ (t : List Point). list_cmp t (reading_of p best) ≢ Less) (sym f.is) (below f.reading f.within);
     }
 
--- a list against its order is as long
+-- a list against its order has the same length
 pub length-directed : (backwards : Bool) (p : List Point) → length (directed backwards p) ≡ length p
 length-directed true p = length-reverse p
 length-directed false p = refl

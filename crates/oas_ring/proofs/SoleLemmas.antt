@@ -1,4 +1,4 @@
--- The one point below all others: what one point more changes, and that each least reading begins there.
+-- The one point below all others: what one more point changes, and that each least reading begins there.
 use Rattle.std.proofs.Common.{◌≡◌, ◌≢◌, ℕ, ◌+◌, ◌-◌, ◌<◌, ◌≤◌, ◌<ℤ◌, ◌≤ℤ◌, Bool, true, false, IsTrue, List, length, drop, take, Ordering, refl, sym, ap, subst, ◌∙◌, ⊎_elim, arith, true≢false}
 use Rattle.std.specs.Prelude.{reverse}
 use Rattle.std.specs.Ordering.{int_cmp, ordering_then, ordering_reverse, MatchOrdering}
@@ -55,7 +55,7 @@ below_by_y a b h g = by_axes a b (λ o. o ≡ Less) at
     at Equal Greater k l = absurd (omega (arith, ints))
     at Greater r k l = absurd (omega (arith, ints))
 
--- a point is not below one that is no greater in either axis
+-- a point is not below one that is no greater on either axis
 pub not_below_by_axes : (a b : Point) → b.x ≤ℤ a.x → b.y ≤ℤ a.y → point_cmp a b ≢ Less
 not_below_by_axes a b h g = by_axes a b (λ o. o ≢ Less) at
   where
@@ -67,11 +67,11 @@ not_below_by_axes a b h g = by_axes a b (λ o. o ≢ Less) at
     at Equal Greater k l e = cc
     at Greater r k l e = cc
 
--- of two points at most one is below the other
+-- at most one of two points is below the other
 above : (a b : Point) → point_cmp a b ≡ Less → point_cmp b a ≢ Less
 above a b e l = let f : point_cmp b a ≡ Greater = points_total.antisymm b a ∙ ap ordering_reverse e in cc
 
--- a point that is below one that no other is below, is below each other
+-- a point that is below one with no other below it, is below each other
 below_lowest : (a b t : Point) → point_cmp a b ≡ Less → point_cmp t b ≢ Less → point_cmp a t ≡ Less
 below_lowest a b t e n = at (point_cmp t b) refl
   where
@@ -82,7 +82,7 @@ below_lowest a b t e n = at (point_cmp t b) refl
         points_total.antisymm a t ∙ ap ordering_reverse same ∙ sym (points_total.antisymm a b) ∙ e
     at Greater f = points_total.trans a b t e (points_total.antisymm b t ∙ ap ordering_reverse f)
 
--- a point below the least so far is the least, and alone
+-- a point below the least so far is the least, and the only one
 pub lower : (p : List Point) (k start : ℕ) (least : Point) (sole : Bool) → IsLeastOf p k start least sole
     → point_cmp (point_at p k) least ≡ Less → IsLeastOf p (k + 1) k (point_at p k) true
 lower p k start least sole h e =
@@ -101,7 +101,7 @@ lower p k start least sole h e =
       below = λ y t l ne. under t (omega arith);
     }
 
--- one that is not below it leaves it the least, and alone only if it is above it
+-- one that is not below it leaves it the least, and the only one only if it is above it
 pub no_lower : (p : List Point) (k start : ℕ) (least : Point) (sole : Bool) → IsLeastOf p k start least sole
     → point_cmp (point_at p k) least ≢ Less → IsLeastOf p (k + 1) start least false
 no_lower p k start least sole h e = record {

@@ -9,7 +9,7 @@ use Rattle.oas_ring.specs.declared.point.Point.{Point}
 abbrev pub origin : Point
 origin = record { x = pos 0; y = pos 0 }
 
--- the point at a place of a list, and past its end the origin
+-- the point at a place of a list, or the origin past its end
 abbrev pub point_at : List Point → ℕ → Point
 point_at p i = slice_index_or p i origin
 

@@ -18,7 +18,7 @@ pub record IsRace (q : List Point) (race : Race) : Type 0 where
   pub agree : take race.agreed (rotation race.best q) ≡ take race.agreed (rotation race.rival q)
   pub beaten : (s : ℕ) → s < race.rival → s < length q → s ≢ race.best → IsBeaten q s
 
--- how the points behind those in which the candidates agree compare
+-- how the points after those in which the candidates agree compare
 abbrev pub next_order : List Point → Race → Ordering
 next_order q race = point_cmp (point_at (rotation race.best q) race.agreed) (point_at (rotation race.rival q) race.agreed)
 

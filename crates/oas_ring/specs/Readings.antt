@@ -25,7 +25,7 @@ pub record IsLeastReadingOf (p a : List Point) : Type 0 where
   pub same : SameRing p a
   pub least : IsLeastReading a
 
--- the rotations of front ++ back that begin in back, in turn, and last the one that begins behind it
+-- the rotations of front ++ back that begin in back, in order, and last the one that begins after it
 abbrev pub rotations_from : List Point → List Point → List (List Point)
 rotations_from front [] = front ∷ []
 rotations_from front (x ∷ back) = (x ∷ back ++ front) ∷ rotations_from (front ++ x ∷ []) back

@@ -1,8 +1,8 @@
--- Rings: lists of points of which neither the start nor the direction matters.
+-- Rings: lists of points, where neither the start nor the direction matters.
 use Rattle.std.specs.Prelude.{◌≡◌, ◌⊎◌, ℕ, List, ◌++◌, take, drop, reverse}
 use Rattle.oas_ring.specs.declared.point.Point.{Point}
 
--- the list from place k on, and then what stands before k
+-- the list from place k on, and then what comes before k
 abbrev pub rotation : ℕ → List Point → List Point
 rotation k p = drop k p ++ take k p
 

@@ -1,4 +1,4 @@
-//! Laws of rings, over the definitions alone.
+//! Laws of rings, from the definitions alone.
 
 ghost use Rattle.std.specs.Prelude.{◌≡◌, ◌↔◌, ◌<◌, List, length};
 ghost use Rattle.oas_ring.specs.Rings.{SameRing};
@@ -13,7 +13,7 @@ pub fn same_ring_is_equivalence()
     ensures twice { (p q r : List Point) → SameRing p q → SameRing q r → SameRing p r }
 {}
 
-/// The lists that are the same ring as a list are its readings, so it has at most two for each point.
+/// The lists that are the same ring as a list are its readings, so there are at most two for each point.
 pub fn readings_are_the_ring()
     ensures { (p q : List Point) → 0 < length p
         → (SameRing p q ↔ ((r : Reading) × (r.start < length p) × (q ≡ reading_of p r))) }

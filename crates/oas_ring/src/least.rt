@@ -1,8 +1,8 @@
 //! The least reading of a ring, in at most seven comparisons a point: three for the least rotation in each
 //! direction, and one to compare the two.
 //!
-//! In a slice the one point below all others, where there is one, is found first: each least reading begins
-//! there, so that only its two directions are left to be compared.
+//! In a slice the point below all others, if there is one, is found first: each least reading begins there, so only its two
+//! directions are left to compare.
 
 ghost use Rattle.std.specs.Prelude.{◌≡◌, ◌+◌, ◌-◌, ◌*◌, ◌<◌, ◌≤◌, ◌^◌, List, length, IfSome};
 ghost use Rattle.oas_ring.specs.Points.{list_cmp};
@@ -28,7 +28,7 @@ fn reading_from(count: usize, backwards: bool, turn: usize) -> Reading
     Reading { start, backwards }
 }
 
-/// Compares the points behind those in which the two candidates agree.
+/// Compares the points after those in which the two candidates agree.
 fn compare_next<V: RingView>(view: &mut V, backwards: bool, race: Race) -> Ordering
     requires best { race.best < length (V.points view.old) }
     requires rival { race.rival < length (V.points view.old) }
@@ -112,8 +112,8 @@ pub fn least_reading_over<V: RingView>(view: &mut V) -> Reading
     }
 }
 
-/// The place of a point that is strictly below each other one, in one comparison a point, and None where the
-/// least point stands at more than one place.
+/// The place of a point that is strictly below each other one, in one comparison a point; None where the least point occurs
+/// more than once.
 fn sole_least(points: &[Point]) -> Option<usize>
     requires { 0 < length points.now }
     ensures { IfSome result (IsSoleLeast points.now) }
@@ -137,8 +137,7 @@ fn sole_least(points: &[Point]) -> Option<usize>
     if sole { Some(start) } else { None }
 }
 
-/// The lesser of the two readings that begin at the one point below all others. Each other reading begins at a
-/// greater point.
+/// The lesser of the two readings that begin at the one point below all others. Each other reading begins at a greater point.
 fn least_from(points: &[Point], start: usize) -> Reading
     requires { IsSoleLeast points.now start }
     ensures start { result.start < length points.now }
@@ -158,8 +157,7 @@ fn least_from(points: &[Point], start: usize) -> Reading
     }
 }
 
-/// A reading that gives the least list of the ring, in time that is linear in its length. Where several
-/// readings give that list, it is one of them.
+/// A reading that gives the least list of the ring, in linear time. Where several readings give that list, it is one of them.
 pub fn least_reading(points: &[Point]) -> Reading
     requires { 0 < length points.now }
     ensures start { result.start < length points.now }

@@ -1,8 +1,8 @@
 //! Two candidates for the least rotation that advance through a list together.
 //!
-//! The candidates are compared point by point. At the first points that differ the greater one is out, and
-//! with it each start up to the one behind the points compared, since a rotation of the lesser beats it. So
-//! each comparison moves a candidate on or lengthens what they agree in, and none is wasted.
+//! The candidates are compared point by point. At the first points that differ the greater candidate is out. So is each start
+//! up to the one after the compared points, since a rotation of the lesser candidate beats it. So each comparison moves a
+//! candidate on or lengthens the part in which they agree, and none is wasted.
 
 ghost use Rattle.std.specs.Prelude.{◌≡◌, ◌+◌, ◌*◌, ◌<◌, ◌≤◌, ◌^◌, List, length};
 ghost use Rattle.oas_ring.specs.Race.{IsRace, next_order};
@@ -10,8 +10,8 @@ ghost use Rattle.oas_ring.specs.declared.point.Point.{Point};
 
 use std::cmp::Ordering;
 
-/// Two candidates for the start of the least rotation, `best` before `rival`, and in how many points they
-/// agree so far. Every other start before `rival` is out.
+/// Two candidates for the start of the least rotation, `best` before `rival`, and in how many points they agree so far. Every
+/// other start before `rival` is out.
 #[derive(Clone, Copy, Debug)]
 pub(crate) struct Race {
     pub best: usize,
@@ -19,7 +19,7 @@ pub(crate) struct Race {
     pub agreed: usize,
 }
 
-/// The race after the points behind those in which the candidates agree were compared.
+/// The race after comparing the points after those in which the candidates agree.
 pub(crate) fn advance(race: Race, order: Ordering) -> Race
     requires best { race.best < 2 ^ 59 }
     requires rival { race.rival < 2 ^ 59 }

@@ -17,7 +17,7 @@ pub struct Reading {
     pub backwards: bool,
 }
 
-/// Where the point at place `k` of a reading stands in a ring of `count` points.
+/// The place in a ring of `count` points of the point at place `k` of a reading.
 pub(crate) fn place(count: usize, reading: Reading, k: usize) -> usize
     requires start { reading.start < count }
     requires place { k < count }

@@ -61,8 +61,8 @@ fn is_box(points: &[Point], corners: Corners) -> bool
     }
 }
 
-/// The rectangle with positive sides that the ring goes round, from whichever corner and in either direction,
-/// and None exactly where there is none.
+/// The rectangle with positive sides that the ring goes round, from any corner and in either direction; None exactly where
+/// there is none.
 pub fn as_box(points: &[Point]) -> Option<Corners>
     ensures some { IfSome result (IsBox points.now) }
     ensures none { IfNone result ((c : Corners) → IsBox points.now c → ⊥) }

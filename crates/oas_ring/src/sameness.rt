@@ -26,8 +26,8 @@ fn same_readings(a: &[Point], in_a: Reading, b: &[Point], in_b: Reading) -> bool
     true
 }
 
-/// Whether one list is a rotation of the other or of its reverse, in time that is linear in their length and
-/// with no memory. Two empty lists are the same ring, and lists of unlike length are not.
+/// Whether one list is a rotation of the other or of its reverse, in linear time and without allocation. Two empty lists are
+/// the same ring, and lists of different lengths are not.
 pub fn same_ring(a: &[Point], b: &[Point]) -> bool
     ensures { IsTrue result ↔ SameRing a.now b.now }
 {

@@ -1,4 +1,4 @@
-//! A ring that is seen through comparisons of its points alone, each of which is counted.
+//! A ring that is seen only through comparisons of its points, each of which is counted.
 
 ghost use Rattle.std.specs.Prelude.{◌≡◌, ℕ, ◌+◌, ◌<◌, ◌^◌, List, length};
 ghost use Rattle.oas_ring.specs.Points.{point_at, point_cmp};

@@ -1,3 +1,3 @@
-pub mod PointLemmas
-pub mod CellLemmas
-pub mod AloneLemmas
+mod PointLemmas
+mod CellLemmas
+mod AloneLemmas

@@ -1,1 +1,2 @@
-pub mod Putting
+pub use Rattle.oas_runs.specs as oas_runs
+pub use Rattle.oas_runs.specs.oas_form

@@ -1,28 +1,27 @@
-//! Elements from their keys, each as the record of its kind that gives all fields.
+//! Elements that are held as keys, each as the record of its kind that gives all fields.
 
-ghost use Rattle.std.specs.Prelude.{◌≡◌, List, true};
-ghost use Rattle.oas_ring.specs.declared.point.Point.{Point as OnePoint};
-ghost use Rattle.oas_layout.specs.declared.element.Element.{Element as OneElement};
+ghost use Rattle.std.specs.Prelude.{◌≡◌, ◌<◌, ◌≤◌, ◌^◌, length, true};
+ghost use Rattle.std.specs.List.{list_all};
 ghost use Rattle.oas_layout.specs.declared.element.Element.TheVariants.{Polygon, Path};
-ghost use Rattle.oas_layout.specs.Grid.{is_coordinate};
-ghost use Rattle.oas_form.specs.Bytes.{element_bytes};
-ghost use Rattle.oas_form.specs.Putting.{Counts};
-ghost use Rattle.oas_run_form.specs.Putting.{ArePoints, IsKeyOf};
+ghost use Rattle.oas_layout.specs.Grid.{is_coordinate, is_grid_point};
+ghost use Rattle.oas_layout.specs.Weight.{weight_of};
+ghost use Rattle.oas_runs.specs.oas_form.Bytes.{element_bytes};
+ghost use Rattle.oas_runs.specs.oas_form.Putting.{Counts};
 
 use crate::points::put_points;
-use oas_form::{
+use oas_num::{Sink, SinkFault};
+use oas_runs::oas_form::{
     put_bytes, put_circle, put_coordinate, put_number, put_placement, put_rectangle, put_text,
 };
-use oas_keys::{SpelledElement, SpelledPoints, read_key};
-use oas_num::{Sink, SinkFault};
+use oas_runs::{KeyedElement, ShownElement, ShownPoints, show};
 
-/// The id of POLYGON, and the info byte that says that all fields are given.
+/// The id of POLYGON, and the info byte for all fields.
 const POLYGON: [u8; 2] = [21, 0x3B];
 
-/// Those of PATH.
+/// The same for PATH.
 const PATH: [u8; 2] = [22, 0xFB];
 
-/// The extension-scheme of a path of which both extensions are numbers.
+/// The extension-scheme of a path whose extensions are both numbers.
 const EXPLICIT: [u8; 1] = [0x0F];
 
 /// Puts a POLYGON record.
@@ -30,10 +29,12 @@ fn put_polygon<K: Sink>(
     sink: &mut K,
     layer: u64,
     datatype: u64,
-    points: SpelledPoints<'_>,
+    points: ShownPoints<'_>,
 ) -> Result<u64, SinkFault>
-    requires { (ps : List OnePoint) × ArePoints points ps }
-    ensures { (ps : List OnePoint) → ArePoints points.entry ps → Counts K.given K.failures sink.old (element_bytes (Polygon layer datatype ps)) result sink.new }
+    requires some { 0 < length points }
+    requires few { length points ≤ 2 ^ 30 }
+    requires inside { list_all is_grid_point points ≡ true }
+    ensures { Counts K.given K.failures sink.old (element_bytes (Polygon layer datatype points.entry)) result sink.new }
 {
     let front = put_bytes(sink, &POLYGON)?;
     let first = put_number(sink, layer)?;
@@ -50,13 +51,14 @@ fn put_path<K: Sink>(
     half_width: u64,
     start: i64,
     end: i64,
-    points: SpelledPoints<'_>,
+    points: ShownPoints<'_>,
 ) -> Result<u64, SinkFault>
+    requires some { 0 < length points }
+    requires few { length points ≤ 2 ^ 30 }
     requires start { is_coordinate start ≡ true }
     requires end { is_coordinate end ≡ true }
-    requires points { (ps : List OnePoint) × ArePoints points ps }
-    ensures { (ps : List OnePoint) → ArePoints points.entry ps →
-        Counts K.given K.failures sink.old (element_bytes (Path layer datatype half_width start end ps)) result sink.new }
+    requires inside { list_all is_grid_point points ≡ true }
+    ensures { Counts K.given K.failures sink.old (element_bytes (Path layer datatype half_width start end points.entry)) result sink.new }
 {
     let front = put_bytes(sink, &PATH)?;
     let first = put_number(sink, layer)?;
@@ -69,27 +71,30 @@ fn put_path<K: Sink>(
     Ok(front + first + second + wide + scheme + before + after + line)
 }
 
-/// Puts the record of the element that a key spells, and answers its length.
-pub(crate) fn put_keyed<K: Sink>(sink: &mut K, key: &[u8]) -> Result<u64, SinkFault>
-    requires { (e : OneElement) × IsKeyOf key.now e }
-    ensures { (e : OneElement) → IsKeyOf key.now e → Counts K.given K.failures sink.old (element_bytes e) result sink.new }
+/// Puts the record of an element, and returns its length.
+pub(crate) fn put_element<K: Sink>(
+    sink: &mut K,
+    element: &KeyedElement<'_>,
+) -> Result<u64, SinkFault>
+    requires light { weight_of element.now ≤ 2 ^ 30 }
+    ensures { Counts K.given K.failures sink.old (element_bytes element.now) result sink.new }
 {
-    match read_key(key) {
-        SpelledElement::Placement {
+    match show(element) {
+        ShownElement::Placement {
             cell,
             x,
             y,
             turns,
             flip,
         } => put_placement(sink, cell, x, y, turns, flip),
-        SpelledElement::Text {
+        ShownElement::Text {
             string,
             textlayer,
             texttype,
             x,
             y,
         } => put_text(sink, string, textlayer, texttype, x, y),
-        SpelledElement::Rectangle {
+        ShownElement::Rectangle {
             layer,
             datatype,
             width,
@@ -97,12 +102,12 @@ pub(crate) fn put_keyed<K: Sink>(sink: &mut K, key: &[u8]) -> Result<u64, SinkFa
             x,
             y,
         } => put_rectangle(sink, layer, datatype, width, height, x, y),
-        SpelledElement::Polygon {
+        ShownElement::Polygon {
             layer,
             datatype,
             points,
         } => put_polygon(sink, layer, datatype, points),
-        SpelledElement::Path {
+        ShownElement::Path {
             layer,
             datatype,
             half_width,
@@ -110,7 +115,7 @@ pub(crate) fn put_keyed<K: Sink>(sink: &mut K, key: &[u8]) -> Result<u64, SinkFa
             end,
             points,
         } => put_path(sink, layer, datatype, half_width, start, end, points),
-        SpelledElement::Circle {
+        ShownElement::Circle {
             layer,
             datatype,
             radius,

@@ -1,65 +1,60 @@
-//! The points of a key, as a point list of type 4 and the place of its first point.
+//! The points of an element, as a point list of type 4 and the place of its first point.
 
-ghost use Rattle.std.specs.Prelude.{◌≡◌, ◌∷◌, ◌≤◌, ◌^◌, List, true, IfOk};
-ghost use Rattle.oas_ring.specs.declared.point.Point.{Point as OnePoint};
+ghost use Rattle.std.specs.Prelude.{◌≡◌, ◌∷◌, ◌+◌, ◌*◌, ◌<◌, ◌≤◌, ◌^◌, length, true, IfOk};
+ghost use Rattle.std.specs.List.{list_all};
 ghost use Rattle.oas_layout.specs.Grid.{is_grid_point};
-ghost use Rattle.oas_form.specs.Bytes.{step_bytes, list_bytes, points_bytes};
-ghost use Rattle.oas_form.specs.Putting.{Counts};
-ghost use Rattle.oas_run_form.specs.Putting.{AreFew, ArePoints};
+ghost use Rattle.oas_runs.specs.oas_form.Bytes.{step_bytes, list_bytes, points_bytes};
+ghost use Rattle.oas_runs.specs.oas_form.Putting.{Counts};
 
-use oas_form::{put_bytes, put_number, put_place, put_step};
-use oas_keys::SpelledPoints;
 use oas_num::{Sink, SinkFault};
 use oas_ring::Point;
+use oas_runs::ShownPoints;
+use oas_runs::oas_form::{put_bytes, put_number, put_place, put_step};
 
 /// The type of a list of g-deltas.
 const STEPS: [u8; 1] = [4];
 
-/// Puts the steps from a point to those that are left, each from the one before.
-fn put_steps<K: Sink>(
-    sink: &mut K,
-    first: Point,
-    mut points: SpelledPoints<'_>,
-) -> Result<u64, SinkFault>
+/// Puts the steps from a point to those after it, each from the one before.
+fn put_steps<K: Sink>(sink: &mut K, first: Point, points: ShownPoints<'_>) -> Result<u64, SinkFault>
+    requires few { length points ≤ 2 ^ 30 }
     requires first { is_grid_point first ≡ true }
-    requires points { (ps : List OnePoint) × AreFew points ps }
-    ensures counts { (ps : List OnePoint) → AreFew points.entry ps → Counts K.given K.failures sink.old (step_bytes first ps) result sink.new }
-    ensures short { IfOk result (λ n. n ≤ 2 ^ 35) }
+    requires inside { list_all is_grid_point points ≡ true }
+    ensures counts { Counts K.given K.failures sink.old (step_bytes first points.entry) result sink.new }
+    ensures short { IfOk result (λ n. n ≤ 20 * length points.entry) }
 {
     let mut count = 0;
     let mut before = first;
-    while let Some(point) = points.next() {
+    for point in points {
         count += put_step(sink, before, point)?;
         before = point;
     }
     Ok(count)
 }
 
-/// Puts the list of a point and those that are left: its type, the number of these, and the steps.
-fn put_list<K: Sink>(
-    sink: &mut K,
-    first: Point,
-    points: SpelledPoints<'_>,
-) -> Result<u64, SinkFault>
+/// Puts a point list: its type, how many steps there are, and these.
+fn put_list<K: Sink>(sink: &mut K, first: Point, points: ShownPoints<'_>) -> Result<u64, SinkFault>
+    requires few { length points ≤ 2 ^ 30 }
     requires first { is_grid_point first ≡ true }
-    requires points { (ps : List OnePoint) × AreFew points ps }
-    ensures counts { (ps : List OnePoint) → AreFew points.entry ps → Counts K.given K.failures sink.old (list_bytes (first ∷ ps)) result sink.new }
-    ensures short { IfOk result (λ n. n ≤ 2 ^ 36) }
+    requires inside { list_all is_grid_point points ≡ true }
+    ensures counts { Counts K.given K.failures sink.old (list_bytes (first ∷ points.entry)) result sink.new }
+    ensures short { IfOk result (λ n. n ≤ 11 + 20 * length points.entry) }
 {
     let kind = put_bytes(sink, &STEPS)?;
-    let size = put_number(sink, points.count() as u64)?;
+    let size = put_number(sink, points.len() as u64)?;
     let steps = put_steps(sink, first, points)?;
     Ok(kind + size + steps)
 }
 
-/// Puts points: their list, and where the first of them stands.
+/// Puts points: their list, and the place of the first.
 pub(crate) fn put_points<K: Sink>(
     sink: &mut K,
-    mut points: SpelledPoints<'_>,
+    mut points: ShownPoints<'_>,
 ) -> Result<u64, SinkFault>
-    requires { (ps : List OnePoint) × ArePoints points ps }
-    ensures counts { (ps : List OnePoint) → ArePoints points.entry ps → Counts K.given K.failures sink.old (points_bytes ps) result sink.new }
-    ensures short { IfOk result (λ n. n ≤ 2 ^ 37) }
+    requires some { 0 < length points }
+    requires few { length points ≤ 2 ^ 30 }
+    requires inside { list_all is_grid_point points ≡ true }
+    ensures counts { Counts K.given K.failures sink.old (points_bytes points.entry) result sink.new }
+    ensures short { IfOk result (λ n. n ≤ 31 + 20 * length points.entry) }
 {
     let Some(first) = points.next() else {
         return Ok(0);

@@ -1,1 +1,1 @@
-pub mod Listed
+pub use Rattle.oas_runs.specs as oas_runs

@@ -4,9 +4,8 @@ ghost use Rattle.std.specs.Prelude.{IfErr, IfOk, OnOk};
 ghost use Rattle.oas_num.specs.Outlets.{IsGiven, IsSent, failures_of};
 ghost use Rattle.oas_num.specs.Writing.{Writes};
 ghost use Rattle.oas_num.specs.Written.{IsCutOff, IsWritten};
-ghost use Rattle.oas_layout.specs.Contents.{Contents, meaning_of};
+ghost use Rattle.oas_layout.specs.Contents.{meaning_of, IsLayout};
 ghost use Rattle.oas_listing.specs.Listing.{listing};
-ghost use Rattle.oas_runs.specs.Keyed.{IsKeyed};
 
 use crate::cells::put_cells;
 use oas_listing::put_unit;
@@ -14,39 +13,39 @@ use oas_num::{Outlet, Refusal, Sink, SinkFault, Why};
 use oas_runs::CompactLayout;
 use std::io::Write;
 
-/// Puts the listing of a layout. At a fault a front of it was put. No memory is needed.
+/// Puts the listing of a layout. After a fault a prefix of it was put. It allocates nothing.
 pub fn put_compact_listing<K: Sink>(layout: &CompactLayout, sink: &mut K) -> Result<(), SinkFault>
-    requires { (l : Contents) × IsKeyed layout.now l }
-    ensures { (l : Contents) → IsKeyed layout.now l → Writes K.given K.failures sink.old (listing (meaning_of l)) result sink.new }
+    ensures writes { Writes K.given K.failures sink.old (listing (meaning_of layout.now)) result sink.new }
+    ensures layout { IsLayout layout.now }
 {
+    let cells = layout.cells();
     put_unit(sink, layout.unit())?;
-    put_cells(sink, layout.cells())
+    put_cells(sink, cells)
 }
 
-/// Puts the listing of a layout into an outlet, and has its writer take all of it.
+/// Puts the listing of a layout into an outlet, and sends all of it to the writer.
 fn put_and_close<W: Write>(
     layout: &CompactLayout,
     outlet: &mut Outlet<'_, W>,
 ) -> Result<(), SinkFault>
-    requires { (l : Contents) × IsKeyed layout.now l }
-    ensures writes { (l : Contents) → IsKeyed layout.now l → Writes (IsGiven W.contents) failures_of outlet.old (listing (meaning_of l)) result outlet.new }
+    ensures writes { Writes (IsGiven W.contents) failures_of outlet.old (listing (meaning_of layout.now)) result outlet.new }
     ensures all { OnOk result (IsSent outlet.new) }
+    ensures layout { IsLayout layout.now }
 {
     put_compact_listing(layout, outlet)?;
     outlet.close()
 }
 
-/// Writes the listing of a layout, and answers how many bytes it has. It takes no memory.
+/// Writes the listing of a layout, and returns how many bytes it has. It allocates nothing.
 ///
-/// A fault of the writer is `Why::Write`, and its place is the number of bytes that the writer took: those are the first
-/// of the listing. Where it is the number of all of them, the flush failed.
+/// A fault of the writer is `Why::Write`. Its place is the number of bytes that the writer took: the first ones of the
+/// listing. Where it is the number of all of them, the flush failed.
 pub fn write_compact_listing<W: Write>(
     layout: &CompactLayout,
     writer: &mut W,
 ) -> Result<u64, Refusal>
-    requires { (l : Contents) × IsKeyed layout.now l }
-    ensures written { (l : Contents) → IsKeyed layout.now l → IfOk result (IsWritten W.contents writer.old (listing (meaning_of l)) writer.new) }
-    ensures refused { (l : Contents) → IsKeyed layout.now l → IfErr result (IsCutOff W.contents writer.old (listing (meaning_of l)) writer.new) }
+    ensures written { IfOk result (IsWritten W.contents writer.old (listing (meaning_of layout.now)) writer.new) }
+    ensures refused { IfErr result (IsCutOff W.contents writer.old (listing (meaning_of layout.now)) writer.new) }
 {
     let mut outlet = Outlet::new(writer);
     match put_and_close(layout, &mut outlet) {

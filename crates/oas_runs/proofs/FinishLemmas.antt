@@ -1,4 +1,4 @@
--- What a reader of cells that are held as keys comes to at END.
+-- The result of a reader of cells that are held as keys, at END.
 use Rattle.std.proofs.Common.{◌≡◌, ℕ, List, reverse, ◌⊎◌, inl, inr, None, Some, sym, ap, ◌∙◌, subst}
 use Rattle.oas_num.specs.declared.refusals.Why.{Why}
 use Rattle.oas_num.specs.declared.refusals.Why.TheVariants.{Memory}
@@ -8,31 +8,31 @@ use Rattle.oas_layout.specs.declared.limits.Limits.{Limits}
 use Rattle.oas_layout.specs.declared.profile.Profile.{Profile}
 use Rattle.oas_layout.specs.declared.element.Element.{Element}
 use Rattle.oas_layout.specs.Meaning.{Meaning}
-use Rattle.oas_drawing.specs.Drawing.{elements_at}
-use Rattle.oas_modal.specs.declared.taken.Taken.{Taken}
-use Rattle.oas_names.specs.Names.{cell_names, text_strings, named, NamesStand}
-use Rattle.oas_names.specs.Meaning.{DrawnCell, cells_meant, cells_drawn, meaning_by, end_reason}
-use Rattle.oas_modal.specs.Stands.{ReaderState, StandsFor, records_mean, end_refusal}
-use Rattle.oas_modal.specs.Stores.{HoldCells}
-use Rattle.oas_modal.specs.Taken.{HandsOver}
-use Rattle.oas_modal.proofs.FinishLemmas.{end_same, meaning_same}
+use Rattle.oas_form.specs.oas_drawing.Drawing.{elements_at}
+use Rattle.oas_form.specs.oas_modal.declared.taken.Taken.{Taken}
+use Rattle.oas_form.specs.oas_names.Names.{cell_names, text_strings, named, TableRepresents}
+use Rattle.oas_form.specs.oas_names.Meaning.{DrawnCell, cells_by_name, cells_drawn, meaning_by, end_reason}
+use Rattle.oas_form.specs.oas_modal.Stands.{ReaderState, Represents, records_mean, end_refusal}
+use Rattle.oas_form.specs.oas_modal.Stores.{HoldCells}
+use Rattle.oas_form.specs.oas_modal.Taken.{HandsOver}
+use Rattle.oas_form.proofs.oas_modal_proofs.FinishLemmas.{end_same, meaning_same}
 use Rattle.oas_compact.specs.Compact.{Compact, compact_store}
-use Rattle.oas_runs.specs.declared.layout.CompactLayout.{CompactLayout}
+use Rattle.oas_runs.specs.declared.runs.CellRuns.{CellRuns}
 use Rattle.oas_runs.specs.Keyed.{keyed_cells}
 use Rattle.oas_runs.specs.Counting.{counted_cells, AreSound, IsInOrder}
 use Rattle.oas_runs.specs.Finishing.{AreRunsOf}
 
-module _ (profile : Profile) (s : ReaderState Compact) (t : Taken Compact) (over : HandsOver (compact_store profile) s t) (rs : List Record) (h : StandsFor (compact_store profile) s rs) where
+module _ (profile : Profile) (s : ReaderState Compact) (t : Taken Compact) (over : HandsOver (compact_store profile) s t) (rs : List Record) (h : Represents (compact_store profile) s rs) where
   abbrev pub drawn : List DrawnCell
   drawn = cells_drawn elements_at (reverse rs)
 
-  names_stand : NamesStand cell_names t.names (reverse rs)
-  names_stand = subst (λ n. NamesStand cell_names n (reverse rs)) (sym over.names) h.names
+  names_stand : TableRepresents cell_names t.names (reverse rs)
+  names_stand = subst (λ n. TableRepresents cell_names n (reverse rs)) (sym over.names) h.names
 
-  strings_stand : NamesStand text_strings t.strings (reverse rs)
-  strings_stand = subst (λ n. NamesStand text_strings n (reverse rs)) (sym over.strings) h.strings
+  strings_stand : TableRepresents text_strings t.strings (reverse rs)
+  strings_stand = subst (λ n. TableRepresents text_strings n (reverse rs)) (sym over.strings) h.strings
 
-  -- what was taken may stand for what the records draw
+  -- what was taken may represent what the records draw
   pub holds : HoldCells (compact_store profile) t.cells.items drawn
   holds = subst (λ (cs : List Compact). HoldCells (compact_store profile) cs drawn) (sym over.cells) h.cells
 
@@ -53,10 +53,10 @@ module _ (profile : Profile) (s : ReaderState Compact) (t : Taken Compact) (over
   refused why (inl m) = inl m
   refused why (inr some) = inr (sym ended_as ∙ some)
 
-  pub ordered : (k : CompactLayout) → k.unit ≡ t.unit → AreRunsOf profile t.names.named t.strings.named t.cells.items k.cells.entries → AreSound (records_mean s.unit rs).cells
+  pub ordered : (k : CellRuns) → k.unit ≡ t.unit → AreRunsOf profile t.names.named t.strings.named t.cells.items k.cells.entries → AreSound (records_mean s.unit rs).cells
       → IsInOrder profile k (records_mean s.unit rs)
   ordered k unit runs sound =
-      let same : cells_meant t.names.named t.strings.named drawn ≡ (records_mean s.unit rs).cells = ap (λ (m : Meaning). m.cells) (means_as s.unit) in
+      let same : cells_by_name t.names.named t.strings.named drawn ≡ (records_mean s.unit rs).cells = ap (λ (m : Meaning). m.cells) (means_as s.unit) in
       record {
         unit = unit ∙ over.unit;
         cells =

@@ -18,12 +18,12 @@ use Rattle.oas_layout.specs.Laws.BagLaws as bags
 use Rattle.oas_layout.specs.Same.{normal}
 use Rattle.oas_layout.specs.Sound.{IsSound}
 use Rattle.oas_layout.proofs.Order.{sound-put_more}
-use Rattle.oas_keys.specs.Keys.{key_of}
-use Rattle.oas_keys.specs.Laws.KeyLaws.{key_order}
+use Rattle.oas_compact.specs.oas_keys.Keys.{key_of}
+use Rattle.oas_compact.specs.oas_keys.Laws.KeyLaws.{key_order}
 use Rattle.oas_entries.specs.Entries.{Entry}
 use Rattle.oas_entries.specs.Runs.{IsRun, Positive, total}
-use Rattle.oas_store.specs.Tally.{tally}
-use Rattle.oas_store.specs.Laws.TallyLaws.{run_is_tally}
+use Rattle.oas_compact.specs.oas_store.Tally.{tally}
+use Rattle.oas_compact.specs.oas_store.Laws.TallyLaws.{run_is_tally}
 use Rattle.oas_compact.specs.Placing.{MeansElements}
 use Rattle.oas_compact.proofs.KeptLemmas.{normal_sound}
 use Rattle.oas_runs.specs.Keyed.{keyed}
@@ -43,7 +43,7 @@ keyed-put_more (p ∷ ps) e n h s =
     ]
 
 module _ (profile : Profile) where
-  -- sound elements are so once they are counted
+  -- sound elements are sound when they are counted
   pub counted_sound : (xs : List Element) → AllByRecursion IsSound xs → AllSound (counted profile xs)
   counted_sound [] h = tt
   counted_sound (x ∷ xs) h = sound-put_more (counted profile xs) (normal profile x) 1 (normal_sound profile x h.0) (counted_sound xs h.1)
@@ -72,7 +72,7 @@ module _ (profile : Profile) where
   same_total g [] = refl
   same_total g (p ∷ ps) = ap (λ (n : ℕ). p.1 * g p.0 + n) (same_total g ps)
 
-  -- the run of what is meant
+  -- the run of the meaning
   pub run_is : (ks : List Entry) (xs : List Element) → IsRun (slice_cmp nat_cmp) ks → MeansElements profile ks xs → AllByRecursion IsSound xs → ks ≡ keyed (counted profile xs)
   run_is ks xs run means sound =
       run_is_tally nat_list_cmp_total exact_bytes ks (ones xs) run (ones_positive xs) (λ g. same_total g ks ∙ means.sums g ∙ total-ones g xs) ∙ tally-ones xs sound

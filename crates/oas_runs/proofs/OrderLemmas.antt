@@ -1,4 +1,4 @@
--- The cells of an accepted file, put in order, are a layout, which is the same as what the file means.
+-- The cells of an accepted file, put in order, are a layout, which is the same as the file's meaning.
 use Rattle.std.proofs.Common.{◌≡◌, ℕ, ◌≤◌, List, [], ◌∷◌, refl, sym, ap, ◌∙◌, subst, arith}
 use Rattle.std.specs.List.{AllByRecursion}
 use Rattle.std.specs.List.Sorted.{IsStrictlySortedBy}
@@ -18,8 +18,10 @@ use Rattle.oas_form.specs.Records.{Cells}
 use Rattle.oas_form.proofs.DrawnSound.{IsSoundMeaning}
 use Rattle.oas_form.proofs.OrderedLayouts.{keys-expanded}
 use Rattle.oas_form.proofs.Sizes.{tally, tally_is_bag, ordered, is_ordered, in_order_same, ordered_count, ordered_weight}
-use Rattle.oas_runs.specs.declared.layout.CompactLayout.{CompactLayout}
-use Rattle.oas_runs.specs.Keyed.{IsKeyed}
+use Rattle.oas_runs.specs.declared.runs.CellRuns.{CellRuns}
+use Rattle.oas_runs.specs.Keyed.{keyed_cells}
+use Rattle.oas_runs.specs.Held.{AreSoundCells, HeldCells, cells_held, contents_of}
+use Rattle.oas_runs.specs.Laws.HeldLaws.{cells_are}
 use Rattle.oas_runs.specs.Counting.{counted, counted_cells, AreSound, IsInOrder}
 use Rattle.oas_runs.proofs.KeyedLemmas.{counted_sound}
 use Rattle.oas_runs.proofs.PlaceLemmas.{expanded-insert, names-insert, elements-insert}
@@ -56,9 +58,9 @@ module _ (profile : Profile) where
   names_ascend cs =
       subst (IsStrictlySortedBy (slice_cmp nat_cmp)) (ap (λ (ds : Cells). keys_of ds) (sym (expanded_is cs)) ∙ keys-expanded (counted_cells profile cs)) (is_ordered profile cs).names
 
-  -- the layout of what is meant
+  -- the layout of the meaning
   abbrev pub layout_of : Limits → Meaning → Contents
-  layout_of limits m = record { unit = m.unit; limits = limits; profile = profile; cells = counted_cells profile m.cells; spelled = cells_weight m.cells }
+  layout_of limits m = contents_of m.unit limits profile (counted_cells profile m.cells)
 
   -- it is a layout
   pub is_layout : (limits : Limits) (m : Meaning) → IsSoundMeaning limits m → IsLayout (layout_of limits m)
@@ -74,10 +76,26 @@ module _ (profile : Profile) where
         light = omega (arith, lighter, s.light);
       }
 
-  -- and the same as what is meant
+  -- and the same as the meaning
   pub same_layout : (limits : Limits) (m : Meaning) → SameLayout profile (meaning_of (layout_of limits m)) m
   same_layout limits m = subst (λ (ds : Cells). SameLayout profile (record { unit = m.unit; cells = ds }) m) (sym (expanded_is m.cells)) (in_order_same profile m)
 
-  -- what is held as keys is it
-  pub is_keyed : (limits : Limits) (m : Meaning) (k : CompactLayout) → IsSoundMeaning limits m → IsInOrder profile k m → IsKeyed k (layout_of limits m)
-  is_keyed limits m k s o = record { unit = o.unit; cells = o.cells; layout = is_layout limits m s }
+  -- its runs hold its cells
+  pub is_held : (m : Meaning) (k : CellRuns) → AreSound m.cells → IsInOrder profile k m → HeldCells k.cells.entries
+  is_held m k sound o = (counted_cells profile m.cells, are_sound m.cells sound, o.cells)
+
+  -- and are those of no other layout
+  pub is_it : (limits : Limits) (m : Meaning) (k : CellRuns) → AreSound m.cells → IsInOrder profile k m → (h : HeldCells k.cells.entries)
+      → contents_of k.unit limits profile (cells_held h) ≡ layout_of limits m
+  is_it limits m k sound o h = λ i. contents_of (o.unit i) limits profile (cells_are h (counted_cells profile m.cells) (are_sound m.cells sound) o.cells i)
+
+-- what was made of runs in order is the layout of what is meant
+pub made_of : (profile : Profile) (limits : Limits) (m : Meaning) (k : CellRuns) (l : Contents) → IsSoundMeaning limits m → IsInOrder profile k m
+    → ((cs : List Cell) → AreSoundCells cs → k.cells.entries ≡ keyed_cells cs → l ≡ contents_of k.unit limits profile cs) → l ≡ layout_of profile limits m
+made_of profile limits m k l s o made =
+    made (counted_cells profile m.cells) (are_sound profile m.cells s.spellable.sound) o.cells ∙ (λ i. contents_of (o.unit i) limits profile (counted_cells profile m.cells))
+
+-- they can be made one
+pub can_be_made : (profile : Profile) (limits : Limits) (m : Meaning) (k : CellRuns) → IsSoundMeaning limits m → IsInOrder profile k m → (h : HeldCells k.cells.entries)
+    → IsLayout (contents_of k.unit limits profile (cells_held h))
+can_be_made profile limits m k s o h = subst IsLayout (sym (is_it profile limits m k s.spellable.sound o h)) (is_layout profile limits m s)

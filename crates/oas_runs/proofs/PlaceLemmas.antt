@@ -34,7 +34,7 @@ expanded-insert (c ∷ cs) name es =
       | Greater ↦ ap (λ (ds : List (List ℕ × List Element)). (c.0, items c.1) ∷ ds) (expanded-insert cs name es)
     ]
 
--- what holds of the name and of the names that are there holds of all
+-- what holds for the name and for the names that are there holds for all
 pub names-insert : (P : List ℕ → Type 0) (cs : List Cell) (name : List ℕ) (es : List (Element × ℕ)) → P name → AllByRecursion (λ c. P c.0) cs → AllByRecursion (λ c. P c.0) (insert_entry (slice_cmp nat_cmp) cs name es)
 names-insert P [] name es h all = (h, tt)
 names-insert P (c ∷ cs) name es h all =

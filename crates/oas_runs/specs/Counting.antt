@@ -12,7 +12,7 @@ use Rattle.oas_layout.specs.Meaning.{Meaning}
 use Rattle.oas_layout.specs.Same.{normal}
 use Rattle.oas_layout.specs.Sound.{IsSound}
 use Rattle.oas_entries.specs.Entries.{Entry}
-use Rattle.oas_runs.specs.declared.layout.CompactLayout.{CompactLayout}
+use Rattle.oas_runs.specs.declared.runs.CellRuns.{CellRuns}
 use Rattle.oas_runs.specs.Keyed.{keyed_cells}
 
 -- the elements in their kept forms, counted
@@ -29,12 +29,12 @@ counted_cells profile (c ∷ cs) = insert_entry (slice_cmp nat_cmp) (counted_cel
 abbrev pub AreSound : List (List ℕ × List Element) → Type 0
 AreSound cs = AllByRecursion (λ c. AllByRecursion IsSound c.1) cs
 
--- a run more in its place, where its cell has a name
+-- one more run in its place, where its cell has a name
 abbrev pub with_run : Option (List ℕ) → List Entry → List (List ℕ × List Entry) → List (List ℕ × List Entry)
 with_run None ks rs = rs
 with_run (Some name) ks rs = insert_entry (slice_cmp nat_cmp) rs name ks
 
--- what is held as keys is what is meant, put in order
-pub record IsInOrder (profile : Profile) (k : CompactLayout) (m : Meaning) : Type 0 where
+-- what is held as keys is the meaning, put in order
+pub record IsInOrder (profile : Profile) (k : CellRuns) (m : Meaning) : Type 0 where
   pub unit : k.unit ≡ m.unit
   pub cells : k.cells.entries ≡ keyed_cells (counted_cells profile m.cells)

@@ -1,21 +1,21 @@
-//! From cells that are held as keys to a layout.
+//! From cells that are held as keys to their runs by name.
 
 ghost use Rattle.std.specs.Prelude.{◌≡◌, ◌⊎◌, None, Some, List, OnOk, IfOk, IfErr};
 ghost use Rattle.std.specs.List.{AllByRecursion};
 ghost use Rattle.oas_num.specs.declared.refusals.Why.TheVariants.{Memory};
 ghost use Rattle.oas_record.specs.declared.records.Record.{Record as OneRecord};
-ghost use Rattle.oas_names.specs.Meaning.{DrawnCell, end_reason};
-ghost use Rattle.oas_modal.specs.Stands.{StandsFor, records_mean, end_refusal};
-ghost use Rattle.oas_modal.specs.Stores.{HoldCells};
+ghost use Rattle.oas_form.specs.oas_names.Meaning.{DrawnCell, end_reason};
+ghost use Rattle.oas_form.specs.oas_modal.Stands.{Represents, records_mean, end_refusal};
+ghost use Rattle.oas_form.specs.oas_modal.Stores.{HoldCells};
 ghost use Rattle.oas_compact.specs.Compact.{IsCompact, compact_store};
 ghost use Rattle.oas_runs.specs.Counting.{AreSound, IsInOrder};
 ghost use Rattle.oas_runs.specs.Finishing.{PutsRun, AreRunsOf};
 
-use crate::layout::CompactLayout;
+use crate::runs::CellRuns;
 use oas_compact::{CompactCell, KeptBy, accept_cells};
 use oas_entries::Run;
-use oas_modal::{CellStore, Reader, Taken};
-use oas_names::{NameTable, cell_meant};
+use oas_form::oas_modal::{CellStore, Reader, Taken};
+use oas_form::oas_names::{NameTable, cell_meant};
 use oas_num::{Label, Name, Refusal, Why};
 use std::alloc::Global;
 use std::collections::BTreeMap;
@@ -43,10 +43,10 @@ fn put_run<P: KeptBy>(
     Ok(())
 }
 
-/// One in so many of the cells that there is room for may be gone before that room is given back.
+/// When one in this many of the cells that there is room for is freed, that room is given back.
 const PART: usize = 16;
 
-/// Gives back the room of the cells that are gone, once it is a part of all.
+/// Gives back the room of the freed cells, once it is a part of all.
 fn fit<P: KeptBy>(cells: &mut Vec<CompactCell<P>>)
     ensures { cells.new.items ≡ cells.old.items }
 {
@@ -76,26 +76,26 @@ fn runs_by_name<P: KeptBy>(
     Ok(runs)
 }
 
-/// The layout, as keys, of what a reader took, or why END refuses it; END starts at byte `at`.
+/// The runs of the cells that a reader took, or why END refuses them; END starts at byte `at`.
 pub fn finish_compact<P: KeptBy>(
     alloc: Global,
     reader: Reader<CompactCell<P>>,
     at: u64,
-) -> Result<CompactLayout, Refusal>
-    ensures accepted { (rs : List OneRecord) → StandsFor (compact_store P.profile) reader rs → OnOk result (end_refusal reader.limits rs ≡ None) }
-    ensures refused { (rs : List OneRecord) → StandsFor (compact_store P.profile) reader rs → IfErr result (λ e. (e.at ≡ at) × ((e.why ≡ Memory) ⊎ (end_refusal reader.limits rs ≡ Some e.why))) }
-    ensures ordered { (rs : List OneRecord) → StandsFor (compact_store P.profile) reader rs → AreSound (records_mean reader.unit rs).cells →
+) -> Result<CellRuns, Refusal>
+    ensures accepted { (rs : List OneRecord) → Represents (compact_store P.profile) reader rs → OnOk result (end_refusal reader.limits rs ≡ None) }
+    ensures refused { (rs : List OneRecord) → Represents (compact_store P.profile) reader rs → IfErr result (λ e. (e.at ≡ at) × ((e.why ≡ Memory) ⊎ (end_refusal reader.limits rs ≡ Some e.why))) }
+    ensures ordered { (rs : List OneRecord) → Represents (compact_store P.profile) reader rs → AreSound (records_mean reader.unit rs).cells →
         IfOk result (λ k. IsInOrder P.profile k (records_mean reader.unit rs)) }
 {
     let taken = reader.hand_over(at)?;
     match compact(alloc, taken) {
-        Ok(layout) => Ok(layout),
+        Ok(runs) => Ok(runs),
         Err(why) => Err(Refusal { at, why }),
     }
 }
 
-/// The layout of what was taken: the cells by name, where END refuses none.
-fn compact<P: KeptBy>(alloc: Global, taken: Taken<CompactCell<P>>) -> Result<CompactLayout, Why>
+/// The runs of what was taken: the cells by name, where END refuses none.
+fn compact<P: KeptBy>(alloc: Global, taken: Taken<CompactCell<P>>) -> Result<CellRuns, Why>
     requires { AllByRecursion (IsCompact P.profile) taken.cells.items }
     ensures accepted { (ds : List DrawnCell) → HoldCells (compact_store P.profile) taken.cells.items ds → OnOk result (end_reason taken.names.named taken.strings.named taken.limits ds ≡ None) }
     ensures refused { (ds : List DrawnCell) → HoldCells (compact_store P.profile) taken.cells.items ds →
@@ -113,5 +113,5 @@ fn compact<P: KeptBy>(alloc: Global, taken: Taken<CompactCell<P>>) -> Result<Com
     } = taken;
     accept_cells(alloc, limits, &cells, &names, &strings)?;
     let cells = runs_by_name(alloc, cells, &names, &strings)?;
-    Ok(CompactLayout { unit, cells })
+    Ok(CellRuns { unit, cells })
 }

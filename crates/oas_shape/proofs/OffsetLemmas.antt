@@ -21,11 +21,11 @@ use Rattle.oas_shape.specs.declared.offsets.Along.{Along}
 use Rattle.oas_shape.specs.Steps.{still, added, times, sums_after, IsBounded, IsPartialSum}
 use Rattle.oas_shape.specs.Offsets.{offsets_by}
 use Rattle.oas_shape.specs.Repetitions.{displacement_in, IsOffsets, DisplacementTook, RefusesNext, OffsetsTook}
-use Rattle.oas_shape.specs.Laws.RepetitionLaws.{OneFront-displacement, still_is, still_near}
+use Rattle.oas_shape.specs.Laws.RepetitionLaws.{PrefixFree-displacement, still_is, still_near}
 use Rattle.oas_shape.proofs.SumLemmas.{all_more, at_middle, at_front}
 use Rattle.oas_shape.proofs.ReadingLemmas.{image_read, next_item, no_memory_piece}
 
--- the sum of all steps, on top of what was before
+-- the sum of all steps, added to what was before
 abbrev pub total : GDelta → List GDelta → GDelta
 total before [] = before
 total before (d ∷ ds) = total (added before d) ds
@@ -85,7 +85,7 @@ summed_none along grid s = record {
 }
 
 module _ {along : Along} {grid : ℕ} {old mid : Script} {offsets : List GDelta} {last : GDelta} {count : ℕ} (s : Summed along grid old mid offsets last count) where
-  -- the sum with one displacement more
+  -- the sum with one more displacement
   next_is : (d : GDelta) → added last (times grid d) ≡ times grid (total still (s.displacements ++ d ∷ []))
   next_is d =
       ap (λ (e : GDelta). added e (times grid d)) s.is_last
@@ -98,7 +98,7 @@ module _ {along : Along} {grid : ℕ} {old mid : Script} {offsets : List GDelta}
       ∙ ap (λ (rest : List GDelta). rest ++ times grid (added (total still s.displacements) d) ∷ []) (sym s.are)
       ∙ ap (λ (e : GDelta). offsets ++ e ∷ []) (times-added grid (total still s.displacements) d ∙ ap (λ (e : GDelta). added e (times grid d)) (sym s.is_last))
 
-  -- one displacement more
+  -- one more displacement
   pub summed_more : {new : Script} {d next : GDelta} → ReadsValue (displacement_in along) mid d new → IsPartialSum (added last (times grid d))
       → added last (times grid d) ≡ next → Summed along grid old new (offsets ++ next ∷ []) next (count + 1)
   summed_more {new = new} {d = d} {next = next} read near e = record {
@@ -117,7 +117,7 @@ module _ {along : Along} {grid : ℕ} {old mid : Script} {offsets : List GDelta}
       (subst (λ (xs : List GDelta). ReadsValue (IsImage (offsets_by grid) (IsCount (displacement_in along) all)) old xs mid) (sym s.are)
       (image_read (offsets_by grid) (IsCount (displacement_in along) all) (listed_all (displacement_in along) all old mid s.displacements (s.len ∙ e) s.listed)))
 
-  -- where all sums of these and more displacements are within the limit, so is theirs
+  -- where all sums of these and more displacements are within the limit, so are those of these
   one_past : (d : GDelta) (rest : List GDelta) → AllByRecursion IsPartialSum (offsets_by grid ((s.displacements ++ d ∷ []) ++ rest)) → IsPartialSum (added last (times grid d))
   one_past d rest all_near =
       let e : offsets_by grid ((s.displacements ++ d ∷ []) ++ rest) ≡ (offsets ++ added last (times grid d) ∷ []) ++ map (times grid) (sums_after (total still (s.displacements ++ d ∷ [])) rest) =
@@ -130,11 +130,11 @@ module _ {along : Along} {grid : ℕ} {old mid : Script} {offsets : List GDelta}
   abbrev IsNext : GDelta → Type 0
   IsNext d = IsPartialSum (added last (times grid d))
 
-  next_wanted : (all : ℕ) → count < all → Wants (IsOffsets along grid all) s.listed.bytes (IsSuch IsNext (displacement_in along))
-  next_wanted all lt = record {
+  next_expected : (all : ℕ) → count < all → Wants (IsOffsets along grid all) s.listed.bytes (IsSuch IsNext (displacement_in along))
+  next_expected all lt = record {
     wants = λ v p r rest spelled e.
         let counted = spelled.spelled.spelled in
-        let next = next_item (displacement_in along) (OneFront-displacement along) s.displacements spelled.spelled.from s.listed.bytes p r rest
+        let next = next_item (displacement_in along) (PrefixFree-displacement along) s.displacements spelled.spelled.from s.listed.bytes p r rest
         (omega (arith, s.len, counted.len, lt)) s.listed.each counted.each e in
         let parted : spelled.spelled.from ≡ (s.displacements ++ next.0 ∷ []) ++ next.1 = next.6 ∙ sym (append_assoc s.displacements (next.0 ∷ []) next.1) in
         let near = subst (λ (xs : List GDelta). AllByRecursion IsPartialSum (offsets_by grid xs)) parted (subst (AllByRecursion IsPartialSum) (sym spelled.spelled.is) spelled.holds) in
@@ -158,22 +158,22 @@ module _ {along : Along} {grid : ℕ} {old mid : Script} {offsets : List GDelta}
         holds = (omega (arith, s.len, lt), subst (AllByRecursion IsPartialSum) s.are s.within, h);
         joined = refl;
       })
-      s.listed.takes (next_wanted all lt) f
+      s.listed.takes (next_expected all lt) f
 
   -- a displacement couldn't be read
   pub summed_fails : {new : Script} {why : Why} (all : ℕ) → count < all → FailsPiece (displacement_in along) (DisplacementTook along) mid why new
       → FailsPiece (IsOffsets along grid all) (OffsetsTook along grid all) old why new
   summed_fails all lt f = next_fails all lt (such_took {refuses = RefusesNext grid s.displacements} f)
 
-  -- a sum is past the limit
+  -- a sum exceeds the limit
   pub summed_past : {new : Script} {d : GDelta} (all : ℕ) → count < all → ReadsValue (displacement_in along) mid d new
       → ¬ IsPartialSum (added last (times grid d)) → FailsPiece (IsOffsets along grid all) (OffsetsTook along grid all) old CoordinateRange new
   summed_past {d = d} all lt read past =
       let reason : RefusesNext grid s.displacements d CoordinateRange =
       λ near. past (at_middle IsPartialSum offsets (added last (times grid d)) [] (subst (AllByRecursion IsPartialSum) (offsets_more d) near)) in
-      next_fails all lt (such_refused {took = DisplacementTook along} {refuses = RefusesNext grid s.displacements} (OneFront-displacement along) refl past reason read)
+      next_fails all lt (such_refused {took = DisplacementTook along} {refuses = RefusesNext grid s.displacements} (PrefixFree-displacement along) refl past reason read)
 
-  -- there was no memory
+  -- out of memory
   pub summed_no_memory : {new : Script} {d : GDelta} (all : ℕ) → count < all → ReadsValue (displacement_in along) mid d new
       → IsPartialSum (added last (times grid d)) → FailsPiece (IsOffsets along grid all) (OffsetsTook along grid all) old Memory new
   summed_no_memory {new = new} {d = d} all lt read near =
@@ -181,13 +181,13 @@ module _ {along : Along} {grid : ℕ} {old mid : Script} {offsets : List GDelta}
       (no_memory_piece (IsSuch IsNext (displacement_in along)) NextTook mid new read.bytes
       (inr (d, read.spelled, subst (AllByRecursion IsPartialSum) (sym (offsets_more d)) (all_more IsPartialSum offsets (added last (times grid d)) s.within near))) read.takes)
 
--- these were read, and so many more are to be read before the last one
+-- these were read, and this many more have to be read before the last one
 pub record Summing (along : Along) (grid : ℕ) (old now : Script) (offsets : List GDelta) (last : GDelta) (left more : ℕ) : Type 0 where
   pub count : ℕ
   pub summed : Summed along grid old now offsets last count
   pub left_is : count + left ≡ more
 
--- all are to be read
+-- all have to be read
 pub summing_none : (along : Along) (grid : ℕ) (s : Script) (more : ℕ) → Summing along grid s s (still ∷ []) still more more
 summing_none along grid s more = record { count = 0; summed = summed_none along grid s; left_is = omega arith }
 
@@ -195,7 +195,7 @@ summing_none along grid s more = record { count = 0; summed = summed_none along 
 pub near_sum : (a b r : ℤ) → IsBounded (2 ^ 97) a → IsBounded (2 ^ 97) b → r ≡ a +ℤ b → IsBounded (2 ^ 98) r
 near_sum a b r p q e = subst (IsBounded (2 ^ 98)) (sym e) (omega (arith, ints), omega (arith, ints))
 
--- one displacement more, which isn't the last
+-- one more displacement, which isn't the last
 pub summing_more : {along : Along} {grid : ℕ} {old mid new : Script} {offsets : List GDelta} {last : GDelta} {left more : ℕ} {d next : GDelta}
     → Summing along grid old mid offsets last left more → left ≢ 0 → ReadsValue (displacement_in along) mid d new → IsPartialSum (added last (times grid d)) → added last (times grid d) ≡ next
     → Summing along grid old new (offsets ++ next ∷ []) next (left - 1) more

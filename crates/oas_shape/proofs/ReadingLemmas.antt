@@ -1,19 +1,19 @@
--- Reading values that stand for others, or that follow others.
+-- Reading values that denote others, or that follow others.
 use Rattle.std.proofs.Common.{◌≡◌, ℕ, ◌<◌, List, [], ◌∷◌, ◌++◌, length, refl, sym, ap, ◌∙◌, append_assoc, arith}
 use Rattle.oas_num.specs.declared.refusals.Why.{Why}
 use Rattle.oas_num.specs.declared.refusals.Why.TheVariants.{Memory}
-use Rattle.oas_num.specs.Script.{Script, Takes}
-use Rattle.oas_num.specs.Grammar.{OneFront, IsImage, IsEach}
+use Rattle.oas_num.specs.Script.{Script, Consumed}
+use Rattle.oas_num.specs.Grammar.{PrefixFree, IsImage, IsEach}
 use Rattle.oas_num.specs.Laws.GrammarLaws.{after_same}
 use Rattle.oas_num.specs.Reading.{ReadsValue, FailsPiece}
 
 module _ {U V : Type 0} (f : U → V) (A : U → List ℕ → Type 0) where
-  -- a value was read, and so what it stands for
+  -- a value was read, and so was what it denotes
   pub image_read : {old new : Script} {u : U} → ReadsValue A old u new → ReadsValue (IsImage f A) old (f u) new
   image_read {u = u} read = record { bytes = read.bytes; spelled = record { from = u; is = refl; spelled = read.spelled }; takes = read.takes }
 
--- the next item of those that are spelled there, after items that were read
-pub next_item : {V : Type 0} (A : V → List ℕ → Type 0) → OneFront A → (vs ws : List V) (a p r rest : List ℕ) → length vs < length ws → IsEach A vs a → IsEach A ws p → p ++ r ≡ a ++ rest
+-- the next of the items that are spelled there, after items that were read
+pub next_item : {V : Type 0} (A : V → List ℕ → Type 0) → PrefixFree A → (vs ws : List V) (a p r rest : List ℕ) → length vs < length ws → IsEach A vs a → IsEach A ws p → p ++ r ≡ a ++ rest
     → (w : V) × (more : List V) × (q : List ℕ) × (tail : List ℕ) × A w q × (q ++ tail ≡ rest) × (ws ≡ vs ++ w ∷ more)
 next_item A law [] [] a p r rest lt e f same = absurd (omega arith)
 next_item A law [] (w ∷ ws) a p r rest lt e f same =
@@ -30,7 +30,7 @@ next_item A law (v ∷ vs) (w ∷ ws) a p r rest lt e f same =
 
 -- there was no memory for what these bytes spell
 pub no_memory_piece : {V : Type 0} (A : V → List ℕ → Type 0) (took : Why → List ℕ → Type 0) (old new : Script) (bytes : List ℕ) → took Memory bytes
-    → Takes old bytes new → FailsPiece A took old Memory new
+    → Consumed old bytes new → FailsPiece A took old Memory new
 no_memory_piece A took old new bytes holds takes = record {
   bytes = bytes;
   takes = takes;

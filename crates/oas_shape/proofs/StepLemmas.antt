@@ -23,7 +23,7 @@ abbrev pub turn : Bool → List Delta1 → Bool
 turn along_x [] = along_x
 turn along_x (d ∷ ds) = turn (not along_x) ds
 
--- one delta more
+-- one more delta
 turn-push : (along_x : Bool) (ds : List Delta1) (d : Delta1) → turn along_x (ds ++ d ∷ []) ≡ not (turn along_x ds)
 turn-push along_x [] d = refl
 turn-push along_x (e ∷ ds) d = turn-push (not along_x) ds d
@@ -69,7 +69,7 @@ module _ {x_first : Bool} {old mid : Script} {steps : List GDelta} {along_x : Bo
       → FailsPiece (IsImage (alternating x_first) (IsCount SpellsDelta1 count)) (ListTook SpellsDelta1 count IntegerMay) old why new
   alternated_fails count lt fails = image_took (item_fails Delta1-one_front (λ _ h. inl h) (omega (arith, a.len, lt)) a.listed fails)
 
-  -- there was no memory
+  -- out of memory
   pub alternated_no_memory : {new : Script} {delta : Delta1} (count : ℕ) → read_so_far < count → ReadsValue SpellsDelta1 mid delta new
       → FailsPiece (IsImage (alternating x_first) (IsCount SpellsDelta1 count)) (ListTook SpellsDelta1 count IntegerMay) old Memory new
   alternated_no_memory {delta = delta} count lt read = image_took (item_unkept (λ _ h. inr (delta, h, refl)) (omega (arith, a.len, lt)) a.listed read)

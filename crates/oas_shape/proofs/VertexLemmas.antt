@@ -16,7 +16,7 @@ use Rattle.oas_num.specs.declared.refusals.Why.{Why}
 use Rattle.oas_num.specs.declared.refusals.Why.TheVariants.{CoordinateRange, Memory}
 use Rattle.oas_shape.proofs.SumLemmas.{moved-added, moved-still, at_middle, at_front, all_more}
 
--- the points to which the steps lead, one after another
+-- the points that the steps reach, one after another
 abbrev pub points_after : Point → List GDelta → List Point
 points_after p [] = []
 points_after p (d ∷ ds) = moved p d ∷ points_after (moved p d) ds
@@ -51,7 +51,7 @@ listed-points running ds at =
     ∙ ap (λ (rest : List Point). moved at still ∷ rest) (sums-points at still (displaced running still ds))
     ∙ ap (λ (q : Point). q ∷ points_after q (displaced running still ds)) (moved-still at)
 
--- the walk has come to the last of these points, after so many deltas, by that displacement
+-- the walk has come to the last of these points, after this many deltas, by that displacement
 pub record Walked (running : Bool) (deltas : List GDelta) (at : Point) (points : List Point) (last : Point) (by : GDelta) (index : ℕ) : Type 0 where
   pub so_far : points ++ points_after last (displaced running by (drop index deltas)) ≡ listed_vertices running deltas at
   pub near : AllByRecursion IsInRange points
@@ -82,7 +82,7 @@ module _ {running : Bool} {deltas : List GDelta} {at : Point} {points : List Poi
       ∙ ap (λ (ds : List GDelta). points ++ points_after last (displaced running by ds)) (sym (drop-cons deltas index d lt))
       ∙ w.so_far
 
-  -- one vertex more
+  -- one more vertex
   pub walked_more : (d next_by : GDelta) (next : Point) → index < length deltas → next_by ≡ next_step running by (get_or deltas index d) → IsInRange (moved last next_by) → next ≡ moved last next_by
       → Walked running deltas at (points ++ next ∷ []) next next_by (index + 1)
   walked_more d next_by next lt same near e =
@@ -97,7 +97,7 @@ module _ {running : Bool} {deltas : List GDelta} {at : Point} {points : List Poi
         y_near = step_near last.y next.y next_by.dy w.last_near.y there.y (ap (λ (q : Point). q.y) e);
       }
 
-  -- a vertex past the limits
+  -- a vertex that exceeds the limits
   pub walked_past : (d next_by : GDelta) → index < length deltas → next_by ≡ next_step running by (get_or deltas index d)
       → ¬ IsInRange (moved last next_by) → ¬ AllByRecursion IsInRange (listed_vertices running deltas at)
   walked_past d next_by lt same past all =
@@ -155,7 +155,7 @@ counted line at =
 pub counted_by : (line made : Polyline) (at : Point) (n m : ℕ) → made ≡ line → n ≡ length made.deltas → m ≡ left_out_count made.closing → length (vertices_of line at) ≡ n + 1 + m
 counted_by line made at n m e p q = subst (λ (l : Polyline). length (vertices_of l at) ≡ n + 1 + m) e (counted made at ∙ (λ i. sym p i + 1 + sym q i))
 
--- what the listed vertices are refused by, all are
+-- what the listed vertices are refused for, all are
 pub may_whole : (line made : Polyline) (at : Point) (why : Why) (deltas : List GDelta) → made ≡ line → deltas ≡ made.deltas
     → VerticesMay why (listed_vertices made.running deltas at) → VerticesMay why (vertices_of line at)
 may_whole line made at CoordinateRange deltas e f h =

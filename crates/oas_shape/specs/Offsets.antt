@@ -1,4 +1,4 @@
--- The copies of a repetition (SEMI P39, Repetitions). A dimension d stands for d + 2 copies.
+-- The copies of a repetition (SEMI P39, Repetitions). A dimension d means d + 2 copies.
 use Rattle.std.specs.Prelude.{ℕ, pos, ◌+◌, ◌*◌, ◌/◌, ◌%◌, List, map, length, slice_index_or}
 use Rattle.oas_num.specs.declared.deltas.GDelta.{GDelta}
 use Rattle.oas_num.specs.Deltas.{step}
@@ -15,12 +15,12 @@ count_of (Lattice n_dim m_dim n m) = (n_dim + 2) * (m_dim + 2)
 count_of (Line dim by) = dim + 2
 count_of (Listed offsets) = length offsets
 
--- whether it lists where its copies stand
+-- whether it lists the offsets of its copies
 abbrev pub HasList : Repetition → Type 0
 HasList (Listed offsets) = Unit {0}
 HasList _ = ⊥
 
--- where copy i stands
+-- the offset of copy i
 abbrev pub offset_of : Repetition → ℕ → GDelta
 offset_of (Matrix x_dim y_dim x_space y_space) i = step (pos (i % (x_dim + 2) * x_space)) (pos (i / (x_dim + 2) * y_space))
 offset_of (Columns dim space) i = step (pos (i * space)) (pos 0)

@@ -39,7 +39,7 @@ step3 d = step d.dx d.dy
 abbrev pub stepg : GDelta → GDelta
 stepg d = d
 
--- so many deltas of a list of that type
+-- this many deltas of a list of that type
 abbrev pub deltas_in : ℕ → ℕ → List GDelta → List ℕ → Type 0
 deltas_in kind count =
     IsEither (kind == 0) (IsImage (alternating true) (IsCount SpellsDelta1 count))
@@ -48,7 +48,7 @@ deltas_in kind count =
     (IsEither (kind == 3) (IsCount (IsImage step3 SpellsDelta3) count)
     (IsCount (IsImage stepg SpellsGDelta) count))))
 
--- Polygons of types 0 and 1 leave out their last vertex. That of type 0 has the x of the first vertex, that of type 1 its y.
+-- Polygons of types 0 and 1 leave out their last vertex. For type 0 it has the x of the first vertex, for type 1 its y.
 abbrev pub closing_of : ListUse → ℕ → Closing
 closing_of Polygon kind = if kind == 0 then FirstX else (if kind == 1 then FirstY else Listed)
 closing_of Path kind = Listed
@@ -57,7 +57,7 @@ closing_of Path kind = Listed
 abbrev pub Parts : Type 0
 Parts = ℕ × (ℕ × List GDelta)
 
--- the list that these are: in type 5 each delta changes the displacement before it
+-- the list that they give: in type 5 each delta changes the displacement before it
 abbrev pub polyline_of : ListUse → ℕ × (ℕ × List GDelta) → Polyline
 polyline_of purpose parts = record { deltas = parts.1.1; running = parts.0 == 5; closing = closing_of purpose parts.0 }
 
@@ -65,7 +65,7 @@ polyline_of purpose parts = record { deltas = parts.1.1; running = parts.0 == 5;
 abbrev pub after_kind : ListUse → ℕ → ℕ × List GDelta → List ℕ → Type 0
 after_kind purpose kind = IsPair (IsSuch (IsFitting purpose kind) IsUnsigned) (deltas_in kind)
 
--- any spelling: a type, a count that fits, and so many deltas of the type
+-- any spelling: a type, a count that fits, and this many deltas of the type
 abbrev pub IsPointList : ListUse → Polyline → List ℕ → Type 0
 IsPointList purpose = IsImage (polyline_of purpose) (IsPair (IsSuch IsListKind IsUnsigned) (after_kind purpose))
 
@@ -77,7 +77,7 @@ plain_line deltas = record { deltas = deltas; running = false; closing = Listed 
 abbrev pub IsShortestList : ℕ × (ℕ × List GDelta) → List ℕ → Type 0
 IsShortestList = IsPair (unsigned_in Shortest) (λ _. IsPair (unsigned_in Shortest) (IsCount (gdelta_in Shortest)))
 
--- the canonical spelling: type 4, and all numbers the shortest
+-- the canonical spelling: type 4, with all numbers the shortest
 pub record IsPlainList (purpose : ListUse) (line : Polyline) (bytes : List ℕ) : Type 0 where
   pub plain : line ≡ plain_line line.deltas
   pub fits : IsFitting purpose 4 (length line.deltas)
@@ -88,9 +88,9 @@ abbrev pub point_list_in : Style → ListUse → Polyline → List ℕ → Type 
 point_list_in Any purpose = IsPointList purpose
 point_list_in Shortest purpose = IsPlainList purpose
 
--- ---- where in it a read may fail
+-- ---- where a read may fail
 
--- Of so many deltas of a list of that type: in one of them, or one was read for which there is no memory.
+-- This many deltas of a list of that type: in one of them, or one was read and there is no memory for it.
 abbrev pub DeltasTook : ℕ → ℕ → Why → List ℕ → Type 0
 DeltasTook kind count =
     IsEither (kind == 0) (ListTook SpellsDelta1 count IntegerMay)

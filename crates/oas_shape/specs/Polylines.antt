@@ -9,7 +9,7 @@ use Rattle.oas_shape.specs.declared.point_list.Closing.{Closing}
 use Rattle.oas_shape.specs.declared.point_list.Closing.TheVariants.{Listed, FirstX, FirstY}
 use Rattle.oas_shape.specs.Steps.{added, sums, sums_after, still, moved, IsInRange}
 
--- what a point list says: its deltas; whether each of them changes the displacement before it; which vertex it leaves out
+-- a point list: its deltas; whether each of them changes the displacement before it; which vertex it leaves out
 pub record Polyline : Type 0 where
   pub deltas : List GDelta
   pub running : Bool
@@ -19,7 +19,7 @@ pub record Polyline : Type 0 where
 abbrev pub displacements : Bool → List GDelta → List GDelta
 displacements running deltas = if running then sums_after still deltas else deltas
 
--- the same, one after another: the next displacement is the next delta, in a running list on top of the one before
+-- the same, one after another: the next displacement is the next delta, and in a running list the one before is added
 abbrev pub next_step : Bool → GDelta → GDelta → GDelta
 next_step running before d = if running then added before d else d
 
@@ -27,18 +27,18 @@ next_step running before d = if running then added before d else d
 abbrev pub listed_vertices : Bool → List GDelta → Point → List Point
 listed_vertices running deltas at = map (moved at) (sums (displacements running deltas))
 
--- the last one, or the one before where there is none
+-- the last one, or the given point where there is none
 abbrev pub last_after : Point → List Point → Point
 last_after p [] = p
 last_after p (q ∷ qs) = last_after q qs
 
--- the vertex that is left out: it has one coordinate of the first and the other one of the last
+-- the vertex that is left out: it has one coordinate of the first vertex and the other of the last
 abbrev pub left_out : Closing → Point → Point → List Point
 left_out Listed first last = []
 left_out FirstX first last = (record { x = first.x; y = last.y }) ∷ []
 left_out FirstY first last = (record { x = last.x; y = first.y }) ∷ []
 
--- how many that are
+-- how many there are
 abbrev pub left_out_count : Closing → ℕ
 left_out_count Listed = 0
 left_out_count FirstX = 1
@@ -50,7 +50,7 @@ vertices_of line at =
     let listed = listed_vertices line.running line.deltas at in
     listed ++ left_out line.closing at (last_after at listed)
 
--- why the vertices may be refused: one of them is past the limits, or memory was refused
+-- why the vertices may be refused: one of them exceeds the limits, or out of memory
 abbrev pub VerticesMay : Why → List Point → Type 0
 VerticesMay CoordinateRange points = ¬ AllByRecursion IsInRange points
 VerticesMay Memory points = Unit {0}

@@ -9,7 +9,7 @@ use Rattle.oas_num.specs.Combinators.{IsEither, IsExactly, IsNever}
 use Rattle.oas_num.specs.Integers.{IsUnsigned}
 use Rattle.oas_num.specs.Style.{Style, Any, Shortest}
 use Rattle.oas_num.specs.Deltas.{SpellsGDelta, GDeltaTook, step}
-use Rattle.oas_num.specs.Pieces.{IsBehind, PairTook, ThereTook, SuchTook, Unless}
+use Rattle.oas_num.specs.Pieces.{IsAfter, PairTook, ThereTook, SuchTook, Unless}
 use Rattle.oas_num.specs.Reading.{IntegerMay}
 use Rattle.oas_shape.specs.declared.offsets.Along.{Along}
 use Rattle.oas_shape.specs.declared.offsets.Along.TheVariants.{X, Y, Free}
@@ -74,11 +74,11 @@ displacement_in X = IsImage x_space IsUnsigned
 displacement_in Y = IsImage y_space IsUnsigned
 displacement_in Free = SpellsGDelta
 
--- so many displacements, of which no sum after the grid is past the limit
+-- this many displacements, with no sum after the grid that exceeds the limit
 abbrev pub IsOffsets : Along → ℕ → ℕ → List GDelta → List ℕ → Type 0
 IsOffsets along grid count = IsSuch (AllByRecursion IsPartialSum) (IsImage (offsets_by grid) (IsCount (displacement_in along) count))
 
--- no grid is a grid of 1
+-- without a grid it is 1
 abbrev pub grid_of : Option ℕ → ℕ
 grid_of None = 1
 grid_of (Some grid) = grid
@@ -86,7 +86,7 @@ grid_of (Some grid) = grid
 abbrev pub listed_of : ℕ × (Option ℕ × List GDelta) → Repetition
 listed_of p = Listed p.1.1
 
--- types 4 to 7, 10 and 11: a dimension, a grid where the type has one, and one displacement more than the dimension
+-- types 4 to 7, 10 and 11: a dimension, a grid where the type has one, and one more displacement than the dimension
 abbrev pub after_dim : Along → Bool → ℕ → Option ℕ × List GDelta → List ℕ → Type 0
 after_dim along has_grid dim = IsPair (IsThere has_grid IsUnsigned) (λ grid. IsOffsets along (grid_of grid) (dim + 1))
 
@@ -123,7 +123,7 @@ abbrev pub rep_field_in : Style → RepField → List ℕ → Type 0
 rep_field_in Any = IsImage field_of (IsPair (IsSuch IsRepetitionKind IsUnsigned) field_by)
 rep_field_in Shortest = IsNever
 
--- ---- where in it a read may fail
+-- ---- where a read may fail
 
 -- two numbers: in the first, or in the second
 abbrev pub TwoTook : Why → List ℕ → Type 0
@@ -143,17 +143,17 @@ DisplacementTook X = IntegerMay
 DisplacementTook Y = IntegerMay
 DisplacementTook Free = GDeltaTook
 
--- Why a displacement is refused that was read after those: with it a sum is past the limit; where none is, there is no
--- memory for it. It is taken as a whole, as the first number of a g-delta may have taken a sum past the limit already.
+-- Why a displacement is refused that was read after those: with it a sum exceeds the limit; or else there is no memory for
+-- it. It is judged as a whole, as the first number of a g-delta may have made a sum exceed the limit already.
 abbrev pub RefusesNext : ℕ → List GDelta → GDelta → Why → Type 0
 RefusesNext grid before d CoordinateRange = ¬ AllByRecursion IsPartialSum (offsets_by grid (before ++ d ∷ []))
 RefusesNext grid before d Memory = AllByRecursion IsPartialSum (offsets_by grid (before ++ d ∷ []))
 RefusesNext grid before d _ = ⊥
 
--- so many displacements: fewer are spelled, of which no sum is past the limit, and then in the next
+-- this many displacements: fewer are spelled, with no sum that exceeds the limit, and then in the next
 abbrev pub OffsetsTook : Along → ℕ → ℕ → Why → List ℕ → Type 0
 OffsetsTook along grid count why bytes =
-    IsBehind (IsEach (displacement_in along))
+    IsAfter (IsEach (displacement_in along))
     (λ before last. (length before < count) × AllByRecursion IsPartialSum (offsets_by grid before) × SuchTook (displacement_in along) (DisplacementTook along) (RefusesNext grid before) why last) bytes
 
 abbrev pub AfterDimTook : Along → Bool → ℕ → Why → List ℕ → Type 0

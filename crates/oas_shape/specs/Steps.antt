@@ -12,11 +12,11 @@ still = step (pos 0) (pos 0)
 abbrev pub added : GDelta → GDelta → GDelta
 added d e = step (d.dx +ℤ e.dx) (d.dy +ℤ e.dy)
 
--- a step so many times
+-- a step this many times
 abbrev pub times : ℕ → GDelta → GDelta
 times n d = step (pos n *ℤ d.dx) (pos n *ℤ d.dy)
 
--- the sums of the first of the steps, of the first two, and so on, on top of what was before
+-- the sums of the first step, of the first two, and so on, added to what was before
 abbrev pub sums_after : GDelta → List GDelta → List GDelta
 sums_after before [] = []
 sums_after before (d ∷ ds) = added before d ∷ sums_after (added before d) ds
@@ -29,7 +29,7 @@ sums ds = still ∷ sums_after still ds
 abbrev pub moved : Point → GDelta → Point
 moved p d = record { x = p.x +ℤ d.dx; y = p.y +ℤ d.dy }
 
--- so far from 0 at most
+-- at most this far from 0
 abbrev pub IsBounded : ℕ → ℤ → Type 0
 IsBounded far z = (neg_ℤ (pos far) ≤ℤ z) × (z ≤ℤ pos far)
 

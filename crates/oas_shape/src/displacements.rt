@@ -1,4 +1,4 @@
-//! Displacements, which may be further than a delta.
+//! Displacements, which may be longer than a delta.
 ghost use Rattle.std.specs.Prelude.{◌≡◌};
 ghost use Rattle.oas_num.specs.Deltas.{step};
 

@@ -1,8 +1,8 @@
-//! What a point list is for.
+//! The use of a point list.
 ghost use Rattle.std.specs.Prelude.{◌↔◌, IsTrue};
 ghost use Rattle.oas_shape.specs.ListUses.{IsFitting};
 
-/// What a point list is for: a polygon is closed, and a path isn't.
+/// The use of a point list: a polygon is closed, and a path isn't.
 #[derive(Clone, Copy, Debug, PartialEq, Eq)]
 pub enum ListUse {
     Polygon,
@@ -10,8 +10,8 @@ pub enum ListUse {
 }
 
 impl ListUse {
-    /// Whether a list of this type may have so many deltas (SEMI P39, Point lists). A polygon has at least two, and of
-    /// types 0 and 1 an even number; a path may have any number (own rule).
+    /// Whether a list of this type may have this many deltas (SEMI P39, Point lists). A polygon has at least two, and an even
+    /// number in types 0 and 1; a path may have any number (own rule).
     pub(crate) fn fits(self, kind: u64, count: u64) -> bool
         ensures { IsTrue result ↔ IsFitting self kind count }
     {

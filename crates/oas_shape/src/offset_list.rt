@@ -1,11 +1,11 @@
-//! The offsets that a repetition lists.
+//! The listed offsets of a repetition.
 ghost use Rattle.std.specs.Prelude.{◌≡◌, IfOk};
 
 use oas_num::GDelta;
 use std::alloc::{AllocError, Global};
 use std::marker::Model;
 
-/// The offsets of copies that a repetition lists, of which contracts see the list: two or more, the first (0, 0).
+/// The listed offsets of a repetition's copies, which contracts see as a list: two or more, the first (0, 0).
 #[derive(Debug, Drop)]
 pub struct OffsetList {
     pub(crate) items: Vec<GDelta>,

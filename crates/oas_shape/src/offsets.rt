@@ -1,4 +1,4 @@
-//! Where the copies of a repetition stand.
+//! The offsets of a repetition's copies.
 ghost use Rattle.std.specs.Prelude.{◌≡◌, ◌+ℤ◌, ◌*ℤ◌, ◌+◌, ◌*◌, ◌/◌, ◌%◌, ◌^◌, ◌<◌, pos, SomeIff};
 ghost use Rattle.oas_num.specs.Deltas.{step};
 ghost use Rattle.oas_num.specs.Reading.{ReadsPieceAs, ReadsPiece};
@@ -18,7 +18,7 @@ const FURTHEST_SUM: i128 = 4611686018427387904;
 /// No two numbers of 64 bits are further apart.
 const FURTHEST_STEP: i128 = 18446744073709551616;
 
-/// Which way a displacement of a list goes: a space along an axis, or a g-delta any way.
+/// The direction of a listed displacement: a space along an axis, or a g-delta in any direction.
 #[derive(Clone, Copy)]
 pub(crate) enum Along {
     X,
@@ -27,9 +27,8 @@ pub(crate) enum Along {
 }
 
 impl OffsetList {
-    /// Reads one displacement more than `more`, and adds them up, times the grid. It is refused by `CoordinateRange` as
-    /// soon as a sum is past the limit. It takes no more memory than for what was read: a sum is kept once the
-    /// displacement after it was read.
+    /// Reads `more + 1` displacements, and adds them up, times the grid. It fails with `CoordinateRange` as soon as a sum
+    /// exceeds the limit. It allocates only for what was read: a sum is kept once the displacement after it was read.
     pub(crate) fn read<S: Source>(
         alloc: Global,
         along: Along,
@@ -119,7 +118,7 @@ fn component_sum(before: i64, grid: u64, by: i128) -> Option<i64>
     sum_within(before, far)
 }
 
-/// A sum that isn't past the limit.
+/// A sum within the limit.
 fn sum_within(before: i64, far: i128) -> Option<i64>
     requires { IsBounded (2 ^ 64) far }
     ensures { SomeIff result (IsBounded (2 ^ 62) (before +ℤ far)) (before +ℤ far) }
@@ -163,7 +162,7 @@ impl Repetition {
         }
     }
 
-    /// Where copy `i` stands, from copy 0 on, in x and y.
+    /// The offset of copy `i`, counted from 0, in x and y.
     pub fn offset(&self, i: u64) -> (i128, i128)
         requires below { i < count_of self.now }
         requires small { i < 2 ^ 32 }
@@ -199,7 +198,7 @@ impl Repetition {
     }
 }
 
-/// How many copies two dimensions stand for, where that is below 2^64.
+/// How many copies two dimensions give, where that is below 2^64.
 fn copies(dim: u64, other_dim: u64) -> Option<u64>
     ensures { SomeIff result ((dim + 2) * (other_dim + 2) < 2 ^ 64) ((dim + 2) * (other_dim + 2)) }
 {
@@ -222,7 +221,7 @@ fn column_and_row(i: u64, dim: u64) -> (u64, u64)
     (i % (dim + 2), i / (dim + 2))
 }
 
-/// So many spaces.
+/// This many spaces.
 fn spaces(n: u64, space: u64) -> i128
     requires { n < 2 ^ 32 }
     ensures value { result ≡ pos (n * space) }
@@ -231,7 +230,7 @@ fn spaces(n: u64, space: u64) -> i128
     i128::from(n) * i128::from(space)
 }
 
-/// So many steps along an axis.
+/// This many steps along an axis.
 fn steps(n: u64, by: i64) -> i128
     requires { n < 2 ^ 32 }
     ensures value { result ≡ pos n *ℤ by }
@@ -240,7 +239,7 @@ fn steps(n: u64, by: i64) -> i128
     i128::from(n) * i128::from(by)
 }
 
-/// So many steps of one kind, and so many of another.
+/// This many steps of one kind, and this many of another.
 fn two_steps(n: u64, by: i64, m: u64, other: i64) -> i128
     requires n { n < 2 ^ 32 }
     requires m { m < 2 ^ 32 }

@@ -1,4 +1,4 @@
-//! The places on which the copies of a repetition stand.
+//! The places of a repetition's copies.
 ghost use Rattle.std.specs.Prelude.{◌≡◌, ◌*◌, ◌<◌, ◌^◌};
 ghost use Rattle.oas_shape.specs.Offsets.{count_of};
 ghost use Rattle.oas_shape.specs.Places.{is_still, places_one_way, places_two_ways, places_of};
@@ -6,20 +6,20 @@ ghost use Rattle.oas_shape.specs.Places.{is_still, places_one_way, places_two_wa
 use crate::repetitions::Repetition;
 use oas_num::GDelta;
 
-/// The places on which the copies of a repetition stand: as many copies on each. Copy 0 stands on the first.
+/// The places of a repetition's copies, with equally many copies on each. Copy 0 is on the first.
 #[derive(Clone, Copy, Debug, PartialEq, Eq)]
 pub struct Places {
     /// How many places there are.
     pub number: u64,
-    /// How many copies stand on each.
+    /// How many copies are on each.
     pub copies: u64,
-    /// A copy on a place has this number less than one on the next.
+    /// A copy on a place has an index this much less than one on the next place.
     pub stride: u64,
 }
 
 impl Repetition {
-    /// The places on which its copies stand. Where the step along a dimension is zero, its copies stand on one place, and are
-    /// never looked at one by one; places that coincide otherwise count as several.
+    /// The places of its copies. Where the step along a dimension is zero, its copies are all on one place, and are never
+    /// visited one by one. Places that coincide otherwise count as several.
     pub fn places(&self) -> Places
         requires { count_of self.now < 2 ^ 64 }
         ensures { result ≡ places_of self.now }
@@ -49,7 +49,7 @@ fn is_still(by: GDelta) -> bool
     by.dx == 0 && by.dy == 0
 }
 
-/// Those of so many copies along one dimension, all of them on one place or each on its own.
+/// The places of this many copies along one dimension: one for all of them, or one for each.
 fn one_way(count: u64, still: bool) -> Places
     ensures { result ≡ places_one_way count still }
 {
@@ -61,7 +61,7 @@ fn one_way(count: u64, still: bool) -> Places
     }
 }
 
-/// Those of so many copies along each of two dimensions.
+/// The places of this many copies along each of two dimensions.
 fn two_ways(columns: u64, columns_still: bool, rows: u64, rows_still: bool) -> Places
     requires { columns * rows < 2 ^ 64 }
     ensures { result ≡ places_two_ways columns columns_still rows rows_still }

@@ -50,7 +50,7 @@ impl Closing {
     }
 }
 
-/// A point list (SEMI P39, Point lists). Its vertices follow from the position that it is given at.
+/// A point list (SEMI P39, Point lists). Its vertices follow from the position where it is placed.
 #[derive(Debug, Drop)]
 pub struct PointList {
     pub(crate) deltas: Vec<GDelta>,
@@ -79,10 +79,10 @@ impl PointList {
         }
     }
 
-    /// Reads a type, a count and so many deltas.
+    /// Reads a type, a count and that many deltas.
     ///
-    /// It is refused by `ListKind` for a type above 5, by `PointCount` where a polygon has too few deltas or, in types 0
-    /// and 1, an odd number; by what reading a number is refused by; and by `Memory`. The count reserves no memory.
+    /// It fails with `ListKind` for a type above 5; with `PointCount` where a polygon has too few deltas or, in types 0 and
+    /// 1, an odd number; with what the read of a number fails with; and with `Memory`. The count reserves no memory.
     pub fn read<S: Source>(
         alloc: Global,
         source: &mut S,

@@ -22,7 +22,7 @@ pub enum RepField {
     New(Repetition),
 }
 
-/// Where the copies of an element stand (SEMI P39, Repetitions). A dimension d stands for d + 2 copies.
+/// The offsets of an element's copies (SEMI P39, Repetitions). A dimension d means d + 2 copies.
 #[derive(Debug, Drop)]
 pub enum Repetition {
     /// Columns and rows (type 1).
@@ -59,7 +59,7 @@ pub enum Repetition {
 }
 
 impl Repetition {
-    /// An equal one, with memory of its own. Only a list takes any.
+    /// A copy, in memory of its own. Only a list allocates.
     pub fn try_clone(&self, alloc: Global) -> Result<Repetition, AllocError>
         ensures equal { IfOk result (λ copy. copy ≡ self.now) }
         ensures refused { IfErr result (λ _. HasList self.now) }
@@ -99,9 +99,9 @@ impl Repetition {
 impl RepField {
     /// Reads a type and its fields.
     ///
-    /// It is refused by `RepetitionKind` for a type above 11; by `CoordinateRange` in types 4 to 7, 10 and 11 as soon as a
-    /// sum of displacements, times the grid, is past -2^62 .. 2^62 (own rule); by what reading a number is refused by; and
-    /// by `Memory`. The count reserves no memory.
+    /// It fails with `RepetitionKind` for a type above 11; with `CoordinateRange` in types 4 to 7, 10 and 11 as soon as a sum
+    /// of displacements, times the grid, is outside -2^62 .. 2^62 (own rule); with what the read of a number fails with; and
+    /// with `Memory`. The count reserves no memory.
     pub fn read<S: Source>(alloc: Global, source: &mut S) -> Result<RepField, Why>
         ensures { ReadsPiece (rep_field_in Any) RepFieldTook (S.script source.old) result (S.script source.new) }
     {
@@ -182,7 +182,7 @@ fn read_line<S: Source>(alloc: Global, source: &mut S) -> Result<Repetition, Why
     Ok(Repetition::Line { dim, by })
 }
 
-/// Reads a dimension, a grid where there is one, and the displacements.
+/// Reads a dimension, the optional grid, and the displacements.
 fn read_listed<S: Source>(
     alloc: Global,
     along: Along,
@@ -197,7 +197,7 @@ fn read_listed<S: Source>(
     Ok(Repetition::Listed(offsets))
 }
 
-/// No grid is a grid of 1.
+/// Without a grid it is 1.
 fn grid_or_one(grid: Option<u64>) -> u64
     ensures { result ≡ grid_of grid }
 {

@@ -11,10 +11,10 @@ ghost use Rattle.oas_shape.specs.PointLists.{deltas_in, alternating, step2, step
 use oas_num::{Delta1, Delta2, Delta3, GDelta, Source, Spelled, Why};
 use std::alloc::Global;
 
-/// For how many steps the first of a list makes room at most. Memory for more grows with them.
+/// The first step of a list reserves memory for at most this many. Memory for more grows with the steps.
 const FIRST_ROOM: u64 = 32;
 
-/// A delta that is a step whatever stands before it.
+/// A delta that is a step whatever comes before it.
 pub(crate) trait Step: Spelled + Drop {
     /// The step.
     ghost step_of: { Self → GDelta };
@@ -53,7 +53,7 @@ impl Step for GDelta {
     }
 }
 
-/// Reads so many deltas of a list of that type. It takes no more memory than for what was read, or for `FIRST_ROOM` steps.
+/// Reads this many deltas of a list of that type. It allocates only for what was read, or for `FIRST_ROOM` steps.
 pub(crate) fn read_deltas<S: Source>(
     alloc: Global,
     kind: u64,
@@ -71,7 +71,7 @@ pub(crate) fn read_deltas<S: Source>(
     }
 }
 
-/// Adds a step to those of a list of so many. The first makes room for all of a short list.
+/// Adds a step to those of a list of this length. The first makes room for all of a short list.
 fn keep(steps: &mut Vec<GDelta>, step: GDelta, count: u64) -> Result<(), Why>
     ensures kept { OnOk result (steps.new.items ≡ steps.old.items ++ step ∷ []) }
     ensures refused { IfErr result (λ why. why ≡ Memory) }
@@ -83,7 +83,7 @@ fn keep(steps: &mut Vec<GDelta>, step: GDelta, count: u64) -> Result<(), Why>
     Ok(())
 }
 
-/// Reads so many deltas that are steps.
+/// Reads this many deltas that are steps.
 fn read_steps<D: Step, S: Source>(
     alloc: Global,
     count: u64,
@@ -99,7 +99,7 @@ fn read_steps<D: Step, S: Source>(
     Ok(steps)
 }
 
-/// Reads so many 1-deltas, which go along x and y in turn.
+/// Reads this many 1-deltas, which go along x and y in turn.
 fn read_alternating<S: Source>(
     alloc: Global,
     x_first: bool,
@@ -119,7 +119,7 @@ fn read_alternating<S: Source>(
     Ok(turns)
 }
 
-/// So far along one axis.
+/// This far along one axis.
 fn along(along_x: bool, far: Delta1) -> GDelta
     ensures { result ≡ (if along_x then step far.0 (pos 0) else step (pos 0) far.0) }
 {

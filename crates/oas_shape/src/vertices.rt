@@ -16,8 +16,8 @@ use std::alloc::Global;
 const FURTHEST: i128 = 1152921504606846976;
 
 impl PointList {
-    /// All vertices at that position, the first of which it is (SEMI P39, Point lists). It is refused by
-    /// `CoordinateRange` where one of them is past the limits, and by `Memory`.
+    /// All vertices at that position, which is the first (SEMI P39, Point lists). It fails with `CoordinateRange` where one
+    /// of them exceeds the limits, and with `Memory`.
     pub fn vertices(&self, alloc: Global, at: Point) -> Result<Vec<Point>, Why>
         requires { IsInRange at }
         ensures given { IfOk result (λ points. points.items ≡ vertices_of self.now at) }
@@ -36,7 +36,7 @@ impl PointList {
     }
 }
 
-/// The vertices that the deltas lead to, one after another, in memory that has room for so many.
+/// The vertices that the deltas reach, one after another, in memory that has room for this many.
 fn walk(
     alloc: Global,
     deltas: &[GDelta],
@@ -66,7 +66,7 @@ fn walk(
     Ok(points)
 }
 
-/// The next displacement, which in a running list is on top of the one before.
+/// The next displacement; in a running list the one before is added.
 fn next_displacement(running: bool, before: Displacement, delta: GDelta) -> Displacement
     requires x { IsBounded (2 ^ 63) before.x }
     requires y { IsBounded (2 ^ 63) before.y }
@@ -84,7 +84,7 @@ fn next_displacement(running: bool, before: Displacement, delta: GDelta) -> Disp
     }
 }
 
-/// The point so far from that one, where it is within the limits.
+/// The point at this displacement from that one, where it is within the limits.
 fn point_from(from: Point, by: Displacement) -> Option<Point>
     requires x { IsBounded (2 ^ 64) by.x }
     requires y { IsBounded (2 ^ 64) by.y }
@@ -95,7 +95,7 @@ fn point_from(from: Point, by: Displacement) -> Option<Point>
     Some(Point { x, y })
 }
 
-/// The coordinate so far from that one, where it is within the limits.
+/// The coordinate at this distance from that one, where it is within the limits.
 fn coordinate_from(from: i64, far: i128) -> Option<i64>
     requires { IsBounded (2 ^ 64) far }
     ensures { SomeIff result (IsBounded (2 ^ 60) (from +ℤ far)) (from +ℤ far) }
@@ -110,7 +110,7 @@ fn coordinate_from(from: i64, far: i128) -> Option<i64>
     Some(to as i64)
 }
 
-/// The vertex that a list leaves out, of its first and its last one.
+/// The vertex that a list leaves out, from its first and its last one.
 fn point_left_out(closing: Closing, first: Point, last: Point) -> Option<Point>
     ensures { option_to_list result ≡ left_out closing first last }
 {

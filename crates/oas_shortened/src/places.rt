@@ -2,18 +2,18 @@
 ghost use Rattle.std.specs.Prelude.{◌≡◌};
 ghost use Rattle.oas_shortened.specs.Places.{joined, given_by, moved};
 
-/// Where in an integer the next byte stands.
+/// Where in an integer the next byte is.
 #[derive(Clone, Copy, Debug, PartialEq, Eq)]
 pub enum Place {
-    /// In none: it is given as it stands.
+    /// In none: it is given unchanged.
     Free,
-    /// Behind so many groups, at most nine.
+    /// After this many groups, at most nine.
     Groups(u8),
-    /// Behind its tenth group, which is held back.
+    /// After its tenth group, which is held back.
     Tenth(u8),
 }
 
-/// A tenth group and one behind it: where that isn't zero, a group by which the integer is 2^64 or above.
+/// A tenth group and one after it: where that isn't zero, a group that makes the integer 2^64 or above.
 fn joined(group: u8, byte: u8) -> u8
     ensures { result ≡ joined group byte }
 {
@@ -21,7 +21,7 @@ fn joined(group: u8, byte: u8) -> u8
 }
 
 impl Place {
-    /// What is given of a byte there.
+    /// What is given for a byte there.
     pub(crate) fn given_by(self, byte: u8) -> Option<u8>
         ensures { result ≡ given_by self byte }
     {
@@ -35,7 +35,7 @@ impl Place {
         }
     }
 
-    /// Where the byte behind it stands.
+    /// The place of the byte after it.
     pub(crate) fn moved(self, byte: u8) -> Place
         ensures { result ≡ moved self byte }
     {

@@ -7,8 +7,8 @@ use crate::places::Place;
 use oas_bytes::{Ending, Source, SourceFault};
 use std::marker::{Brand, PhantomData};
 
-/// Which source it is whose integers are shortened, where it stood before the first byte, and where in an integer that byte
-/// stands. Each use picks it.
+/// Which source's integers are shortened, where it was before the first byte, and where in an integer that byte is. Each use
+/// chooses it.
 pub trait Start {
     ghost use Rattle.oas_bytes.specs.Script.{Script};
     ghost use Rattle.oas_shortened.specs.declared.places.Place.{Place};
@@ -33,7 +33,7 @@ impl Start for Brand {
     ghost first = { Free };
 }
 
-/// How a source ended that answered that.
+/// How a source ended that returned this.
 fn ending_of(fault: SourceFault) -> Ending
     ensures { result ≡ ending_by fault }
 {
@@ -43,20 +43,20 @@ fn ending_of(fault: SourceFault) -> Ending
     }
 }
 
-/// The bytes of a borrowed source, but of an integer no group behind its tenth.
+/// The bytes of a borrowed source, except the groups of an integer after its tenth.
 ///
-/// A fault of the source beneath is answered as one of the device. Which it was is kept.
+/// A fault of the source below is returned as one of the device. Which fault it was is kept.
 #[derive(Drop)]
 pub struct ShortenedSource<'a, S: Source, K: Start> {
     /// The source.
     pub source: &'a mut S,
-    /// Where in an integer the next byte stands.
+    /// Where in an integer the next byte is.
     pub place: Place,
     /// How many bytes were kept back.
     pub kept: u64,
     /// How the source ended, if it did.
     pub ending: Ending,
-    /// Where the source stood before the first byte.
+    /// Where the source was before the first byte.
     pub start: PhantomData<K>,
     ghost shortened: { IsShortened K.script K.name K.first source.ghost_name (S.script source.now) place kept ending } by { IsShortened-prop K.script K.name K.first source.ghost_name (S.script source.now) place kept ending },
 }
@@ -64,7 +64,7 @@ pub struct ShortenedSource<'a, S: Source, K: Start> {
 impl<'a, S: Source, K: Start> ShortenedSource<'a, S, K> {
     ghost use Rattle.oas_shortened.specs.Shortening.{short_script, Steps, Counts};
 
-    /// All bytes that the source is still to give, none of which was taken.
+    /// All bytes that the source will still give. None was taken yet.
     pub fn new(source: &'a mut S, first: Place) -> Self
         requires named { source.ghost_name ≡ K.name }
         requires starts { S.script source.old ≡ K.script }
@@ -84,9 +84,9 @@ impl<'a, S: Source, K: Start> ShortenedSource<'a, S, K> {
         }
     }
 
-    /// Takes a byte of the source: what is given of it, if there is one.
+    /// Takes a byte of the source: what is given for it, if there is one.
     fn take(&mut self) -> Result<Option<Option<u8>>, SourceFault>
-        ensures steps { Steps (short_script (S.script self.old.source.now) self.old.place self.old.kept self.old.ending) result (short_script (S.script self.new.source.now) self.new.place self.new.kept self.new.ending) }
+        ensures steps { Steps (short_script K.script K.first (S.script self.old.source.now) self.old.place self.old.kept self.old.ending) result (short_script K.script K.first (S.script self.new.source.now) self.new.place self.new.kept self.new.ending) }
         ensures counts { Counts self.old.kept result self.new.kept }
     {
         match self.source.next() {
@@ -102,7 +102,7 @@ impl<'a, S: Source, K: Start> ShortenedSource<'a, S, K> {
                 let given = self.place.given_by(byte);
                 self.place = self.place.moved(byte);
                 if given.is_none() {
-                    // The sum is at most how many bytes were given, which the proof knows to fit once it is read.
+                    // The sum is at most how many bytes were given, so it fits; the proof knows this once the sum is read.
                     let _given = self.source.at();
                     self.kept += 1;
                 }
@@ -116,9 +116,9 @@ impl<'a, S: Source, K: Start> Source for ShortenedSource<'a, S, K> {
     ghost use Rattle.std.specs.Prelude.{[]};
     ghost use Rattle.oas_shortened.specs.Shortening.{short_script};
 
-    ghost script = { λ s. short_script (S.script s.source.now) s.place s.kept s.ending };
+    ghost script = { λ s. short_script K.script K.first (S.script s.source.now) s.place s.kept s.ending };
 
-    // None, since what is given is made byte by byte.
+    // None, since the bytes are made one at a time.
     ghost at_hand = { λ _. [] };
 
     fn next(&mut self) -> Result<Option<u8>, SourceFault> {

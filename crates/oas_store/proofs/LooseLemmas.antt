@@ -1,4 +1,4 @@
--- What waits loose, put into order and made into runs.
+-- The loose keys, put into order and made into runs.
 use Rattle.std.proofs.Common.{◌≡◌, ℕ, suc, ◌==◌, false, ◌+◌, ◌*◌, ◌<◌, ◌^◌, true, List, [], ◌∷◌, ◌++◌, cond, length, get_or, drop, drop-cons, refl, sym, ◌∙◌, ap, arith, subst}
 use Rattle.std.specs.Cmp.{IsTotalOrder, tied_itself, unsigned_Decides}
 use Rattle.std.specs.Ordering.{is_eq}
@@ -78,7 +78,7 @@ module _ {K : Type 0} where
   pub next_same : (es fs : List (K × ℕ)) (rs : List (List (K × ℕ))) (k : K) (n : ℕ) → More es fs k n → SameTotals (fs ++ joined rs) ((k, n) ∷ (es ++ joined rs))
   next_same es fs rs k n h g = omega (arith, h g, total-append g es (joined rs), total-append g fs (joined rs))
 
-  -- after the run that rose became one of the others
+  -- after the rising run became one of the others
   pub next_begun : (es ms fs : List (K × ℕ)) (rs rs' : List (List (K × ℕ))) (k : K) (n : ℕ) → SameTotals (ms ++ joined rs') (es ++ joined rs) → More ms fs k n
       → SameTotals (fs ++ joined rs') ((k, n) ∷ (es ++ joined rs))
   next_begun es ms fs rs rs' k n h m g = omega (arith, h g, m g, total-append g ms (joined rs'), total-append g fs (joined rs'))
@@ -90,11 +90,11 @@ module _ {K : Type 0} where
   pub below_none : (R : K → K → Ordering) (es : List (K × ℕ)) (k : K) → es ≡ [] → IsBelow R es k
   below_none R es k e ps p is = absurd (none_above ps p (sym e ∙ is))
 
-  -- nothing counted is too much of what is left
+  -- no count is too large for what is left
   pub apart_fit : (R : K → K → Ordering) (ls es : List (K × ℕ)) → CountsFit R (ls ++ es) → CountsFit R ls
   apart_fit R ls es h k = omega (arith, h k, total-append (λ x. cond (is_eq (R k x)) 1 0) ls es)
 
-  -- ---- runs put to others
+  -- ---- runs added to others
 
   pub runs_with : (R : K → K → Ordering) (rs ss : List (List (K × ℕ))) → AreRuns R rs → AreRuns R ss → AreRuns R (rs ++ ss)
   runs_with R [] ss h k = k

@@ -24,7 +24,7 @@ found_last es ps p d n e m =
     (λ i. get_or (e i) (at i) d) ∙ get_or-append_seam ps p [] d
 
 module _ {K : Type 0} where
-  -- the runs that a list of runs ends with
+  -- the runs at the end of a list of runs
   are_runs : (R : K → K → Ordering) (rs : List (List (K × ℕ))) (r : List (K × ℕ)) → AreRuns R (rs ++ r ∷ []) → AreRuns R rs × IsRun R r
   are_runs R [] r h = (tt, h.0)
   are_runs R (x ∷ xs) r h = let w = are_runs R xs r h.1 in ((h.0, w.0), w.1)
@@ -93,7 +93,7 @@ module _ {K : Type 0} where
       let before = (split_runs R mids rs r f (split_runs R olds mids s e h).0).0 in
       more_runs R three two w z (more_runs R two one v y (more_runs R one rs t x before (subst (IsRun R) (sym a) all.done)) all.left) all.right
 
-  -- ---- a run more
+  -- ---- one more run
 
   pub added_same : (g : K → ℕ) (olds mids news : List (List (K × ℕ))) (run : List (K × ℕ)) → mids ≡ olds ++ run ∷ [] → SameTotals (joined news) (joined mids)
       → total g (joined news) ≡ total g (run ++ joined olds)
@@ -103,7 +103,7 @@ module _ {K : Type 0} where
       → CountsFit R (joined mids)
   added_fit R olds mids run e c k = omega (arith, c k, total_runs (λ x. cond (is_eq (R k x)) 1 0) mids olds run e, total-append (λ x. cond (is_eq (R k x)) 1 0) run (joined olds))
 
-  -- what waited is a run more
+  -- what waited is one more run
   pub settled_same : (old new run : List (K × ℕ)) (olds mids news : List (List (K × ℕ))) → run ≡ old → new ≡ [] → mids ≡ olds
       → SameTotals (joined news) (run ++ joined mids) → SameTotals (new ++ joined news) (old ++ joined olds)
   settled_same old new run olds mids news a b c h g =

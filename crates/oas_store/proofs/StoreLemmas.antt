@@ -1,4 +1,4 @@
--- The parts of a store, and the list as which it is seen.
+-- The parts of a store, and the list that contracts see.
 use Rattle.std.proofs.Common.{◌≡◌, ℕ, ◌<◌, List, [], ◌∷◌, ◌++◌, cond, length, refl, sym, ap, arith, subst}
 use Rattle.std.specs.Cmp.{IsTotalOrder}
 use Rattle.std.specs.Ordering.{is_eq}
@@ -28,7 +28,7 @@ module _ {K : Type 0} where
       → AreParts R r' l' rs' → SameTotals (contents r' l' rs') (contents r l rs) → tally R (contents r' l' rs') ≡ tally R (contents r l rs)
   same_view {R} o exact r l r' l' rs rs' p q h = same_tally o exact (contents r' l' rs') (contents r l rs) (positive_contents R r' l' rs' q) (positive_contents R r l rs p) h
 
-  -- one key more is seen as one key more
+  -- one more key is seen as one more key
   pub more_view : {R : K → K → Ordering} → IsTotalOrder R → CmpEqualImpliesEq R → (r l r' l' : List (K × ℕ)) (rs rs' : List (List (K × ℕ))) (k : K) (n : ℕ) → 0 < n
       → AreParts R r l rs → AreParts R r' l' rs' → SameTotals (contents r' l' rs') ((k, n) ∷ contents r l rs)
       → tally R (contents r' l' rs') ≡ put_more R (tally R (contents r l rs)) k n
@@ -55,7 +55,7 @@ module _ {K : Type 0} where
   pub no_run : (olds : List (List (K × ℕ))) (es : List (K × ℕ)) → length olds ≡ 0 → es ≡ [] → SameTotals es (joined olds)
   no_run olds es h e g = omega (arith, none_held g olds h, ap (total g) e)
 
-  -- so it is as what the store was seen
+  -- so it is what the store was seen as
   pub run_is_view : {R : K → K → Ordering} → IsTotalOrder R → CmpEqualImpliesEq R → (es r l r' l' : List (K × ℕ)) (rs rs' rs'' : List (List (K × ℕ))) → IsRun R es
       → AreParts R r l rs → r' ≡ [] → l' ≡ [] → SameTotals (contents r' l' rs') (contents r l rs) → SameTotals (joined rs'') (joined rs')
       → SameTotals es (joined rs'') → es ≡ tally R (contents r l rs)

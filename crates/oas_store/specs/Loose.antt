@@ -1,4 +1,4 @@
--- What waits, out of its bytes.
+-- The loose entries, from their bytes.
 use Rattle.std.specs.Prelude.{List, map}
 use Rattle.oas_store.specs.declared.loose.Loose.{Loose}
 use Rattle.oas_entries.specs.Entries.{Entry}

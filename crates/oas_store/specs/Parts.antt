@@ -1,4 +1,4 @@
--- What the parts of a store come to.
+-- What the parts of a store hold.
 use Rattle.std.specs.Prelude.{◌≡◌, ℕ, ◌<◌, ◌^◌, List, [], ◌∷◌, ◌++◌, ◌==◌, cond}
 use Rattle.std.specs.List.{AllByRecursion}
 use Rattle.std.specs.declared.cmp.Ordering.{Ordering}
@@ -6,7 +6,7 @@ use Rattle.std.specs.declared.cmp.Ordering.TheVariants.{Less, Equal}
 use Rattle.oas_entries.specs.Blocks.{joined}
 use Rattle.oas_entries.specs.Runs.{copies, Positive, IsRun}
 
--- an entry that waits; a count of 0 says that there is none
+-- an entry that waits; a count of 0 means that there is none
 abbrev pub waiting : {K : Type 0} → K → ℕ → List (K × ℕ)
 waiting key times = cond (times == 0) [] ((key, times) ∷ [])
 
@@ -23,7 +23,7 @@ module _ {K : Type 0} where
   abbrev pub CountsFit : (K → K → Ordering) → List (K × ℕ) → Type 0
   CountsFit R es = (k : K) → copies R k es < 2 ^ 64
 
-  -- the parts are runs, but for what waits in any order, and all counts fit, also once they are summed
+  -- the parts are runs, except what waits in any order, and all counts fit, also when they are summed
   pub record AreParts (R : K → K → Ordering) (rising loose : List (K × ℕ)) (rs : List (List (K × ℕ))) : Type 0 where
     pub ascends : IsRun R rising
     pub waits : Positive loose

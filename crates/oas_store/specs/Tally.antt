@@ -1,4 +1,4 @@
--- Keys in ascending order, each beside how often it is there.
+-- Keys in ascending order, each with its count.
 use Rattle.std.specs.Prelude.{ℕ, List, [], ◌∷◌, unwrap_or}
 use Rattle.std.specs.declared.cmp.Ordering.{Ordering}
 use Rattle.std.specs.Map.{lookup}
@@ -10,7 +10,7 @@ module _ {K : Type 0} where
   abbrev pub count_at : (K → K → Ordering) → List (K × ℕ) → K → ℕ
   count_at R es k = unwrap_or (lookup (is_at (R k)) es) 0
 
-  -- what any list of keys and counts comes to
+  -- the tally of any list of keys and counts
   abbrev pub tally : (K → K → Ordering) → List (K × ℕ) → List (K × ℕ)
   tally R [] = []
   tally R (p ∷ ps) = put_more R (tally R ps) p.0 p.1

@@ -1,4 +1,4 @@
-//! A key more, among what rises or what waits loose.
+//! One more key, in the rising run or among the loose ones.
 
 ghost use Rattle.std.specs.Prelude.{◌+◌, ◌<◌, ◌^◌, ◌∷◌, OnOk, OnErr};
 ghost use Rattle.std.specs.Cmp.Lexicographic.{slice_cmp};
@@ -15,7 +15,7 @@ use std::cmp::Ordering;
 /// How many bytes wait loose, about, at most.
 const LOOSE: usize = 1 << 20;
 
-/// Sees that one more can wait loose.
+/// Ensures that one more key can wait loose.
 fn make_room(
     alloc: Global,
     rising: &mut Rising<Vec<u8>>,
@@ -32,7 +32,7 @@ fn make_room(
     settle(alloc, rising, loose, runs)
 }
 
-/// Adds a key so many times to those that wait loose, or nothing.
+/// Adds a key this many times to those that wait loose, or nothing.
 fn add_loose(
     alloc: Global,
     rising: &mut Rising<Vec<u8>>,
@@ -53,7 +53,7 @@ fn add_loose(
     Ok(())
 }
 
-/// Adds a key so many times, or nothing.
+/// Adds a key this many times, or nothing.
 pub(crate) fn add_key(
     alloc: Global,
     rising: &mut Rising<Vec<u8>>,

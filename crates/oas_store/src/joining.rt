@@ -1,4 +1,4 @@
-//! Runs, of which each is to be less than half as long as the one before it.
+//! Runs, each of which has to be at most half as long as the one before it.
 
 ghost use Rattle.std.specs.Prelude.{◌≡◌, ◌+◌, ◌<◌, ◌≤◌, ◌++◌, IsTrue};
 ghost use Rattle.std.specs.Cmp.Lexicographic.{slice_cmp};
@@ -11,7 +11,7 @@ ghost use Rattle.oas_store.specs.Parts.{AreRuns, CountsFit};
 use oas_entries::{Growing, Run, merge_all};
 use std::alloc::Global;
 
-/// How many bytes the last two runs have, about.
+/// About how many bytes the last two runs have.
 fn size_of_two(runs: &[Run]) -> usize {
     match runs {
         [.., before, last] => before.size().saturating_add(last.size()),
@@ -19,7 +19,7 @@ fn size_of_two(runs: &[Run]) -> usize {
     }
 }
 
-/// Makes one of the last two runs and says so. For want of memory it leaves them, or three of the same sums.
+/// Merges the last two runs and returns whether it did. If out of memory it leaves them, or three with the same sums.
 fn join_last(alloc: Global, runs: &mut Vec<Run>) -> bool
     requires two { 2 ≤ vec_len runs.old }
     requires runs { AreRuns (slice_cmp nat_cmp) runs.old.items }
@@ -46,7 +46,7 @@ fn join_last(alloc: Global, runs: &mut Vec<Run>) -> bool
     false
 }
 
-/// Whether the last run has grown to half of the one before it.
+/// Whether the last run has more than half the size of the one before it.
 fn is_close(runs: &[Run]) -> bool {
     match runs {
         [.., before, last] => before.size() / 2 < last.size(),
@@ -54,7 +54,7 @@ fn is_close(runs: &[Run]) -> bool {
     }
 }
 
-/// Joins runs as far as their sizes ask for it and memory is there.
+/// Merges runs as far as their sizes require it and memory is there.
 pub(crate) fn join_close(alloc: Global, runs: &mut Vec<Run>)
     requires runs { AreRuns (slice_cmp nat_cmp) runs.old.items }
     requires fits { CountsFit (slice_cmp nat_cmp) (joined runs.old.items) }
@@ -68,7 +68,7 @@ pub(crate) fn join_close(alloc: Global, runs: &mut Vec<Run>)
     }
 }
 
-/// Puts a run to the others, which have room for it.
+/// Adds a run to the others, which have room for it.
 pub(crate) fn add_run(alloc: Global, runs: &mut Vec<Run>, run: Run)
     requires room { vec_len runs.old < vec_capacity runs.old }
     requires run { IsRun (slice_cmp nat_cmp) run }
@@ -81,7 +81,7 @@ pub(crate) fn add_run(alloc: Global, runs: &mut Vec<Run>, run: Run)
     join_close(alloc, runs);
 }
 
-/// Makes one run of all and says so. For want of memory it leaves more of the same sums.
+/// Merges all into one run and returns whether it did. If out of memory it leaves several with the same sums.
 pub(crate) fn join_all(alloc: Global, runs: &mut Vec<Run>) -> bool
     requires runs { AreRuns (slice_cmp nat_cmp) runs.old.items }
     requires fits { CountsFit (slice_cmp nat_cmp) (joined runs.old.items) }

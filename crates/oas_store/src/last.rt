@@ -2,7 +2,7 @@
 
 ghost use Rattle.std.specs.Prelude.{◌≡◌, List, ℕ};
 
-/// Bytes that are a key.
+/// The bytes of a key.
 pub(crate) trait LastKey: Drop {
     /// The key.
     ghost key: { Self → List ℕ };

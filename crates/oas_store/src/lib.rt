@@ -1,25 +1,25 @@
-//! A store of keys: bytes, each beside how often it is there, in about the bytes that they take.
+//! A store of keys, which are bytes, each with its count, in little more memory than their bytes.
 //!
 //! What this crate promises to the crates above it:
 //!
-//! - A [`KeyStore`] takes keys in any order, and is seen as the list of them, ascending, each beside its count. A refused
-//!   [`KeyStore::add`] leaves it as it was. [`KeyStore::close`] answers a run (`Run` of oas_entries) of just that list, which
-//!   ascends strictly, or, for want of memory, the store as it was. [`KeyStore::rest`] gives back memory that is idle, and
-//!   changes nothing of the list.
-//! - What any list of keys and counts comes to (`tally`, specs/Tally.antt) is told by its sums alone: a run with these sums is
-//!   that list (`run_is_tally`, specs/Laws/TallyLaws.antt).
+//! - A [`KeyStore`] takes keys in any order; contracts see it as the ascending list of keys with their counts. If out of
+//!   memory, [`KeyStore::add`] changes nothing. [`KeyStore::close`] returns a run (`Run` of oas_entries) of just that list,
+//!   which ascends strictly, or, if out of memory, the store unchanged. [`KeyStore::rest`] gives back idle memory, and
+//!   doesn't change the list.
+//! - The tally of any list of keys and counts (`tally`, specs/Tally.antt) is determined by its sums alone: a run with these
+//!   sums is that tally (`run_is_tally`, specs/Laws/TallyLaws.antt).
 //!
-//! How a store is made: a key above all of the rising run is put at its end, and one that is its last counts it up, so keys that
-//! ascend are written once and never compared again. Any other waits loose, as it came, among at most 1 MiB of such keys. When
-//! these are full they are sorted and equal ones are joined, the rising run and they become runs, one after the other, and the last
-//! two runs are merged as long as the last has grown to half of the one before it. So each run is less than half of the one before,
-//! there are few of them, and a key is moved some log n times in whatever order keys come. A rising run that is no longer than what
-//! waits, nor than a block, is sorted together with it instead, so that one run comes of both: most stores of a few keys never
-//! merge. No contract speaks of time or of bytes.
+//! How a store is built. A key above all of the rising run is put at its end, and one that equals its last key adds to that
+//! count. So keys that ascend are written once and never compared again. Any other key waits loose, unsorted, among at most 1
+//! MiB of such keys. When these are full they are sorted and equal ones are joined. The rising run and the sorted keys become
+//! runs, one after the other, and the last two runs are merged as long as the last has more than half the size of the one
+//! before it. So each run is at most half of the one before, there are few of them, and a key is moved about log n times in
+//! whatever order keys come. A rising run that is no longer than what waits, or than a block, is sorted together with it
+//! instead, so that both become one run: most stores of a few keys never merge. No contract is about time or about bytes.
 //!
-//! A sort looks first at the eight bytes behind those with which all keys that wait begin, which it keeps beside each key: so of
-//! keys of one kind on one layer, or of names that begin alike, these bytes tell most apart. A sort is not promised to be right:
-//! what comes out of order begins another run.
+//! A sort first looks at the eight bytes after the common prefix of all keys that wait, which it keeps beside each key. For
+//! keys of one kind on one layer, or for names with a common prefix, these bytes decide most comparisons. A sort is not
+//! promised to be correct: what comes out of order begins another run.
 #![tactic(auto)]
 
 mod adding;

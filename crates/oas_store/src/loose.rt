@@ -1,4 +1,4 @@
-//! What rises and what waits loose, put into order.
+//! The rising run and the loose keys, put into order.
 
 ghost use Rattle.std.specs.Prelude.{◌∷◌, ◌++◌, OnOk, IfOk};
 ghost use Rattle.oas_entries.specs.Runs.{SameTotals};
@@ -9,7 +9,8 @@ use oas_entries::{AT_ONCE, Block, after, number_of, order_of, read_entry};
 use std::alloc::{AllocError, Global};
 use std::cmp::Ordering;
 
-/// An entry that waits, and as a number the eight bytes of its key behind those with which all keys begin. It tells most apart.
+/// An entry that waits, with the eight bytes of its key after the common prefix of all keys, as a number. It decides most
+/// comparisons.
 #[derive(Clone, Copy)]
 pub(crate) struct Loose<'a> {
     front: u64,
@@ -17,7 +18,7 @@ pub(crate) struct Loose<'a> {
     pub(crate) times: u64,
 }
 
-/// The first eight bytes as a number, the first of them highest. Where there are fewer, zeros stand for what lacks.
+/// The first eight bytes as a number, with the first of them highest. Where there are fewer, it is padded with zeros.
 fn front_of(bytes: &[u8]) -> u64 {
     if bytes.len() >= AT_ONCE {
         return number_of(bytes);
@@ -29,7 +30,7 @@ fn front_of(bytes: &[u8]) -> u64 {
     u64::from_be_bytes(front)
 }
 
-/// The bytes of a key behind so many.
+/// The bytes of a key after this many.
 fn behind(key: &[u8], shared: usize) -> &[u8] {
     match key.get(shared..) {
         Some(rest) => rest,
@@ -37,7 +38,7 @@ fn behind(key: &[u8], shared: usize) -> &[u8] {
     }
 }
 
-/// Which of two keys is lower, of which so many first bytes are the same.
+/// Which of two keys is lower, where this many first bytes are the same.
 fn order(one: &Loose<'_>, other: &Loose<'_>, shared: usize) -> Ordering {
     match one.front.cmp(&other.front) {
         Ordering::Equal => order_of(behind(one.key, shared), behind(other.key, shared)),
@@ -45,7 +46,7 @@ fn order(one: &Loose<'_>, other: &Loose<'_>, shared: usize) -> Ordering {
     }
 }
 
-/// With how many of these bytes a key begins.
+/// How many of these bytes a key begins with.
 fn begins_with(key: &[u8], front: &[u8]) -> usize {
     let most = key.len().min(front.len());
     let mut shared = 0;
@@ -60,14 +61,14 @@ fn begins_with(key: &[u8], front: &[u8]) -> usize {
     most
 }
 
-/// How many entries there are, and the bytes with which all their keys begin.
+/// How many entries there are, and the common prefix of all their keys.
 #[derive(Drop)]
 struct Common<'a> {
     count: usize,
     front: &'a [u8],
 }
 
-/// As many of these bytes as a key begins with too.
+/// The bytes of this prefix that a key begins with too.
 fn shared_with<'a>(front: &'a [u8], key: &[u8]) -> &'a [u8] {
     match front.get(..begins_with(key, front)) {
         Some(shared) => shared,
@@ -76,7 +77,7 @@ fn shared_with<'a>(front: &'a [u8], key: &[u8]) -> &'a [u8] {
 }
 
 impl<'a> Common<'a> {
-    /// The same with a key more.
+    /// The same with one more key.
     fn with(self, key: &[u8]) -> Common<'a> {
         Common {
             count: self.count.saturating_add(1),
@@ -85,7 +86,7 @@ impl<'a> Common<'a> {
     }
 }
 
-/// A key of those that rise, or, where none does, the first that waits.
+/// A key of the rising run or, where it is empty, the first that waits.
 fn any_key<'a>(risen: &Risen<'a>, loose: &'a Block) -> &'a [u8] {
     if risen.times > 0 {
         return risen.last;
@@ -96,7 +97,7 @@ fn any_key<'a>(risen: &Risen<'a>, loose: &'a Block) -> &'a [u8] {
     }
 }
 
-/// What all keys that rise have in common with a front of all.
+/// What all keys of the rising run have in common with a prefix of all.
 fn common_to_risen<'a>(risen: Risen<'a>, front: &'a [u8]) -> Common<'a> {
     let count = usize::from(risen.times > 0);
     let mut common = Common { count, front };
@@ -119,7 +120,7 @@ fn common_to_all<'a>(rising: &'a Rising<Vec<u8>>, loose: &'a Block) -> Common<'a
     common
 }
 
-/// Puts an entry to the others, if it is there at all.
+/// Adds an entry to the others, if its count isn't 0.
 #[inline(always)]
 fn put_one<'a>(
     all: &mut Vec<Loose<'a>>,
@@ -140,7 +141,7 @@ fn put_one<'a>(
     Ok(())
 }
 
-/// Puts what rises to the others.
+/// Adds the rising run to the others.
 fn put_risen<'a>(
     all: &mut Vec<Loose<'a>>,
     risen: Risen<'a>,
@@ -155,7 +156,7 @@ fn put_risen<'a>(
     Ok(())
 }
 
-/// Puts what waits loose to the others.
+/// Adds what waits loose to the others.
 fn put_loose<'a>(
     all: &mut Vec<Loose<'a>>,
     loose: &'a Block,
@@ -171,7 +172,7 @@ fn put_loose<'a>(
     Ok(())
 }
 
-/// All that rises and all that waits loose, in the order of the keys. Its memory is asked for once.
+/// All that rises and all that waits loose, in the order of the keys. Its memory is reserved at once.
 pub(crate) fn in_order<'a>(
     alloc: Global,
     rising: &'a Rising<Vec<u8>>,

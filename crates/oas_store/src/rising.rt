@@ -1,4 +1,4 @@
-//! Runs that rise: what is put at their ends is above all that is there.
+//! Rising runs: what is put at the end is above all that is there.
 
 ghost use Rattle.std.specs.Prelude.{◌≡◌, ℕ, ◌+◌, ◌<◌, ◌≤◌, ◌^◌, List, [], ◌∷◌, ◌++◌, OnOk, OnErr, IfOk, IsTrue, length};
 ghost use Rattle.std.specs.declared.cmp.Ordering.TheVariants.{Less, Equal};
@@ -15,7 +15,7 @@ use std::cmp::Ordering;
 use std::marker::Model;
 use std::mem;
 
-/// Entries of which the last one waits to be written, since its count may grow. A count of 0 says that none waits. Its key is the
+/// Entries whose last one waits to be written, since its count may grow. A count of 0 means that none waits. Its key is the
 /// run's own, or stays where it is until then.
 #[derive(Drop)]
 pub(crate) struct Rising<K: LastKey> {
@@ -36,7 +36,8 @@ impl<K: LastKey> Model for Rising<K> {
     ghost invariant = { λ a. a.times ≡ 0 → a.done ≡ [] };
 }
 
-/// What rises, in no order: the last entry, with a count of 0 where there is none, and those that are written.
+/// The entries of the rising run, in no order: the last one, with a count of 0 where there is none, and those that are
+/// written.
 #[derive(Drop)]
 pub(crate) struct Risen<'a> {
     pub(crate) last: &'a [u8],
@@ -64,7 +65,7 @@ impl<K: LastKey> Rising<K> {
         order_of(self.last.bytes(), key)
     }
 
-    /// Counts up the last key.
+    /// Adds to the count of the last key.
     pub(crate) fn count_last(&mut self, times: u64)
         requires some { 0 < times }
         requires fits { (ps : List (List ℕ × ℕ)) (p : List ℕ × ℕ) → self.old ≡ ps ++ p ∷ [] → p.1 + times < 2 ^ 64 }
@@ -74,7 +75,7 @@ impl<K: LastKey> Rising<K> {
         self.times += times;
     }
 
-    /// All of it as a run, and begins anew; or nothing.
+    /// Returns all of it as a run, and begins a new one; or nothing.
     pub(crate) fn close(&mut self, alloc: Global) -> Result<Run, AllocError>
         ensures ok { IfOk result (λ run. run ≡ self.old) }
         ensures emptied { OnOk result (self.new ≡ []) }
@@ -101,7 +102,7 @@ impl Rising<Vec<u8>> {
         }
     }
 
-    /// How many bytes there are, about.
+    /// About how many bytes there are.
     pub(crate) fn size(&self) -> usize {
         if self.times == 0 {
             return 0;
@@ -135,7 +136,7 @@ impl Rising<Vec<u8>> {
         Ok(())
     }
 
-    /// Gives back what is idle but the room for the last entry.
+    /// Gives back idle memory except room for the last entry.
     pub(crate) fn fit(&mut self)
         ensures { self.new ≡ self.old }
     {
@@ -144,7 +145,7 @@ impl Rising<Vec<u8>> {
 }
 
 impl<'a> Rising<&'a [u8]> {
-    /// No entries, and at once the memory for so many bytes of them, or for a first block.
+    /// No entries, with memory for this many bytes of them, or for a first block, reserved at once.
     pub(crate) fn with_bytes(alloc: Global, bytes: usize) -> Result<Rising<&'a [u8]>, AllocError>
         ensures { IfOk result (λ rising. rising ≡ []) }
     {
@@ -176,7 +177,7 @@ impl<'a> Rising<&'a [u8]> {
     }
 }
 
-/// Sees that a key can stand in place of these bytes, with as little idle as may be.
+/// Ensures that a key can replace these bytes, with as little idle memory as possible.
 fn make_room_for(bytes: &mut Vec<u8>, key: &[u8]) -> Result<(), AllocError>
     ensures items { bytes.new.items ≡ bytes.old.items }
     ensures ok { OnOk result (length key.now ≤ vec_capacity bytes.new) }
@@ -184,7 +185,7 @@ fn make_room_for(bytes: &mut Vec<u8>, key: &[u8]) -> Result<(), AllocError>
     bytes.reserve_exact(key.len().saturating_sub(bytes.len()))
 }
 
-/// Puts a key in place of these bytes, which have room for it.
+/// Replaces these bytes, which have room for it, by a key.
 fn replace_by(bytes: &mut Vec<u8>, key: &[u8])
     requires { length key.now ≤ vec_capacity bytes.old }
     ensures { bytes.new.items ≡ key.now }

@@ -1,4 +1,4 @@
-//! What rises and what waits loose become runs.
+//! The rising run and the loose keys become runs.
 
 ghost use Rattle.std.specs.Prelude.{◌≡◌, [], ◌∷◌, ◌++◌, IfOk, OnOk};
 ghost use Rattle.std.specs.Cmp.Lexicographic.{slice_cmp};
@@ -16,7 +16,7 @@ use oas_entries::{BLOCK, Block, Run};
 use std::alloc::{AllocError, Global};
 use std::cmp::Ordering;
 
-/// Closes a run that rises, if it has begun, so that another begins; or leaves all.
+/// Closes a rising run, if it has begun, so that another begins; or changes nothing.
 fn settle_rising<K: LastKey>(
     alloc: Global,
     rising: &mut Rising<K>,
@@ -39,7 +39,7 @@ fn settle_rising<K: LastKey>(
     Ok(())
 }
 
-/// Puts a key to the run that is made of entries in order; where that has come above it, another run begins.
+/// Adds a key to the run that is made of entries in order; where that run is above it, another begins.
 fn put_next<'a>(
     alloc: Global,
     summing: &mut Rising<&'a [u8]>,
@@ -68,7 +68,7 @@ fn put_next<'a>(
     Ok(())
 }
 
-/// Entries of so many bytes as runs: one, where their keys ascend.
+/// Entries with this many bytes as runs: one run, where their keys ascend.
 fn runs_of(alloc: Global, sorted: &[Loose<'_>], bytes: usize) -> Result<Vec<Run>, AllocError>
     requires { CountsFit (slice_cmp nat_cmp) (entries_of sorted.now) }
     ensures runs { IfOk result (λ runs. AreRuns (slice_cmp nat_cmp) runs.items) }
@@ -83,7 +83,7 @@ fn runs_of(alloc: Global, sorted: &[Loose<'_>], bytes: usize) -> Result<Vec<Run>
     Ok(runs)
 }
 
-/// What rises and what waits loose, as runs.
+/// The rising run and the loose keys, as runs.
 fn settled(alloc: Global, rising: &Rising<Vec<u8>>, loose: &Block) -> Result<Vec<Run>, AllocError>
     requires { CountsFit (slice_cmp nat_cmp) (rising.now ++ loose.now) }
     ensures runs { IfOk result (λ runs. AreRuns (slice_cmp nat_cmp) runs.items) }
@@ -93,7 +93,7 @@ fn settled(alloc: Global, rising: &Rising<Vec<u8>>, loose: &Block) -> Result<Vec
     runs_of(alloc, &sorted, rising.size().saturating_add(loose.size()))
 }
 
-/// Makes runs of what rises and of what waits loose, of both together; or leaves all.
+/// Makes runs of the rising run and of the loose keys, of both together; or changes nothing.
 fn settle_both(
     alloc: Global,
     rising: &mut Rising<Vec<u8>>,
@@ -114,8 +114,8 @@ fn settle_both(
     Ok(())
 }
 
-/// Closes the run that rises, where it is longer than what waits loose or than a block: then it costs less to join both than to
-/// sort them together.
+/// Closes the rising run, where it is longer than what waits loose or than a block: then a merge of both costs less than
+/// sorting them together.
 fn settle_long(
     alloc: Global,
     rising: &mut Rising<Vec<u8>>,
@@ -132,7 +132,7 @@ fn settle_long(
     settle_rising(alloc, rising, runs)
 }
 
-/// Makes runs of what rises and of what waits loose, so that both begin anew. Where memory is refused, all is still held.
+/// Makes runs of the rising run and of the loose keys, so that both begin anew. If out of memory, all is still held.
 pub(crate) fn settle(
     alloc: Global,
     rising: &mut Rising<Vec<u8>>,

@@ -1,4 +1,4 @@
-//! Keys with counts, in whatever order they come.
+//! Keys with counts, in any order.
 
 ghost use Rattle.std.specs.Prelude.{◌≡◌, ◌+◌, ◌<◌, ◌^◌, [], OnOk, OnErr, IfOk, IfErr};
 ghost use Rattle.std.specs.Cmp.Lexicographic.{slice_cmp};
@@ -15,7 +15,7 @@ use oas_entries::{Block, Growing, Run};
 use std::alloc::{AllocError, Global};
 use std::marker::Model;
 
-/// Keys with their counts, seen as the list of both, the keys ascending.
+/// Keys with their counts; contracts see the list of both, with the keys ascending.
 #[derive(Drop)]
 pub struct KeyStore {
     alloc: Global,
@@ -52,7 +52,7 @@ impl KeyStore {
         }
     }
 
-    /// Adds a key so many times; or, for want of memory, nothing.
+    /// Adds a key this many times; if out of memory, nothing.
     pub fn add(&mut self, key: &[u8], times: u64) -> Result<(), AllocError>
         requires some { 0 < times }
         requires room { count_at (slice_cmp nat_cmp) self.old key.now + times < 2 ^ 64 }
@@ -78,7 +78,7 @@ impl KeyStore {
         self.loose.fit(0);
     }
 
-    /// The keys ascending, each with its count; or, for want of memory, the store as it was.
+    /// The keys ascending, each with its count; or, if out of memory, the store unchanged.
     pub fn close(mut self) -> Result<Run, KeyStore>
         ensures ok { IfOk result (λ run. run ≡ self) }
         ensures run { IfOk result (λ run. IsRun (slice_cmp nat_cmp) run) }

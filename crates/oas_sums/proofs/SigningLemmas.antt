@@ -1,4 +1,4 @@
--- The last four bytes, and the sums of those before them, where one byte more is given.
+-- The last four bytes, and the sums of those before them, after one more byte.
 use Rattle.std.proofs.Common.{◌≡◌, ℕ, zero, suc, ◌+◌, ◌-◌, ◌*◌, ◌/◌, ◌%◌, ◌<◌, ◌≤◌, List, [], ◌∷◌, ◌++◌, length, take, drop, None, Some, sym, ap, subst, ◌∙◌, append_assoc, arith}
 use Rattle.std.proofs.lemmas.List.{length-append, length-drop, length-take-le, take-append-drop}
 use Rattle.std.proofs.Math.Seq.{take-append_seam, drop-append_seam}
@@ -8,7 +8,7 @@ use Rattle.oas_sums.specs.Signing.{last_four, held, Shifts, AreSigned}
 
 -- ---- a number's bytes
 
--- one byte more on top of a number
+-- one more byte on top of a number
 abbrev topped : ℕ → ℕ → ℕ
 topped number byte = number / 256 + byte * 16777216
 
@@ -26,7 +26,7 @@ four_shifted number byte p q = λ i. (e0 i ∷ e1 i ∷ e2 i ∷ e3 i ∷ []) wh
   e3 : topped number byte / 16777216 ≡ byte
   e3 = omega arith
 
--- fewer than four become one more
+-- fewer than four, and one more
 pub held_more : (number byte count : ℕ) → number < 4294967296 → byte < 256 → count < 4 → Shifts (held number count) byte None (held (topped number byte) (count + 1))
 held_more number byte zero p q r = (ap (drop 3) (four_shifted number byte p q), omega arith)
 held_more number byte (suc zero) p q r = (ap (drop 2) (four_shifted number byte p q), omega arith)

@@ -3,15 +3,15 @@ use Rattle.std.specs.Prelude.{◌≡◌, ℕ, ◌-◌, ◌≤◌, ◌/◌, ◌%�
 use Rattle.oas_checksum.specs.Signed.{signed}
 use Rattle.oas_sums.specs.Sums.{AreSums}
 
--- the last four bytes, or all where they are fewer
+-- the last four bytes, or all where there are fewer
 abbrev pub last_four : List ℕ → List ℕ
 last_four bytes = drop (length bytes - 4) bytes
 
--- as many of the four bytes of a number, the least significant first, as are the most significant
+-- the most significant `count` of the four bytes of a number, the least significant first
 abbrev pub held : ℕ → ℕ → List ℕ
 held number count = drop (4 - count) (number % 256 ∷ number / 256 % 256 ∷ number / 65536 % 256 ∷ number / 16777216 ∷ [])
 
--- one byte more: of five the first goes
+-- one more byte: of five the first is dropped
 abbrev pub Shifts : List ℕ → ℕ → Option ℕ → List ℕ → Type 0
 Shifts old byte None new = (new ≡ old ++ byte ∷ []) × (length new ≤ 4)
 Shifts old byte (Some first) new = (old ++ byte ∷ [] ≡ first ∷ new) × (length new ≡ 4)

@@ -1,13 +1,13 @@
-//! The last of the bytes that are given.
+//! The last bytes that were given.
 ghost use Rattle.std.specs.Prelude.{◌≡◌, ◌≤◌, []};
 ghost use Rattle.oas_sums.specs.Signing.{Shifts};
 
 use std::marker::Model;
 
-/// The last four bytes, or all where they are fewer. Contracts see them as the list.
+/// The last four bytes, or all where there are fewer. Contracts see them as a list.
 #[derive(Drop)]
 pub(crate) struct LastFour {
-    /// They are the most significant bytes of it, the last one on top.
+    /// They are the most significant bytes of it, with the last one on top.
     number: u32,
     count: u8,
     ghost four: { count ≤ 4 },
@@ -33,7 +33,7 @@ impl LastFour {
         }
     }
 
-    /// One byte more, and the one that is no longer among the last four.
+    /// Adds one more byte, and returns the one that is no longer among the last four.
     pub(crate) fn push(&mut self, byte: u8) -> Option<u8>
         ensures { Shifts self.old byte result self.new }
     {

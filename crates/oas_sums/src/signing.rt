@@ -1,4 +1,4 @@
-//! The sums of all bytes but the last four.
+//! The sums of all bytes except the last four.
 ghost use Rattle.std.specs.Prelude.{List, [], ◌∷◌, ◌++◌, ℕ};
 ghost use Rattle.oas_checksum.specs.Signed.{signed};
 ghost use Rattle.oas_sums.specs.Signing.{AreSigned};
@@ -24,7 +24,7 @@ impl Model for SignedSums {
 }
 
 impl SignedSums {
-    /// Of no bytes.
+    /// The sums of no bytes.
     pub fn new() -> SignedSums
         ensures { AreSigned result [] }
     {
@@ -34,7 +34,7 @@ impl SignedSums {
         }
     }
 
-    /// One byte more.
+    /// Adds one more byte.
     pub fn push(&mut self, byte: u8)
         ensures { (bytes : List ℕ) → AreSigned self.old bytes → AreSigned self.new (bytes ++ byte ∷ []) }
     {
@@ -43,7 +43,7 @@ impl SignedSums {
         }
     }
 
-    /// The sums of all bytes but the last four.
+    /// The sums of all bytes except the last four.
     pub fn before(self) -> Sums
         ensures { (bytes : List ℕ) → AreSigned self bytes → AreSums result (signed bytes) }
     {

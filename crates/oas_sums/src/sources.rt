@@ -1,6 +1,6 @@
 //! A source whose bytes are summed up.
-ghost use Rattle.std.specs.Prelude.{◌≡◌, ℕ, List, IsSome};
-ghost use Rattle.oas_bytes.specs.Script.{Takes};
+ghost use Rattle.std.specs.Prelude.{◌≡◌, ℕ, List};
+ghost use Rattle.oas_bytes.specs.Script.{Consumed};
 ghost use Rattle.oas_checksum.specs.Signed.{signed};
 ghost use Rattle.oas_sums.specs.Sums.{AreSums};
 ghost use Rattle.oas_sums.specs.Summing.{IsSummed, IsSummed-prop};
@@ -10,7 +10,7 @@ use crate::sums::Sums;
 use oas_bytes::{Source, SourceFault};
 use std::marker::{Brand, PhantomData};
 
-/// Which source it is whose bytes are summed up, and where it stood before the first of them. Each use picks it.
+/// Which source is summed up, and where it was before the first of its bytes. Each use chooses it.
 pub trait Start {
     ghost use Rattle.oas_bytes.specs.Script.{Script};
     ghost use base.Fml.{GName};
@@ -29,20 +29,20 @@ impl Start for Brand {
     ghost name = { 0 };
 }
 
-/// The bytes of a borrowed source, with the sums of those that were taken, all but the last four.
+/// The bytes of a borrowed source, with the sums of those that were taken, except the last four.
 #[derive(Drop)]
 pub struct SummedSource<'a, S: Source, K: Start> {
     /// The source.
     pub source: &'a mut S,
     /// The sums of the bytes that were taken.
     pub sums: SignedSums,
-    /// Where the source stood before the first of them.
+    /// Where the source was before the first of them.
     pub start: PhantomData<K>,
     ghost summed: { IsSummed K.script K.name source.ghost_name (S.script source.now) sums } by { IsSummed-prop K.script K.name source.ghost_name (S.script source.now) sums },
 }
 
 impl<'a, S: Source, K: Start> SummedSource<'a, S, K> {
-    /// All bytes that the source is still to give, none of which was taken.
+    /// All bytes that the source will still give. None was taken yet.
     pub fn new(source: &'a mut S) -> Self
         requires named { source.ghost_name ≡ K.name }
         requires starts { S.script source.old ≡ K.script }
@@ -56,11 +56,11 @@ impl<'a, S: Source, K: Start> SummedSource<'a, S, K> {
         }
     }
 
-    /// The source, and the sums of the bytes that were taken of it, all but the last four.
+    /// The source, and the sums of the bytes that were taken from it, except the last four.
     pub fn finish(self) -> (&'a mut S, Sums)
         ensures same { result.0.ghost_name ≡ K.name }
         ensures now { result.0.now ≡ self.entry.source.now }
-        ensures sums { (bytes : List ℕ) → IsSome K.script.rest → Takes K.script bytes (S.script result.0.now) → AreSums result.1 (signed bytes) }
+        ensures sums { (bytes : List ℕ) → Consumed K.script bytes (S.script result.0.now) → AreSums result.1 (signed bytes) }
     {
         (self.source, self.sums.before())
     }

@@ -23,7 +23,7 @@ impl Model for Sums {
 }
 
 impl Sums {
-    /// Those of no bytes.
+    /// The sums of no bytes.
     pub fn new() -> Sums
         ensures { AreSums result [] }
     {
@@ -33,7 +33,7 @@ impl Sums {
         }
     }
 
-    /// One byte more.
+    /// Adds one more byte.
     pub fn push(&mut self, byte: u8)
         ensures { (bytes : List ℕ) → AreSums self.old bytes → AreSums self.new (bytes ++ byte ∷ []) }
     {

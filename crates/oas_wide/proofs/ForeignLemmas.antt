@@ -8,7 +8,7 @@ use Rattle.oas_num.specs.Script.{Script}
 use Rattle.oas_num.specs.Grammar.{IsImage}
 use Rattle.oas_num.specs.Combinators.{IsEither}
 use Rattle.oas_num.specs.Reading.{ReadsValue, FailsPiece, ReadsPiece}
-use Rattle.oas_num.proofs.ReadLemmas.{Takes-none}
+use Rattle.oas_num.proofs.ReadLemmas.{Consumed-none}
 use Rattle.oas_num.proofs.MidwayLemmas.{image_fails}
 use Rattle.oas_long.specs.AnyLength.{IsAnyLength, AnyLengthTook, first_of}
 use Rattle.oas_record.specs.Records.{after}
@@ -39,7 +39,7 @@ pub kind_read : {U : Type 0} {A : U → List ℕ → Type 0} {old new : Script} 
 kind_read {v = v} of read = record { bytes = read.bytes; spelled = record { from = v; is = refl; spelled = read.spelled }; takes = read.takes }
 
 pub last_read : (in_end : Bool) (id : ℕ) (s : Script) → id ≡ 29 → ForeignRead in_end id s (last_property tt) s
-last_read in_end id s is = subst (λ k. ForeignRead in_end k s (last_property tt) s) (sym is) (record { bytes = []; spelled = record { from = tt; is = refl; spelled = refl }; takes = Takes-none s })
+last_read in_end id s is = subst (λ k. ForeignRead in_end k s (last_property tt) s) (sym is) (record { bytes = []; spelled = record { from = tt; is = refl; spelled = refl }; takes = Consumed-none s })
 
 module _ {old new : Script} {why : Why} (in_end : Bool) (id : ℕ) where
   pub name_fails : (id ≡ 7) ⊎ (id ≡ 8) → FailsPiece (SpellsString (id == 8)) (StringTook (id == 8)) old why new → ForeignFails in_end id old why new

@@ -1,4 +1,4 @@
--- The version and table-offsets of the profile, with integers in ten bytes at most, among those of the standard.
+-- The version and table-offsets of the profile, with integers of at most ten bytes, among those of the standard.
 use Rattle.std.proofs.Common.{ℕ, Bool, true, false, List, [], ◌∷◌, refl}
 use Rattle.oas_num.specs.Grammar.{IsEach}
 use Rattle.oas_num.specs.Integers.{IsUnsigned}

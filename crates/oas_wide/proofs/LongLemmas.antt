@@ -8,10 +8,10 @@ use Rattle.oas_num.specs.declared.refusals.Why.TheVariants.{Truncated, IntegerRa
 use Rattle.oas_num.specs.Begun.{Decides}
 use Rattle.oas_num.specs.Grammar.{IsByte}
 use Rattle.oas_num.specs.Integers.{IsOpen, IsClosed, value_of}
-use Rattle.oas_num.specs.Laws.IntegerLaws.{open_front}
+use Rattle.oas_num.specs.Laws.IntegerLaws.{open_prefix}
 use Rattle.oas_num.specs.Reading.{ReadsValue, FailsPiece, ByteMay}
-use Rattle.oas_num.specs.Script.{Script, Takes}
-use Rattle.oas_num.proofs.ReadLemmas.{Takes-none, Takes-then, Wants, NoneFits-after, NoneWithin-after}
+use Rattle.oas_num.specs.Script.{Script, Consumed}
+use Rattle.oas_num.proofs.ReadLemmas.{Consumed-none, Consumed-then, Wants, NoneFits-after, NoneWithin-after}
 use Rattle.oas_wide.specs.Long.{IsLong, LongMay}
 
 -- ---- groups
@@ -44,7 +44,7 @@ byte_first (d ∷ q) r rest h e = (d, d ∷ [], q ++ r, record { only = refl; sm
 open_wants : (front : List ℕ) → IsOpen front → Wants IsLong front IsByte
 open_wants front o = record {
   wants = λ v p r rest s e.
-      let m = open_front front p r rest o s.closed e in
+      let m = open_prefix front p r rest o s.closed e in
       byte_first m.0 r rest m.2 m.3;
 }
 
@@ -64,12 +64,12 @@ cut_off _ front bytes o d = absurd d.holds
 -- bytes of groups were read, and this is their value
 pub record LongWay (old now : Script) (value : ℕ) : Type 0 where
   pub front : List ℕ
-  pub takes : Takes old front now
+  pub takes : Consumed old front now
   pub are_open : IsOpen front
   pub value_is : value ≡ value_of front
 
 pub starts : (old : Script) → LongWay old old 0
-starts old = record { front = []; takes = Takes-none old; are_open = tt; value_is = refl }
+starts old = record { front = []; takes = Consumed-none old; are_open = tt; value_is = refl }
 
 module _ (old mid : Script) (v place : ℕ) (so_far : LongWay old mid v) (at : old.given + place ≡ mid.given) where
   here : length so_far.front ≡ place
@@ -83,7 +83,7 @@ module _ (old mid : Script) (v place : ℕ) (so_far : LongWay old mid v) (at : o
       let only = read.spelled.only in
       record {
         front = so_far.front ++ b ∷ [];
-        takes = Takes-then old mid new so_far.front (b ∷ []) so_far.takes (rw only at read.takes);
+        takes = Consumed-then old mid new so_far.front (b ∷ []) so_far.takes (rw only at read.takes);
         are_open = IsOpen-push so_far.front b so_far.are_open le read.spelled.small;
         value_is = rw (pushed b) is;
       }
@@ -93,7 +93,7 @@ module _ (old mid : Script) (v place : ℕ) (so_far : LongWay old mid v) (at : o
       let only = read.spelled.only in
       record {
         bytes = so_far.front ++ b ∷ [];
-        takes = Takes-then old mid new so_far.front (b ∷ []) so_far.takes (rw only at read.takes);
+        takes = Consumed-then old mid new so_far.front (b ∷ []) so_far.takes (rw only at read.takes);
         spelled = record { closed = IsClosed-push so_far.front b so_far.are_open lt; value = rw (pushed b) is; fits = fits };
       }
 
@@ -102,7 +102,7 @@ module _ (old mid : Script) (v place : ℕ) (so_far : LongWay old mid v) (at : o
       let wants = open_wants so_far.front so_far.are_open in
       record {
         bytes = so_far.front ++ f.bytes;
-        takes = Takes-then old mid new so_far.front f.bytes so_far.takes f.takes;
+        takes = Consumed-then old mid new so_far.front f.bytes so_far.takes f.takes;
         reason = cut_off why so_far.front f.bytes so_far.are_open f.reason;
         format = λ is. NoneFits-after IsLong IsByte so_far.front f.bytes wants (f.format is);
         cut = λ is. NoneWithin-after IsLong IsByte so_far.front f.bytes wants (f.cut is);
@@ -111,7 +111,7 @@ module _ (old mid : Script) (v place : ℕ) (so_far : LongWay old mid v) (at : o
         too_long = f.too_long;
       }
 
-  -- no number goes on behind groups that are 2^64 or above
+  -- no number goes on after groups that are 2^64 or above
   above : (b : ℕ) → 2 ^ 64 ≤ v + b % 128 * 128 ^ place → (n : ℕ) (q r more : List ℕ) → IsClosed q → IsLong n (so_far.front ++ q) → q ++ r ≡ b ∷ more → ⊥
   above b past n [] r more h s e = absurd h
   above b past n (d ∷ q) r more h s e =
@@ -125,17 +125,17 @@ module _ (old mid : Script) (v place : ℕ) (so_far : LongWay old mid v) (at : o
       let only = read.spelled.only in
       record {
         bytes = so_far.front ++ b ∷ [];
-        takes = Takes-then old mid new so_far.front (b ∷ []) so_far.takes (rw only at read.takes);
+        takes = Consumed-then old mid new so_far.front (b ∷ []) so_far.takes (rw only at read.takes);
         reason = record {
           front = [];
           last = so_far.front ++ b ∷ [];
           joined = refl;
           begun = refl;
-          holds = record { front = so_far.front; last = b; joined = refl; open_front = so_far.are_open; past = rw (pushed b) past };
+          holds = record { front = so_far.front; last = b; joined = refl; open_prefix = so_far.are_open; past = rw (pushed b) past };
         };
         format = λ _. record {
           none = λ u p r more s e.
-              let m = open_front so_far.front p r (b ∷ more) so_far.are_open s.closed (e ∙ append_assoc so_far.front (b ∷ []) more) in
+              let m = open_prefix so_far.front p r (b ∷ more) so_far.are_open s.closed (e ∙ append_assoc so_far.front (b ∷ []) more) in
               above b past u m.0 r more m.2 (rw m.1 at s) m.3;
         };
         cut = λ is. absurd cc;
@@ -152,7 +152,7 @@ weight_le i k le = pow-le-pow_right (omega arith) le
 pub weight_fits : (place : ℕ) → place ≤ 9 → 128 ^ place < 2 ^ 64
 weight_fits place le = let w : 128 ^ place ≤ 128 ^ 9 = weight_le place 9 le in omega (arith, w)
 
--- behind the tenth a group that isn't zero is past 64 bits
+-- after the tenth a group that isn't zero exceeds 64 bits
 pub far : (value group place : ℕ) → 0 < group → 9 < place → 2 ^ 64 ≤ value + group * 128 ^ place
 far value group place some past =
     let w : 128 ^ 10 ≤ 128 ^ place = weight_le 10 place (omega arith) in

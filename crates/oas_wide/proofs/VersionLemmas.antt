@@ -3,16 +3,16 @@ use Rattle.std.proofs.Common.{◌≡◌, ◌≢◌, ℕ, ◌<◌, List, [], ◌�
 use Rattle.std.specs.Prelude.{◌⊎◌}
 use Rattle.oas_num.specs.declared.refusals.Why.{Why}
 use Rattle.oas_num.specs.declared.refusals.Why.TheVariants.{Version}
-use Rattle.oas_num.specs.Laws.TextLaws.{OneFront-class}
+use Rattle.oas_num.specs.Laws.TextLaws.{PrefixFree-class}
 use Rattle.oas_num.specs.Reading.{ReadsValue, FailsPiece}
 use Rattle.oas_num.specs.Script.{Script}
 use Rattle.oas_num.specs.Texts.{IsLabelByte}
 use Rattle.oas_num.proofs.GrammarLemmas.{such_read, Listed, listed_all}
 use Rattle.oas_num.proofs.HalfwayLemmas.{◌▸◌, at_image, fails_at, fails_last, is_read, such_took, such_refused, image_took}
 use Rattle.oas_num.proofs.PieceLemmas.{fails_behind, item_fails}
-use Rattle.oas_num.proofs.ReadLemmas.{Takes-none}
+use Rattle.oas_num.proofs.ReadLemmas.{Consumed-none}
 use Rattle.oas_record.specs.Heads.{IsVersion, version}
-use Rattle.oas_wide.specs.Long.{IsLong, LongMay, OneFront-long}
+use Rattle.oas_wide.specs.Long.{IsLong, LongMay, PrefixFree-long}
 use Rattle.oas_wide.specs.Versions.{label_byte, label_text, passed_label, long_label, version_text, SpellsVersion, LongVersionTook}
 
 abbrev VersionFails : Script → Why → Script → Type 0
@@ -29,22 +29,22 @@ length_fails f = label_fails (fails_at (at_image {took = long_label.took} _) f)
 module _ {old mid : Script} {n : ℕ} (read : ReadsValue IsLong old n mid) where
   -- its bytes fail
   text_fails : {new : Script} {why : Why} → FailsPiece (label_text n).any (label_text n).took mid why new → VersionFails old why new
-  text_fails f = label_fails (fails_last (at_image {took = long_label.took} _ ▸ (OneFront-long, read)) f)
+  text_fails f = label_fails (fails_last (at_image {took = long_label.took} _ ▸ (PrefixFree-long, read)) f)
 
   -- the bytes of a text of another length fail
   pub pass_fails : {new : Script} {why : Why} → FailsPiece (passed_label n).any (passed_label n).took mid why new → VersionFails old why new
   pass_fails f =
-      text_fails (fails_behind (label_text n).any (passed_label n).any [] (λ _ h. h) (Takes-none mid)
+      text_fails (fails_behind (label_text n).any (passed_label n).any [] (λ _ h. h) (Consumed-none mid)
       (record { wants = λ v p r rest s e. (tt, p, r, record { from = v; is = refl; spelled = s }, e) }) f)
 
   -- a byte of a text of three bytes fails
   pub byte_fails : {now new : Script} {why : Why} (text : List ℕ) → n ≡ 3 → Listed label_byte.any mid now text → length text < 3
       → FailsPiece label_byte.any label_byte.took now why new → VersionFails old why new
-  byte_fails text three listed lt f = text_fails (item_fails (OneFront-class IsLabelByte) (λ _ h. h) (omega (arith, lt, three)) listed f)
+  byte_fails text three listed lt f = text_fails (item_fails (PrefixFree-class IsLabelByte) (λ _ h. h) (omega (arith, lt, three)) listed f)
 
   -- the text as an a-string
   label_read : {new : Script} (text : List ℕ) → ReadsValue (label_text n).any mid text new → ReadsValue long_label.any old text new
-  label_read text bytes = is_read (at_image {took = long_label.took} _ ▸ (OneFront-long, read)) bytes
+  label_read text bytes = is_read (at_image {took = long_label.took} _ ▸ (PrefixFree-long, read)) bytes
 
   -- another text was read
   wrong : {new : Script} (text : List ℕ) → text ≢ version → ReadsValue (label_text n).any mid text new → VersionFails old Version new

@@ -4,24 +4,25 @@ use Rattle.std.specs.Prelude.{◌==◌, if◌then◌else◌}
 use Rattle.oas_num.specs.declared.refusals.Why.{Why}
 use Rattle.oas_num.specs.declared.refusals.Why.TheVariants as why
 use Rattle.oas_num.specs.Combinators.{IsEither}
-use Rattle.oas_num.specs.Grammar.{OneFront, IsPair}
-use Rattle.oas_num.specs.Laws.GrammarLaws.{OneFront-pair, after_same}
+use Rattle.oas_num.specs.Grammar.{PrefixFree, IsPair}
+use Rattle.oas_num.specs.Laws.GrammarLaws.{PrefixFree-pair, after_same}
 use Rattle.oas_num.specs.Reading.{is_format, ReadsValue, FailsPiece}
 use Rattle.oas_num.specs.Script.{Script}
 use Rattle.oas_num.proofs.HalfwayLemmas.{by_format}
 use Rattle.oas_num.proofs.MidwayLemmas.{uncut, image_fails}
 use Rattle.oas_num.proofs.PieceLemmas.{fails_behind}
-use Rattle.oas_num.proofs.ReadLemmas.{Takes-none, Takes-then, Wants}
+use Rattle.oas_num.proofs.ReadLemmas.{Consumed-none, Consumed-then, Wants}
 use Rattle.oas_long.specs.AnyLength.{first_of}
-use Rattle.oas_shortened.specs.Places.{shortened}
-use Rattle.oas_record.specs.Refusals.{IsKnown}
-use Rattle.oas_record.proofs.IdLemmas.{either_id, id_after, known_id}
+use Rattle.oas_long.specs.oas_shortened.Places.{shortened}
+use Rattle.std.proofs.lemmas.Bool.Decides.{nat_tests}
+use Rattle.oas_record.specs.Refusals.{is_known, IsKnown}
+use Rattle.oas_record.proofs.IdLemmas.{either_id, id_after, known_id, known_within}
 use Rattle.oas_wide.specs.declared.reasons.WideWhy.{WideWhy}
 use Rattle.oas_wide.specs.declared.reasons.WideWhy.TheVariants as wide
 use Rattle.oas_wide.specs.declared.records.WideRecord.{WideRecord}
 use Rattle.oas_wide.specs.declared.ends.WideEnd.{WideEnd}
 use Rattle.oas_wide.specs.Ends.{SpellsWideEnd, WideEndTook}
-use Rattle.oas_wide.specs.Long.{IsLong, LongMay, OneFront-long}
+use Rattle.oas_wide.specs.Long.{IsLong, LongMay, PrefixFree-long}
 use Rattle.oas_wide.proofs.ForeignLemmas.{kind_read}
 use Rattle.oas_wide.specs.Reasons.{named, plain_of}
 use Rattle.oas_wide.specs.WideRecords.{end, foreign, fields, fields_in, is_profile_id, wide_record_in, IsWideId, IsRefusedWideId, RefusesWideId, WideRecordTook, FailsWide}
@@ -32,7 +33,7 @@ one_of : (test : Bool) (a b : WideWhy) (reason : Why) → plain_of a ≡ reason 
 one_of true a b reason p q = p
 one_of false a b reason p q = q
 
--- a reason that is named stands for what it was
+-- a reason that is named denotes what it was
 plain_named : (id : ℕ) (reason : Why) → plain_of (named id reason) ≡ reason
 plain_named id why.InfoByte = one_of (id == 26) _ _ _ refl (one_of (id == 11) _ _ _ refl (one_of (id == 12) _ _ _ refl refl))
 plain_named id why.RealType = one_of (id == 28) _ _ _ refl refl
@@ -43,15 +44,13 @@ plain_named id _ = refl
 wide_id : (id n : ℕ) → 2 ≤ n → n ≤ 34 → id ≡ n → IsWideId id
 wide_id id n low high is = (λ e. omega (arith, low, is, e), omega (arith, high, is))
 
--- what is by the id that it is tested for, or by another
+-- what an id is followed by, where it is the tested one or another
 by_test : {C : Type 0} (id n : ℕ) (A B : WideRecord → List ℕ → Type 0) (v : WideRecord) (q : List ℕ) → (id ≡ n → C) → (B v q → C) → IsEither (id == n) A B v q → C
 by_test id n A B v q here other h = elim (either_id id n A B v q h) [ inl p ↦ here p.0 | inr r ↦ other r ]
 
-known_wide : (id : ℕ) → IsKnown id → IsWideId id
-known_wide id (inl is) = (λ e. omega (arith, is, e), omega (arith, is))
-known_wide id (inr (inl is)) = (λ e. omega (arith, is.0, e), omega (arith, is.1))
-known_wide id (inr (inr (inl is))) = (λ e. omega (arith, is.0, e), omega (arith, is.1))
-known_wide id (inr (inr (inr is))) = (λ e. omega (arith, is, e), omega (arith, is))
+pub profile_known : (id : ℕ) → id ≢ 1 → is_profile_id id ≡ true → IsKnown id
+unfolding is_known
+profile_known id first h = grind (arith, nat_tests, first, h)
 
 foreign_wide : (in_end : Bool) (id : ℕ) (v : WideRecord) (q : List ℕ) → (foreign in_end id).any v q → IsWideId id
 foreign_wide in_end id v q =
@@ -75,15 +74,15 @@ foreign_wide in_end id v q =
     (by_test id 33 _ _ v q (wide_id id 33 (omega arith) (omega arith))
     (by_test id 34 _ _ v q (wide_id id 34 (omega arith) (omega arith)) (λ r. absurd r)))))))))))))))))))
 
--- what is one of two
+-- what one of two is
 pub either_split : (test : Bool) (A B : WideRecord → List ℕ → Type 0) (v : WideRecord) (q : List ℕ) → IsEither test A B v q → A v q ⊎ B v q
 either_split true A B v q h = inl h
 either_split false A B v q h = inr h
 
--- what is spelled behind an id has one that may stand there
+-- what is spelled after an id has an id that is allowed there
 fields_wide : (in_end : Bool) (id : ℕ) (v : WideRecord) (q : List ℕ) → fields_in in_end id v q → IsWideId id
 fields_wide in_end id v q h = elim (either_split (is_profile_id id) _ _ v q h) [
-  | inl p ↦ known_wide id (subst IsKnown (id_after in_end id p.from (shortened (first_of id) q) p.spelled.spelled) (known_id p.from))
+  | inl p ↦ known_within id (subst IsKnown (id_after in_end id p.from (shortened (first_of id) q) p.spelled.spelled) (known_id p.from))
   | inr p ↦ foreign_wide in_end id v q p
 ]
 
@@ -98,7 +97,7 @@ record_wants in_end = record { wants = λ v p r rest s e. let b = s.parts in (s.
 
 pub id_fails : {old new : Script} {reason : Why} (in_end : Bool) → FailsPiece IsLong LongMay old reason new → FailsWide in_end old (wide.Profile reason) new
 id_fails {old = old} {reason = reason} in_end f =
-    fails_behind (wide_record_in in_end) IsLong {took = λ _. WideRecordTook in_end (wide.Profile reason)} [] (λ bytes h. inl (reason, refl, inl h)) (Takes-none old) (record_wants in_end) f
+    fails_behind (wide_record_in in_end) IsLong {took = λ _. WideRecordTook in_end (wide.Profile reason)} [] (λ bytes h. inl (reason, refl, inl h)) (Consumed-none old) (record_wants in_end) f
 
 -- no record has an id that is refused
 refused_unknown : (id : ℕ) (reason : Why) → IsRefusedWideId id reason → (¬ IsWideId id) × IsTrue (is_format reason)
@@ -117,7 +116,7 @@ refused_by_id {id = id} {reason = reason} in_end h read =
       format = λ _. record {
         none = λ v p r more s e.
             let b = s.parts in
-            let one = OneFront-long.one s.id id b.front read.bytes (b.back ++ r) more b.first read.spelled (id_joined in_end s.id v p r (read.bytes ++ more) b e) in
+            let one = PrefixFree-long.one s.id id b.front read.bytes (b.back ++ r) more b.first read.spelled (id_joined in_end s.id v p r (read.bytes ++ more) b e) in
             isnt.0 (subst IsWideId one.1 (fields_wide in_end s.id v b.back b.second));
       };
       cut = λ is. absurd (uncut reason (by_format why.Truncated isnt.1 (λ g. cc)) (by_format why.Read isnt.1 (λ g. cc)) (by_format why.InputTooLong isnt.1 (λ g. cc)) is);
@@ -133,7 +132,7 @@ fields_wants {id = id} in_end read = record {
   wants = λ v p r rest s e.
       let b = s.parts in
       let joined = id_joined in_end s.id v p r (read.bytes ++ rest) b e in
-      let one = OneFront-long.one s.id id b.front read.bytes (b.back ++ r) rest b.first read.spelled joined in
+      let one = PrefixFree-long.one s.id id b.front read.bytes (b.back ++ r) rest b.first read.spelled joined in
       (v, b.back, r, subst (λ k. fields_in in_end k v b.back) one.1 b.second, after_same b.front read.bytes (b.back ++ r) rest one.0 joined);
 }
 
@@ -152,7 +151,7 @@ parts_read : {old mid new : Script} {id : ℕ} {v : WideRecord} (in_end : Bool) 
 parts_read {old = old} {mid = mid} {new = new} in_end read rest = record {
   bytes = read.bytes ++ rest.bytes;
   spelled = record { front = read.bytes; back = rest.bytes; first = read.spelled; second = rest.spelled; joined = refl };
-  takes = Takes-then old mid new read.bytes rest.bytes read.takes rest.takes;
+  takes = Consumed-then old mid new read.bytes rest.bytes read.takes rest.takes;
 }
 
 record_read : {old mid new : Script} {id : ℕ} {v : WideRecord} (in_end : Bool) → (id ≡ 2 → new.given ≡ old.given + 256) → ReadsValue IsLong old id mid
@@ -167,13 +166,13 @@ inner_read in_end isnt read rest = record_read in_end (λ e. absurd (isnt e)) re
 
 -- ---- END
 
-OneFront-parts : (in_end : Bool) → OneFront (IsPair IsLong (fields_in in_end))
-OneFront-parts in_end = OneFront-pair IsLong (fields_in in_end) OneFront-long (λ id. (fields in_end id).found.one)
+PrefixFree-parts : (in_end : Bool) → PrefixFree (IsPair IsLong (fields_in in_end))
+PrefixFree-parts in_end = PrefixFree-pair IsLong (fields_in in_end) PrefixFree-long (λ id. (fields in_end id).found.one)
 
-pub OneFront-wide_record : (in_end : Bool) → OneFront (wide_record_in in_end)
-OneFront-wide_record in_end = record {
+pub PrefixFree-wide_record : (in_end : Bool) → PrefixFree (wide_record_in in_end)
+PrefixFree-wide_record in_end = record {
   one = λ v w a b x y p q e.
-      let one = (OneFront-parts in_end).one (p.id, v) (q.id, w) a b x y p.parts q.parts e in
+      let one = (PrefixFree-parts in_end).one (p.id, v) (q.id, w) a b x y p.parts q.parts e in
       (one.0, ap (λ (u : ℕ × WideRecord). u.1) one.1);
 }
 
@@ -197,7 +196,7 @@ pub end_read : {old mid new : Script} {id : ℕ} {v : WideEnd} (in_end : Bool) �
     → ReadsValue (SpellsWideEnd in_end) mid v new → ReadsValue (wide_record_in in_end) old (end v) new
 end_read in_end right is read rest = record_read in_end (λ _. right) read (end_fields in_end is rest)
 
--- END in all its parts, but not of 256 bytes
+-- END in all its parts, but not 256 bytes long
 pub end_refused : {old mid new : Script} {id : ℕ} {v : WideEnd} (in_end : Bool) → new.given ≢ old.given + 256 → id ≡ 2 → ReadsValue IsLong old id mid
     → ReadsValue (SpellsWideEnd in_end) mid v new → FailsWide in_end old (wide.Profile why.EndLength) new
 end_refused {old = old} {id = id} {v = v} in_end wrong is read fields_read =
@@ -216,7 +215,7 @@ end_refused {old = old} {id = id} {v = v} in_end wrong is read fields_read =
       };
       format = λ _. record {
         none = λ w q r more s same.
-            let one = (OneFront-parts in_end).one (s.id, w) (id, end v) q p.bytes r more s.parts p.spelled same in
+            let one = (PrefixFree-parts in_end).one (s.id, w) (id, end v) q p.bytes r more s.parts p.spelled same in
             long (sym (ap length one.0) ∙ s.whole (ap (λ (u : ℕ × WideRecord). u.0) one.1 ∙ is));
       };
       cut = λ e. absurd cc;

@@ -31,7 +31,7 @@ use Rattle.oas_wide.specs.Placements.{SpellsPlacement, as_wide}
 use Rattle.oas_wide.specs.Reals.{wide_of}
 use Rattle.oas_wide.specs.WideRecords.{profile, end, property_name, property_string, layers_named, textlayers_named, a_placement, a_trapezoid, a_named_trapezoid, a_property, last_property, extension_name, extension_element, a_geometry, a_block}
 use Rattle.oas_long.specs.AnyLength.{IsAnyLength, first_of}
-use Rattle.oas_shortened.specs.Places.{shortened}
+use Rattle.oas_long.specs.oas_shortened.Places.{shortened}
 use Rattle.oas_wide.proofs.AnyLengthLemmas.{short_spelled}
 use Rattle.oas_wide.proofs.HeadLemmas.{offsets_widened}
 use Rattle.oas_wide.proofs.RealLemmas.{real_if_widened}
@@ -54,7 +54,7 @@ unvalidated n bytes is s = record {
   };
 }
 
--- a string that is passed over, with its length in ten bytes at most
+-- a skipped string, with its length in at most ten bytes
 padded : (padding : Padding) (bytes : List ℕ) → SpellsPadding padding bytes → long_padding.any padding bytes
 padded padding bytes p = record {
   from = (padding.length, padding);
@@ -175,21 +175,14 @@ widen in_end record_of.End bytes p =
         joined = b.joined;
       };
     }
-widen in_end record_of.Pad bytes p = inner in_end record_of.Pad bytes refl p
+widen in_end (record_of.Placement v) bytes p = placed in_end v.cell v.turn v.flip v.spot bytes p
 widen in_end (record_of.CellName name None) bytes p = inner in_end (record_of.CellName name None) bytes refl p
 widen in_end (record_of.CellName name (Some number)) bytes p = inner in_end (record_of.CellName name (Some number)) bytes refl p
 widen in_end (record_of.TextString label None) bytes p = inner in_end (record_of.TextString label None) bytes refl p
 widen in_end (record_of.TextString label (Some number)) bytes p = inner in_end (record_of.TextString label (Some number)) bytes refl p
 widen in_end (record_of.Cell (cell.Number number)) bytes p = inner in_end (record_of.Cell (cell.Number number)) bytes refl p
 widen in_end (record_of.Cell (cell.Name name)) bytes p = inner in_end (record_of.Cell (cell.Name name)) bytes refl p
-widen in_end record_of.XyAbsolute bytes p = inner in_end record_of.XyAbsolute bytes refl p
-widen in_end record_of.XyRelative bytes p = inner in_end record_of.XyRelative bytes refl p
-widen in_end (record_of.Placement v) bytes p = placed in_end v.cell v.turn v.flip v.spot bytes p
-widen in_end (record_of.Text v) bytes p = inner in_end (record_of.Text v) bytes refl p
-widen in_end (record_of.Rectangle v) bytes p = inner in_end (record_of.Rectangle v) bytes refl p
-widen in_end (record_of.Polygon v) bytes p = inner in_end (record_of.Polygon v) bytes refl p
-widen in_end (record_of.Path v) bytes p = inner in_end (record_of.Path v) bytes refl p
-widen in_end (record_of.Circle v) bytes p = inner in_end (record_of.Circle v) bytes refl p
+widen in_end r bytes p = inner in_end r bytes refl p
 
 -- ---- and nothing else spells it
 

@@ -16,6 +16,6 @@ block_head = image_any head_of (pair long_number (λ _. pair long_number (λ _. 
 abbrev pub SpellsBlockHead : BlockHead → List ℕ → Type 0
 SpellsBlockHead = block_head.any
 
--- where in it a read of the head may fail
+-- where a read of the head may fail
 abbrev pub BlockHeadTook : Why → List ℕ → Type 0
 BlockHeadTook = block_head.took

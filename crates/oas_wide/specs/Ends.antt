@@ -51,13 +51,13 @@ WideEndParts = Unit {0} × (Padding × Validation)
 abbrev pub wide_end_of : WideEndParts → WideEnd
 wide_end_of p = record { validation = p.1.1 }
 
--- table-offsets where START says so, padding, and the validation, with integers in any number of bytes
+-- table-offsets where START says so, padding, and the validation, with integers of any number of bytes
 abbrev pub wide_end : Bool → Kind WideEnd
 wide_end in_end = image_any wide_end_of (pair (long_offsets_part in_end) (λ _. pair long_padding (λ _. validation)))
 
 abbrev pub SpellsWideEnd : Bool → WideEnd → List ℕ → Type 0
 SpellsWideEnd in_end = (wide_end in_end).any
 
--- where in it a read of what follows END's id may fail
+-- where a read of what follows END's id may fail
 abbrev pub WideEndTook : Bool → Why → List ℕ → Type 0
 WideEndTook in_end = (wide_end in_end).took

@@ -35,6 +35,6 @@ extension_geometry = image_any geometry_of (pair (info_byte IsGeometryInfo IsGeo
 abbrev pub SpellsGeometry : ExtensionGeometry → List ℕ → Type 0
 SpellsGeometry = extension_geometry.any
 
--- where in it a read may fail
+-- where a read may fail
 abbrev pub GeometryTook : Why → List ℕ → Type 0
 GeometryTook = extension_geometry.took

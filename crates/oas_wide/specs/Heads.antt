@@ -91,7 +91,7 @@ WideStartParts = ℕ × (Unit {0} × (WideReal × (ℕ × Unit {0})))
 abbrev pub wide_start_of : WideStartParts → WideStart
 wide_start_of p = record { unit = p.1.1.0; flag_in_end = p.1.1.1.0 == 1 }
 
--- id, version, unit, flag, and table-offsets where the flag is 0, with integers in any number of bytes
+-- id, version, unit, flag, and table-offsets where the flag is 0, with integers of any number of bytes
 abbrev pub wide_start : Kind WideStart
 wide_start =
     image_any wide_start_of
@@ -104,6 +104,6 @@ wide_start =
 abbrev pub SpellsWideStart : WideStart → List ℕ → Type 0
 SpellsWideStart = wide_start.any
 
--- where in it a read of START may fail
+-- where a read of START may fail
 abbrev pub WideStartTook : Why → List ℕ → Type 0
 WideStartTook = wide_start.took

@@ -34,7 +34,7 @@ abbrev pub number_of : Option ℕ → ℕ
 number_of None = 0
 number_of (Some n) = n
 
--- 0: all; 1: up to the bound; 2: from the bound on; 3: the bound alone; 4: from the one to the other
+-- 0: all; 1: up to the bound; 2: from the bound on; 3: only the bound; 4: from the first to the second
 abbrev pub interval_by : ℕ → Option ℕ → Option ℕ → Interval
 interval_by type first second =
     if type == 0 then record { low = 0; high = None }
@@ -67,6 +67,6 @@ layer_name = image_any layer_name_of (pair padding (λ _. pair interval (λ _. i
 abbrev pub SpellsLayerName : LayerName → List ℕ → Type 0
 SpellsLayerName = layer_name.any
 
--- where in it a read may fail
+-- where a read may fail
 abbrev pub LayerNameTook : Why → List ℕ → Type 0
 LayerNameTook = layer_name.took

@@ -13,10 +13,10 @@ long_offsets = image_any nothing (items 12 long_number)
 abbrev pub IsLongOffsets : Unit {0} → List ℕ → Type 0
 IsLongOffsets = long_offsets.any
 
--- where in them a read may fail
+-- where a read of them may fail
 abbrev pub LongOffsetsTook : Why → List ℕ → Type 0
 LongOffsetsTook = long_offsets.took
 
--- the same, where they are there
+-- the same, where there are any
 abbrev pub long_offsets_part : Bool → Kind (Unit {0})
 long_offsets_part there = either there long_offsets (exactly [])

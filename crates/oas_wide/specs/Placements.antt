@@ -37,12 +37,12 @@ wide_placement = image_any placement_of (pair byte placement_parts)
 abbrev pub SpellsPlacement : WidePlacement → List ℕ → Type 0
 SpellsPlacement = wide_placement.any
 
--- where in it a read of a placement may fail
+-- where a read of a placement may fail
 abbrev pub PlacementTook : Why → List ℕ → Type 0
 PlacementTook = wide_placement.took
 
 -- ---- placements of the profile
 
--- what one of this magnification and this angle is among them
+-- one with this magnification and this angle, among them
 abbrev pub as_wide : Placement → Option Real → Option Real → WidePlacement
 as_wide p magnification angle = record { cell = p.cell; magnification = option_map wide_of magnification; angle = option_map wide_of angle; flip = p.flip; spot = p.spot }

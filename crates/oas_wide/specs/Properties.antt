@@ -69,7 +69,7 @@ found_signed_number = record {
   ];
 }
 
--- a number with a sign, of its own type
+-- a signed number, of its own type
 abbrev pub signed_number : Kind Signed
 signed_number = record {
   any = SpellsSigned;
@@ -82,7 +82,7 @@ signed_number = record {
   never = record { none = λ bytes h. h };
 }
 
--- what follows the type of a real: the bits of a float are passed over whatever they say (own rule)
+-- what follows the type of a real: the bits of a float are skipped, whatever they are (own rule)
 abbrev pub real_value_after : ℕ → Kind PropertyValue
 real_value_after type =
     either (type == 6) (image_any single_value four)
@@ -112,7 +112,7 @@ ValueTook = property_value.took
 
 -- ---- PROPERTY
 
--- where the last values stand once more, none are counted
+-- where the last values are repeated, none are counted
 abbrev pub IsPropertyInfo : ℕ → Type 0
 IsPropertyInfo info = (bit_and info 8 ≡ 0) ⊎ (info < 16)
 
@@ -126,7 +126,7 @@ string_name string = names.Text string
 abbrev pub property_name : Bool → Kind PropertyName
 property_name numbered = either numbered (image_any number_name number) (image_any string_name padding)
 
--- how many values there are: bits 4 to 7, or where they are 15 a number
+-- how many values there are: bits 4 to 7, or a number where these are 15
 abbrev pub of_info : ℕ → Unit {0} → ℕ
 of_info info done = info / 16
 
@@ -136,7 +136,7 @@ value_count info = either (info / 16 == 15) number (image_any (of_info info) (ex
 abbrev pub count_of : ℕ × Unit {0} → ℕ
 count_of p = p.0
 
--- so many values
+-- this many values
 abbrev pub value_list : ℕ → Kind (Unit {0})
 value_list count = image_any nothing (items count property_value)
 
@@ -161,6 +161,6 @@ property =
 abbrev pub SpellsProperty : Property → List ℕ → Type 0
 SpellsProperty = property.any
 
--- where in it a read of a property may fail
+-- where a read of a property may fail
 abbrev pub PropertyTook : Why → List ℕ → Type 0
 PropertyTook = property.took

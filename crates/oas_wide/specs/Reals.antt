@@ -17,11 +17,11 @@ use Rattle.oas_wide.specs.Long.{IsLong, long_number, long_test}
 
 -- ---- floats
 
--- the exponent as it stands, in a float with a hidden bit of that weight and that many exponents
+-- the exponent field, in a float with a hidden bit of that weight and that many exponents
 abbrev pub exponent_of : ℕ → ℕ → ℕ → ℕ
 exponent_of hidden exponents bits = bits / hidden % exponents
 
--- the largest exponent is that of infinities and of what is no number
+-- the largest exponent is that of infinities and NaNs
 abbrev pub IsFinite : ℕ → ℕ → ℕ → Type 0
 IsFinite hidden exponents bits = exponent_of hidden exponents bits + 1 < exponents
 
@@ -29,7 +29,7 @@ IsFinite hidden exponents bits = exponent_of hidden exponents bits + 1 < exponen
 abbrev pub significand_of : ℕ → ℕ → ℕ → ℕ
 significand_of hidden exponents bits = if exponent_of hidden exponents bits == 0 then bits % hidden else hidden + bits % hidden
 
--- and counts as the next
+-- and counts as the next one
 abbrev pub place_of : ℕ → ℕ → ℕ → ℕ
 place_of hidden exponents bits = if exponent_of hidden exponents bits == 0 then 1 else exponent_of hidden exponents bits
 
@@ -88,7 +88,7 @@ double = image_any double_of double_bits
 abbrev pub IsRealType : ℕ → Type 0
 IsRealType type = type < 8
 
--- a fraction of a type below 6: odd types are negative, and its parts are in any number of bytes
+-- a fraction of a type below 6: odd types are negative, and its parts have any number of bytes
 abbrev pub fraction_of : ℕ → Parts → WideReal
 fraction_of type parts = record { negative = type % 2 == 1; num = part_of parts.0; den = part_of parts.1; doubled = 0; halved = 0 }
 
@@ -115,12 +115,12 @@ wide_real = image_any without_type (pair real_type real_after)
 abbrev pub SpellsWideReal : WideReal → List ℕ → Type 0
 SpellsWideReal = wide_real.any
 
--- where in it a read of a real may fail
+-- where a read of a real may fail
 abbrev pub WideRealTook : Why → List ℕ → Type 0
 WideRealTook = wide_real.took
 
 -- ---- reals of the profile
 
--- what a real of the profile is among them
+-- a real of the profile among them
 abbrev pub wide_of : Real → WideReal
 wide_of r = record { negative = r.negative; num = r.num; den = r.den; doubled = 0; halved = 0 }

@@ -6,7 +6,7 @@ use Rattle.oas_num.specs.Refusals.{number_of}
 use Rattle.oas_wide.specs.declared.reasons.WideWhy.{WideWhy}
 use Rattle.oas_wide.specs.declared.reasons.WideWhy.TheVariants as wide
 
--- the number by which a reason is named
+-- the number that names a reason
 abbrev pub wide_number_of : WideWhy → ℕ
 wide_number_of (wide.Profile reason) = number_of reason
 wide_number_of wide.Properties = 101
@@ -23,14 +23,14 @@ wide_number_of wide.ValueType = 111
 wide_number_of wide.IntervalType = 112
 wide_number_of wide.Checksum = 113
 
--- What a reason is that was found behind an id. Neither a CTRAPEZOID nor a LAYERNAME has zero bits, so an InfoByte of theirs
--- is that of a number that says which kind it is; and all reals of a PROPERTY are of types that there are.
+-- The name of a reason that was found after an id. Neither a CTRAPEZOID nor a LAYERNAME has zero bits, so an InfoByte of
+-- theirs is about a number that says which kind it is; and all reals of a PROPERTY have types that exist.
 abbrev pub named : ℕ → Why → WideWhy
 named id why.InfoByte = if id == 26 then wide.CtrapezoidType else (if id == 11 then wide.IntervalType else (if id == 12 then wide.IntervalType else wide.Profile why.InfoByte))
 named id why.RealType = if id == 28 then wide.ValueType else wide.Profile why.RealType
 named id reason = wide.Profile reason
 
--- The reason of the profile that stands for it where a read is refused: a further one is always of the bytes.
+-- The reason of the profile in its place where a read is refused: a further one is always about the bytes.
 abbrev pub plain_of : WideWhy → Why
 plain_of (wide.Profile reason) = reason
 plain_of wide.ValueType = why.RealType

@@ -7,7 +7,7 @@ use Rattle.oas_record.specs.Kinds.{Kind, number, padding}
 use Rattle.oas_record.specs.Trees.{pair, there}
 use Rattle.oas_wide.specs.Long.{long_number}
 
--- a string, and its number where it is there
+-- a string, and its number where there is one
 abbrev pub string_kind : Bool → Kind (Padding × Option ℕ)
 string_kind numbered = pair padding (λ _. there numbered number)
 
@@ -24,6 +24,6 @@ attributed numbered = pair long_number (λ _. string_kind numbered)
 abbrev pub SpellsAttributed : Bool → ℕ × (Padding × Option ℕ) → List ℕ → Type 0
 SpellsAttributed numbered = (attributed numbered).any
 
--- where in it a read may fail
+-- where a read may fail
 abbrev pub AttributedTook : Bool → Why → List ℕ → Type 0
 AttributedTook numbered = (attributed numbered).took

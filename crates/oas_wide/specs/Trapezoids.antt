@@ -51,7 +51,7 @@ trapezoid a b = image_any trapezoid_of (pair byte (trapezoid_parts a b))
 abbrev pub SpellsTrapezoid : Bool → Bool → Trapezoid → List ℕ → Type 0
 SpellsTrapezoid a b = (trapezoid a b).any
 
--- where in it a read of a trapezoid may fail
+-- where a read of a trapezoid may fail
 abbrev pub TrapezoidTook : Bool → Bool → Why → List ℕ → Type 0
 TrapezoidTook a b = (trapezoid a b).took
 
@@ -95,6 +95,6 @@ named_trapezoid = image_any named_of (pair byte named_parts)
 abbrev pub SpellsNamedTrapezoid : NamedTrapezoid → List ℕ → Type 0
 SpellsNamedTrapezoid = named_trapezoid.any
 
--- where in it a read of a trapezoid of a kind may fail
+-- where a read of a trapezoid of a kind may fail
 abbrev pub NamedTrapezoidTook : Why → List ℕ → Type 0
 NamedTrapezoidTook = named_trapezoid.took

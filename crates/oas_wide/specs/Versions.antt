@@ -42,7 +42,7 @@ label_byte = record {
   never = record { none = λ bytes h. h };
 }
 
--- so many of them
+-- this many of them
 abbrev pub label_text : ℕ → Kind (List ℕ)
 label_text count = items count label_byte
 
@@ -98,6 +98,6 @@ long_version = image_any nothing version_text
 abbrev pub SpellsVersion : Unit {0} → List ℕ → Type 0
 SpellsVersion = long_version.any
 
--- where in it a read may fail
+-- where a read may fail
 abbrev pub LongVersionTook : Why → List ℕ → Type 0
 LongVersionTook = long_version.took

@@ -1,4 +1,4 @@
--- How records of the standard are spelled, START left out, and where a read of one may fail.
+-- How records of the standard are spelled, except START, and where a read of one may fail.
 use Rattle.std.proofs.Common.{◌≡◌, ◌≢◌, ℕ, ◌<◌, ◌≤◌, Bool, true, false, List, [], length, Option, Some, None, ◌⊎◌}
 use Rattle.std.specs.Prelude.{◌==◌, if◌then◌else◌, Result, Ok, Err}
 use Rattle.std.proofs.Math.Dec.{ltb}
@@ -9,7 +9,7 @@ use Rattle.oas_num.specs.Combinators.{IsNever}
 use Rattle.oas_num.specs.Laws.CombinatorLaws.{OneSpelling-never, OneSpelling-either, IsWithin-either}
 use Rattle.oas_num.specs.Grammar.{IsPair, IsImage}
 use Rattle.oas_num.specs.Combinators.{IsEither}
-use Rattle.oas_num.specs.Pieces.{IsBehind}
+use Rattle.oas_num.specs.Pieces.{IsAfter}
 use Rattle.oas_num.specs.Reading.{ReadsValue, FailsPiece}
 use Rattle.oas_num.specs.Script.{Script}
 use Rattle.oas_long.specs.AnyLength.{IsAnyLength, any_length, first_of, settled_first}
@@ -117,13 +117,13 @@ foreign in_end id =
     (by_number (id == 34) (image_any a_block block_head)
     no_other))))))))))))))))))
 
--- the ids that the profile has, but that of END, which has no signature there, and that of placements by reals, which have
--- no floats there
+-- the ids of the profile, except that of END, which has no signature there, and that of placements by reals, which have no
+-- floats there
 abbrev pub is_profile_id : ℕ → Bool
 is_profile_id id =
     if id == 2 then false else (if id == 18 then false else (if ltb id 7 then true else (if ltb id 13 then false else (if ltb id 23 then true else id == 27))))
 
--- what a value of a choice stands for
+-- what a value of a choice denotes
 abbrev pub image_choice : {U V : Type 0} → (U → V) → Choice U → Choice V
 image_choice f A = record {
   any = IsImage f A.any;
@@ -147,7 +147,7 @@ either_choice test A B = record {
   never = either_never test A.took B.took A.never B.never;
 }
 
--- what follows an id: as in the profile, with integers in any number of bytes, or as above
+-- what follows an id: as in the profile, with integers of any number of bytes, or as above
 abbrev pub fields : Bool → ℕ → Choice WideRecord
 fields in_end id = either_choice (is_profile_id id) (image_choice profile (any_length (first_of id) (settled_first id) (after in_end id))) (foreign in_end id)
 
@@ -158,9 +158,8 @@ AnyLengthAfter in_end id = IsAnyLength (first_of id) (after in_end id).any
 abbrev pub fields_in : Bool → ℕ → WideRecord → List ℕ → Type 0
 fields_in in_end id = (fields in_end id).any
 
--- The bytes spell the record, in a file whose START says where the table-offsets stand: an id in any number of bytes, and what
--- follows it. END, its
--- id and its signature included, is 256 bytes.
+-- The bytes spell the record, in a file whose START says where the table-offsets are: an id in any number of bytes, and what
+-- follows it. END, its id and its signature included, is 256 bytes.
 pub record wide_record_in (in_end : Bool) (r : WideRecord) (bytes : List ℕ) : Type 0 where
   pub id : ℕ
   pub whole : id ≡ 2 → length bytes ≡ 256
@@ -168,15 +167,15 @@ pub record wide_record_in (in_end : Bool) (r : WideRecord) (bytes : List ℕ) : 
 
 -- ---- ids
 
--- the ids of the standard, but START's
+-- the ids of the standard, except that of START
 abbrev pub IsWideId : ℕ → Type 0
 IsWideId id = (id ≢ 1) × (id ≤ 34)
 
--- those behind which it isn't as in the profile
+-- those after which it isn't as in the profile
 abbrev pub IsForeignId : ℕ → Type 0
 IsForeignId id = IsWideId id × ((id ≢ 2) × (is_profile_id id ≡ false))
 
--- for that reason no record has that id here
+-- no record has that id here, for that reason
 abbrev pub IsRefusedWideId : ℕ → Why → Type 0
 IsRefusedWideId id (OutOfPlace n) = (n ≡ id) × (id ≡ 1)
 IsRefusedWideId id (UnknownRecord n) = (n ≡ id) × (34 < id)
@@ -189,7 +188,7 @@ RefusesWideId id (Some why) = IsRefusedWideId id why
 
 -- ---- where a read may fail
 
--- The tables below say of each reason what all bytes are that were taken, from the record's first on.
+-- The tables below say for each reason what all the bytes are that were taken, from the record's first on.
 
 -- in the id
 abbrev pub WideIdTook : Why → List ℕ → Type 0
@@ -199,22 +198,22 @@ WideIdTook why bytes = LongMay why bytes ⊎ ((id : ℕ) × IsLong id bytes × I
 abbrev pub FieldsTook : Bool → WideWhy → ℕ → List ℕ → Type 0
 FieldsTook in_end wide id bytes = (why : Why) × (fields in_end id).took why bytes × (wide ≡ named id why)
 
--- END in all its parts, but not of 256 bytes
+-- END in all its parts, but not 256 bytes long
 pub record IsWrongWideEnd (in_end : Bool) (bytes : List ℕ) : Type 0 where
   pub value : WideRecord
   pub parts : IsPair IsLong (fields_in in_end) (2, value) bytes
   pub wrong : length bytes ≢ 256
 
--- where in it a read of a record may fail: in its id, or in what follows that id; or it is END, whole, and not of 256 bytes
+-- where a read of a record may fail: in its id, or in what follows that id; or it is END, whole, and not 256 bytes long
 abbrev pub WideRecordTook : Bool → WideWhy → List ℕ → Type 0
 WideRecordTook in_end wide bytes =
     ((why : Why) × (wide ≡ Profile why) × WideIdTook why bytes) ⊎
-    (IsBehind IsLong (FieldsTook in_end wide) bytes ⊎
+    (IsAfter IsLong (FieldsTook in_end wide) bytes ⊎
     ((wide ≡ Profile EndLength) × IsWrongWideEnd in_end bytes))
 
 -- ---- reading
 
--- A read fails: no record is spelled there, as far as the bytes decide, and of all bytes that were taken the table holds.
+-- A read fails: no record is spelled there, as far as the bytes decide, and the table holds for all bytes that were taken.
 abbrev pub FailsWide : Bool → Script → WideWhy → Script → Type 0
 FailsWide in_end old wide new = FailsPiece (wide_record_in in_end) (λ _. WideRecordTook in_end wide) old (plain_of wide) new
 
@@ -230,7 +229,7 @@ ReadsWideAt in_end old (Err refusal) new = (refusal.at ≡ old.given) × FailsWi
 
 -- ---- records of the profile
 
--- what a record of the profile, END left out, is among those of the standard
+-- a record of the profile, except END, among those of the standard
 abbrev pub inner_widened : Record → WideRecord
 inner_widened (profile_of.Placement p) = elim p.turn [ Quarters turns ↦ record_of.Profile (profile_of.Placement p) | Degrees magnification angle ↦ record_of.Placement (as_wide p magnification angle) ]
 inner_widened r = record_of.Profile r

@@ -5,13 +5,13 @@ ghost use Rattle.oas_wide.specs.Blocks.{SpellsBlockHead, BlockHeadTook};
 use crate::long::read_long;
 use oas_num::{Source, Why};
 
-/// What stands before the bytes of a compressed block (SEMI P39, CBLOCK record), id 34. Which kinds there are, and whether
-/// the lengths are those of the bytes, is for the caller to see.
+/// What comes before the bytes of a compressed block (SEMI P39, CBLOCK record), id 34. The caller must check the kind, and
+/// whether the lengths are those of the bytes.
 #[derive(Clone, Copy, Debug, PartialEq, Eq)]
 pub struct BlockHead {
     /// The kind of compression: 0 is DEFLATE.
     pub kind: u64,
-    /// How many bytes the block stands for.
+    /// How many bytes of data the block has.
     pub inflated: u64,
     /// How many bytes follow.
     pub deflated: u64,

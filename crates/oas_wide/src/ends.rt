@@ -10,7 +10,7 @@ use crate::long::{read_long, read_long_padding};
 use crate::offsets::pass_offsets_if;
 use oas_num::{Source, Why};
 
-/// How a file says that it came whole (SEMI P39, END record, validation-scheme).
+/// How a file shows that it is complete (SEMI P39, END record, validation-scheme).
 #[derive(Clone, Copy, Debug, PartialEq, Eq)]
 pub enum Validation {
     /// Scheme 0: by nothing.
@@ -21,7 +21,7 @@ pub enum Validation {
     Checksum32(u32),
 }
 
-/// What a scheme and a signature say.
+/// The meaning of a scheme and a signature.
 fn validation_of(scheme: u64, signature: Option<u32>) -> Validation
     ensures { result ≡ validation_of scheme signature }
 {
@@ -57,7 +57,7 @@ impl Validation {
     }
 }
 
-/// What the end of a file says (SEMI P39, END record).
+/// What the end of a file gives (SEMI P39, END record).
 #[derive(Clone, Copy, Debug, PartialEq, Eq)]
 pub struct WideEnd {
     /// The scheme and the signature.
@@ -66,7 +66,7 @@ pub struct WideEnd {
 
 impl WideEnd {
     /// What follows END's id: table-offsets where START says so, padding, the validation-scheme and its signature, with
-    /// integers in any number of bytes. That END is 256 bytes, its id and its signature included, is for the caller to see.
+    /// integers of any number of bytes. The caller must check that END is 256 bytes, its id and its signature included.
     pub fn read<S: Source>(in_end: bool, source: &mut S) -> Result<WideEnd, Why>
         ensures { ReadsPiece (SpellsWideEnd in_end) (WideEndTook in_end) (S.script source.old) result (S.script source.new) }
     {

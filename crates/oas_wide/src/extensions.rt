@@ -8,8 +8,7 @@ use oas_record::{Spot, read_layers, read_spot};
 use std::alloc::Global;
 
 /// Geometry of an extension (SEMI P39, XGEOMETRY record), id 33: the info byte `000XYRDL`, the attribute, layer and datatype,
-/// each where its bit is 1, the string, and x, y and repetition, each where its bit is 1. The string is passed over (own
-/// rule).
+/// each where its bit is 1, the string, and x, y and repetition, each where its bit is 1. The string is skipped (own rule).
 #[derive(Debug, Drop)]
 pub struct ExtensionGeometry {
     pub attribute: u64,

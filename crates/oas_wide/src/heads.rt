@@ -1,4 +1,4 @@
-//! The front of a file, with a unit of any type.
+//! The start of a file, with a unit of any type.
 ghost use Rattle.std.specs.Prelude.{◌↔◌, IsTrue};
 ghost use Rattle.oas_num.specs.Reading.{ReadsPiece};
 ghost use Rattle.oas_wide.specs.Heads.{IsPositive, SpellsUnit, UnitTook, SpellsWideStart, WideStartTook};
@@ -10,12 +10,12 @@ use crate::versions::read_version;
 use oas_num::{Source, Spelled, Why};
 use std::alloc::Global;
 
-/// What START says (SEMI P39, START record), where the unit may be a float.
+/// What START gives (SEMI P39, START record), where the unit may be a float.
 #[derive(Clone, Copy, Debug, PartialEq, Eq)]
 pub struct WideStart {
     /// Grid steps per micron, positive.
     pub unit: WideReal,
-    /// Whether the table-offsets stand in END, and not in START.
+    /// Whether the table-offsets are in END, and not in START.
     pub flag_in_end: bool,
 }
 
@@ -38,8 +38,8 @@ fn read_unit<S: Source>(alloc: Global, source: &mut S) -> Result<WideReal, Why>
 }
 
 impl WideStart {
-    /// START: its id, the version, the unit, the offset-flag, and table-offsets where the flag is 0, with integers in any
-    /// number of bytes. The magic stands before it ([`oas_record::read_magic`]).
+    /// START: its id, the version, the unit, the offset-flag, and table-offsets where the flag is 0, with integers of any
+    /// number of bytes. The magic comes before it ([`oas_record::read_magic`]).
     pub fn read<S: Source>(alloc: Global, source: &mut S) -> Result<WideStart, Why>
         ensures { ReadsPiece SpellsWideStart WideStartTook (S.script source.old) result (S.script source.new) }
     {

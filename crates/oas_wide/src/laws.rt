@@ -1,7 +1,7 @@
-//! The laws of the grammar: the function's contract is them, and its body is empty.
+//! The laws of the grammar. Each function's contract is a law, and its body is empty.
 ghost use Rattle.std.specs.Prelude.{Bool, List, ℕ};
 ghost use Rattle.oas_num.specs.Begun.{HasSome};
-ghost use Rattle.oas_num.specs.Grammar.{IsPair, OneFront};
+ghost use Rattle.oas_num.specs.Grammar.{IsPair, PrefixFree};
 ghost use Rattle.oas_num.specs.Style.{Any};
 ghost use Rattle.oas_record.specs.Records.{id_of, record_in};
 ghost use Rattle.oas_record.specs.declared.records.Record.{Record};
@@ -17,20 +17,20 @@ ghost use Rattle.oas_wide.specs.Strings.{SpellsString, SpellsAttributed};
 ghost use Rattle.oas_wide.specs.Trapezoids.{SpellsTrapezoid, SpellsNamedTrapezoid};
 ghost use Rattle.oas_wide.specs.WideRecords.{AnyLengthAfter, profile, wide_record_in, widened};
 
-/// Of what follows an id, and of START, no spelling begins another, and none spells two values.
+/// What follows an id, and START: no spelling is a prefix of another, and none spells two values.
 pub fn fronts()
-    ensures start { OneFront SpellsWideStart }
-    ensures end { (in_end : Bool) → OneFront (SpellsWideEnd in_end) }
-    ensures string { (numbered : Bool) → OneFront (SpellsString numbered) }
-    ensures value { OneFront SpellsValue }
-    ensures property { OneFront SpellsProperty }
-    ensures layer_name { OneFront SpellsLayerName }
-    ensures placement { OneFront SpellsPlacement }
-    ensures attributed { (numbered : Bool) → OneFront (SpellsAttributed numbered) }
-    ensures geometry { OneFront SpellsGeometry }
-    ensures block { OneFront SpellsBlockHead }
-    ensures trapezoid { (a b : Bool) → OneFront (SpellsTrapezoid a b) }
-    ensures named { OneFront SpellsNamedTrapezoid }
+    ensures start { PrefixFree SpellsWideStart }
+    ensures end { (in_end : Bool) → PrefixFree (SpellsWideEnd in_end) }
+    ensures string { (numbered : Bool) → PrefixFree (SpellsString numbered) }
+    ensures value { PrefixFree SpellsValue }
+    ensures property { PrefixFree SpellsProperty }
+    ensures layer_name { PrefixFree SpellsLayerName }
+    ensures placement { PrefixFree SpellsPlacement }
+    ensures attributed { (numbered : Bool) → PrefixFree (SpellsAttributed numbered) }
+    ensures geometry { PrefixFree SpellsGeometry }
+    ensures block { PrefixFree SpellsBlockHead }
+    ensures trapezoid { (a b : Bool) → PrefixFree (SpellsTrapezoid a b) }
+    ensures named { PrefixFree SpellsNamedTrapezoid }
 {}
 
 /// Each has a spelling.
@@ -49,11 +49,11 @@ pub fn some()
     ensures named { HasSome SpellsNamedTrapezoid }
 {}
 
-/// Records: no spelling begins another, and none spells two. A record of the profile is spelled here as it is there: END
-/// without a signature, a placement by reals with these among those of all types, and each other one as itself. Nothing else
-/// spells that one but its integers in more bytes.
+/// Records: no spelling is a prefix of another, and none spells two records. A record of the profile is spelled here as it is
+/// there: END without a signature, a placement by reals with these among those of all types, and each other one as itself.
+/// Nothing else spells that record, except with its integers in more bytes.
 pub fn records()
-    ensures front { (in_end : Bool) → OneFront (wide_record_in in_end) }
+    ensures front { (in_end : Bool) → PrefixFree (wide_record_in in_end) }
     ensures within { (in_end : Bool) (r : Record) (bytes : List ℕ) → record_in Any in_end r bytes → wide_record_in in_end (widened r) bytes }
     ensures back { (in_end : Bool) (r : Record) (bytes : List ℕ) → wide_record_in in_end (profile r) bytes → IsPair IsLong (AnyLengthAfter in_end) (id_of r, r) bytes }
 {}

@@ -6,7 +6,7 @@ ghost use Rattle.oas_wide.specs.LayerNames.{interval_by, SpellsInterval, Interva
 use oas_num::{Padding, Source, Spelled, Why, read_unsigned, read_unsigned_if};
 use std::alloc::Global;
 
-/// Numbers from one to another, both with it (SEMI P39, intervals). Where the first is the larger there is none.
+/// Numbers from one to another, both included (SEMI P39, intervals). Where the first is the larger there are none.
 #[derive(Clone, Copy, Debug, PartialEq, Eq)]
 pub struct Interval {
     pub low: u64,
@@ -14,7 +14,7 @@ pub struct Interval {
     pub high: Option<u64>,
 }
 
-/// What a type and its bounds say.
+/// The interval of a type and its bounds.
 fn interval_by(kind: u64, first: Option<u64>, second: Option<u64>) -> Interval
     ensures { result ≡ interval_by kind first second }
 {
@@ -45,7 +45,7 @@ fn interval_by(kind: u64, first: Option<u64>, second: Option<u64>) -> Interval
 }
 
 impl Interval {
-    /// An interval. A type above 4 is refused by `InfoByte`.
+    /// An interval. A type above 4 is refused with `InfoByte`.
     fn read<S: Source>(source: &mut S) -> Result<Interval, Why>
         ensures { ReadsPiece SpellsInterval IntervalTook (S.script source.old) result (S.script source.new) }
     {
@@ -60,7 +60,7 @@ impl Interval {
 }
 
 /// A name for layers and datatypes, or for textlayers and texttypes (SEMI P39, LAYERNAME records), ids 11 and 12. The name is
-/// passed over, and what bytes it has isn't looked at (own rule).
+/// skipped, and its bytes aren't checked (own rule).
 #[derive(Clone, Copy, Debug, PartialEq, Eq)]
 pub struct LayerName {
     pub name: Padding,

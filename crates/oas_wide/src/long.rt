@@ -1,9 +1,9 @@
-//! Integers and strings whose numbers have any number of bytes.
+//! Integers, and strings with their lengths, in any number of bytes.
 ghost use Rattle.std.specs.Prelude.{◌≡◌, ◌<◌, ◌≤◌, ◌+◌, ◌*◌, ◌^◌, IfSome, IsNone};
 ghost use Rattle.oas_num.specs.Grammar.{IsByte};
 ghost use Rattle.oas_num.specs.Pieces.{CountTook};
 ghost use Rattle.oas_num.specs.Reading.{ReadsPiece, ByteMay};
-ghost use Rattle.oas_num.specs.Texts.{IsPassed};
+ghost use Rattle.oas_num.specs.Texts.{IsSkipped};
 ghost use Rattle.oas_record.specs.Trees.{there};
 ghost use Rattle.oas_wide.specs.Long.{IsLong, LongMay, long_number, long_padding};
 
@@ -17,7 +17,7 @@ fn plus(value: u64, part: u64) -> Option<u64>
     value.checked_add(part)
 }
 
-/// A value with one group of seven bits more, at its place: None exactly where that isn't below 2^64.
+/// A value with one more group of seven bits, at its place: None exactly where that isn't below 2^64.
 fn with_group(value: u64, group: u8, place: u64) -> Option<u64>
     ensures some { IfSome result (λ n. (n ≡ value + group * 128 ^ place) × (n < 2 ^ 64)) }
     ensures none { IsNone result → 2 ^ 64 ≤ value + group * 128 ^ place }
@@ -35,8 +35,8 @@ fn with_group(value: u64, group: u8, place: u64) -> Option<u64>
     }
 }
 
-/// Reads a number without a sign, in any number of bytes: behind the tenth its groups are zero. It is refused at the byte
-/// that decides.
+/// Reads an unsigned number, in any number of bytes: after the tenth its groups must be zero. It fails at the byte that
+/// decides.
 pub(crate) fn read_long<S: Source>(source: &mut S) -> Result<u64, Why>
     ensures { ReadsPiece IsLong LongMay (S.script source.old) result (S.script source.new) }
 {
@@ -66,9 +66,9 @@ pub(crate) fn read_long_if<S: Source>(is_given: bool, source: &mut S) -> Result<
     }
 }
 
-/// Passes over so many bytes of any kind.
+/// Skips this many bytes of any kind.
 fn pass_over<S: Source>(count: u64, source: &mut S) -> Result<Padding, Why>
-    ensures { ReadsPiece (IsPassed count) (CountTook IsByte count ByteMay) (S.script source.old) result (S.script source.new) }
+    ensures { ReadsPiece (IsSkipped count) (CountTook IsByte count ByteMay) (S.script source.old) result (S.script source.new) }
 {
     for _ in 0..count {
         next_byte(source)?;
@@ -76,7 +76,7 @@ fn pass_over<S: Source>(count: u64, source: &mut S) -> Result<Padding, Why>
     Ok(Padding { length: count })
 }
 
-/// A string that is passed over, with a length in any number of bytes.
+/// A skipped string, with a length in any number of bytes.
 pub(crate) fn read_long_padding<S: Source>(source: &mut S) -> Result<Padding, Why>
     ensures { ReadsPiece long_padding.any long_padding.took (S.script source.old) result (S.script source.new) }
 {

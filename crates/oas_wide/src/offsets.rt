@@ -6,7 +6,7 @@ use crate::long::read_long;
 use oas_num::{Source, Why};
 
 /// Table-offsets (SEMI P39, START and END records): six pairs of a flag and an offset, in any number of bytes. They are read
-/// and not used (own rule).
+/// and ignored (own rule).
 fn pass_offsets<S: Source>(source: &mut S) -> Result<(), Why>
     ensures { ReadsPiece IsLongOffsets LongOffsetsTook (S.script source.old) result (S.script source.new) }
 {
@@ -16,7 +16,7 @@ fn pass_offsets<S: Source>(source: &mut S) -> Result<(), Why>
     Ok(())
 }
 
-/// Table-offsets, where they are there.
+/// Table-offsets, where there are any.
 pub(crate) fn pass_offsets_if<S: Source>(there: bool, source: &mut S) -> Result<(), Why>
     ensures { ReadsPiece (long_offsets_part there).any (long_offsets_part there).took (S.script source.old) result (S.script source.new) }
 {

@@ -9,15 +9,15 @@ use crate::reals::{WideReal, read_fraction};
 use oas_num::{Padding, Signed, Source, Spelled, Why, next_byte, read_unsigned};
 use std::alloc::Global;
 
-/// A value of a property (SEMI P39, property-value), of one of 16 types. Strings are passed over, and what bytes they have
-/// isn't looked at (own rule).
+/// A value of a property (SEMI P39, property-value), of one of 16 types. Strings are skipped, and their bytes aren't checked
+/// (own rule).
 #[derive(Clone, Copy, Debug, PartialEq, Eq)]
 pub enum PropertyValue {
     /// Types 0 to 5: a fraction of that type.
     Real(WideReal),
-    /// Type 6: a float of single precision, by its bits. It may be infinite, or no number (own rule).
+    /// Type 6: a float of single precision, by its bits. It may be infinite or NaN (own rule).
     Single(u32),
-    /// Type 7: a float of double precision, by its bits. It may be infinite, or no number (own rule).
+    /// Type 7: a float of double precision, by its bits. It may be infinite or NaN (own rule).
     Double(u64),
     /// Type 8.
     Unsigned(u64),
@@ -75,7 +75,7 @@ fn read_value_after<S: Source>(
 impl PropertyValue {
     ghost use Rattle.oas_wide.specs.Properties.{SpellsValue, ValueTook};
 
-    /// A value. A type above 15 is refused by `RealType`, since the types of reals are the first of them.
+    /// A value. A type above 15 is refused with `RealType`, since the types of reals are the first of them.
     pub fn read<S: Source>(alloc: Global, source: &mut S) -> Result<PropertyValue, Why>
         ensures { ReadsPiece SpellsValue ValueTook (S.script source.old) result (S.script source.new) }
     {
@@ -93,7 +93,7 @@ impl PropertyValue {
 pub enum PropertyName {
     /// By the number of its PROPNAME.
     Number(u64),
-    /// Itself, passed over (own rule).
+    /// By itself, skipped (own rule).
     Text(Padding),
 }
 
@@ -128,7 +128,7 @@ fn read_property_name_if<S: Source>(
     }
 }
 
-/// How many values there are: bits 4 to 7, or where they are 15 a number.
+/// How many values there are: bits 4 to 7, or a number where these are 15.
 fn read_value_count<S: Source>(info: u8, source: &mut S) -> Result<u64, Why>
     ensures { ReadsPiece (value_count info).any (value_count info).took (S.script source.old) result (S.script source.new) }
 {
@@ -139,7 +139,7 @@ fn read_value_count<S: Source>(info: u8, source: &mut S) -> Result<u64, Why>
     }
 }
 
-/// So many values, which are not kept.
+/// This many values, which are not kept.
 fn pass_values<S: Source>(alloc: Global, count: u64, source: &mut S) -> Result<(), Why>
     ensures { ReadsPiece (value_list count).any (value_list count).took (S.script source.old) result (S.script source.new) }
 {
@@ -149,7 +149,7 @@ fn pass_values<S: Source>(alloc: Global, count: u64, source: &mut S) -> Result<(
     Ok(())
 }
 
-/// The values, of which only the number is kept.
+/// The values; only their number is kept.
 fn read_values<S: Source>(alloc: Global, info: u8, source: &mut S) -> Result<u64, Why>
     ensures { ReadsPiece (values info).any (values info).took (S.script source.old) result (S.script source.new) }
 {
@@ -174,19 +174,19 @@ fn read_values_if<S: Source>(
     }
 }
 
-/// A property (SEMI P39, PROPERTY record), id 28: the info byte `UUUUVCNS`, the name where C is 1, by its number where N is 1,
-/// and the values where V is 0. Id 29 has no fields: it is the last name and the last values once more.
+/// A property (SEMI P39, PROPERTY record), id 28: the info byte `UUUUVCNS`, the name where C is 1, by its number where N is
+/// 1, and the values where V is 0. Id 29 has no fields: it repeats the last name and the last values.
 #[derive(Clone, Copy, Debug, PartialEq, Eq)]
 pub struct Property {
     /// Whether the name is one of the standard's.
     pub standard: bool,
     /// Without one it is the last name.
     pub name: Option<PropertyName>,
-    /// How many values it has. None: the last ones once more.
+    /// How many values it has. None: the last ones again.
     pub values: Option<u64>,
 }
 
-/// Whether a property has that info byte: where the last values stand once more, none are counted.
+/// Whether a property has that info byte: where the last values are repeated, none are counted.
 fn is_property_info(info: u8) -> bool
     ensures { IsTrue result ↔ IsPropertyInfo info }
 {

@@ -9,11 +9,11 @@ use crate::long::{read_long, read_long_if};
 use oas_num::{Source, Spelled, Why};
 use std::alloc::Global;
 
-/// A real as it stands in a file (SEMI P39, Reals, types 0 to 7): `num / den`, times two as often as `doubled`, halved as
-/// often as `halved` says. Zero parts are read: the field in which they stand decides.
+/// A real as a file spells it (SEMI P39, Reals, types 0 to 7): `num / den`, times two as often as `doubled`, halved as often
+/// as `halved` says. Zero parts are read; the field that has the real decides on them.
 ///
-/// A float (IEEE 754) is the fraction that its bits are: a whole `num`, with `den` 1, doubled or halved. Infinities, and
-/// what is no number, are refused (own rule). Types 0 to 5 are neither doubled nor halved.
+/// A float (IEEE 754) is the fraction of its bits: a whole `num`, with `den` 1, doubled or halved. Infinities and NaNs are
+/// refused (own rule). Types 0 to 5 are neither doubled nor halved.
 #[derive(Clone, Copy, Debug, PartialEq, Eq)]
 pub struct WideReal {
     /// The sign: that of the type, or of the float.
@@ -28,7 +28,7 @@ pub struct WideReal {
     pub halved: u16,
 }
 
-/// The float of these bits, with a hidden bit of that weight and that many exponents. `whole` is the exponent with which
+/// The float of these bits, with a hidden bit of that weight and that many exponents. `whole` is the exponent at which
 /// significands are whole.
 fn float_of(hidden: u64, exponents: u64, whole: u16, bits: u64) -> WideReal
     requires hidden { (0 < hidden) × (hidden ≤ 2 ^ 52) }
@@ -90,7 +90,7 @@ pub(crate) fn read_fraction<S: Source>(kind: u64, source: &mut S) -> Result<Wide
     })
 }
 
-/// A part that isn't there is 1.
+/// A missing part is 1.
 fn part_or_one(part: Option<u64>) -> u64
     ensures { result ≡ part_of part }
 {

@@ -1,11 +1,12 @@
-//! Reasons, those of the profile and of what it leaves out.
+//! Reasons of the profile, and of what it leaves out.
 ghost use Rattle.std.specs.Prelude.{◌≡◌};
 ghost use Rattle.oas_wide.specs.Reasons.{named, wide_number_of};
 ghost use Rattle.oas_wide.specs.declared.reasons.WideWhy.TheVariants.{Profile};
 
 use oas_num::Why;
 
-/// Why bytes of a file of the standard are refused: by a reason of the profile, or by one of what the profile leaves out.
+/// Why bytes of a file of the standard are refused: for a reason of the profile, or for one about what the profile leaves
+/// out.
 #[derive(Clone, Copy, Debug, PartialEq, Eq)]
 pub enum WideWhy {
     /// A reason of the profile, 1 to 34.
@@ -18,15 +19,15 @@ pub enum WideWhy {
     Extensions,
     /// A block's kind of compression isn't 0.
     CblockType,
-    /// START, END or a block stands within a block.
+    /// A block is within a block.
     CblockNested,
-    /// A block inflates to other than the stated number of bytes, or doesn't use just the stated number.
+    /// A block inflates to another number of bytes than stated, or doesn't use exactly the stated number.
     CblockLength,
-    /// A record runs out of its block.
+    /// A record continues past the end of its block.
     CblockBorder,
     /// A block's bytes are no DEFLATE stream, or an unfinished one.
     Deflate,
-    /// The corners of a trapezoid cross, or enclose nothing.
+    /// The sides of a trapezoid cross, or enclose no area.
     Trapezoid,
     /// The kind of a CTRAPEZOID is above 25.
     CtrapezoidType,
@@ -41,7 +42,7 @@ pub enum WideWhy {
 /// Where bytes of a file of the standard are refused, and why.
 #[derive(Clone, Copy, Debug, PartialEq, Eq)]
 pub struct WideRefusal {
-    /// The offset, in bytes from the first, of the record refused.
+    /// The offset of the refused record, in bytes from the first.
     pub at: u64,
     /// The reason.
     pub why: WideWhy,
@@ -71,8 +72,8 @@ impl WideWhy {
     }
 }
 
-/// What a reason is that was found behind that id: of a CTRAPEZOID and of LAYERNAME an `InfoByte` is that of a number that
-/// says which kind it is, since they have no zero bits; of a PROPERTY a `RealType` is that of a value.
+/// The name of a reason that was found after that id. An `InfoByte` of a CTRAPEZOID or a LAYERNAME is about a number that
+/// says which kind it is, since they have no zero bits; a `RealType` of a PROPERTY is about a value.
 pub(crate) fn named(id: u64, why: Why) -> WideWhy
     ensures { result ≡ named id why }
 {

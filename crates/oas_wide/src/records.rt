@@ -21,10 +21,10 @@ use std::alloc::Global;
 /// How long END is, in bytes, its id and its signature included.
 const END_LENGTH: u64 = 256;
 
-/// A record of a file of the standard, START left out (SEMI P39, records).
+/// A record of a file of the standard, except START (SEMI P39, records).
 #[derive(Debug, Drop)]
 pub enum WideRecord {
-    /// A record that is as the profile has it: neither END nor one that has reals.
+    /// A record that is as the profile has it: neither END nor one with reals.
     Profile(Record),
     /// Id 2.
     End(WideEnd),
@@ -50,7 +50,7 @@ pub enum WideRecord {
     NamedTrapezoid(NamedTrapezoid),
     /// Id 28.
     Property(Property),
-    /// Id 29: the last property once more.
+    /// Id 29: the last property again.
     LastProperty,
     /// Id 30 without a number, and 31 with one.
     ExtensionName {
@@ -65,11 +65,11 @@ pub enum WideRecord {
     },
     /// Id 33.
     ExtensionGeometry(ExtensionGeometry),
-    /// Id 34. The block's bytes stand behind it.
+    /// Id 34. The block's bytes come after it.
     Block(BlockHead),
 }
 
-/// Why no record may have that id here, if it may not.
+/// Why no record may have that id here, if so.
 fn refused_id(id: u64) -> Option<Why>
     ensures { RefusesWideId id result }
 {
@@ -82,7 +82,7 @@ fn refused_id(id: u64) -> Option<Why>
     None
 }
 
-/// Whether what follows that id is as the profile has it, whose END has no signature, and whose placements have no floats.
+/// Whether what follows that id is as in the profile, where END has no signature and placements have no floats.
 fn is_profile_id(id: u64) -> bool
     ensures is { result ≡ is_profile_id id }
     ensures inner { result ≡ true → (id ≢ 2) × (id ≢ 18) }
@@ -90,7 +90,7 @@ fn is_profile_id(id: u64) -> bool
     id != 2 && id != 18 && (id <= 6 || (id >= 13 && id <= 22) || id == 27)
 }
 
-/// What follows the id of a name that isn't the profile's: 7 to 12.
+/// What follows the id of a name that isn't in the profile: 7 to 12.
 fn read_name<S: Source>(alloc: Global, id: u64, source: &mut S) -> Result<WideRecord, Why>
     requires above { 7 ≤ id }
     requires below { id ≤ 12 }
@@ -148,7 +148,7 @@ fn read_extension<S: Source>(alloc: Global, id: u64, source: &mut S) -> Result<W
     }
 }
 
-/// What follows an id of the standard that isn't as the profile has it, but END's.
+/// What follows an id of the standard that isn't as in the profile, except that of END.
 fn read_foreign<S: Source>(alloc: Global, id: u64, source: &mut S) -> Result<WideRecord, Why>
     requires { IsForeignId id }
     ensures { (in_end : Bool) → ReadsPiece (foreign in_end id).any (foreign in_end id).took (S.script source.old) result (S.script source.new) }
@@ -207,10 +207,10 @@ fn read_whole<S: Source>(alloc: Global, in_end: bool, source: &mut S) -> Result<
 }
 
 impl WideRecord {
-    /// Reads a record, by the place of the table-offsets that START gives. The place of a refusal is that of the record's
-    /// first byte.
+    /// Reads a record, given the place of the table-offsets from START. The place of a refusal is that of the record's first
+    /// byte.
     ///
-    /// Ids that the standard doesn't have are refused by `UnknownRecord`, and START by `OutOfPlace`. END is refused by
+    /// Ids that the standard doesn't have are refused with `UnknownRecord`, and START with `OutOfPlace`. END is refused with
     /// `ValidationScheme` before `EndLength`.
     pub fn read<S: Source>(
         alloc: Global,

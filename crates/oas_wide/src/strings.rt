@@ -7,7 +7,7 @@ use oas_num::{Padding, Source, Spelled, Why, read_unsigned_if};
 use std::alloc::Global;
 
 /// What follows the id of a PROPNAME, 7 without a number and 8 with one, or of a PROPSTRING, 9 and 10 (SEMI P39). The string
-/// is passed over, and what bytes it has isn't looked at (own rule).
+/// is skipped, and its bytes aren't checked (own rule).
 pub fn read_string<S: Source>(
     alloc: Global,
     numbered: bool,

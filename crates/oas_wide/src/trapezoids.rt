@@ -9,7 +9,7 @@ use std::alloc::Global;
 
 /// A trapezoid with two sides along an axis (SEMI P39, TRAPEZOID records): the info byte `OWHXYRDL`, then layer, datatype,
 /// width, height, each where its bit is 1, the deltas that the id has, and x, y and repetition. x and y are those of the
-/// lower left corner of the box in which it stands.
+/// lower left corner of its box.
 #[derive(Debug, Drop)]
 pub struct Trapezoid {
     /// Whether the left and the right side are parallel, and not the lower and the upper.
@@ -27,7 +27,7 @@ pub struct Trapezoid {
     pub spot: Spot,
 }
 
-/// The deltas, of which the id may have one or both.
+/// The deltas; the id may have one or both.
 fn read_deltas<S: Source>(
     a: bool,
     b: bool,
@@ -41,7 +41,7 @@ fn read_deltas<S: Source>(
 }
 
 impl Trapezoid {
-    /// What follows the id, which says of each delta whether it is there: 23 both, 24 the first, 25 the second.
+    /// What follows the id, which says which deltas there are: 23 both, 24 the first, 25 the second.
     pub fn read<S: Source>(
         alloc: Global,
         has_a: bool,
@@ -107,7 +107,7 @@ fn read_shape_kind_if<S: Source>(is_given: bool, source: &mut S) -> Result<Optio
 }
 
 impl NamedTrapezoid {
-    /// What follows the id. A kind above 25 is refused by `InfoByte`.
+    /// What follows the id. A kind above 25 is refused with `InfoByte`.
     pub fn read<S: Source>(alloc: Global, source: &mut S) -> Result<NamedTrapezoid, Why>
         ensures { ReadsPiece SpellsNamedTrapezoid NamedTrapezoidTook (S.script source.old) result (S.script source.new) }
     {

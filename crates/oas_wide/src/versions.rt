@@ -5,7 +5,7 @@ ghost use Rattle.oas_wide.specs.Versions.{passed_label, SpellsVersion, LongVersi
 use crate::long::read_long;
 use oas_num::{Source, TextClass, Why, next_within};
 
-/// So many bytes of an a-string, which are not kept.
+/// This many bytes of an a-string, which are not kept.
 fn pass_label<S: Source>(count: u64, source: &mut S) -> Result<(), Why>
     ensures { ReadsPiece (passed_label count).any (passed_label count).took (S.script source.old) result (S.script source.new) }
 {
@@ -15,8 +15,8 @@ fn pass_label<S: Source>(count: u64, source: &mut S) -> Result<(), Why>
     Ok(())
 }
 
-/// The version, an a-string that has to be `1.0`, with a length in any number of bytes. It is compared as it is read, so no
-/// memory is taken.
+/// The version, an a-string that has to be `1.0`, with a length in any number of bytes. It is compared as it is read, so
+/// nothing is allocated.
 pub(crate) fn read_version<S: Source>(source: &mut S) -> Result<(), Why>
     ensures { ReadsPiece SpellsVersion LongVersionTook (S.script source.old) result (S.script source.new) }
 {

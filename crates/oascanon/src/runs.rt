@@ -1,20 +1,26 @@
-//! Runs over one file and over two: each opens its files, runs, and tells what was said.
+//! Runs over one file and over two: each opens its files, runs, and prints what was said.
 
-use crate::session::{Incoming, Outgoing, Session};
-use oas_command::{
-    Form, Options, name_of, run_canon, run_check, run_diff, run_info, run_key, run_keys,
-    run_marking, run_named_check, run_named_key, run_rekey, run_same, run_show,
+use crate::advising::asked_of_two;
+use crate::labels::label_of;
+use crate::outcome::Outcome;
+use crate::session::{Incoming, Session};
+use oas_explain::oas_canon::{Limits, Outlet, Sink, Source};
+use oas_explain::oas_command::{
+    Form, Label, Options, PairWork, Work, name_of, pair_work_telling, run_marking, work_telling,
 };
-use oas_files::Printed;
-use oas_request::Question;
+use oas_request::oas_files::{Existing, Printed};
+use oas_request::{Ending, Question};
+use std::alloc::Global;
+use std::io::Write;
 
 /// What is run on one file.
 #[derive(Clone, Copy)]
 pub enum OfOne {
-    Canon,
-    /// A question, whose answer has no name.
+    /// What happens to a file under the output's name.
+    Canon(Existing),
+    /// A question, whose line has no name.
     Ask(Question),
-    /// A question, whose answer has the file's name.
+    /// A question, whose line has the file's name.
     AskNamed(Question),
     Show,
     Keys,
@@ -30,83 +36,130 @@ pub enum OfTwo {
 }
 
 impl OfOne {
-    /// Opens the file, runs, and answers the status; or that of a run that could not begin.
+    ghost use Rattle.std.specs.Prelude.{◌≡◌};
+    ghost use Rattle.oas_explain.specs.oas_command.Work.{DoesWork};
+    ghost use Rattle.oascanon.specs.Work.{work_of};
+
+    /// Opens the file, runs, and returns the status; or that of a run that could not begin.
     pub fn run<'a>(
         self,
         session: &Session<'a>,
         input: Option<&str>,
         output: Option<&'a str>,
     ) -> Result<u8, u8> {
+        Ok(self.begin(session, input, output)?.status)
+    }
+
+    /// Like `run`, and returns how the run ended.
+    pub fn begin<'a>(
+        self,
+        session: &Session<'a>,
+        input: Option<&str>,
+        output: Option<&'a str>,
+    ) -> Result<Outcome, u8> {
         let printed = session.printed(name_of(input))?;
         self.open(session, input, &printed, output)
     }
 
-    /// Opens the file of this name, and runs on it.
+    /// Opens the file with this name, and runs on it.
     fn open<'a>(
         self,
         session: &Session<'a>,
         input: Option<&str>,
         printed: &Printed<'_>,
         output: Option<&'a str>,
-    ) -> Result<u8, u8> {
+    ) -> Result<Outcome, u8> {
         let mut from = session.source(input, printed.as_str())?;
-        self.heard(session, printed, &mut from, output)
+        let label = label_of(input, printed, self.ending());
+        self.heard(session, input, printed.as_str(), label, &mut from, output)
     }
 
-    /// Runs on what was opened, and tells what was said.
+    /// What ends the lines of its output.
+    fn ending(self) -> Ending {
+        match self {
+            OfOne::AskNamed(Question::Key(ending)) => ending,
+            _ => Ending::Newline,
+        }
+    }
+
+    /// What happens to a file under the output's name.
+    fn existing(self) -> Existing {
+        match self {
+            OfOne::Canon(existing) => existing,
+            _ => Existing::Replaced,
+        }
+    }
+
+    /// Runs on what was opened, and prints what was said.
     fn heard<'a>(
         self,
         session: &Session<'a>,
-        printed: &Printed<'_>,
-        from: &mut Incoming,
+        input: Option<&str>,
+        name: &str,
+        label: Label<'_>,
+        from: &mut Incoming<'_>,
         output: Option<&'a str>,
-    ) -> Result<u8, u8> {
-        let name = printed.as_str();
+    ) -> Result<Outcome, u8> {
         let mut said = session.room(name, name.len())?;
-        let mut out = session.output(output);
-        let status = self.over(session, printed, from, &mut out, &mut said);
-        session.tell(&said, output, out.fault());
-        Ok(status)
+        let mut out = session.output(output, self.existing());
+        let mut told = Outlet::new(&mut said);
+        let (alloc, limits) = (session.rt.alloc(), session.limits);
+        let status = self.over(alloc, name, label, from, &mut out, &mut told, limits);
+        let _ = told.close();
+        let fault = out.fault();
+        session.tell(&said, output, fault, self.asked(input, output));
+        Ok(Outcome {
+            status,
+            is_last: fault.is_some(),
+        })
     }
 
-    /// Runs on what was opened, and answers the status.
-    fn over(
-        self,
-        session: &Session<'_>,
-        printed: &Printed<'_>,
-        from: &mut Incoming,
-        out: &mut Outgoing<'_>,
-        said: &mut Vec<u8>,
-    ) -> u8 {
-        let (alloc, limits, name) = (session.rt.alloc(), session.limits, printed.as_str());
-        let is_escaped = printed.is_escaped();
+    /// The work that this is. An answer names the file by the label.
+    fn work(self, label: Label<'_>) -> Work<'_>
+        ensures { result ≡ work_of self label.entry }
+    {
         match self {
-            OfOne::Canon => run_canon(alloc, name, from, out, said, limits),
-            OfOne::Ask(Question::Check) => run_check(alloc, name, from, out, said, limits),
-            OfOne::Ask(Question::Key) => run_key(alloc, name, from, out, said, limits),
-            OfOne::AskNamed(Question::Check) => {
-                run_named_check(alloc, name, from, out, said, limits)
-            }
-            OfOne::AskNamed(Question::Key) => {
-                run_named_key(alloc, name, is_escaped, from, out, said, limits)
-            }
-            OfOne::Show => run_show(alloc, name, from, out, said, limits),
-            OfOne::Keys => run_keys(alloc, name, from, out, said, limits),
-            OfOne::Info(form) => run_info(alloc, name, from, form, out, said, limits),
-            OfOne::Rekey => run_rekey(alloc, name, from, out, said, limits),
+            OfOne::Canon(_) => Work::Canon,
+            OfOne::Ask(Question::Check) => Work::Check,
+            OfOne::Ask(Question::Key(_)) => Work::Key,
+            OfOne::AskNamed(Question::Check) => Work::NamedCheck(label),
+            OfOne::AskNamed(Question::Key(_)) => Work::NamedKey(label),
+            OfOne::Show => Work::Show,
+            OfOne::Keys => Work::CellKeys,
+            OfOne::Info(form) => Work::Info(form),
+            OfOne::Rekey => Work::Rekey,
         }
+    }
+
+    /// Runs on what was opened, and returns the status.
+    fn over<S: Source, W: Write, K: Sink>(
+        self,
+        alloc: Global,
+        name: &str,
+        label: Label<'_>,
+        from: &mut S,
+        out: &mut W,
+        told: &mut K,
+        limits: Limits,
+    ) -> u8
+        ensures { DoesWork W.contents K.given K.failures limits name.now (S.script from.old) out.old told.old (work_of self label.entry) result (S.script from.new) out.new told.new }
+    {
+        work_telling(alloc, self.work(label), name, from, out, told, limits)
     }
 }
 
 /// A file of a command line, and its name as it is printed.
 #[derive(Clone, Copy)]
-struct Named<'a> {
-    path: Option<&'a str>,
-    name: &'a str,
+pub struct Named<'a> {
+    pub path: Option<&'a str>,
+    pub name: &'a str,
 }
 
 impl OfTwo {
-    /// Opens both files before one is read, runs, and answers the status; or that of a run that could not begin.
+    ghost use Rattle.oas_explain.specs.oas_command.Work.{DoesPairWork};
+    ghost use Rattle.oascanon.specs.Work.{pair_work_of};
+
+    /// Opens both files before one is read, runs, and returns the status; or that of a run that could not begin.
     pub fn run(
         self,
         session: &Session<'_>,
@@ -134,43 +187,50 @@ impl OfTwo {
     fn open(self, session: &Session<'_>, a: Named<'_>, b: Named<'_>) -> Result<u8, u8> {
         let mut from_a = session.source(a.path, a.name)?;
         let mut from_b = session.source(b.path, b.name)?;
-        self.heard(session, a.name, &mut from_a, b.name, &mut from_b)
+        self.heard(session, a, &mut from_a, b, &mut from_b)
     }
 
-    /// Runs on what was opened, and tells what was said.
+    /// Runs on what was opened, and prints what was said.
     fn heard(
         self,
         session: &Session<'_>,
-        name_a: &str,
-        from_a: &mut Incoming,
-        name_b: &str,
-        from_b: &mut Incoming,
+        a: Named<'_>,
+        from_a: &mut Incoming<'_>,
+        b: Named<'_>,
+        from_b: &mut Incoming<'_>,
     ) -> Result<u8, u8> {
-        let mut said = session.room(name_a, name_a.len().max(name_b.len()))?;
-        let mut out = session.output(None);
-        let status = self.over(session, name_a, from_a, name_b, from_b, &mut out, &mut said);
-        session.tell(&said, None, out.fault());
+        let mut said = session.room(a.name, a.name.len().max(b.name.len()))?;
+        let mut out = session.output(None, Existing::Replaced);
+        let mut told = Outlet::new(&mut said);
+        let (alloc, limits) = (session.rt.alloc(), session.limits);
+        let (name_a, name_b) = (a.name, b.name);
+        let status = self.over(
+            alloc, name_a, from_a, name_b, from_b, &mut out, &mut told, limits,
+        );
+        let _ = told.close();
+        session.tell(&said, None, out.fault(), asked_of_two(&said, a, b));
         Ok(status)
     }
 
-    /// Runs on what was opened, and answers the status.
-    fn over(
+    /// Runs on what was opened, and returns the status.
+    fn over<S: Source, T: Source, W: Write, K: Sink>(
         self,
-        session: &Session<'_>,
+        alloc: Global,
         name_a: &str,
-        from_a: &mut Incoming,
+        a: &mut S,
         name_b: &str,
-        from_b: &mut Incoming,
-        out: &mut Outgoing<'_>,
-        said: &mut Vec<u8>,
-    ) -> u8 {
-        let (alloc, limits) = (session.rt.alloc(), session.limits);
-        match self {
-            OfTwo::Same => run_same(alloc, name_a, from_a, name_b, from_b, out, said, limits),
-            OfTwo::Diff(options) => run_diff(
-                alloc, name_a, from_a, name_b, from_b, options, out, said, limits,
-            ),
-        }
+        b: &mut T,
+        out: &mut W,
+        told: &mut K,
+        limits: Limits,
+    ) -> u8
+        ensures { DoesPairWork W.contents K.given K.failures limits T.script name_a.now name_b.now (S.script a.old) b.old out.old told.old (pair_work_of self) result (S.script a.new) b.new out.new told.new }
+    {
+        let work = match self {
+            OfTwo::Same => PairWork::Same,
+            OfTwo::Diff(options) => PairWork::Diff(options),
+        };
+        pair_work_telling(alloc, work, name_a, a, name_b, b, out, told, limits)
     }
 }
 
@@ -210,9 +270,9 @@ fn open_to_mark<'a>(
     let mut from_b = session.source(b.path, b.name)?;
     mark_heard(
         session,
-        a.name,
+        a,
         &mut from_a,
-        b.name,
+        b,
         &mut from_b,
         options,
         markers,
@@ -220,26 +280,26 @@ fn open_to_mark<'a>(
     )
 }
 
-/// Runs `diff` on what was opened, and tells what was said.
+/// Runs `diff` on what was opened, and prints what was said.
 fn mark_heard<'a>(
     session: &Session<'a>,
-    name_a: &str,
-    from_a: &mut Incoming,
-    name_b: &str,
-    from_b: &mut Incoming,
+    a: Named<'_>,
+    from_a: &mut Incoming<'_>,
+    b: Named<'_>,
+    from_b: &mut Incoming<'_>,
     options: Options,
     markers: &'a str,
     own: &str,
 ) -> Result<u8, u8> {
-    let bytes = name_a.len().max(name_b.len()).max(own.len());
-    let mut said = session.room(name_a, bytes)?;
-    let mut out = session.output(None);
-    let mut marked = session.output(Some(markers));
+    let bytes = a.name.len().max(b.name.len()).max(own.len());
+    let mut said = session.room(a.name, bytes)?;
+    let mut out = session.output(None, Existing::Replaced);
+    let mut marked = session.output(Some(markers), Existing::Replaced);
     let status = run_marking(
         session.rt.alloc(),
-        name_a,
+        a.name,
         from_a,
-        name_b,
+        b.name,
         from_b,
         options,
         &mut out,
@@ -248,17 +308,10 @@ fn mark_heard<'a>(
         &mut said,
         session.limits,
     );
+    let asked = asked_of_two(&said, a, b);
     match marked.fault() {
-        Some(fault) => session.tell(&said, Some(markers), Some(fault)),
-        None => session.tell(&said, None, out.fault()),
+        Some(fault) => session.tell(&said, Some(markers), Some(fault), asked),
+        None => session.tell(&said, None, out.fault(), asked),
     }
     Ok(status)
-}
-
-/// The status of a run, or of one that could not begin.
-pub fn ended(status: Result<u8, u8>) -> u8 {
-    match status {
-        Ok(status) => status,
-        Err(status) => status,
-    }
 }

@@ -1,17 +1,26 @@
-//! What each run is given beside its files: limits, progress, and the way in which messages are told.
+//! What each run is given in addition to its files: limits, progress, and how messages are printed.
 
-use oas_canon::{Limits, ReaderSource, Refusal, Why};
-use oas_explain::{Recorded, Voice};
-use oas_files::{Input, Output, Printed};
-use oas_progress::{Meter, Reading, Writing};
+ghost use Rattle.std.specs.Prelude.{IfOk};
+ghost use Rattle.oas_explain.specs.oas_command.oas_canon.Opening.{IsOpened};
+
+use oas_explain::oas_canon::{Limits, ReaderSource, Refusal, Why, open_source};
+use oas_explain::oas_progress::{Meter, Reading, Style, Writing};
+use oas_explain::{Asked, Recorded, Voice, advise};
+use oas_request::oas_files::{Existing, Input, Output, Printed, is_input_marked};
 use std::io;
-use std::io::Stderr;
+use std::io::{ErrorKind, IsTerminal, Stderr};
 
 /// The input of a run.
-pub type Incoming = ReaderSource<Reading<Input, Stderr>>;
+pub type Incoming<'a> = ReaderSource<Reading<'a, Input, Stderr>>;
 
 /// The output of a run.
-pub type Outgoing<'a> = Recorded<Writing<Output<'a>, Stderr>>;
+pub type Outgoing<'a> = Recorded<Writing<'a, Output<'a>, Stderr>>;
+
+/// The name of standard output in messages.
+const STANDARD_OUTPUT: &str = "standard output";
+
+/// How the line of an input without bytes ends.
+const NOTHING_CAME: &[u8] = b": refused 2 at 0\n";
 
 /// What holds for all runs of a command line.
 #[derive(Drop)]
@@ -25,78 +34,118 @@ pub struct Session<'a> {
 }
 
 impl<'a> Session<'a> {
-    /// Where messages are told.
+    /// Where messages are printed.
     pub fn voice(&self) -> Voice<Stderr> {
-        Voice::new(self.rt.stderr(), self.explains, self.shows_progress)
+        let is_over = self.shows_progress && self.style() == Style::Over;
+        Voice::new(self.rt.stderr(), self.explains, is_over)
     }
 
-    /// A name as it is printed, or the status where there is no memory for it.
+    /// A name as it is printed, or the status if out of memory.
     pub fn printed<'n>(&self, name: &'n str) -> Result<Printed<'n>, u8> {
         Printed::new(self.rt.alloc(), name).map_err(|_| self.unbegun("?"))
     }
 
-    /// Room for what a run says of files whose names have so many bytes, or the status where there is no memory for it, which
-    /// is said under this name.
+    /// Room for what a run says about files whose names have this many bytes, or the status if out of memory, which is said
+    /// under this name.
     pub fn room(&self, name: &str, bytes: usize) -> Result<Vec<u8>, u8> {
         self.voice().room(self.rt.alloc(), name, bytes)
     }
 
-    /// The status of a run for which there is no memory, after its line on standard error under this name.
-    fn unbegun(&self, name: &str) -> u8 {
+    /// The status of a run that is out of memory, after its line on standard error under this name.
+    pub fn unbegun(&self, name: &str) -> u8 {
         let why = Why::Memory;
         self.voice().refused(name, Refusal { at: 0, why })
     }
 
     /// The source of an input, or the status where there is none, after its line on standard error under this name.
-    pub fn source(&self, input: Option<&str>, name: &str) -> Result<Incoming, u8> {
+    pub fn source<'n>(&self, input: Option<&str>, name: &'n str) -> Result<Incoming<'n>, u8>
+        ensures { IfOk result (λ source. IsOpened self.now.limits source.script) }
+    {
         match Input::open(self.rt, input) {
             Ok(opened) => self.source_of(opened, name),
             Err(error) => Err(self.voice().unopened(name, &error)),
         }
     }
 
-    /// The source of what was opened, or the status where there is no memory for it.
-    fn source_of(&self, opened: Input, name: &str) -> Result<Incoming, u8> {
-        let meter = self.meter_of_read(opened.size());
+    /// The source of what was opened, or the status if out of memory.
+    fn source_of<'n>(&self, opened: Input, name: &'n str) -> Result<Incoming<'n>, u8>
+        ensures { IfOk result (λ source. IsOpened self.now.limits source.script) }
+    {
+        let meter = self.meter_of_read(name, opened.size());
         let reader = Reading::new(opened, meter);
-        ReaderSource::new(self.rt.alloc(), reader, self.limits.input()).map_err(|_| self.unbegun(
-            name,
-        ))
+        match open_source(self.rt.alloc(), reader, self.limits) {
+            Ok(source) => Ok(source),
+            Err(_) => Err(self.unbegun(name)),
+        }
     }
 
-    /// The meter of an input of this size, where long work shows how far it is.
-    fn meter_of_read(&self, size: Option<u64>) -> Option<Meter<Stderr>> {
+    /// How the lines of long work are shown.
+    fn style(&self) -> Style {
+        if self.rt.stderr().is_terminal() {
+            Style::Over
+        } else {
+            Style::Lines
+        }
+    }
+
+    /// The meter of an input with this name and size, where long work shows how far it is.
+    fn meter_of_read<'n>(&self, name: &'n str, size: Option<u64>) -> Option<Meter<'n, Stderr>> {
         if self.shows_progress {
-            Some(Meter::of_read(self.rt.stderr(), size))
+            Some(Meter::of_read(self.rt.stderr(), self.style(), name, size))
         } else {
             None
         }
     }
 
-    /// The meter of an output, where long work shows how far it is.
-    fn meter_of_written(&self) -> Option<Meter<Stderr>> {
+    /// The meter of an output with this name, where long work shows how far it is.
+    fn meter_of_written<'n>(&self, name: &'n str) -> Option<Meter<'n, Stderr>> {
         if self.shows_progress {
-            Some(Meter::of_written(self.rt.stderr()))
+            Some(Meter::of_written(self.rt.stderr(), self.style(), name))
         } else {
             None
         }
     }
 
-    /// The output of this name, or standard output.
-    pub fn output(&self, path: Option<&'a str>) -> Outgoing<'a> {
-        let meter = self.meter_of_written();
-        Recorded::new(Writing::new(Output::new(self.rt, path), meter))
+    /// The output with this name, which does this to a file that is there; or standard output.
+    pub fn output(&self, path: Option<&'a str>, existing: Existing) -> Outgoing<'a> {
+        let output = match existing {
+            Existing::Replaced => Output::new(self.rt, path),
+            Existing::Kept => Output::keeping_old(self.rt, path),
+        };
+        let meter = self.meter_of_written(path.unwrap_or(STANDARD_OUTPUT));
+        Recorded::new(Writing::new(output, meter))
     }
 
-    /// Tells what a run said. Where refusals are explained, why its output failed stands behind that.
-    pub fn tell(&self, said: &[u8], output: Option<&str>, fault: Option<io::Error>) {
+    /// Prints what a run said. Where refusals are explained, why its output failed comes after it, and what to try below.
+    /// Nothing is printed for an output whose reader went away, and for an input that is empty because the program before
+    /// refused its own and has said why.
+    pub fn tell(
+        &self,
+        said: &[u8],
+        output: Option<&str>,
+        fault: Option<io::Error>,
+        asked: Asked<'_>,
+    ) {
+        if fault.is_some_and(|error| error.kind() == ErrorKind::BrokenPipe) {
+            return;
+        }
+        if asked.path.is_none() && said.ends_with(NOTHING_CAME) && is_input_marked(self.rt) {
+            return;
+        }
         let words = match fault {
-            Some(error) => self.words_of(output.unwrap_or("standard output"), &error),
+            Some(error) => self.words_of(output.unwrap_or(STANDARD_OUTPUT), &error),
             None => None,
         };
-        match words {
-            Some(words) => self.voice().tell(said, words.as_str()),
-            None => self.voice().tell(said, ""),
+        let advice = self.advice(said, asked);
+        self.voice().tell(said, text_of(&words), text_of(&advice));
+    }
+
+    /// What to try, where refusals are explained.
+    fn advice(&self, said: &[u8], asked: Asked<'_>) -> Option<String> {
+        if self.explains {
+            advise(self.rt, said, asked)
+        } else {
+            None
         }
     }
 
@@ -106,5 +155,13 @@ impl<'a> Session<'a> {
         let shown = Printed::new(alloc, output).ok()?;
         let name = shown.as_str();
         format!(in alloc; " ({name}: {error})").ok()
+    }
+}
+
+/// A text, or nothing.
+fn text_of(text: &Option<String>) -> &str {
+    match text {
+        Some(text) => text.as_str(),
+        None => "",
     }
 }

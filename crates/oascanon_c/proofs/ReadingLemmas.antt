@@ -6,29 +6,29 @@ use Rattle.std.proofs.lemmas.List.{take_all}
 use Rattle.sha2.specs.Sha256.{sha256}
 use Rattle.oas_num.specs.declared.refusals.Why.TheVariants.{Memory}
 use Rattle.oas_num.specs.declared.refusals.Refusal.{Refusal}
-use Rattle.oas_num.specs.Script.{Script, Rest, Gave, NoneLeft, Takes, IsAtEnd}
+use Rattle.oas_num.specs.Script.{Script, Rest, Gave, NoneLeft, Consumed, IsAtEnd}
 use Rattle.oas_layout.specs.declared.limits.Limits.{Limits}
 use Rattle.oas_layout.specs.declared.profile.Profile.{Profile}
 use Rattle.oas_layout.specs.declared.profile.Profile.TheVariants.{Two}
-use Rattle.oas_layout.specs.Contents.{Contents, IsLayout, meaning_of}
+use Rattle.oas_layout.specs.Contents.{Contents, meaning_of}
 use Rattle.oas_layout.specs.Limits.{AreLimits}
 use Rattle.oas_layout.specs.Meaning.{SameLayout}
 use Rattle.oas_layout.proofs.LawProofs.{symmetric, transitive}
 use Rattle.oas_listing.specs.Listing.{listing}
-use Rattle.oas_file.specs.Acceptance.{Accepted, Means}
-use Rattle.oas_file.specs.Deciding.{IsReasoned}
-use Rattle.oas_file.specs.Reading.{IsRead, IsRefused, IsPlaced, ReadsLayout}
-use Rattle.oas_form.specs.Bytes.{canonical_bytes}
-use Rattle.oas_form.specs.Canonical.{CanonicalForm, IsCanonicalOf}
-use Rattle.oas_form.proofs.Held.{form_is_bytes}
-use Rattle.oas_form.proofs.Written.{canonical_form}
+use Rattle.oas_canon.specs.oas_file.Acceptance.{Accepted, Means}
+use Rattle.oas_canon.specs.oas_file.Deciding.{IsReasoned}
+use Rattle.oas_canon.specs.oas_file.Reading.{IsRead, IsRefused, IsPlaced, ReadsLayout}
+use Rattle.oas_canon.specs.oas_form.Bytes.{canonical_bytes}
+use Rattle.oas_canon.specs.oas_form.Canonical.{CanonicalForm, IsCanonicalOf}
+use Rattle.oas_canon.proofs.oas_form_proofs.Held.{form_is_bytes}
+use Rattle.oas_canon.proofs.oas_form_proofs.Written.{canonical_form}
 use Rattle.oas_canon.specs.Run.{IsKeyed}
 use Rattle.oas_canon.proofs.Whole.{all_given, Cause, Bytes, End, Device, Limit, Writer, Room, cause_of, front_not, within_not}
 use Rattle.oascanon_c.specs.declared.answers.Answer.{Answer}
 use Rattle.oascanon_c.specs.declared.answers.Answer.TheVariants.{Done, No, TooSmall, NotLimits, Refused}
 use Rattle.oascanon_c.specs.declared.bounds.Bounds.{Bounds}
 use Rattle.oascanon_c.specs.Rooms.{Puts}
-use Rattle.oascanon_c.specs.Buffers.{over, IsReadFrom, IsRefusedFor, Canonicalizes, Lists, Judges, Compares, AreRead, answered}
+use Rattle.oascanon_c.specs.Buffers.{over, IsTaken, IsReadFrom, IsRefusedFor, Canonicalizes, Lists, Judges, Compares, AreRead, answered}
 
 -- all that the source is to give
 abbrev whole : Limits → List ℕ → Rest
@@ -40,20 +40,22 @@ goes_off bytes rest None g n = absurd g
 goes_off bytes rest (Some r) g n = sym g.1 ∙ n.1
 
 -- what was taken to the end is all of them
-all_taken : (limits : Limits) (bytes taken : List ℕ) (new : Script) → Takes (over limits bytes) taken new → IsAtEnd new → taken ≡ bytes
+all_taken : (limits : Limits) (bytes taken : List ℕ) (new : Script) → Consumed (over limits bytes) taken new → IsAtEnd new → (taken ≡ bytes) × (length bytes ≤ limits.input)
 all_taken limits bytes taken new t e =
     let off : nat_lt limits.input (length bytes) ≡ false = goes_off taken (whole limits bytes) new.rest t.rest e.none in
-    all_given taken (whole limits bytes) new.rest t.rest e.none ∙ take_all limits.input bytes (ltb-false limits.input (length bytes) off)
+    let fits : length bytes ≤ limits.input = ltb-false limits.input (length bytes) off in
+    (all_given taken (whole limits bytes) new.rest t.rest e.none ∙ take_all limits.input bytes fits, fits)
 
 module _ {limits : Limits} {bytes : List ℕ} {new : Script} where
   pub read_from : {l : Contents} → IsRead limits Two (over limits bytes) l new → IsReadFrom limits bytes l
   read_from r =
-      let same : r.bytes ≡ bytes = all_taken limits bytes r.bytes new r.takes r.ended in
+      let all = all_taken limits bytes r.bytes new r.takes r.ended in
       record {
-        accepted = subst (Accepted limits) same r.accepted;
+        taken = record { accepted = subst (Accepted limits) all.0 r.accepted; fits = all.1 };
         meaning = r.meaning;
-        means = subst (λ (b : List ℕ). Means b r.meaning) same r.means;
+        means = subst (λ (b : List ℕ). Means b r.meaning) all.0 r.means;
         same = r.same;
+        layout = r.layout;
         within = r.within;
         by = r.by;
       }
@@ -74,11 +76,13 @@ module _ {limits : Limits} {bytes : List ℕ} {new : Script} where
       by_cause (Writer e) = absurd (f.reading e)
       by_cause (Room e) = e
 
-  pub keyed_from : {digest : List ℕ} → IsKeyed limits Two (over limits bytes) new digest → Accepted limits bytes
+  pub keyed_from : {digest : List ℕ} → IsKeyed limits Two (over limits bytes) new digest → IsTaken limits bytes
       × ((canonical : List ℕ) × IsCanonicalOf limits Two bytes canonical × (digest ≡ sha256 canonical))
   keyed_from k =
-      let same : k.bytes ≡ bytes = all_taken limits bytes k.bytes new k.taken.takes k.taken.ended in
-      (subst (Accepted limits) same k.taken.accepted, (k.canonical, subst (λ (b : List ℕ). IsCanonicalOf limits Two b k.canonical) same k.is, k.hashed))
+      let all = all_taken limits bytes k.bytes new k.taken.takes k.taken.ended in (
+        record { accepted = subst (Accepted limits) all.0 k.taken.accepted; fits = all.1 },
+        (k.canonical, subst (λ (b : List ℕ). IsCanonicalOf limits Two b k.canonical) all.0 k.is, k.hashed),
+      )
 
 module _ (limits : Limits) (bytes : List ℕ) (new : Script) where
   pub outcome_read : (r : Result Contents Refusal) → ReadsLayout limits Two (over limits bytes) r new → IfOk r (IsReadFrom limits bytes)
@@ -91,56 +95,56 @@ module _ (limits : Limits) (bytes : List ℕ) (new : Script) where
 
 -- ---- the form of what was read
 
-module _ {limits : Limits} {bytes : List ℕ} {l : Contents} (read : IsReadFrom limits bytes l) (held : IsLayout l) where
+module _ {limits : Limits} {bytes : List ℕ} {l : Contents} (read : IsReadFrom limits bytes l) where
   pub form : CanonicalForm limits Two (canonical_bytes (meaning_of l))
-  form = subst (λ (p : Limits × Profile). CanonicalForm p.0 p.1 (canonical_bytes (meaning_of l))) (λ i. (read.within i, read.by i)) (canonical_form l held).0
+  form = subst (λ (p : Limits × Profile). CanonicalForm p.0 p.1 (canonical_bytes (meaning_of l))) (λ i. (read.within i, read.by i)) (canonical_form l read.layout).0
 
   pub is_form : IsCanonicalOf limits Two bytes (canonical_bytes (meaning_of l))
-  is_form = record { form = form; source = read.meaning; target = meaning_of l; means = read.means; becomes = (canonical_form l held).1; same = read.same }
+  is_form = record { form = form; source = read.meaning; target = meaning_of l; means = read.means; becomes = (canonical_form l read.layout).1; same = read.same }
 
   -- whether the bytes are that form
   pub spelled : (says : Bool) → (IsTrue says ↔ (canonical_bytes (meaning_of l) ≡ bytes)) → IsTrue says ↔ CanonicalForm limits Two bytes
   spelled says h = (
     λ t. subst (CanonicalForm limits Two) (h.0 t) form,
-    λ f. h.1 (sym (form_is_bytes limits bytes read.meaning l (subst (λ (p : Profile). CanonicalForm limits p bytes) (sym read.by) f) read.means held
+    λ f. h.1 (sym (form_is_bytes limits bytes read.meaning l (subst (λ (p : Profile). CanonicalForm limits p bytes) (sym read.by) f) read.means read.layout
         (subst (λ (p : Profile). SameLayout p read.meaning (meaning_of l)) (sym read.by) read.same))),
   )
 
 -- ---- what is told
 
 module _ (b : Bounds) {limits : Limits} (are : AreLimits limits b.elements b.weight b.input) {bytes : List ℕ} {l : Contents} (read : IsReadFrom limits bytes l) where
-  pub form_told : (old new : List ℕ) → IsLayout l → (a : Answer) → Puts (canonical_bytes (meaning_of l)) old a new → Canonicalizes b bytes old a new
-  form_told old new held (Done n) p = (limits, are, (read.accepted, (canonical_bytes (meaning_of l), is_form read held, p)))
-  form_told old new held (TooSmall n) p = (limits, are, (read.accepted, (canonical_bytes (meaning_of l), is_form read held, p)))
-  form_told old new held No p = absurd p
-  form_told old new held NotLimits p = absurd p
-  form_told old new held (Refused which refusal) p = absurd p
+  pub form_told : (old new : List ℕ) (a : Answer) → Puts (canonical_bytes (meaning_of l)) old a new → Canonicalizes b bytes old a new
+  form_told old new (Done n) p = (limits, are, (read.taken, (canonical_bytes (meaning_of l), is_form read, p)))
+  form_told old new (TooSmall n) p = (limits, are, (read.taken, (canonical_bytes (meaning_of l), is_form read, p)))
+  form_told old new No p = absurd p
+  form_told old new NotLimits p = absurd p
+  form_told old new (Refused which refusal) p = absurd p
 
   pub lines_told : (old new : List ℕ) (a : Answer) → Puts (listing (meaning_of l)) old a new → Lists b bytes old a new
-  lines_told old new (Done n) p = (limits, are, (read.accepted, (read.meaning, meaning_of l, read.means, read.same, p)))
-  lines_told old new (TooSmall n) p = (limits, are, (read.accepted, (read.meaning, meaning_of l, read.means, read.same, p)))
+  lines_told old new (Done n) p = (limits, are, (read.taken, (l, read, p)))
+  lines_told old new (TooSmall n) p = (limits, are, (read.taken, (l, read, p)))
   lines_told old new No p = absurd p
   lines_told old new NotLimits p = absurd p
   lines_told old new (Refused which refusal) p = absurd p
 
-  pub judged : IsLayout l → (says : Bool) → (IsTrue says ↔ (canonical_bytes (meaning_of l) ≡ bytes)) → Judges b bytes (answered says)
-  judged held true h = (limits, are, (read.accepted, ((spelled read held true h).0 refl, refl)))
-  judged held false h = (limits, are, (read.accepted, λ f. let no = (spelled read held false h).1 f in cc))
+  pub judged : (says : Bool) → (IsTrue says ↔ (canonical_bytes (meaning_of l) ≡ bytes)) → Judges b bytes (answered says)
+  judged true h = (limits, are, (read.taken, ((spelled read true h).0 refl, refl)))
+  judged false h = (limits, are, (read.taken, λ f. let no = (spelled read false h).1 f in cc))
 
 -- ---- two files
 
 module _ {limits : Limits} {one other : List ℕ} {l k : Contents} (first : IsReadFrom limits one l) (second : IsReadFrom limits other k) where
   abbrev are_read : AreRead limits one other
   are_read = record {
-    accepted_one = first.accepted;
-    accepted_other = second.accepted;
+    taken_one = first.taken;
+    taken_other = second.taken;
     first = first.meaning;
     second = second.meaning;
     means_first = first.means;
     means_second = second.means;
   }
 
-  -- the answer of the layouts is that of the meanings
+  -- the result for the layouts is that for the meanings
   pub compared : (says : Bool) → (IsTrue says ↔ SameLayout l.profile (meaning_of l) (meaning_of k)) → IsTrue says ↔ SameLayout Two first.meaning second.meaning
   compared says h = (
     λ t.

@@ -7,13 +7,13 @@ use Rattle.oas_num.specs.Script.{Script, slice_script}
 use Rattle.oas_layout.specs.declared.limits.Limits.{Limits}
 use Rattle.oas_layout.specs.declared.profile.Profile.TheVariants.{Two}
 use Rattle.oas_layout.specs.Limits.{IsLimits, AreLimits}
-use Rattle.oas_layout.specs.Contents.{Contents, meaning_of}
+use Rattle.oas_layout.specs.Contents.{Contents, IsLayout, meaning_of}
 use Rattle.oas_layout.specs.Meaning.{Meaning, SameLayout}
 use Rattle.oas_listing.specs.Listing.{listing}
-use Rattle.oas_file.specs.Acceptance.{Accepted, Means}
-use Rattle.oas_file.specs.Deciding.{IsReasoned}
-use Rattle.oas_file.specs.Reading.{IsRefused, IsPlaced}
-use Rattle.oas_form.specs.Canonical.{CanonicalForm, IsCanonicalOf}
+use Rattle.oas_canon.specs.oas_file.Acceptance.{Accepted, Means}
+use Rattle.oas_canon.specs.oas_file.Deciding.{IsReasoned}
+use Rattle.oas_canon.specs.oas_file.Reading.{IsRefused, IsPlaced}
+use Rattle.oas_canon.specs.oas_form.Canonical.{CanonicalForm, IsCanonicalOf}
 use Rattle.oas_canon.specs.declared.sameness.Which.TheVariants.{First, Second}
 use Rattle.oascanon_c.specs.declared.answers.Answer.{Answer}
 use Rattle.oascanon_c.specs.declared.answers.Answer.TheVariants.{Done, No, TooSmall, NotLimits, Refused}
@@ -25,7 +25,7 @@ abbrev pub over : Limits → List ℕ → Script
 over limits bytes = slice_script bytes limits.input 0
 
 -- These bytes are refused, at this place and for this reason, as `read_layout` says. Accepted ones of allowed length are
--- refused for want of memory alone.
+-- refused for lack of memory alone.
 pub record IsRefusedFor (limits : Limits) (bytes : List ℕ) (refusal : Refusal) : Type 0 where
   pub left : Script
   pub refused : IsRefused limits (over limits bytes) refusal.why left
@@ -33,12 +33,18 @@ pub record IsRefusedFor (limits : Limits) (bytes : List ℕ) (refusal : Refusal)
   pub reasoned : IsReasoned limits (over limits bytes) refusal left
   pub rightly : length bytes ≤ limits.input → Accepted limits bytes → refusal.why ≡ Memory
 
--- what is read of bytes that are accepted
-pub record IsReadFrom (limits : Limits) (bytes : List ℕ) (l : Contents) : Type 0 where
+-- the bytes are an accepted file, and no more of them than an input may have
+pub record IsTaken (limits : Limits) (bytes : List ℕ) : Type 0 where
   pub accepted : Accepted limits bytes
+  pub fits : length bytes ≤ limits.input
+
+-- the layout that is read of bytes
+pub record IsReadFrom (limits : Limits) (bytes : List ℕ) (l : Contents) : Type 0 where
+  pub taken : IsTaken limits bytes
   pub meaning : Meaning
   pub means : Means bytes meaning
   pub same : SameLayout Two meaning (meaning_of l)
+  pub layout : IsLayout l
   pub within : l.limits ≡ limits
   pub by : l.profile ≡ Two
 
@@ -46,11 +52,11 @@ pub record IsReadFrom (limits : Limits) (bytes : List ℕ) (l : Contents) : Type
 abbrev pub Within : Bounds → (Limits → Type 0) → Type 0
 Within b P = (limits : Limits) × AreLimits limits b.elements b.weight b.input × P limits
 
--- of one file: no limits, a refusal, or an answer about an accepted file; without an answer the output is as it was
+-- of one file: no limits, a refusal, or an answer about a file that is taken; without an answer the output is as it was
 abbrev pub Tells : Bounds → List ℕ → Type 0 → (Limits → Answer → Type 0) → Answer → Type 0
-Tells b bytes same answers (Done n) = Within b (λ limits. Accepted limits bytes × answers limits (Done n))
-Tells b bytes same answers No = Within b (λ limits. Accepted limits bytes × answers limits No)
-Tells b bytes same answers (TooSmall n) = Within b (λ limits. Accepted limits bytes × answers limits (TooSmall n))
+Tells b bytes same answers (Done n) = Within b (λ limits. IsTaken limits bytes × answers limits (Done n))
+Tells b bytes same answers No = Within b (λ limits. IsTaken limits bytes × answers limits No)
+Tells b bytes same answers (TooSmall n) = Within b (λ limits. IsTaken limits bytes × answers limits (TooSmall n))
 Tells b bytes same answers NotLimits = (IsLimits b.elements b.weight b.input → ⊥) × same
 Tells b bytes same answers (Refused First refusal) = Within b (λ limits. IsRefusedFor limits bytes refusal) × same
 Tells b bytes same answers (Refused Second refusal) = ⊥
@@ -69,9 +75,9 @@ YesOrNo P _ = ⊥
 abbrev pub Canonicalizes : Bounds → List ℕ → List ℕ → Answer → List ℕ → Type 0
 Canonicalizes b bytes old answer new = Tells b bytes (new ≡ old) (λ limits a. (canonical : List ℕ) × IsCanonicalOf limits Two bytes canonical × Puts canonical old a new) answer
 
--- the listing of a layout that the bytes mean is put
+-- the listing of the layout that is read of the bytes is put
 abbrev pub Lists : Bounds → List ℕ → List ℕ → Answer → List ℕ → Type 0
-Lists b bytes old answer new = Tells b bytes (new ≡ old) (λ limits a. (m : Meaning) × (l : Meaning) × Means bytes m × SameLayout Two m l × Puts (listing l) old a new) answer
+Lists b bytes old answer new = Tells b bytes (new ≡ old) (λ limits a. (l : Contents) × IsReadFrom limits bytes l × Puts (listing (meaning_of l)) old a new) answer
 
 -- whether the bytes are a canonical form
 abbrev pub Judges : Bounds → List ℕ → Answer → Type 0
@@ -81,20 +87,20 @@ Judges b bytes answer = Tells b bytes ⊤ (λ limits a. YesOrNo (CanonicalForm l
 abbrev pub Keys : Bounds → List ℕ → List ℕ → Answer → List ℕ → Type 0
 Keys b bytes old answer new = Tells b bytes (new ≡ old) (λ limits a. (canonical : List ℕ) × IsCanonicalOf limits Two bytes canonical × (a ≡ Done 32) × (new ≡ sha256 canonical)) answer
 
--- both files are accepted, and mean these
+-- both files are taken, and mean these
 pub record AreRead (limits : Limits) (one other : List ℕ) : Type 0 where
-  pub accepted_one : Accepted limits one
-  pub accepted_other : Accepted limits other
+  pub taken_one : IsTaken limits one
+  pub taken_other : IsTaken limits other
   pub first : Meaning
   pub second : Meaning
   pub means_first : Means one first
   pub means_second : Means other second
 
--- whether the bytes mean one layout; a refusal is that of the file that it names, and of the second where the first is accepted
+-- whether the bytes mean one layout; a refusal is that of the file that it names, and of the second where the first is taken
 abbrev pub Compares : Bounds → List ℕ → List ℕ → Answer → Type 0
 Compares b one other (Done n) = Within b (λ limits. (r : AreRead limits one other) × SameLayout Two r.first r.second) × (n ≡ 0)
 Compares b one other No = Within b (λ limits. (r : AreRead limits one other) × (SameLayout Two r.first r.second → ⊥))
 Compares b one other (TooSmall n) = ⊥
 Compares b one other NotLimits = IsLimits b.elements b.weight b.input → ⊥
 Compares b one other (Refused First refusal) = Within b (λ limits. IsRefusedFor limits one refusal)
-Compares b one other (Refused Second refusal) = Within b (λ limits. Accepted limits one × IsRefusedFor limits other refusal)
+Compares b one other (Refused Second refusal) = Within b (λ limits. IsTaken limits one × IsRefusedFor limits other refusal)

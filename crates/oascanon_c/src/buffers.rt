@@ -1,16 +1,16 @@
 //! The calls, over bytes and room.
 ghost use Rattle.std.specs.Prelude.{◌≡◌, IfOk, IfErr};
-ghost use Rattle.oas_layout.specs.Contents.{meaning_of, IsLayout};
+ghost use Rattle.oas_layout.specs.Contents.{meaning_of};
 ghost use Rattle.oas_listing.specs.Listing.{listing};
-ghost use Rattle.oas_form.specs.Bytes.{canonical_bytes};
+ghost use Rattle.oas_canon.specs.oas_form.Bytes.{canonical_bytes};
 ghost use Rattle.oascanon_c.specs.Buffers.{answered, Canonicalizes, Compares, IsReadFrom, IsRefusedFor, Judges, Keys, Lists};
 ghost use Rattle.oascanon_c.specs.Rooms.{Puts};
 
 use crate::answers::Answer;
 use crate::bounds::Bounds;
 use crate::filling::Filler;
+use oas_canon::oas_form::has_canonical_bytes;
 use oas_canon::{Layout, Limits, PROFILE, Refusal, SliceSource, Which, put_canonical, read_layout};
-use oas_form::has_canonical_bytes;
 use oas_listing::put_listing;
 use std::alloc::Global;
 
@@ -32,8 +32,7 @@ fn yes_or_no(yes: bool) -> Answer
 
 /// Puts the canonical file of a layout into the room, as far as it fits.
 fn put_form(layout: &Layout, room: &mut [u8]) -> Answer
-    ensures puts { Puts (canonical_bytes (meaning_of layout.now)) room.old result room.new }
-    ensures layout { IsLayout layout.now }
+    ensures { Puts (canonical_bytes (meaning_of layout.now)) room.old result room.new }
 {
     let mut filler = Filler::new(room);
     let _ = put_canonical(layout, &mut filler);

@@ -1,7 +1,7 @@
 //! The library for C, and so for each other language: canonicalising, checking, comparing, keying and listing files that
 //! stand in memory. `include/oascanon.h` declares it for C, and docs/C.md is its page.
 //!
-//! Each export hands on what `oas_canon` promises, of the bytes that it was given (specs/Buffers.antt). It answers an
+//! Each export hands on what `oas_canon` promises, of the bytes that it was given (specs/Buffers.antt). It returns an
 //! [`Outcome`], which is `outcome_of` an [`Answer`] (specs/Outcomes.antt).
 //!
 //! There is no state but the caller's. Memory comes from the program's `malloc`, and is given back before a call returns.

@@ -1,13 +1,13 @@
-//! The command line: what can be left out, the files and the help on them, by `clap`; and what words ask for.
+//! The command line: what can be left out, the files and the help on them, by `clap`; and what words request.
 
 use clap::{Arg, ArgAction, ArgMatches, Command, Error};
-use oas_files::file_meant;
-use oas_narrow::Dropping;
+use oas_files::file_of_word;
+use oas_preparing::oas_narrow::Dropping;
 use std::alloc::Global;
 use std::convert::AsStr;
 
 /// The program's version, and the profile for which it prepares.
-const VERSION: &str = "0.2.0 (for profile two)";
+const VERSION: &str = "0.3.0-dev (for profile two)";
 
 /// The words for what may be left out.
 const PROPERTIES: &str = "properties";
@@ -18,7 +18,7 @@ const EXTENSIONS: &str = "extensions";
 
 const KINDS: [&str; 3] = [PROPERTIES, LAYER_NAMES, EXTENSIONS];
 
-/// What stands below the help.
+/// The text below the help.
 const AFTER: &str = "Examples:
   oasprep --drop properties,layer-names chip.oas prepared.oas
   oasprep --drop properties chip.oas | oascanon key
@@ -28,7 +28,7 @@ Status:
   1  refused (NAME: refused REASON at OFFSET), or a file can't be opened
   2  the command line isn't understood";
 
-/// What a command line asks for. Without a name the input is standard input, and the output standard output.
+/// What a command line requests. Without a name the input is standard input, and the output standard output.
 #[derive(Debug, Drop, PartialEq, Eq)]
 pub struct Request<'a> {
     pub input: Option<&'a str>,
@@ -37,9 +37,15 @@ pub struct Request<'a> {
     pub dropping: Dropping,
     /// Whether the large limits hold.
     pub is_large: bool,
+    /// Whether refusals are explained.
+    pub explains: bool,
+    /// Whether long work shows how far it is.
+    pub shows_progress: bool,
+    /// Whether `-` names standard output, so that the file goes there even if it is a terminal.
+    pub insists: bool,
 }
 
-/// What the words ask for.
+/// What the words request.
 pub fn parse<'a, S: AsStr>(alloc: Global, words: &'a [S]) -> Result<Request<'a>, Error> {
     let mut command = oasprep(alloc)?;
     let found = command.try_get_matches_from_mut(words)?;
@@ -48,12 +54,15 @@ pub fn parse<'a, S: AsStr>(alloc: Global, words: &'a [S]) -> Result<Request<'a>,
         output: file_of(&found, "OUT"),
         dropping: dropping_of(&found),
         is_large: found.get_flag("large"),
+        explains: found.get_flag("explain"),
+        shows_progress: found.get_flag("progress"),
+        insists: found.get_str("OUT") == Some("-"),
     })
 }
 
 /// The file of an argument, if it names one.
 fn file_of<'a>(found: &ArgMatches<'a>, argument: &str) -> Option<&'a str> {
-    file_meant(found.get_str(argument)?)
+    file_of_word(found.get_str(argument)?)
 }
 
 /// What is named to be left out.
@@ -75,6 +84,8 @@ fn oasprep<'a>(alloc: Global) -> Result<Command<'a>, Error> {
             .version(VERSION)
             .arg(drops(alloc))?
             .arg(large(alloc))?
+            .arg(explain(alloc))?
+            .arg(progress(alloc))?
             .arg(input(alloc))?
             .arg(output(alloc))?,
     )
@@ -97,6 +108,22 @@ fn large<'a>(alloc: Global) -> Arg<'a> {
         .long("large")
         .action(ArgAction::SetTrue)
         .help("Takes up to 2^26 elements and 2^38 bytes [else 2^24, 2^36]")
+}
+
+/// `--explain`
+fn explain<'a>(alloc: Global) -> Arg<'a> {
+    Arg::new(alloc, "explain")
+        .long("explain")
+        .action(ArgAction::SetTrue)
+        .help("Says below a refusal what it means, and what to try")
+}
+
+/// `--progress`
+fn progress<'a>(alloc: Global) -> Arg<'a> {
+    Arg::new(alloc, "progress")
+        .long("progress")
+        .action(ArgAction::SetTrue)
+        .help("Shows how many bytes were read and written")
 }
 
 /// `IN`

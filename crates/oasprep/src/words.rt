@@ -1,11 +1,17 @@
-//! The words that the process was given, and the texts for those that ask for no run.
+//! The words that the process was given, and the texts for those that request no run.
 
 use clap::Error;
+
+/// The status of help and of the version.
+const DONE: u8 = 0;
+
+/// The status where these can't be printed.
+const FAILED: u8 = 1;
 
 /// The status of a command line that isn't understood.
 const MISUSED: u8 = 2;
 
-/// The words of the command line, or the status with which to end where they can't be had.
+/// The words of the command line, or the exit status where they can't be read.
 pub fn words_of(rt: &HostRuntime) -> Result<Vec<String>, u8> {
     if let Ok(words) = std::env::args(rt) {
         if let Ok(words) = words.collect::<Vec<String>>(rt.alloc()) {
@@ -16,9 +22,25 @@ pub fn words_of(rt: &HostRuntime) -> Result<Vec<String>, u8> {
     Err(MISUSED)
 }
 
-/// Prints the text for words that ask for nothing that is to be run, and answers the status with which to end: 0 for help
-/// and the version, 2 for words that aren't understood.
+/// The message where a file would go to a terminal.
+pub const BINARY: &str = "a binary file isn't written to a terminal; name OUT, or - to insist";
+
+/// Says what is wrong with the words of the command line, and returns the status.
+pub fn misused(rt: &HostRuntime, what: &str) -> u8 {
+    let _ = eprintln!(rt; "error: {what}");
+    MISUSED
+}
+
+/// Prints the text for words that request no run, and returns the exit status: 0 for help and the version, or 1 where
+/// standard output failed; 2 for words that aren't understood.
 pub fn end(rt: &HostRuntime, error: &Error) -> u8 {
-    let _ = error.print(rt);
-    error.exit_code() as u8
+    let printed = error.print(rt);
+    let status = error.exit_code() as u8;
+    match printed {
+        Err(fault) if status == DONE => {
+            let _ = eprintln!(rt; "error: standard output: {fault}");
+            FAILED
+        }
+        _ => status,
+    }
 }

@@ -1,15 +1,15 @@
 //! Blocks that stop a file. The streams that aren't stored bytes were made by zlib 1.2.13.
 
-use oas_narrow::Place;
 use oas_num::Why;
-use oas_wide::WideWhy;
+use oas_preparing::oas_narrow::Place;
+use oas_preparing::oas_wide::WideWhy;
 
-/// A block and what stands behind it, behind the head of a file and a cell (37 bytes), and where and why that file stops, which
-/// goes on by END.
+/// A block and what follows it, after the head of a file and a cell (37 bytes), and where and why that file, which continues
+/// with END, stops.
 pub(crate) const REFUSED: &[(&str, Place, WideWhy)] = &[
     // kind 1
     ("220100020300", Place::File(37), WideWhy::CblockType),
-    // no stream begins so
+    // no stream begins like this
     ("220000020700", Place::File(37), WideWhy::Deflate),
     // no bytes at all
     ("22000000", Place::File(37), WideWhy::Deflate),
@@ -37,7 +37,7 @@ pub(crate) const REFUSED: &[(&str, Place, WideWhy)] = &[
         },
         WideWhy::CblockLength,
     ),
-    // PADs alone, where one byte more is stated: at the first of them
+    // only PADs, where one more byte is stated: at the first of them
     (
         "22000408010300fcff000000",
         Place::Block {
@@ -46,7 +46,7 @@ pub(crate) const REFUSED: &[(&str, Place, WideWhy)] = &[
         },
         WideWhy::CblockLength,
     ),
-    // PADs behind others and a record: at the first of the last of them
+    // PADs after others and a record: at the first of the last of them
     (
         "2200191d011800e7ff147b01000a1400000000000000147b01000a140000000000",
         Place::Block {
@@ -55,7 +55,7 @@ pub(crate) const REFUSED: &[(&str, Place, WideWhy)] = &[
         },
         WideWhy::CblockLength,
     ),
-    // a PAD behind a record that ends in a byte 0
+    // a PAD after a record that ends in a byte 0
     (
         "22000a0e010900f6ff147b01000a14000000",
         Place::Block {
@@ -64,7 +64,7 @@ pub(crate) const REFUSED: &[(&str, Place, WideWhy)] = &[
         },
         WideWhy::CblockLength,
     ),
-    // a PAD of two bytes between two of one: at that behind it
+    // a PAD of two bytes between two of one: at the one after it
     (
         "22000509010400fbff00800000",
         Place::Block {
@@ -73,7 +73,7 @@ pub(crate) const REFUSED: &[(&str, Place, WideWhy)] = &[
         },
         WideWhy::CblockLength,
     ),
-    // a PAD of two bytes behind one of one: at that
+    // a PAD of two bytes after one of one: at that
     (
         "22000408010300fcff008000",
         Place::Block {
@@ -82,7 +82,7 @@ pub(crate) const REFUSED: &[(&str, Place, WideWhy)] = &[
         },
         WideWhy::CblockLength,
     ),
-    // a second stream behind the first
+    // a second stream after the first
     (
         "2200111413a96664e0126160000013a96664e01261600000",
         Place::Block {
@@ -100,7 +100,7 @@ pub(crate) const REFUSED: &[(&str, Place, WideWhy)] = &[
         },
         WideWhy::Deflate,
     ),
-    // and behind one, where no part of it is the last
+    // and after one, where no part of it is the last
     (
         "22001116001100eeff147b01000a140000147b02000a14c80100",
         Place::Block {
@@ -109,7 +109,7 @@ pub(crate) const REFUSED: &[(&str, Place, WideWhy)] = &[
         },
         WideWhy::Deflate,
     ),
-    // a record over the border
+    // a record across the end
     (
         "22000d12010d00f2ff147b01000a140000147b02000a14c80100",
         Place::Block {
@@ -118,7 +118,7 @@ pub(crate) const REFUSED: &[(&str, Place, WideWhy)] = &[
         },
         WideWhy::CblockBorder,
     ),
-    // an integer over it
+    // an integer across it
     (
         "22000207010200fdff008000",
         Place::Block {
@@ -145,7 +145,7 @@ pub(crate) const REFUSED: &[(&str, Place, WideWhy)] = &[
         },
         WideWhy::Profile(Why::OutOfPlace(1)),
     ),
-    // an element behind a name
+    // an element after a name
     (
         "22000b10010b00f4ff030142147b01000a140000",
         Place::Block {
@@ -163,7 +163,7 @@ pub(crate) const REFUSED: &[(&str, Place, WideWhy)] = &[
         },
         WideWhy::Properties,
     ),
-    // an element behind a block that ends in a name
+    // an element after a block that ends in a name
     (
         "22000308010300fcff030142147b01000a140000",
         Place::File(49),

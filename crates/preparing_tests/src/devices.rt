@@ -1,9 +1,9 @@
-//! Readers that fail, and writers that take so much and no more.
+//! Readers that fail, and writers that take a fixed number of bytes.
 
 use std::io;
 use std::io::{ErrorKind, Read, Write};
 
-/// Gives its bytes, and then fails.
+/// Returns its bytes, and then fails.
 #[derive(Drop)]
 pub struct Torn<'a> {
     pub rest: &'a [u8],

@@ -3,17 +3,17 @@
 use crate::devices::{Narrow, Torn};
 use crate::rows::{Answer, NAME, answer, dropping_of};
 use file_pieces::bytes_of;
-use oas_canon::Limits;
 use oas_num::{INPUT_MAX, ReaderSource, SliceSource};
+use oas_preparing::oas_canon::Limits;
 use oas_preparing::run_prepare;
 use std::alloc::Global;
 use std::process::Abort;
 use std::test::Fail;
 
-/// A file of 304 bytes, of which a name of properties is left out.
+/// A file of 304 bytes, from which a name of properties is left out.
 const FILE: &str = "HEAD 070150 CELL RECT TAIL";
 
-/// What it becomes, in 301 bytes.
+/// Its result, in 301 bytes.
 const PREPARED: &str = "HEAD CELL RECT TAIL";
 
 /// The first offset of the record at an offset of the file, which is where a reader that fails there is refused.
@@ -29,7 +29,7 @@ fn record_at(offset: usize) -> usize {
     }
 }
 
-/// How many bytes the file has, and what it becomes.
+/// How many bytes the file has, and its result.
 fn lengths(alloc: Global) -> Result<(usize, usize), Fail> {
     Ok((
         bytes_of(alloc, FILE)?.len(),
@@ -43,7 +43,7 @@ fn lengths_of_the_files(rt: HostRuntime) -> Result<(), Fail> {
     Ok(())
 }
 
-/// What comes of a reader that fails at an offset of the file.
+/// The result for a reader that fails at an offset of the file.
 fn answer_of_reader(alloc: Global, offset: usize) -> Result<Answer, Fail> {
     let line = format!(in alloc; "{NAME}: refused 32 at {}\n", record_at(offset))?;
     let file = bytes_of(alloc, FILE)?;
@@ -62,7 +62,7 @@ fn readers_that_fail(rt: HostRuntime) -> Result<(), Fail> {
     Ok(())
 }
 
-/// A writer with so much room.
+/// A writer with this much room.
 fn narrow(alloc: Global, room: usize) -> Narrow {
     Narrow {
         taken: Vec::new(alloc),
@@ -70,7 +70,7 @@ fn narrow(alloc: Global, room: usize) -> Narrow {
     }
 }
 
-/// What comes of the file at an output and an error output with so much room, beside what they take.
+/// The result for the file at an output and an error output with this much room, apart from what they take.
 fn answer_of_writers(
     alloc: Global,
     out_room: usize,
@@ -90,7 +90,7 @@ fn answer_of_writers(
     ))
 }
 
-/// What comes of an output with so much room, which takes the front of what is prepared.
+/// The result for an output with this much room, which takes a prefix of what is prepared.
 fn answer_of_output(alloc: Global, room: usize) -> Result<Answer, Fail> {
     let prepared = bytes_of(alloc, PREPARED)?;
     let front = prepared.get(..room).unwrap_or(&[]);
@@ -107,7 +107,7 @@ fn writers_that_fail(rt: HostRuntime) -> Result<(), Fail> {
     Ok(())
 }
 
-/// What comes of an error output with so much room, which takes the front of the line.
+/// The result for an error output with this much room, which takes a prefix of the line.
 fn answer_of_error_output(alloc: Global, room: usize) -> Result<Answer, Fail> {
     let prepared = bytes_of(alloc, PREPARED)?;
     let line = b"chip.oas: left out 1 property name\n";

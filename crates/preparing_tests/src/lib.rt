@@ -1,6 +1,6 @@
-//! What no clause of oas_prepare and oas_preparing says, by their public calls alone: files of the standard, what is prepared of
-//! them and what is said of them, readers and writers that fail, and want of memory. It stands here so that both are proved
-//! without their tests.
+//! What no contract of oas_prepare and oas_preparing says, tested by their public calls alone: files of the standard, what
+//! they are prepared to and the messages about them; readers and writers that fail; and out of memory. The tests are in a
+//! crate of their own so that both are proved without them.
 #![tactic(auto)]
 
 #[cfg(test)]

@@ -1,9 +1,9 @@
-//! The lines of which no file gives one yet.
+//! Lines that no file gives yet.
 
-use oas_narrow::{Place, Rejection, Report};
 use oas_num::Outlet;
+use oas_preparing::oas_narrow::{Place, Rejection, Report};
+use oas_preparing::oas_wide::WideWhy;
 use oas_preparing::{put_rejection, put_report};
-use oas_wide::WideWhy;
 use std::alloc::Global;
 use std::process::Abort;
 

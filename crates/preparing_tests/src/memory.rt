@@ -1,13 +1,13 @@
-//! Each growth of memory refused in turn: the answer is 34, with nothing written, until there is enough of it.
+//! Each memory allocation fails in turn: the result is 34, with nothing written, until there is enough of it.
 //!
 //! The heap is filled up, and given back a small piece after each run. Where the heap can't be filled, as under `rt try`,
-//! nothing is refused.
+//! nothing fails.
 
 use crate::devices::Narrow;
 use crate::rows::dropping_of;
 use file_pieces::bytes_of;
-use oas_canon::Limits;
 use oas_num::{INPUT_MAX, SliceSource};
+use oas_preparing::oas_canon::Limits;
 use oas_preparing::run_prepare;
 use scarce_memory::Hoard;
 use std::alloc::Global;
@@ -22,12 +22,13 @@ fn roomy(alloc: Global) -> Result<Narrow, Fail> {
     })
 }
 
-/// Whether this says that memory was refused.
+/// Whether this reports out of memory.
 fn is_refusal(line: &[u8]) -> bool {
     str::from_utf8(line).is_ok_and(|line| line.starts_with("chip.oas: refused 34 at "))
 }
 
-/// Runs once. Whether it was `prepared`, or memory was `refused` and nothing written; `wrong` where it was neither.
+/// Runs once. Whether it was `prepared`, or failed out of memory (`refused`) with nothing written; `wrong` where it was
+/// neither.
 fn run(
     alloc: Global,
     file: &[u8],
@@ -49,8 +50,7 @@ fn run(
     }
 }
 
-/// Runs until it isn't refused, and gives back a piece of memory after each refusal. How the last run ended, and how many were
-/// refused.
+/// Runs until it succeeds, and gives back a piece of memory after each failure. How the last run ended, and how many failed.
 fn insist(
     alloc: Global,
     file: &[u8],
@@ -69,7 +69,7 @@ fn insist(
     ("refused", 4000)
 }
 
-/// How the last run on a file ended, and whether memory was refused before, where the heap could be filled.
+/// How the last run on a file ended, and whether one failed out of memory before, where the heap could be filled.
 fn ends(alloc: Global, file: &[u8], prepared: &[u8]) -> Result<(&'static str, bool), Fail> {
     let (mut out, mut err) = (roomy(alloc)?, roomy(alloc)?);
     let mut hoard = Hoard::new(alloc)?;
@@ -77,7 +77,7 @@ fn ends(alloc: Global, file: &[u8], prepared: &[u8]) -> Result<(&'static str, bo
     Ok((end, !hoard.is_full() || refused > 0))
 }
 
-/// The same of a file of which each kind of record is left out.
+/// The same for a file from which each kind of record is left out.
 fn ends_of_each_kind(alloc: Global) -> Result<(&'static str, bool), Fail> {
     let pieces = "HEAD 070150 0B014C0000 CELL RECT 1C1401500805 20000159 TAIL";
     let file = bytes_of(alloc, pieces)?;

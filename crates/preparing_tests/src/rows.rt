@@ -1,16 +1,16 @@
 //! Files through `run_prepare`, over a slice.
 
 use file_pieces::bytes_of;
-use oas_canon::Limits;
-use oas_narrow::Dropping;
 use oas_num::{INPUT_MAX, SliceSource, Source};
+use oas_preparing::oas_canon::Limits;
+use oas_preparing::oas_narrow::Dropping;
 use oas_preparing::run_prepare;
 use std::alloc::{AllocError, Global};
 use std::process::Abort;
 use std::test::Fail;
 
-/// The rows: a name, what is named to be left out, the file, the file that comes of it, or `NUMBER@OFFSET` where it is refused,
-/// and what is said of what was left out.
+/// The rows: a name, what is named to be left out, the file, its result, or `NUMBER@OFFSET` where it is refused, and the line
+/// about what was left out.
 const ROWS: &str = "\
 a-file-of-the-profile | - | HEAD CELL RECT TAIL | HEAD CELL RECT TAIL | -
 spelled-by-a-number | - | HEAD 0D00 RECT 030141 TAIL | HEAD CELL RECT TAIL | -
@@ -48,10 +48,10 @@ pub fn dropping_of(word: &str) -> Dropping {
 /// The name of each file.
 pub const NAME: &str = "chip.oas";
 
-/// The status of a run, whether its output is as it is wanted, and whether what it says is.
+/// The status of a run, whether its output is as expected, and whether its line is.
 pub type Answer = (u8, bool, bool);
 
-/// What comes of a source, beside an output and what is said.
+/// The result for a source, apart from an output and a line.
 pub fn answer(
     alloc: Global,
     from: &mut impl Source,
@@ -69,7 +69,7 @@ pub fn answer(
     )
 }
 
-/// What stands in a row behind its name: what is left out, the file, what comes of it, and what is said.
+/// What follows the name in a row: what is left out, the file, its result, and the line.
 fn fields_of(row: &str) -> [&str; 4] {
     let mut fields = row.split(" | ").skip(1);
     [
@@ -80,7 +80,7 @@ fn fields_of(row: &str) -> [&str; 4] {
     ]
 }
 
-/// The line of a file of which a row says this output, or refusal, and that this was left out.
+/// The line of a file with this output or refusal in its row, and with this left out.
 fn line_of(alloc: Global, output: &str, said: &str) -> Result<String, AllocError> {
     match output.split_once('@') {
         Some((number, at)) => format!(in alloc; "{NAME}: refused {number} at {at}\n"),
@@ -89,7 +89,7 @@ fn line_of(alloc: Global, output: &str, said: &str) -> Result<String, AllocError
     }
 }
 
-/// The status that a row says, and what comes of its file. One that is refused has no output.
+/// The status of a row, and the result for its file. One that is refused has no output.
 fn answer_of_row(alloc: Global, row: &str) -> Result<(u8, Answer), Fail> {
     let [word, file, output, said] = fields_of(row);
     let line = line_of(alloc, output, said)?;

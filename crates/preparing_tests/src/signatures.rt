@@ -1,11 +1,11 @@
-//! Files with a signature. The values are those that zlib 1.2.13 gives of all bytes before them, and sums of these; each file
-//! is a front and an END by either scheme.
+//! Files with a signature. The values are those that zlib 1.2.13 gives for all bytes before them, and sums of these; each
+//! file is a head and an END by either scheme.
 
 use crate::devices::Torn;
-use oas_canon::{Limits, PROFILE, ReaderSource, SliceSource, Source, Why};
-use oas_narrow::{Dropping, Place, Rejection};
-use oas_prepare::prepare;
-use oas_wide::WideWhy;
+use oas_preparing::oas_canon::{Limits, PROFILE, ReaderSource, SliceSource, Source, Why};
+use oas_preparing::oas_narrow::{Dropping, Place, Rejection};
+use oas_preparing::oas_prepare::prepare;
+use oas_preparing::oas_wide::WideWhy;
 use std::alloc::{AllocError, Global};
 use std::process::Abort;
 use std::test::Fail;
@@ -31,12 +31,12 @@ const NOTHING: Dropping = Dropping {
     extensions: false,
 };
 
-/// The CRC-32 of the first front's file before its signature, and its sum.
+/// The CRC-32 of the first head's file before its signature, and its sum.
 const CRC: u32 = 0x62EF_9C4A;
 
 const SUM: u32 = 0x693;
 
-/// A front, and an END of 256 bytes by a scheme.
+/// A head, and an END of 256 bytes by a scheme.
 fn signed(alloc: Global, front: &[u8], scheme: u8, signature: u32) -> Result<Vec<u8>, AllocError> {
     let mut file = Vec::from_slice(alloc, front)?;
     file.extend_from_slice(&[0x02, 0xF8, 0x01])?;
@@ -46,7 +46,7 @@ fn signed(alloc: Global, front: &[u8], scheme: u8, signature: u32) -> Result<Vec
     Ok(file)
 }
 
-/// What is written of a file that a source gives.
+/// What is written for a file that a source gives.
 fn prepared<S: Source>(alloc: Global, from: &mut S) -> Result<Vec<u8>, Rejection> {
     let mut out: Vec<u8> = Vec::new(alloc);
     prepare(alloc, from, &mut out, Limits::standard(), PROFILE, NOTHING)?;
@@ -60,7 +60,7 @@ fn refused(alloc: Global, file: &[u8]) -> Option<(Place, WideWhy)> {
     Some((rejection.place, rejection.why))
 }
 
-/// The first front, and an END without a signature.
+/// The first head, and an END without a signature.
 fn canonical(alloc: Global) -> Result<Vec<u8>, AllocError> {
     let mut file = Vec::from_slice(alloc, &FRONT)?;
     file.extend_from_slice(&[0x02, 0xFC, 0x01])?;
@@ -68,7 +68,7 @@ fn canonical(alloc: Global) -> Result<Vec<u8>, AllocError> {
     Ok(file)
 }
 
-/// Whether the first front is prepared with that signature, and how many bytes are read.
+/// Whether the first head is prepared with that signature, and how many bytes are read.
 fn is_prepared(alloc: Global, scheme: u8, signature: u32) -> Result<(bool, u64), AllocError> {
     let canonical = canonical(alloc)?;
     let file = signed(alloc, &FRONT, scheme, signature)?;
@@ -87,7 +87,7 @@ fn right_ones(rt: HostRuntime) -> Result<(), Fail> {
 }
 
 /// Schemes and wrong signatures: of the bytes from START on, of those before END, of those before the scheme, of the other
-/// scheme, and the right one with its bytes the other way round.
+/// scheme, and the right one with its bytes reversed.
 const WRONG: &[(u8, u32)] = &[
     (1, 12345),
     (1, 0x2AAD_0B1D),
@@ -112,7 +112,7 @@ fn wrong_ones(rt: HostRuntime) -> Result<(), Fail> {
     Ok(())
 }
 
-/// Where and why a file isn't prepared in which one bit of the rectangle's height is the other one.
+/// Where and why a file isn't prepared with one bit of the rectangle's height changed.
 fn refused_height(
     alloc: Global,
     scheme: u8,
@@ -135,7 +135,7 @@ fn one_wrong_bit(rt: HostRuntime) -> Result<(), Fail> {
     Ok(())
 }
 
-/// Schemes and signatures of the second front, and why it isn't prepared.
+/// Schemes and signatures of the second head, and why it isn't prepared.
 const UNNAMED_ONES: &[(u8, u32, WideWhy)] = &[
     (1, 0xAE5E_B578, WideWhy::Profile(Why::UnknownReference)),
     (1, 0xAE5E_B579, WideWhy::Checksum),
@@ -178,7 +178,7 @@ fn behind_the_end(rt: HostRuntime) -> Result<(), Fail> {
     Ok(())
 }
 
-/// Why a file isn't prepared of which a reader gives so many bytes.
+/// Why a file isn't prepared where a reader gives this many bytes.
 fn why_of_reader(alloc: Global, count: usize) -> Result<Option<WideWhy>, Fail> {
     let file = signed(alloc, &FRONT, 1, CRC)?;
     let rest = file.get(..count).unwrap_or(&[]);

@@ -1,13 +1,13 @@
 //! Files by name: inputs that can't be opened or read, and outputs that are created at their first byte.
 
-use oas_files::{Input, NewFile, Replacement};
+use oas_request::oas_files::{Existing, Input, NewFile, Place, Replacement};
 use std::alloc::Alloc;
 use std::fs;
 use std::fs::Files;
 use std::io::{Read, Write};
 use std::test::Fail;
 
-/// What is done to an output, whether it succeeds, and the text that then stands under a name.
+/// What is done to an output, whether it succeeds, and the text that is then under a name.
 #[derive(Clone, Copy)]
 struct Step {
     action: Action,
@@ -50,7 +50,7 @@ fn flush(left: &'static str) -> Step {
     }
 }
 
-/// The same step where it is to fail.
+/// The same step where it should fail.
 fn fails(step: Step) -> Step {
     Step {
         succeeds: false,
@@ -58,7 +58,7 @@ fn fails(step: Step) -> Step {
     }
 }
 
-/// Whether this text stands under the name; where there is no text, that there is no file.
+/// Whether this text is under the name; without a text, that there is no file.
 fn stands(rt: &(impl Files + Alloc), path: &str, text: &str) -> bool {
     match fs::read_to_string(rt, path) {
         Ok(found) => found.as_str() == text,
@@ -75,7 +75,7 @@ fn is_done(out: &mut impl Write, action: Action) -> bool {
     }
 }
 
-/// Does the steps to an output, and answers the place of the first that doesn't do what it says, with whether it succeeded.
+/// Does the steps to an output, and returns the place of the first that doesn't do what it should, with whether it succeeded.
 fn first_wrong(
     rt: &(impl Files + Alloc),
     out: &mut impl Write,
@@ -91,7 +91,7 @@ fn first_wrong(
     None
 }
 
-/// As `first_wrong`, of the steps to a new file.
+/// Like `first_wrong`, for the steps to a new file.
 fn first_wrong_of_new(rt: &HostRuntime, steps: &[Step]) -> Option<(usize, bool)> {
     let mut file = NewFile::new(rt, "new");
     first_wrong(rt, &mut file, "new", steps)
@@ -102,8 +102,8 @@ fn file_that_is_created_at_its_first_byte(rt: HostRuntime) {
     let created = [
         nothing(""),
         flush(""),
-        write("abc", "abc"),
-        write("de", "abcde"),
+        write("abc", ""),
+        write("de", ""),
         flush("abcde"),
     ];
     let replaced = [
@@ -124,19 +124,40 @@ fn file_that_is_created_at_its_first_byte(rt: HostRuntime) {
 
 /// A replacement of the file `old`.
 fn replacement<'a>(rt: &'a HostRuntime) -> Result<Replacement<'a>, Fail> {
-    let permissions = fs::metadata(rt, "old")?.permissions();
-    Ok(Replacement::new(rt, "old", permissions)?)
+    let place = Place::of(rt, "old")?.ok_or("a regular file has a place")?;
+    Ok(Replacement::new(rt, place, Existing::Replaced)?)
 }
 
-/// As `first_wrong`, of the steps to a replacement that is flushed.
+/// Like `first_wrong`, for the steps to a new file that never takes another's place.
+fn first_wrong_beside_old(rt: &HostRuntime, steps: &[Step]) -> Option<(usize, bool)> {
+    let mut file = NewFile::keeping_old(rt, "kept");
+    first_wrong(rt, &mut file, "kept", steps)
+}
+
+#[test]
+fn file_that_keeps_the_old_one(rt: HostRuntime) -> Result<(), Fail> {
+    let steps = [
+        [write("abc", ""), flush("abc")],
+        [fails(write("d", "abc")), flush("abc")],
+    ];
+    let wrong = [
+        first_wrong_beside_old(&rt, &steps[0]),
+        first_wrong_beside_old(&rt, &steps[1]),
+    ];
+    fs::remove_file(&rt, "kept")?;
+    assert!(rt; wrong == [None; 2]);
+    Ok(())
+}
+
+/// Like `first_wrong`, for the steps to a replacement that is flushed.
 fn first_wrong_of_flushed(rt: &HostRuntime) -> Result<Option<(usize, bool)>, Fail> {
     let mut new = replacement(rt)?;
     let steps = [write("e", "abc"), flush("e")];
     Ok(first_wrong(rt, &mut new, "old", &steps))
 }
 
-/// What comes of a replacement that is written, one that is flushed meanwhile, and the first one afterwards, whose own file is
-/// no more: as `first_wrong` of each, and whether the first one's file stands and is removed.
+/// The result of a replacement that is written, one that is flushed meanwhile, and the first one afterwards, whose own file
+/// is gone: like `first_wrong` for each, and whether the first one's file is there and is removed.
 fn overtaken(rt: &HostRuntime) -> Result<([Option<(usize, bool)>; 3], [bool; 2]), Fail> {
     let mut new = replacement(rt)?;
     let begun = first_wrong(rt, &mut new, "old", &[write("d", "abc")]);
@@ -159,20 +180,33 @@ fn replacement_that_is_never_flushed(rt: HostRuntime) -> Result<(), Fail> {
     Ok(())
 }
 
-/// Whether a replacement of a file that isn't there is refused.
-fn is_refused(rt: &HostRuntime) -> Result<bool, Fail> {
-    let permissions = fs::metadata(rt, "there")?.permissions();
-    Ok(Replacement::new(rt, "none", permissions).is_err())
+/// Whether a name has a place for a regular file, nothing where that can't be known, and whether a file is there.
+fn place_of(rt: &HostRuntime, name: &str) -> Option<(bool, bool)> {
+    let place = Place::of(rt, name).ok()?;
+    match place {
+        Some(place) => Some((true, place.standing.is_some())),
+        None => Some((false, false)),
+    }
 }
 
 #[test]
-fn replacement_of_no_file(rt: HostRuntime) -> Result<(), Fail> {
+fn places_of_names(rt: HostRuntime) -> Result<(), Fail> {
     fs::write(&rt, "there", "abc".as_bytes())?;
-    assert!(rt; is_refused(&rt)?);
+    for (name, place) in [
+        ("there", Some((true, true))),
+        ("none", Some((true, false))),
+        ("nowhere/none", Some((true, false))),
+        (".", Some((false, false))),
+        ("none/", Some((false, false))),
+        ("/dev/null", Some((false, false))),
+        ("there/none", None),
+    ] {
+        assert!(rt; place_of(&rt, name) == place, "{name}");
+    }
     Ok(fs::remove_file(&rt, "there")?)
 }
 
-/// Whether nothing is written, a text is refused, and a flush succeeds, where the file cannot be created.
+/// Whether nothing is written, a text fails, and a flush succeeds, where the file cannot be created.
 fn uncreated(rt: &HostRuntime) -> [bool; 3] {
     let mut file = NewFile::new(rt, "nowhere/new");
     let nothing = file.write(&[]).is_ok_and(|count| count == 0);
@@ -193,7 +227,7 @@ fn is_text(rt: &HostRuntime, input: &mut Input, text: &str) -> bool {
     read && found.as_slice() == text.as_bytes()
 }
 
-/// Whether the input of this name can be read, and is this text; nothing where it can't be opened.
+/// Whether the input with this name can be read, and is this text; nothing where it can't be opened.
 fn reads_as(rt: &HostRuntime, path: &str, text: &str) -> Option<bool> {
     let mut input = Input::open(rt, Some(path)).ok()?;
     Some(is_text(rt, &mut input, text))

@@ -1,6 +1,6 @@
-//! What no clause says of the crates that only the programs use, by their public calls alone: files by name and names that are
-//! printed, what a meter shows, what command lines ask for, and reasons in words. It stands here so that those crates are
-//! proved without their tests.
+//! What no contract of the crates that only the programs use says, tested by their public calls alone: files by name and
+//! names that are printed, what a meter shows, what command lines request, and reasons in words. The tests are in a crate of
+//! their own so that those crates are proved without them.
 #![tactic(auto)]
 
 #[cfg(test)]

@@ -1,17 +1,17 @@
 //! Words that are names, lists of names, and names as they are printed.
 
-use oas_files::{Input, Names, Printed, file_meant};
+use oas_request::oas_files::{Input, Names, Printed, file_of_word, text_of, unescaped};
 use std::alloc::{AllocError, Global};
 use std::fs;
 use std::test::Fail;
 
 #[test]
 fn words_that_are_names(rt: HostRuntime) {
-    let meant = [file_meant("-"), file_meant("./-"), file_meant("--")];
+    let meant = [file_of_word("-"), file_of_word("./-"), file_of_word("--")];
     assert!(rt; meant == [None, Some("./-"), Some("--")]);
 }
 
-/// Whether a name is printed so, and whether it was escaped.
+/// Whether a name is printed like this, and whether it was escaped.
 fn printed_as(alloc: Global, name: &str, text: &str) -> Result<[bool; 2], AllocError> {
     let printed = Printed::new(alloc, name)?;
     Ok([printed.as_str() == text, printed.is_escaped()])
@@ -46,7 +46,7 @@ fn count_same(names: &mut Names, expected: &[&[u8]]) -> Result<(usize, bool), Fa
     Ok((same, names.next()?.is_none()))
 }
 
-/// As `count_same`, of the names that stand in a file of these bytes.
+/// Like `count_same`, for the names in a file of these bytes.
 fn count_same_in(rt: &HostRuntime, list: &[u8], expected: &[&[u8]]) -> Result<(usize, bool), Fail> {
     fs::write(rt, "list", list)?;
     let mut names = Names::new(rt.alloc(), Input::open(rt, Some("list"))?)?;
@@ -73,6 +73,44 @@ fn names_of_a_list(rt: HostRuntime) -> Result<(), Fail> {
     for (name, list, names) in LISTS {
         let same = count_same_in(&rt, list, names)?;
         assert!(rt; same == (names.len(), true), "{name}");
+    }
+    Ok(())
+}
+
+/// How a name of any bytes is printed, and whether a file with it can be opened.
+fn opened_as(rt: &HostRuntime, name: &[u8], shown: &str) -> Result<[bool; 2], AllocError> {
+    let text = text_of(rt.alloc(), name)?;
+    let printed = Printed::new(rt.alloc(), text.as_str())?;
+    Ok([
+        printed.as_str() == shown,
+        Input::open(rt, Some(text.as_str())).is_ok(),
+    ])
+}
+
+#[test]
+fn names_of_any_bytes(rt: HostRuntime) -> Result<(), Fail> {
+    fs::write(&rt, "plain", "abc".as_bytes())?;
+    let rows: [(&[u8], &str, bool); 3] = [
+        (b"plain", "plain", true),
+        (b"a\xff", "a\\xff", false),
+        (b"\\\n\xc3", "\\\\\\x0a\\xc3", false),
+    ];
+    for (name, shown, opens) in rows {
+        assert!(rt; opened_as(&rt, name, shown) == Ok([true, opens]), "{shown}");
+    }
+    Ok(fs::remove_file(&rt, "plain")?)
+}
+
+#[test]
+fn names_that_were_escaped(rt: HostRuntime) -> Result<(), Fail> {
+    for (name, text, is_escaped) in PRINTED {
+        if is_escaped {
+            let meant = unescaped(rt.alloc(), text)?;
+            assert!(rt; meant.is_some_and(|meant| meant.as_str() == name), "{text}");
+        }
+    }
+    for text in ["\\", "\\x", "a\\"] {
+        assert!(rt; unescaped(rt.alloc(), text)?.is_none(), "{text}");
     }
     Ok(())
 }

@@ -1,7 +1,7 @@
-//! What no clause says: the names and numbers of all reasons, and the lines as they are printed.
+//! What no contract says: the names and numbers of all reasons, and the lines as they are printed.
 
-use oas_command::{run_refused, run_unopened};
-use oas_explain::{Reason, Recorded, Voice, all_reasons, run_explain, tell, tell_explained};
+use oas_explain::oas_command::{run_refused, run_unopened};
+use oas_explain::{Reason, Recorded, Voice, all_reasons, print_explained, run_explain, tell};
 use oas_num::{Refusal, Why};
 use std::alloc::Global;
 use std::io;
@@ -46,7 +46,7 @@ const ALL: [Why; 34] = [
     Why::Memory,
 ];
 
-/// Takes so many bytes, and then fails.
+/// Takes this many bytes, and then fails.
 #[derive(Drop)]
 struct Room {
     left: usize,
@@ -67,31 +67,35 @@ impl Write for Room {
     }
 }
 
-/// The number of a reason, and whether its name is that of the variant of this refusal.
+/// The number of a reason, and whether its name is that of the variant of this refusal, and its sentences are those of it.
 fn name_of(alloc: Global, reason: &Reason<'_>, why: Why) -> Result<(u8, bool), Fail> {
     let variant = format!(in alloc; "{why:?}")?;
     let name = variant.as_str().split('(').next().unwrap_or("");
-    Ok((reason.number, reason.name == name))
+    let sentences = [why.meaning(), why.remedy()];
+    let is_its = reason.name == name && sentences == [reason.meaning, reason.remedy];
+    Ok((reason.number, is_its))
 }
 
 #[test]
 fn names_are_those_of_the_reasons(rt: HostRuntime) -> Result<(), Fail> {
-    assert!(rt; all_reasons().len() == ALL.len());
-    for (reason, why) in all_reasons().iter().zip(&ALL) {
+    // After those of `Why` come those of the command that prepares.
+    let reasons = all_reasons();
+    assert!(rt; reasons.len() == ALL.len() + 13);
+    for (reason, why) in reasons.iter().zip(&ALL) {
         let found = name_of(rt.alloc(), reason, *why)?;
         assert!(rt; found == (why.number(), true), "of {}", reason.name);
     }
     Ok(())
 }
 
-/// Whether the line of a refusal stands before its explanation, whether there is one, and whether a voice that explains says
+/// Whether the line of a refusal comes before its explanation, whether there is one, and whether a voice that explains says
 /// the same.
 fn explained(alloc: Global, why: Why) -> [bool; 3] {
     let refusal = Refusal { at: 450, why };
     let (mut said, mut err): (Vec<u8>, Vec<u8>) = (Vec::new(alloc), Vec::new(alloc));
     let mut whole: Vec<u8> = Vec::new(alloc);
     let _ = run_refused("a: refused 9 at 1", refusal, &mut said);
-    tell_explained(all_reasons(), "", &said, &mut err);
+    print_explained(&all_reasons(), "", "", &said, &mut err);
     Voice::new(&mut whole, true, false).refused("a: refused 9 at 1", refusal);
     [
         err.starts_with(&said),
@@ -111,32 +115,53 @@ fn each_refusal_is_explained(rt: HostRuntime) {
     }
 }
 
-/// Whether what was said is explained by this, with words of the system.
-fn is_explained_by(alloc: Global, said: &[u8], words: &str, wanted: &[u8]) -> bool {
+/// Whether what was said is explained by this, with words of the system and advice.
+fn is_explained_by(alloc: Global, said: &[u8], words: &str, advice: &str, wanted: &[u8]) -> bool {
     let mut err: Vec<u8> = Vec::new(alloc);
-    tell_explained(all_reasons(), words, said, &mut err);
+    print_explained(&all_reasons(), words, advice, said, &mut err);
     err.as_slice() == wanted
 }
 
 #[test]
 fn line_of_an_explanation(rt: HostRuntime) {
-    let said = "in: refused 33 at 7\n";
-    let line =
-        "in: refused 33 at 7\n  = Write: the output failed, can't be created, or took none of the bytes that it was offered (out: full)\n";
-    assert!(rt; is_explained_by(rt.alloc(), said.as_bytes(), " (out: full)", line.as_bytes()));
+    for (said, words, advice, line) in [
+        (
+            "in: refused 34 at 7\n",
+            " (out: full)",
+            "\n  = try: this",
+            "in: refused 34 at 7\n  = Memory: a request for memory was refused (out: full)\n  = Run it where there is more memory.\n  = try: this\n",
+        ),
+        (
+            "in: refused 111 at 7+12\n",
+            "",
+            "",
+            "in: refused 111 at 7+12\n  = ValueType: the type of a property's value is above 15\n  = The writer is at fault.\n",
+        ),
+        (
+            "in: refused 50 at 7\n",
+            "",
+            "\n  = try: this",
+            "in: refused 50 at 7\n",
+        ),
+    ] {
+        assert!(rt;
+            is_explained_by(rt.alloc(), said.as_bytes(), words, advice, line.as_bytes()),
+            "of {said}"
+        );
+    }
 }
 
-/// Whether what was said is told as it is where explanations are asked for, and where they aren't.
+/// Whether what was said is printed unchanged where explanations are requested, and where they aren't.
 fn told(alloc: Global, said: &[u8]) -> [bool; 2] {
     let mut plain: Vec<u8> = Vec::new(alloc);
     tell(said, &mut plain);
     [
-        is_explained_by(alloc, said, "", said),
+        is_explained_by(alloc, said, "", "", said),
         plain.as_slice() == said,
     ]
 }
 
-/// The same of the line of an input that can't be opened.
+/// The same for the line of an input that can't be opened.
 fn told_of_unopened(alloc: Global) -> [bool; 2] {
     let mut unopened: Vec<u8> = Vec::new(alloc);
     let _ = run_unopened("in", &mut unopened);
@@ -154,10 +179,10 @@ fn other_lines_are_told_as_they_are(rt: HostRuntime) {
     assert!(rt; others == [[true; 2]; 3]);
 }
 
-/// Runs `explain` on a word. Answers its status, and whether it put this text and said this line.
+/// Runs `explain` on a word. Returns its status, and whether it put this text and said this line.
 fn explain(alloc: Global, word: &str, text: &str, line: &str) -> (u8, [bool; 2]) {
     let (mut out, mut err): (Vec<u8>, Vec<u8>) = (Vec::new(alloc), Vec::new(alloc));
-    let status = run_explain(all_reasons(), Some(word), &mut out, &mut err);
+    let status = run_explain(&all_reasons(), Some(word), &mut out, &mut err);
     let is_put = out.as_slice() == text.as_bytes();
     (status, [is_put, err.as_slice() == line.as_bytes()])
 }
@@ -165,13 +190,29 @@ fn explain(alloc: Global, word: &str, text: &str, line: &str) -> (u8, [bool; 2])
 #[test]
 fn one_reason(rt: HostRuntime) {
     let text = "5 EmptyName\n  a cell name has length 0\n  Name the cell.\n";
-    assert!(rt; explain(rt.alloc(), "5", text, "") == (0, [true; 2]));
+    for word in ["5", "EmptyName"] {
+        assert!(rt;
+            explain(rt.alloc(), word, text, "") == (0, [true; 2]),
+            "of {word}"
+        );
+    }
 }
 
 #[test]
 fn numbers_that_are_none(rt: HostRuntime) {
-    let line = "error: no reason has this number; they are 1 to 34\n";
-    for word in ["0", "35", "05", "+5", "-1", "", "five", "5 "] {
+    let line = "error: no reason has this number or name; `oascanon explain` lists all\n";
+    for word in [
+        "0",
+        "35",
+        "05",
+        "+5",
+        "-1",
+        "",
+        "five",
+        "5 ",
+        "emptyname",
+        "Empty",
+    ] {
         assert!(rt;
             explain(rt.alloc(), word, "", line) == (2, [true; 2]),
             "of {word}"
@@ -179,10 +220,10 @@ fn numbers_that_are_none(rt: HostRuntime) {
     }
 }
 
-/// Runs `explain` on no word. Answers its status, how many lines it put, and whether it said nothing.
+/// Runs `explain` without a word. Returns its status, how many lines it put, and whether it said nothing.
 fn explain_all(alloc: Global) -> (u8, usize, bool) {
     let (mut out, mut err): (Vec<u8>, Vec<u8>) = (Vec::new(alloc), Vec::new(alloc));
-    let status = run_explain(all_reasons(), None, &mut out, &mut err);
+    let status = run_explain(&all_reasons(), None, &mut out, &mut err);
     (status, lines_in(out.as_slice()), err.is_empty())
 }
 
@@ -199,14 +240,14 @@ fn lines_in(bytes: &[u8]) -> usize {
 
 #[test]
 fn every_reason(rt: HostRuntime) {
-    assert!(rt; explain_all(rt.alloc()) == (0, 3 * 34, true));
+    assert!(rt; explain_all(rt.alloc()) == (0, 3 * 47, true));
 }
 
-/// Runs `explain` to an output that takes five bytes. Answers its status, and whether it said so and kept the fault.
+/// Runs `explain` to an output that takes five bytes. Returns its status, and whether it said so and kept the fault.
 fn explain_to_five(alloc: Global) -> (u8, [bool; 2]) {
     let mut out = Recorded::new(Room { left: 5 });
     let mut err: Vec<u8> = Vec::new(alloc);
-    let status = run_explain(all_reasons(), Some("5"), &mut out, &mut err);
+    let status = run_explain(&all_reasons(), Some("5"), &mut out, &mut err);
     let is_said = err.as_slice() == "standard output: refused 33 at 5\n".as_bytes();
     let is_kept = matches!(out.fault(), Some(error) if error.kind() == ErrorKind::StorageFull);
     (status, [is_said, is_kept])
@@ -238,10 +279,10 @@ fn voices_of_unopened_inputs(rt: HostRuntime) {
     }
 }
 
-/// Whether a voice that shows progress takes the line of a meter away, and then tells a line.
+/// Whether a voice that shows progress removes the line of a meter, and then prints a line.
 fn cleared(alloc: Global) -> [bool; 2] {
     let mut err: Vec<u8> = Vec::new(alloc);
-    Voice::new(&mut err, false, true).tell(b"in: line\n", "");
+    Voice::new(&mut err, false, true).tell(b"in: line\n", "", "");
     [err.starts_with(b"\r   "), err.ends_with(b"   \rin: line\n")]
 }
 

@@ -1,4 +1,4 @@
-//! What no clause says: what command lines ask for.
+//! What no contract says: what command lines request.
 
 mod options;
 mod words;

@@ -2,11 +2,8 @@
 //! of each kind it has.
 #![tactic(auto)]
 
-use oas_canon::{
-    Element, Elements, Layout, Limits, PROFILE, ReaderSource, Refusal, Why, read_layout,
-};
+use oas_canon::{Element, Elements, Layout, Limits, PROFILE, ReaderSource, Refusal, read_layout};
 use std::io;
-use std::process::ExitCode;
 
 /// How many elements of each kind there are, equal ones each counted.
 #[derive(Clone, Copy, Default)]
@@ -17,7 +14,7 @@ struct Counts {
 }
 
 impl Counts {
-    /// Those of a cell. An element comes once, beside how often it is there.
+    /// The kinds of a cell. An element comes once, with its count.
     fn of(elements: Elements<'_>) -> Counts {
         let mut counts = Counts::default();
         for (element, times) in elements {
@@ -32,29 +29,22 @@ impl Counts {
     }
 }
 
-/// The layout that standard input means, or where and why it is refused.
+/// The layout of standard input, or where and why it is refused.
 fn read(rt: &HostRuntime) -> Result<Layout, Refusal> {
     let limits = Limits::standard();
-    let alloc = rt.alloc();
-    let Ok(mut source) = ReaderSource::new(alloc, rt.stdin(), limits.input()) else {
-        return Err(Refusal {
-            at: 0,
-            why: Why::Memory,
-        });
-    };
-    read_layout(alloc, &mut source, limits, PROFILE)
+    let mut source = ReaderSource::new(rt.alloc(), rt.stdin(), limits.input())?;
+    read_layout(rt.alloc(), &mut source, limits, PROFILE)
 }
 
 /// Prints what a layout holds.
 fn print(rt: &HostRuntime, layout: &Layout) -> io::Result<()> {
     let unit = layout.unit();
     println!(rt; "{}/{} grid steps in a micron", unit.num(), unit.den())?;
-    for i in 0..layout.cells() {
-        let name = layout.cell_name(i).as_bytes();
-        let counts = Counts::of(layout.elements(i));
+    for cell in layout.cells() {
+        let counts = Counts::of(cell.elements());
         println!(rt;
             "{}: {} placements, {} texts, {} shapes",
-            name.escape_ascii(),
+            cell.name().as_bytes().escape_ascii(),
             counts.placements,
             counts.texts,
             counts.shapes
@@ -63,15 +53,8 @@ fn print(rt: &HostRuntime, layout: &Layout) -> io::Result<()> {
     Ok(())
 }
 
-fn main(rt: HostRuntime) -> ExitCode {
-    match read(&rt) {
-        Ok(layout) => match print(&rt, &layout) {
-            Ok(()) => ExitCode::SUCCESS,
-            Err(_) => ExitCode::FAILURE,
-        },
-        Err(refusal) => {
-            let _ = eprintln!(rt; "refused {} at {}", refusal.why.number(), refusal.at);
-            ExitCode::FAILURE
-        }
-    }
+fn main(rt: HostRuntime) -> anyhow::Result<()> {
+    let layout = read(&rt)?;
+    print(&rt, &layout)?;
+    Ok(())
 }

@@ -1,4 +1,4 @@
-//! The fields of a record that is read.
+//! The fields of a record that was read.
 
 use crate::records::discard;
 use oas_num::SliceSource;
@@ -20,7 +20,7 @@ fn is_square(record: &Record) -> bool {
     }
 }
 
-/// What a record is to be.
+/// The expected record.
 #[derive(Clone, Copy)]
 enum Wanted {
     Square,
@@ -28,7 +28,7 @@ enum Wanted {
     Extended { start: Extension, end: Extension },
 }
 
-/// Whether the record is so.
+/// Whether the record is as expected.
 fn is_wanted(record: &Record, wanted: Wanted) -> bool {
     match (record, wanted) {
         (Record::Placement(placed), Wanted::Turned { turns, flip }) => {
@@ -42,7 +42,7 @@ fn is_wanted(record: &Record, wanted: Wanted) -> bool {
     }
 }
 
-/// Whether such a record stands there.
+/// Whether such a record is there.
 fn gives(alloc: Global, source: &mut SliceSource<'_>, wanted: Wanted) -> bool {
     match Record::read(alloc, source, false) {
         Ok(record) => {

@@ -1,8 +1,8 @@
-//! What is found of polygons and paths that stand once, beside what a reader of records answers.
+//! The polygons and paths without a repetition that are found, compared with what a reader of records returns.
 
 use crate::records::discard;
-use oas_ahead::{path_ahead, polygon_ahead};
 use oas_num::{INPUT_MAX, SliceSource, Source};
+use oas_peek::{peek_path, peek_polygon};
 use oas_record::Record;
 use std::alloc::Global;
 use std::test::Fail;
@@ -14,7 +14,7 @@ pub(crate) enum Figure {
     Path,
 }
 
-/// A figure as a debugger shows it behind its length, or no text where there is none.
+/// A figure as a debugger prints it after its length, or no text where there is none.
 #[derive(Drop)]
 struct Told {
     text: String,
@@ -33,7 +33,7 @@ fn untold(alloc: Global) -> Told {
 
 /// The polygon that is found.
 fn polygon_told(alloc: Global, bytes: &[u8]) -> Result<Told, Fail> {
-    match polygon_ahead(alloc, bytes) {
+    match peek_polygon(alloc, bytes) {
         Some(ahead) => Ok(Told {
             text: format!(in alloc; "{} {:?}", ahead.length, ahead.polygon)?,
             length: ahead.length,
@@ -45,7 +45,7 @@ fn polygon_told(alloc: Global, bytes: &[u8]) -> Result<Told, Fail> {
 
 /// The path that is found.
 fn path_told(alloc: Global, bytes: &[u8]) -> Result<Told, Fail> {
-    match path_ahead(alloc, bytes) {
+    match peek_path(alloc, bytes) {
         Some(ahead) => Ok(Told {
             text: format!(in alloc; "{} {:?}", ahead.length, ahead.path)?,
             length: ahead.length,
@@ -55,7 +55,7 @@ fn path_told(alloc: Global, bytes: &[u8]) -> Result<Told, Fail> {
     }
 }
 
-/// The record of so many bytes, told as a figure is, if it is such a one.
+/// The record of this many bytes, printed as a figure is, if it is one.
 fn text_of(alloc: Global, figure: Figure, record: &Record, length: u64) -> Result<String, Fail> {
     match (figure, record) {
         (Figure::Polygon, Record::Polygon(polygon)) => {
@@ -66,7 +66,7 @@ fn text_of(alloc: Global, figure: Figure, record: &Record, length: u64) -> Resul
     }
 }
 
-/// The figure that a reader answers.
+/// The figure that a reader returns.
 fn read(alloc: Global, figure: Figure, bytes: &[u8]) -> Result<String, Fail> {
     let mut source = SliceSource::new(bytes, INPUT_MAX);
     match Record::read(alloc, &mut source, false) {
@@ -79,8 +79,8 @@ fn read(alloc: Global, figure: Figure, bytes: &[u8]) -> Result<String, Fail> {
     }
 }
 
-/// What a row says of what is found, where a reader answers that text: how many bytes it has, and whether they are of the
-/// shortest style; no text, where both are none; or that it is left to the reader, or unlike what that answers.
+/// What a row says about what is found, where a reader returns that text: how many bytes it has, and whether they are in the
+/// shortest style; or no text, where both find none; or that it is left to the reader, or unlike what the reader returns.
 fn compared(alloc: Global, found: &Told, read: &str) -> Result<String, Fail> {
     let shown = match (found.text.is_empty(), found.text.as_str() == read) {
         (false, true) => format!(in alloc; "{} {}", found.length, found.shortest)?,
@@ -91,7 +91,7 @@ fn compared(alloc: Global, found: &Told, read: &str) -> Result<String, Fail> {
     Ok(shown)
 }
 
-/// What a row says of a figure.
+/// What a row says about a figure.
 pub(crate) fn figure_shown(alloc: Global, figure: Figure, bytes: &[u8]) -> Result<String, Fail> {
     let found = match figure {
         Figure::Polygon => polygon_told(alloc, bytes)?,

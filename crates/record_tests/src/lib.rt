@@ -1,6 +1,6 @@
-//! What no clause of oas_record or oas_ahead says, by their public calls alone: that a read succeeds where memory is there, what
-//! comes of bytes whose meaning is known from outside, and that an element which stands once is found where one stands. It
-//! stands here so that both are proved without their tests.
+//! What no contract of oas_record or oas_peek says, tested by their public calls alone: a read succeeds where memory is
+//! there; the results for bytes whose meaning is known from outside; and an element without a repetition is found where there
+//! is one. The tests are in a crate of their own so that both are proved without them.
 #![tactic(auto)]
 
 #[cfg(test)]

@@ -1,4 +1,4 @@
-//! Each growth refused in turn: a read answers want of memory, or what stands there.
+//! Each allocation fails in turn: a read returns out of memory, or what is there.
 
 use crate::records::read_one;
 use oas_num::{INPUT_MAX, SliceSource, Why};
@@ -12,7 +12,7 @@ const RECORDS: [&[u8]; 3] = [
     b"\x16\x24\x00\x09\x02\x02\x02\x02\x02\x02\x02\x02\x02\x04\x08\x01\x01\x01\x01\x01\x01\x01\x01\x01",
 ];
 
-/// Reads the records. Whether one is refused, and whether each that is refused is so at its beginning for want of memory.
+/// Reads the records. Whether one fails, and whether each that fails does so at its beginning and out of memory.
 fn read_all(alloc: Global) -> (bool, bool) {
     let mut refused = false;
     let mut all = true;
@@ -38,14 +38,14 @@ fn insist(alloc: Global, hoard: &mut Hoard) -> (bool, bool) {
     seen
 }
 
-/// Whether the heap can be filled, and what then comes of the records.
+/// Whether the heap can be filled, and then the result for the records.
 fn in_want(alloc: Global) -> Result<(bool, (bool, bool)), AllocError> {
     let mut hoard = Hoard::new(alloc)?;
     let seen = insist(alloc, &mut hoard);
     Ok((hoard.is_full(), seen))
 }
 
-/// Each growth is refused in turn, with a budget of memory that grows by one small piece, until all succeed.
+/// Each allocation fails in turn, with a memory budget that grows by one small piece, until all succeed.
 #[test]
 fn growths_are_refused(rt: HostRuntime) -> Result<(), AllocError> {
     let (is_full, in_want) = in_want(rt.alloc())?;

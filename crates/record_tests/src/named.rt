@@ -1,15 +1,15 @@
-//! Placements and texts that stand once.
+//! Placements and texts without a repetition.
 
 use crate::shown::{Kind, assert_nothing_where_cut, assert_shown};
 use std::test::Fail;
 
-/// A placement of AB, flipped and turned by a quarter, at (-1, 64).
+/// A placement of AB, flipped and turned by 90 degrees, at (-1, 64).
 const PLACEMENT: [u8; 8] = [0x11, 0xB3, 0x02, 0x41, 0x42, 0x03, 0x80, 0x01];
 
 /// A text Hi of textlayer 7, texttype 0 at (1, -2).
 const TEXT: [u8; 9] = [0x13, 0x5B, 0x02, 0x48, 0x69, 0x07, 0x00, 0x02, 0x05];
 
-/// That placement, and a byte behind it.
+/// That placement, followed by a byte.
 const PLACEMENT_OF_A_NAME: &str = "11 b3 02 4142 03 8001 22: 8 true \
     Placement { cell: Bytes([65, 66]), quarters: 1, flip: true, x: Some(-1), y: Some(64) }";
 
@@ -26,7 +26,7 @@ fn placement_of_a_number(rt: HostRuntime) -> Result<(), Fail> {
     assert_shown(&rt, rt.alloc(), Kind::Named, PLACEMENT_OF_A_NUMBER)
 }
 
-/// The second bit says nothing where the first is 0.
+/// The second bit has no meaning where the first is 0.
 const PLACEMENTS_OF_THE_MODAL_CELL: &str = "\
 11 16 04: 3 false Placement { cell: Modal, quarters: 3, flip: false, x: None, y: Some(2) }\n\
 11 56 04: 3 false Placement { cell: Modal, quarters: 3, flip: false, x: None, y: Some(2) }";
@@ -36,7 +36,7 @@ fn placement_of_the_modal_cell(rt: HostRuntime) -> Result<(), Fail> {
     assert_shown(&rt, rt.alloc(), Kind::Named, PLACEMENTS_OF_THE_MODAL_CELL)
 }
 
-/// That text, and a byte behind it.
+/// That text, followed by a byte.
 const TEXT_OF_A_STRING: &str = "13 5b 02 4869 07 00 02 05 22: 9 true \
     Text { string: Bytes([72, 105]), textlayer: Some(7), texttype: Some(0), x: Some(1), y: Some(-2) }";
 
@@ -61,7 +61,7 @@ fn text_of_the_modal_string(rt: HostRuntime) -> Result<(), Fail> {
     assert_shown(&rt, rt.alloc(), Kind::Named, TEXT_OF_THE_MODAL_STRING)
 }
 
-/// A cell of no byte, and of a byte that no name has; a string of a byte that none has.
+/// A cell without a byte, and with a byte that no name has; a string with a byte that no string has.
 const NO_NAMES: &str = "\
 11 80 00\n\
 11 80 02 4120\n\

@@ -1,12 +1,12 @@
-//! Paths that stand once.
+//! Paths without a repetition.
 
 use crate::shown::{Kind, assert_nothing_where_cut, assert_shown};
-use oas_ahead::path_ahead;
+use oas_peek::peek_path;
 use oas_record::{Extension, Extensions, Path};
 use std::alloc::Global;
 use std::test::Fail;
 
-/// A path of layer 1, datatype 0, half-width 5 at (-1, 64), whose extensions are -2 and 7, of the steps (10, 0) and (0, 20).
+/// A path of layer 1, datatype 0, half-width 5 at (-1, 64), with the extensions -2 and 7 and the steps (10, 0) and (0, 20).
 const WHOLE: [u8; 17] = [
     0x16, 0xFB, 0x01, 0x00, 0x05, 0x0F, 0x05, 0x0E, 0x04, 0x02, 0x29, 0x00, 0x01, 0x28, 0x03, 0x80,
     0x01,
@@ -36,13 +36,13 @@ fn is_whole(path: &Path) -> bool {
 
 /// Whether the whole one is found.
 fn finds_whole(alloc: Global) -> bool {
-    match path_ahead(alloc, &WHOLE) {
+    match peek_path(alloc, &WHOLE) {
         Some(ahead) => is_whole(&ahead.path),
         None => false,
     }
 }
 
-/// The whole one, and a byte behind it.
+/// The whole one, followed by a byte.
 const ALL_FIELDS: &str = "16 fb 01 00 05 0f 05 0e 04 02 2900 0128 03 8001 22: 17 true";
 
 #[test]
@@ -51,7 +51,7 @@ fn all_fields(rt: HostRuntime) -> Result<(), Fail> {
     assert_shown(&rt, rt.alloc(), Kind::Path, ALL_FIELDS)
 }
 
-/// No field, each alone, and all but the layer.
+/// No field, each alone, and all except the layer.
 const SOME_FIELDS: &str = "\
 16 00: 2 false\n\
 16 01 07: 3 false\n\
@@ -82,7 +82,8 @@ fn any_number_of_steps(rt: HostRuntime) -> Result<(), Fail> {
     assert_shown(&rt, rt.alloc(), Kind::Path, STEPS)
 }
 
-/// The half-width, the scheme, either extension and the type in a byte too many; an extension of minus zero; a step in one number.
+/// The half-width, the scheme, either extension and the type in one byte too many; an extension of minus zero; a step in one
+/// number.
 const LONGER: &str = "\
 16 fb 01 00 8500 0f 05 0e 04 01 2900 02 04: 15 false\n\
 16 fb 01 00 05 8f00 05 0e 04 01 2900 02 04: 15 false\n\
@@ -102,7 +103,7 @@ fn nothing_where_they_are_cut(rt: HostRuntime) -> Result<(), Fail> {
     assert_nothing_where_cut(&rt, rt.alloc(), Kind::Path, &WHOLE)
 }
 
-/// Each but the last of the sixteen, and two that there are not.
+/// Each except the last of the sixteen, and two that do not exist.
 const OTHER_SCHEMES: &str = "\
 16 80 00 05 0e: left\n\
 16 80 01 05 0e: left\n\
@@ -127,7 +128,7 @@ fn other_schemes_are_left_to_the_reader(rt: HostRuntime) -> Result<(), Fail> {
     assert_shown(&rt, rt.alloc(), Kind::Path, OTHER_SCHEMES)
 }
 
-/// Lists of each other type, and one of a type that there isn't.
+/// Lists of each other type, and one of a type that does not exist.
 const OF_OTHER_TYPES: &str = "\
 16 20 00 01 29 02: left\n\
 16 20 01 01 29 02: left\n\

@@ -1,12 +1,12 @@
-//! Polygons that stand once.
+//! Polygons without a repetition.
 
 use crate::shown::{Kind, assert_nothing_where_cut, assert_shown, is_shown};
-use oas_ahead::polygon_ahead;
+use oas_peek::peek_polygon;
 use oas_record::Polygon;
 use std::alloc::{AllocError, Global};
 use std::test::Fail;
 
-/// A polygon of layer 1, datatype 0 at (-1, 64), of the steps (10, 0), (0, 20) and (-10, 0).
+/// A polygon of layer 1, datatype 0 at (-1, 64), with the steps (10, 0), (0, 20) and (-10, 0).
 const WHOLE: [u8; 15] = [
     0x15, 0x3B, 0x01, 0x00, 0x04, 0x03, 0x29, 0x00, 0x01, 0x28, 0x2B, 0x00, 0x03, 0x80, 0x01,
 ];
@@ -30,13 +30,13 @@ fn is_whole(polygon: &Polygon) -> bool {
 
 /// Whether the whole one is found.
 fn finds_whole(alloc: Global) -> bool {
-    match polygon_ahead(alloc, &WHOLE) {
+    match peek_polygon(alloc, &WHOLE) {
         Some(ahead) => is_whole(&ahead.polygon),
         None => false,
     }
 }
 
-/// The whole one, and a byte behind it.
+/// The whole one, followed by a byte.
 const ALL_FIELDS: &str = "15 3b 01 00 04 03 2900 0128 2b00 03 8001 22: 15 true";
 
 #[test]
@@ -45,7 +45,7 @@ fn all_fields(rt: HostRuntime) -> Result<(), Fail> {
     assert_shown(&rt, rt.alloc(), Kind::Polygon, ALL_FIELDS)
 }
 
-/// No point list, no field, a point list alone, and all but one field.
+/// No point list, no field, only a point list, and all except one field.
 const SOME_FIELDS: &str = "\
 15 1b 01 00 03 02: 6 false\n\
 15 00: 2 false\n\
@@ -70,8 +70,8 @@ fn steps_of_one_number(rt: HostRuntime) -> Result<(), Fail> {
     assert_shown(&rt, rt.alloc(), Kind::Polygon, STEPS_OF_ONE_NUMBER)
 }
 
-/// A step of (0, 0), and one of nine bytes a number. Minus zero to the east and to the north; the type, the count, either number of a
-/// step and x in a byte too many.
+/// A step of (0, 0), and one with nine bytes for each number. Minus zero to the east and to the north; the type, the count,
+/// either number of a step and x in one byte too many.
 const STYLES: &str = "\
 15 3b 01 00 04 02 0100 2900 02 04: 12 true\n\
 15 3b 01 00 04 02 ff*8 7f ff*8 7f 2900 02 04: 28 true\n\
@@ -88,7 +88,7 @@ fn only_the_shortest_is_it(rt: HostRuntime) -> Result<(), Fail> {
     assert_shown(&rt, rt.alloc(), Kind::Polygon, STYLES)
 }
 
-/// A polygon of so many steps, not all in the shortest style.
+/// A polygon with this many steps, not all in the shortest style.
 fn of_steps(alloc: Global, count: u8) -> Result<Vec<u8>, AllocError> {
     let mut bytes = [0x15, 0x3B, 0x01, 0x00, 0x04, count].to_vec(alloc)?;
     for step in 0..count {
@@ -100,13 +100,13 @@ fn of_steps(alloc: Global, count: u8) -> Result<Vec<u8>, AllocError> {
 
 /// Whether it is found with its points.
 fn finds_points(alloc: Global, bytes: &[u8], count: usize) -> bool {
-    match polygon_ahead(alloc, bytes) {
+    match peek_polygon(alloc, bytes) {
         Some(ahead) => points_of(&ahead.polygon) == count,
         None => false,
     }
 }
 
-/// Whether it is found, with its points, as a reader answers it.
+/// Whether it is found, with its points, as a reader returns it.
 fn finds_steps(alloc: Global, count: u8) -> Result<bool, Fail> {
     let bytes = of_steps(alloc, count)?;
     let wanted = format!(in alloc; "{} false", bytes.len())?;
@@ -129,7 +129,7 @@ fn nothing_where_they_are_cut(rt: HostRuntime) -> Result<(), Fail> {
     assert_nothing_where_cut(&rt, rt.alloc(), Kind::Polygon, &WHOLE)
 }
 
-/// Lists of each other type, and one of a type that there isn't.
+/// Lists of each other type, and one of a type that does not exist.
 const OF_OTHER_TYPES: &str = "\
 15 20 00 02 29 02 29 02: left\n\
 15 20 01 02 29 02 29 02: left\n\

@@ -11,7 +11,7 @@ use std::test::Fail;
 const COMPACT: &str =
     "MAGIC 0103312e3000e807010d0114db01000a00001410280d0011f80100000100003232137b00030000000403544f500004014101060248690002 00*12 f001 00*241";
 
-/// Where the source stands after each record of it.
+/// Where the source is after each of its records.
 const AT: [u64; 10] = [24, 31, 34, 36, 46, 53, 59, 63, 68, 324];
 
 /// The number of a refusal, its place, and the file in pieces.
@@ -60,7 +60,7 @@ const ROWS: &str = "\
 11 34 HEAD 07\n\
 13 34 HEAD 01";
 
-/// What the read of a record comes to.
+/// The result of reading a record.
 #[derive(Clone, Copy)]
 pub(crate) struct Outcome {
     // The number of a refusal, or 0.
@@ -70,7 +70,7 @@ pub(crate) struct Outcome {
     is_end: bool,
 }
 
-/// Drops a record in a step of its own, since that is dear to prove beside other values.
+/// Drops a record in a step of its own, since that is expensive to prove beside other values.
 pub(crate) fn discard(_record: Record) {}
 
 /// Reads a record.
@@ -126,7 +126,7 @@ fn refusals(rt: HostRuntime) -> Result<(), Fail> {
     Ok(())
 }
 
-/// Whether the front of that file stands there.
+/// Whether that file begins here.
 fn has_head(alloc: Global, source: &mut SliceSource<'_>) -> bool {
     match read_head(alloc, source) {
         Ok(head) => {
@@ -136,13 +136,13 @@ fn has_head(alloc: Global, source: &mut SliceSource<'_>) -> bool {
     }
 }
 
-/// Whether a record stands there, up to that place, in a file with its flag in END.
+/// Whether there is a record up to that place, in a file with its flag in END.
 fn ends_at(alloc: Global, source: &mut SliceSource<'_>, at: u64) -> bool {
     let read = read_one(alloc, source, true);
     read.number == 0 && read.at == at
 }
 
-/// How many records stand there, each up to its place.
+/// How many records there are, each up to its place.
 fn records_at(alloc: Global, source: &mut SliceSource<'_>) -> usize {
     let mut count = 0usize;
     for at in AT {
@@ -151,7 +151,7 @@ fn records_at(alloc: Global, source: &mut SliceSource<'_>) -> usize {
     count
 }
 
-/// Whether the front of that file stands in it, and how many of its records.
+/// Whether that file begins here, and how many of its records are there.
 fn seen(alloc: Global) -> Result<(bool, usize), Fail> {
     let bytes = bytes_of(alloc, COMPACT)?;
     let mut source = SliceSource::new(&bytes, INPUT_MAX);
@@ -171,10 +171,10 @@ fn taken(alloc: Global, bytes: &[u8]) -> u64 {
     if read.number == 0 { read.at } else { 0 }
 }
 
-/// How many bytes a record takes, and bytes that it stands at the beginning of.
+/// How many bytes a record takes, and bytes that begin with it.
 ///
-/// A square; a path with an explicit start and an explicit end, one of them, none. A path may have no delta, a polygon has two.
-/// Cells and strings by number, themselves, and N ignored where C is 0; angles and magnifications.
+/// A square; a path with an explicit start and an explicit end, with one of them, and with none. A path may have no delta, a
+/// polygon has two. Cells and strings by number, by themselves, and N ignored where C is 0; angles and magnifications.
 const TAKEN: &str = "\
 2 140000\n\
 2 1b0000\n\
@@ -200,7 +200,7 @@ const TAKEN: &str = "\
 4 1340012000\n\
 2 13200700";
 
-/// How many bytes a record takes of a file that is given in pieces.
+/// How many bytes a record takes in a file that is given in pieces.
 fn taken_of(alloc: Global, pieces: &str) -> Result<u64, Fail> {
     let bytes = bytes_of(alloc, pieces)?;
     Ok(taken(alloc, &bytes))
@@ -216,7 +216,7 @@ fn bytes_taken(rt: HostRuntime) -> Result<(), Fail> {
     Ok(())
 }
 
-/// Records, and info bits of theirs that each stand for a field of one byte.
+/// Records, and info bits of theirs that each announce a field of one byte.
 const BITS: [(u8, &[u8]); 6] = [
     (20, &[1, 2, 4, 8, 16, 32, 64]),
     (27, &[1, 2, 4, 8, 16, 32]),

@@ -1,4 +1,4 @@
-//! Rectangles that stand once.
+//! Rectangles without a repetition.
 
 use crate::shown::{Kind, assert_nothing_where_cut, assert_shown};
 use std::test::Fail;
@@ -6,7 +6,7 @@ use std::test::Fail;
 /// A rectangle of layer 1, datatype 0, 10 by 20 grid steps at (-1, 64), with all its fields.
 const WHOLE: [u8; 9] = [0x14, 0x7B, 0x01, 0x00, 0x0A, 0x14, 0x03, 0x80, 0x01];
 
-/// The same, and a byte behind it.
+/// The same, followed by a byte.
 const ALL_FIELDS: &str =
     "14 7b 01 00 0a 14 03 8001 22: 9 true Rectangle { square: false, layer: Some(1), datatype: Some(0), \
     width: Some(10), height: Some(20), spot: Spot { x: Some(-1), y: Some(64), repetition: None } }";

@@ -1,8 +1,8 @@
-//! Rows of bytes, and what is found there of elements that stand once.
+//! Rows of bytes, and the elements without a repetition that are found there.
 
 use crate::figures::{Figure, figure_shown};
 use file_pieces::bytes_of;
-use oas_ahead::{named_ahead, rectangle_ahead};
+use oas_peek::{peek_named, peek_rectangle};
 use std::alloc::Global;
 use std::process::Abort;
 use std::test::Fail;
@@ -16,9 +16,9 @@ pub(crate) enum Kind {
     Path,
 }
 
-/// The rectangle that is found, as a debugger shows it behind its length and whether that is the shortest; or no text.
+/// The rectangle that is found, as a debugger prints it after its length and whether that is the shortest; or no text.
 fn rectangle_shown(alloc: Global, bytes: &[u8]) -> Result<String, Fail> {
-    match rectangle_ahead(bytes) {
+    match peek_rectangle(bytes) {
         Some(ahead) => {
             let (length, shortest) = (ahead.length, ahead.shortest);
             Ok(format!(in alloc; "{length} {shortest} {:?}", ahead.rectangle)?)
@@ -27,9 +27,9 @@ fn rectangle_shown(alloc: Global, bytes: &[u8]) -> Result<String, Fail> {
     }
 }
 
-/// The placement or the text that is found, as the rectangle.
+/// The placement or the text that is found, printed like the rectangle.
 fn named_shown(alloc: Global, bytes: &[u8]) -> Result<String, Fail> {
-    match named_ahead(bytes) {
+    match peek_named(bytes) {
         Some(ahead) => {
             let (length, shortest) = (ahead.length, ahead.shortest);
             Ok(format!(in alloc; "{length} {shortest} {:?}", ahead.element)?)
@@ -38,7 +38,7 @@ fn named_shown(alloc: Global, bytes: &[u8]) -> Result<String, Fail> {
     }
 }
 
-/// Whether what is found is shown so.
+/// Whether what is found is printed like this.
 pub(crate) fn is_shown(
     alloc: Global,
     kind: Kind,
@@ -54,14 +54,15 @@ pub(crate) fn is_shown(
     Ok(shown.as_str() == wanted)
 }
 
-/// Whether what is found in a row's pieces is shown as it says behind them.
+/// Whether what is found in a row's pieces is printed as the row says after them.
 fn is_shown_in(alloc: Global, kind: Kind, row: &str) -> Result<bool, Fail> {
     let (pieces, wanted) = row.split_once(": ").unwrap_or((row, ""));
     let bytes = bytes_of(alloc, pieces)?;
     is_shown(alloc, kind, &bytes, wanted)
 }
 
-/// Asserts that what is found in each row's pieces is shown as it says behind them; nothing is, where it says nothing.
+/// Asserts that what is found in each row's pieces is printed as the row says after them; nothing is found where it says
+/// nothing.
 pub(crate) fn assert_shown(
     rt: &impl Abort,
     alloc: Global,

@@ -1,4 +1,4 @@
-//! Differences whose text comes from outside.
+//! Differences with texts from outside.
 
 mod brief;
 mod faults;
@@ -6,8 +6,8 @@ mod layouts;
 mod limited;
 
 use layouts::{Sketch, layout};
-use oas_difference::{Detail, Options, write_difference};
 use oas_layout::Layout;
+use oas_markers::oas_difference::{Detail, Options, write_difference};
 use std::test::Fail;
 
 /// All that differs.
@@ -16,7 +16,7 @@ const ALL: Options = Options {
     limit: None,
 };
 
-/// Whether the difference of the layouts is this text, and its length is answered.
+/// Whether the difference of the layouts is this text, and its length is returned.
 fn is_written(
     rt: &HostRuntime,
     before: &Layout,
@@ -32,7 +32,7 @@ fn is_written(
     count == Ok(text.len() as u64) && written.as_slice() == text.as_bytes()
 }
 
-/// Whether what is written of the difference of the sketches' layouts is this text.
+/// Whether the difference of the sketches' layouts is written as this text.
 fn differ_by(
     rt: &HostRuntime,
     before: Sketch<'_>,
@@ -44,7 +44,7 @@ fn differ_by(
     differ_from(rt, &before, after, options, text)
 }
 
-/// As `differ_by`, of a layout and a sketch.
+/// Like `differ_by`, for a layout and a sketch.
 fn differ_from(
     rt: &HostRuntime,
     before: &Layout,
@@ -56,7 +56,7 @@ fn differ_from(
     Ok(is_written(rt, before, &after, options, text))
 }
 
-/// As `differ_by`, of all that differs.
+/// Like `differ_by`, for all that differs.
 fn differ(
     rt: &HostRuntime,
     before: Sketch<'_>,

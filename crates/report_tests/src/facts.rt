@@ -1,9 +1,10 @@
-//! A layout of each kind, with numbers that were counted by hand.
+//! A layout with elements of each kind, with numbers that were counted by hand.
 
 use crate::parts::{add_cell, draft, label, name, put, ring, sealed};
-use oas_facts::{Facts, Group, count_groups, facts_of};
-use oas_layout::{Draft, Element, Layout, Profile, Turns};
+use oas_info::oas_facts::{Facts, Group, count_groups, facts_of};
+use oas_layout::{Draft, Element, Extensions, Layer, Layout, Profile, Turns};
 use oas_num::{Fraction, Name};
+use oas_ring::Point;
 use std::alloc::Global;
 use std::collections::BTreeMap;
 use std::test::Fail;
@@ -22,7 +23,7 @@ fn put_placements(draft: &mut Draft, alloc: Global) -> Result<(), Fail> {
     put(
         draft,
         1,
-        Element::placement(cell, 0, 0, Turns::T0, false),
+        Element::placement(cell, Point { x: 0, y: 0 }, Turns::T0, false),
         5,
     )
 }
@@ -30,31 +31,77 @@ fn put_placements(draft: &mut Draft, alloc: Global) -> Result<(), Fail> {
 /// Two texts.
 fn put_texts(draft: &mut Draft, alloc: Global) -> Result<(), Fail> {
     let string = label(alloc, "hi")?;
-    put(draft, 1, Element::text(string, 1, 7, 0, 0), 2)
+    put(
+        draft,
+        1,
+        Element::text(
+            string,
+            Layer {
+                layer: 1,
+                datatype: 7,
+            },
+            Point { x: 0, y: 0 },
+        ),
+        2,
+    )
 }
 
 /// A polygon, or a path.
 fn put_points(draft: &mut Draft, alloc: Global, is_path: bool) -> Result<(), Fail> {
     let points = ring(alloc, &[(0, 0), (9, 0), (0, 9)])?;
     let element = if is_path {
-        Element::path(1, 9, 3, 0, 0, points)
+        Element::path(
+            Layer {
+                layer: 1,
+                datatype: 9,
+            },
+            3,
+            Extensions { start: 0, end: 0 },
+            points,
+        )
     } else {
-        Element::polygon(1, 0, points)
+        Element::polygon(
+            Layer {
+                layer: 1,
+                datatype: 0,
+            },
+            points,
+        )
     };
     put(draft, 1, element, 1)
 }
 
-/// Rectangles and a circle in both cells: where they stand, and how many they are.
+/// Rectangles and a circle in both cells: their places, and how many there are.
 fn put_plain(draft: &mut Draft) -> Result<(), Fail> {
     for (cell, place, times) in [(1, 0, 3), (1, 5, 4), (0, 0, 1)] {
         put(
             draft,
             cell,
-            Element::rectangle(1, 0, 10, 20, place, place),
+            Element::rectangle(
+                Layer {
+                    layer: 1,
+                    datatype: 0,
+                },
+                10,
+                20,
+                Point { x: place, y: place },
+            ),
             times,
         )?;
     }
-    put(draft, 0, Element::circle(2, 0, 5, 0, 0), 1)
+    put(
+        draft,
+        0,
+        Element::circle(
+            Layer {
+                layer: 2,
+                datatype: 0,
+            },
+            5,
+            Point { x: 0, y: 0 },
+        ),
+        1,
+    )
 }
 
 /// Two cells, and all of them.
@@ -118,7 +165,7 @@ fn each_group(rt: HostRuntime) -> Result<(), Fail> {
     Ok(())
 }
 
-/// Whether the list has just these names, in their order.
+/// Whether the list has just these names, in order.
 fn are(names: &[Name], expected: &[&[u8]]) -> bool {
     if names.len() != expected.len() {
         return false;
@@ -131,14 +178,14 @@ fn are(names: &[Name], expected: &[&[u8]]) -> bool {
     true
 }
 
-/// Puts two by three placements of the cell of this name.
+/// Puts two by three placements of the cell with this name.
 fn place(alloc: Global, draft: &mut Draft, cell: usize, text: &str) -> Result<(), Fail> {
     for x in [0, 1] {
         let placed = name(alloc, text)?;
         put(
             draft,
             cell,
-            Element::placement(placed, x, 0, Turns::T0, false),
+            Element::placement(placed, Point { x, y: 0 }, Turns::T0, false),
             3,
         )?;
     }
@@ -154,14 +201,14 @@ fn place_names(draft: &mut Draft, alloc: Global) -> Result<(), Fail> {
     Ok(())
 }
 
-/// A layout of unit 1000/1 with those placements.
+/// A layout with unit 1000/1 and those placements.
 fn placed_names(alloc: Global) -> Result<Layout, Fail> {
     let mut draft = draft(alloc, 1000, 1, Profile::Two)?;
     let filled = place_names(&mut draft, alloc);
     sealed(draft, filled)
 }
 
-/// What is found of it.
+/// The result for it.
 fn placed_facts(alloc: Global) -> Result<Facts, Fail> {
     let layout = placed_names(alloc)?;
     Ok(facts_of(alloc, &layout)?)

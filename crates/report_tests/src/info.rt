@@ -1,22 +1,30 @@
-//! The texts of a layout, beside those that were written by hand. Its canonical form has 35 bytes of head, 52 of the cell A, 19 of
-//! TOP, and 256 of END.
+//! The texts of a layout, compared with those that were written by hand. Its canonical form has 35 bytes of head, 52 of the
+//! cell A, 19 of TOP, and 256 of END.
 
 use crate::parts::{add_cell, draft, label, name, put, sealed};
 use oas_info::{Info, info_of, json_of, text_of};
-use oas_layout::{Draft, Element, Layout, Profile, Turns};
+use oas_layout::{Draft, Element, Layer, Layout, Profile, Turns};
+use oas_ring::Point;
 use std::alloc::Global;
 use std::test::Fail;
 
 /// The cell NO, which isn't there.
 fn placement(alloc: Global) -> Result<Element, Fail> {
     let cell = name(alloc, "NO")?;
-    Ok(Element::placement(cell, 0, 0, Turns::T0, false))
+    Ok(Element::placement(cell, Point { x: 0, y: 0 }, Turns::T0, false))
 }
 
 /// The text `hi`.
 fn text_element(alloc: Global) -> Result<Element, Fail> {
     let string = label(alloc, "hi")?;
-    Ok(Element::text(string, 1, 7, 0, 0))
+    Ok(Element::text(
+        string,
+        Layer {
+            layer: 1,
+            datatype: 7,
+        },
+        Point { x: 0, y: 0 },
+    ))
 }
 
 /// Adds the cells and their elements.
@@ -25,17 +33,30 @@ fn fill(draft: &mut Draft, alloc: Global) -> Result<(), Fail> {
     add_cell(draft, alloc, "A")?;
     put(draft, 0, placement(alloc)?, 2)?;
     put(draft, 1, text_element(alloc)?, 1)?;
-    put(draft, 1, Element::rectangle(30, 4, 10, 20, 0, 0), 5)
+    put(
+        draft,
+        1,
+        Element::rectangle(
+            Layer {
+                layer: 30,
+                datatype: 4,
+            },
+            10,
+            20,
+            Point { x: 0, y: 0 },
+        ),
+        5,
+    )
 }
 
-/// Two cells, of which one places a third, that isn't there.
+/// Two cells, one of which places a third that isn't there.
 fn two_cells(alloc: Global) -> Result<Layout, Fail> {
     let mut draft = draft(alloc, 2000, 3, Profile::Two)?;
     let filled = fill(&mut draft, alloc);
     sealed(draft, filled)
 }
 
-/// What is told of them.
+/// What is reported about them.
 fn told(alloc: Global) -> Result<Info, Fail> {
     let layout = two_cells(alloc)?;
     Ok(info_of(alloc, &layout)?)

@@ -1,6 +1,6 @@
-//! What no clause says of the crates that tell what layouts hold, by their public calls alone: that they succeed where memory is
-//! there and the writer takes all, texts that come from outside or were written by hand, and writers that fail. It stands
-//! here so that those crates are proved without their tests.
+//! What no contract of the crates that report on layouts says, tested by their public calls alone: they succeed where memory
+//! is there and the writer takes all; texts that come from outside or were written by hand; and writers that fail. The tests
+//! are in a crate of their own so that those crates are proved without them.
 #![tactic(auto)]
 
 #[cfg(test)]

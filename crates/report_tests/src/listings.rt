@@ -1,4 +1,4 @@
-//! Listings whose text comes from outside.
+//! Listings with texts from outside.
 
 mod faults;
 mod layouts;
@@ -8,7 +8,7 @@ use oas_layout::{Layout, Profile};
 use oas_listing::write_listing;
 use std::test::Fail;
 
-/// What `kinds` gives.
+/// What `kinds` returns.
 const KINDS: &str = "unit 3/2
 cell !
 cell TOP
@@ -25,7 +25,7 @@ path 6 7 8 0 0 1,-1 1,-1 -1152921504606846976,1152921504606846976
 circle 5 6 7 -8 9
 ";
 
-/// Whether the listing of a layout is this text, and its length is answered.
+/// Whether the listing of a layout is this text, and its length is returned.
 fn lists(rt: &HostRuntime, layout: Result<Layout, Fail>, text: &str) -> Result<bool, Fail> {
     let layout = layout?;
     let mut written = Vec::new(rt.alloc());

@@ -1,4 +1,4 @@
-//! Markers whose text comes from what KLayout writes.
+//! Markers with texts from what KLayout writes.
 
 mod layouts;
 
@@ -27,7 +27,7 @@ const ADDED: &str = " <items>
 </report-database>
 ";
 
-/// Whether the layouts' markers end so, and their length is answered.
+/// Whether the layouts' markers end like this, and their length is returned.
 fn mark(rt: &HostRuntime, before: &Layout, after: &Layout, end: &str) -> bool {
     if before.profile() != after.profile() {
         return false;
@@ -37,13 +37,13 @@ fn mark(rt: &HostRuntime, before: &Layout, after: &Layout, end: &str) -> bool {
     count == Ok(written.len() as u64) && written.as_slice().ends_with(end.as_bytes())
 }
 
-/// As `mark`, of a second layout of an element of each kind.
+/// Like `mark`, for a second layout with an element of each kind.
 fn mark_kinds(rt: &HostRuntime, before: &Layout) -> Result<bool, Fail> {
     let after = kinds(rt.alloc())?;
     Ok(mark(rt, before, &after, NONE))
 }
 
-/// As `mark`, of two such layouts.
+/// Like `mark`, for two such layouts.
 fn mark_the_same(rt: &HostRuntime) -> Result<bool, Fail> {
     let before = kinds(rt.alloc())?;
     mark_kinds(rt, &before)
@@ -55,7 +55,7 @@ fn the_same_have_no_item(rt: HostRuntime) -> Result<(), Fail> {
     Ok(())
 }
 
-/// As `mark`, of the sketches' layouts.
+/// Like `mark`, for the sketches' layouts.
 fn mark_rectangles(
     rt: &HostRuntime,
     before: Sketch,
@@ -66,7 +66,7 @@ fn mark_rectangles(
     mark_after(rt, &before, after, end)
 }
 
-/// As `mark`, of the second sketch's layout.
+/// Like `mark`, for the second sketch's layout.
 fn mark_after(rt: &HostRuntime, before: &Layout, after: Sketch, end: &str) -> Result<bool, Fail> {
     let after = rectangles(rt.alloc(), after)?;
     Ok(mark(rt, before, &after, end))

@@ -3,7 +3,7 @@
 use std::alloc::Global;
 use std::io::{self, Write};
 
-/// A writer that takes at most `most` bytes a call and `room` in all, and then answers an error.
+/// A writer that takes at most `most` bytes a call and `room` in all, and then returns an error.
 #[derive(Drop)]
 pub struct Narrow {
     pub took: Vec<u8>,
@@ -13,7 +13,7 @@ pub struct Narrow {
 }
 
 impl Narrow {
-    /// One that took nothing yet, and whose flush succeeds.
+    /// A writer that took nothing yet, and whose flush succeeds.
     pub fn new(alloc: Global, most: usize, room: usize) -> Narrow {
         Narrow {
             took: Vec::new(alloc),

@@ -1,4 +1,4 @@
-//! What the layouts of these tests are made of.
+//! The parts of the layouts of these tests.
 
 use oas_layout::{Draft, Element, Layout, Limits, Profile};
 use oas_num::{Fraction, Label, Name};
@@ -8,20 +8,12 @@ use std::test::Fail;
 
 /// The name of this text.
 pub fn name(alloc: Global, text: &str) -> Result<Name, Fail> {
-    let bytes = text.as_bytes();
-    if !Name::is_name(bytes) {
-        return Err(Fail::from("no name"));
-    }
-    Ok(Name::of(alloc, bytes)?)
+    Ok(Name::new(alloc, text.as_bytes())?)
 }
 
 /// The label of this text.
 pub fn label(alloc: Global, text: &str) -> Result<Label, Fail> {
-    let bytes = text.as_bytes();
-    if !Label::is_label(bytes) {
-        return Err(Fail::from("no label"));
-    }
-    Ok(Label::of(alloc, bytes)?)
+    Ok(Label::new(alloc, text.as_bytes())?)
 }
 
 /// The list of these points.
@@ -33,28 +25,28 @@ pub fn ring(alloc: Global, places: &[(i64, i64)]) -> Result<Points, AllocError> 
     Ok(Points::new(points))
 }
 
-/// A draft with so many grid steps in a micron, within the largest limits, and no cell.
+/// A draft with this many grid steps in a micron, within the largest limits, and without cells.
 pub fn draft(alloc: Global, num: u64, den: u64, profile: Profile) -> Result<Draft, Fail> {
     let unit = Fraction::reduced(num, den).ok_or("no unit")?;
     Ok(Draft::new(alloc, unit, Limits::large(), profile)?)
 }
 
-/// The layout of a draft, or why it wasn't filled. A function that ends with this call has no other way on which it drops
+/// The layout of a draft, or why it wasn't filled. A function that ends with this call has no other path on which it drops
 /// the draft.
 pub fn sealed(draft: Draft, filled: Result<(), Fail>) -> Result<Layout, Fail> {
     filled?;
     Ok(draft.seal()?)
 }
 
-/// Adds an empty cell of that name.
+/// Adds an empty cell with that name.
 pub fn add_cell(draft: &mut Draft, alloc: Global, text: &str) -> Result<(), Fail> {
     draft.add_cell(name(alloc, text)?)?;
     Ok(())
 }
 
-/// Adds the element to the cell so many times.
+/// Adds the element to the cell this many times.
 pub fn put(draft: &mut Draft, cell: usize, element: Element, times: u64) -> Result<(), Fail> {
-    if cell < draft.cells() && times > 0 {
+    if cell < draft.cell_count() && times > 0 {
         draft.add_many(cell, element, times)?;
     }
     Ok(())

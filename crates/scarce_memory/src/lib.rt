@@ -1,9 +1,9 @@
-//! For tests that refuse each growth of memory in its turn.
+//! For tests in which each memory allocation fails in turn.
 //!
-//! [`Hoard`] takes all memory that there is, and gives it back a small piece at a time, so that a call which is made after
-//! each piece meets every state of want. Nothing but tests uses it: no contract can say that the heap is
-//! full, and so [`Hoard::is_full`] has asked. Where the heap can't be filled, as under a checker of
-//! addresses, no call is refused, and a test asserts the answers alone.
+//! [`Hoard`] takes all memory that there is, and gives it back a small piece at a time. A call that is made after each piece
+//! therefore meets every way to run out of memory. Only tests use it: no contract can say that the heap is full, so a test
+//! asks [`Hoard::is_full`]. Where the heap can't be filled, as under an address checker, no allocation fails, and a test
+//! asserts the results alone.
 #![tactic(auto)]
 
 ghost use Rattle.std.specs.Prelude.{◌≡◌};
@@ -13,25 +13,25 @@ use std::alloc::{AllocError, Global};
 #[cfg(test)]
 mod tests;
 
-/// More bytes than any piece of memory that is there.
+/// More bytes than any piece of memory has.
 const LARGEST: usize = 68_719_476_736;
 
 /// The bytes of the smallest piece.
 const SMALLEST: usize = 16;
 
-/// Below so many bytes each size of a piece is asked for: an allocator may keep what was given back apart by its size.
+/// For pieces below this size, each size is asked for: an allocator may keep freed memory apart by its size.
 const SMALL: usize = 2048;
 
-/// How many small pieces are kept at the most.
+/// How many small pieces are kept at most.
 const MOST_PIECES: usize = 20_000;
 
-/// How many pieces are kept besides.
+/// How many other pieces are kept.
 const MOST_OTHERS: usize = 300_000;
 
-/// The bytes of the memory that the small pieces are cut from.
+/// The size of the memory that the small pieces are cut from, in bytes.
 const ROOM: usize = 65_536;
 
-/// Takes pieces of one size until there is none, or `held` is full.
+/// Takes pieces of one size until there are none left, or `held` is full.
 fn take_pieces(alloc: Global, size: usize, held: &mut Vec<Vec<u8>>) {
     for _ in held.len()..held.capacity() {
         match Vec::with_capacity(alloc, size) {
@@ -43,7 +43,7 @@ fn take_pieces(alloc: Global, size: usize, held: &mut Vec<Vec<u8>>) {
     }
 }
 
-/// Takes pieces from `most` bytes down to the smallest, until there is none or `held` is full.
+/// Takes pieces from `most` bytes down to the smallest, until there are none left or `held` is full.
 fn fill(alloc: Global, most: usize, held: &mut Vec<Vec<u8>>) {
     let mut size = most;
     for _ in 0..200u32 {
@@ -59,15 +59,15 @@ fn fill(alloc: Global, most: usize, held: &mut Vec<Vec<u8>>) {
 #[derive(Drop)]
 pub struct Hoard {
     alloc: Global,
-    // What is given back.
+    // The small pieces, which are given back.
     pieces: Vec<Vec<u8>>,
-    // All else.
+    // All other pieces.
     rest: Vec<Vec<u8>>,
     is_full: bool,
 }
 
 impl Hoard {
-    /// All memory that there is. It fails where there is too little to keep account of it.
+    /// Takes all memory that there is. It fails where there is too little memory to keep a list of the pieces.
     pub fn new(alloc: Global) -> Result<Hoard, AllocError> {
         let mut pieces = Vec::with_capacity(alloc, MOST_PIECES)?;
         let mut rest = Vec::with_capacity(alloc, MOST_OTHERS)?;
@@ -106,7 +106,7 @@ impl Hoard {
         let _ = self.pieces.pop();
     }
 
-    /// Takes again what was freed since, all but the pieces that were given back and are in use.
+    /// Takes what was freed since, except the pieces that were given back and are in use.
     pub fn fill_again(&mut self)
         ensures { self.new.is_full ≡ self.old.is_full }
     {

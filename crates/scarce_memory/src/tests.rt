@@ -1,9 +1,9 @@
-//! That memory comes back.
+//! Memory comes back.
 
 use super::*;
 use std::test::Fail;
 
-/// Where the heap is full, memory is refused until pieces were given back, and then it isn't.
+/// While the heap is full, allocations fail; once pieces are given back, they succeed.
 #[test]
 fn memory_comes_back(rt: HostRuntime) -> Result<(), Fail> {
     let alloc = rt.alloc();

@@ -4,7 +4,7 @@ use crate::reading::{at, reads, turned_reads};
 use oas_ring::{Corners, Point, Reading, as_box, same_ring};
 use std::alloc::{AllocError, Global};
 
-/// As `reads`, whether all of it is so.
+/// Like `reads`: whether all of it holds.
 fn reads_well(alloc: Global, ring: &[Point], least: &[Point]) -> bool {
     reads(alloc, ring, least) == Ok([true; 3])
 }
@@ -21,7 +21,7 @@ fn known_least_readings(rt: HostRuntime) {
     assert!(rt; reads_well(rt.alloc(), &[at(5, 5); 4], &[at(5, 5); 4]));
 }
 
-/// How many readings of the ring, of two from each place, do not read as the ring itself at the least.
+/// How many readings of the ring, two from each place, do not have the ring itself as their least reading.
 fn misread(alloc: Global, ring: &[Point]) -> Result<u32, AllocError> {
     let mut misread = 0u32;
     for start in 0..ring.len() {
@@ -35,7 +35,7 @@ fn misread(alloc: Global, ring: &[Point]) -> Result<u32, AllocError> {
     Ok(misread)
 }
 
-/// Whether each reading of the ring reads as the ring itself at the least.
+/// Whether each reading of the ring has the ring itself as its least reading.
 fn is_least(alloc: Global, ring: &[Point]) -> bool {
     misread(alloc, ring) == Ok(0)
 }

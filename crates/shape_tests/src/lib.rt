@@ -1,6 +1,6 @@
-//! What no clause of oas_ring or oas_shape says, by their public calls alone: that lists and repetitions are made where memory is
-//! there, readings of rings that are known from outside or found by trying all, and the values of spellings that are known from
-//! outside. It stands here so that both are proved without their tests.
+//! What no contract of oas_ring or oas_shape says, tested by their public calls alone: lists and repetitions are built where
+//! memory is there; readings of rings that are known from outside or found by trying all; and the values of spellings that
+//! are known from outside. The tests are in a crate of their own so that both are proved without them.
 #![tactic(auto)]
 
 #[cfg(test)]

@@ -61,7 +61,7 @@ fn read(alloc: Global, list_use: ListUse, bytes: &str) -> Result<PointList, Why>
     PointList::read(alloc, &mut SliceSource::new(&bytes, 1000), list_use)
 }
 
-/// What a list is of, its bytes, where it begins, and its vertices. Of a polygon of type 0 or 1 the last vertex follows from
+/// The use of a list, its bytes, where it begins, and its vertices. The last vertex of a polygon of type 0 or 1 follows from
 /// the others; types 4 and 5 spell one list by deltas and by running displacements; the last two paths go round by each
 /// 3-delta and by each g-delta of form 1.
 const LISTS: &str = "polygon|0 2 20 40|0 0|0,0 10,0 10,20 0,20
@@ -105,8 +105,8 @@ fn refusal(alloc: Global, list_use: ListUse, bytes: &str) -> u8 {
     }
 }
 
-/// What a list is of, its bytes, and the number of the reason. The last three have a count of 2^64 - 1, with nothing there or
-/// with some deltas.
+/// The use of a list, its bytes, and the number of the reason. The last three have a count of 2^64 - 1, followed by nothing
+/// or by some deltas.
 const REFUSED: &str = "polygon|6|15
 polygon|0 3|16
 polygon|4 1|16
@@ -133,7 +133,7 @@ fn walk_refusal(alloc: Global, bytes: &str) -> Result<u8, Why> {
     }
 }
 
-/// One step of 2^60 east is within the limits, and one more isn't; nor is a running one of 2^60 - 1 twice.
+/// One step of 2^60 east is within the limits, and one more isn't; neither is a running one of 2^60 - 1 twice.
 const WALKS: &str = "4 2 129 128 128 128 128 128 128 128 64 0 5 0|23
 4 1 129 128 128 128 128 128 128 128 64 0 5 0|0
 5 2 129 128 128 128 128 128 128 128 64 0 1 0|23";

@@ -17,7 +17,7 @@ fn thousand_points(rt: HostRuntime) {
     assert!(rt; found == [Ok([true; 3]); 2]);
 }
 
-/// The ring whose points are the digits of `code` to the base 3, each standing for a letter.
+/// The ring whose points are the digits of `code` to the base 3, each of which is a letter.
 fn spelled(alloc: Global, code: u32, count: usize) -> Result<Vec<Point>, AllocError> {
     let letters = [at(0, 1), at(1, -1), at(1, 0)];
     let mut ring = Vec::with_capacity(alloc, count)?;
@@ -29,7 +29,7 @@ fn spelled(alloc: Global, code: u32, count: usize) -> Result<Vec<Point>, AllocEr
     Ok(ring)
 }
 
-/// As `reads`, of a spelled ring and the reference.
+/// Like `reads`, for a spelled ring and the reference.
 fn spelled_reads(alloc: Global, code: u32, count: usize) -> Result<[bool; 3], AllocError> {
     let ring = spelled(alloc, code, count)?;
     let least = plain_least(alloc, &ring)?;
@@ -46,14 +46,14 @@ fn all_rings_of_few_points(rt: HostRuntime) {
     }
 }
 
-/// Whether two rings are the same, and whether they are by the reference.
+/// Whether two rings are the same, and whether the reference says so.
 fn sameness(alloc: Global, ring: &[Point], other: &[Point]) -> Result<[bool; 2], AllocError> {
     let least = plain_least(alloc, ring)?;
     let is_least = plain_least(alloc, other)? == least;
     Ok([same_ring(ring, other), is_least])
 }
 
-/// As `sameness`, of two spelled rings.
+/// Like `sameness`, for two spelled rings.
 fn spelled_sameness(
     alloc: Global,
     code: u32,
@@ -65,7 +65,8 @@ fn spelled_sameness(
     sameness(alloc, &ring, &other)
 }
 
-/// How many of the spelled rings of so many points are the same as this one, or else by the reference alone.
+/// How many of the spelled rings with this many points are the same as this one by the crate or by the reference, but not by
+/// both.
 fn unlike_answers(alloc: Global, code: u32, codes: u32, count: usize) -> Result<u32, AllocError> {
     let mut unlike = 0u32;
     for other in 0..codes {
@@ -109,7 +110,7 @@ fn are_alike(
     Ok((same_ring(ring, other), reads(alloc, other, &least)?))
 }
 
-/// As `are_alike`, of a ring and one of its readings; and whether that is the same when a point of the first was changed.
+/// Like `are_alike`, for a ring and one of its readings; and whether they still are when a point of the first was changed.
 fn changed_reading(
     alloc: Global,
     ring: &mut [Point],

@@ -1,7 +1,7 @@
-//! Each growth refused in turn: a call answers want of memory, or what it answers where there is memory.
+//! Each allocation fails in turn: a call returns out of memory, or what it returns where there is memory.
 //!
-//! The heap is filled up, and given back a small piece at a time. Where it cannot be filled, as under a checker of
-//! addresses, no call is refused, and the answers are the same.
+//! The heap is filled up, and given back a small piece at a time. Where it cannot be filled, as under an address checker, no
+//! call fails, and the results are the same.
 
 use oas_num::{SliceSource, Why};
 use oas_ring::Point;
@@ -40,7 +40,7 @@ fn copies_list(alloc: Global, list: &PointList) -> Result<bool, Why> {
     }
 }
 
-/// Whether the list gives them, the last where it should stand.
+/// Whether the list gives them, with the last at the right place.
 fn walks_list(alloc: Global, list: &PointList) -> Result<bool, Why> {
     let points = list.vertices(alloc, Point { x: 1, y: 2 })?;
     Ok(points.len() == 18 && points[17] == (Point { x: 1, y: 18 }))
@@ -59,7 +59,7 @@ fn copies_repetition(alloc: Global, repetition: &Repetition) -> Result<bool, Why
     }
 }
 
-/// What each of the five calls answers.
+/// What each of the five calls returns.
 fn answers(alloc: Global, list: &PointList, repetition: &Repetition) -> [Result<bool, Why>; 5] {
     [
         reads_list(alloc),
@@ -70,7 +70,7 @@ fn answers(alloc: Global, list: &PointList, repetition: &Repetition) -> [Result<
     ]
 }
 
-/// Counts the refused calls, each at its place. Whether all are refused for want of memory, or answer as they should.
+/// Counts the failed calls, each at its place. Whether all fail out of memory, or return what they should.
 fn count(refused: &mut [u32; 5], answers: [Result<bool, Why>; 5]) -> bool {
     let mut all = true;
     for i in 0..5 {
@@ -85,7 +85,7 @@ fn count(refused: &mut [u32; 5], answers: [Result<bool, Why>; 5]) -> bool {
     all
 }
 
-/// How often each call is refused while memory comes back, and whether all answer as they should.
+/// How often each call fails while memory comes back, and whether all return what they should.
 fn insist(
     alloc: Global,
     list: &PointList,
@@ -101,7 +101,7 @@ fn insist(
     (refused, all)
 }
 
-/// Whether each call was refused, if the heap could be filled.
+/// Whether each call failed, if the heap could be filled.
 fn are_met(refused: [u32; 5], is_full: bool) -> [bool; 5] {
     let mut met = [!is_full; 5];
     for i in 0..5 {
@@ -110,7 +110,7 @@ fn are_met(refused: [u32; 5], is_full: bool) -> [bool; 5] {
     met
 }
 
-/// Whether, where the heap can be filled, each call is refused, and whether all answer as they should.
+/// Whether, where the heap can be filled, each call fails, and whether all return what they should.
 fn in_want(alloc: Global, list: &PointList, repetition: &Repetition) -> ([bool; 5], bool) {
     match Hoard::new(alloc) {
         Ok(mut hoard) => {
@@ -121,7 +121,7 @@ fn in_want(alloc: Global, list: &PointList, repetition: &Repetition) -> ([bool; 
     }
 }
 
-/// The same, and what they answer where there is memory again.
+/// The same, and what they return where there is memory again.
 fn seen(alloc: Global) -> Result<(([bool; 5], bool), [Result<bool, Why>; 5]), Why> {
     let list = read_list(alloc)?;
     let repetition = read_repetition(alloc)?;

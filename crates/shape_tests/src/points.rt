@@ -1,4 +1,4 @@
-//! Lists of points that are held, and growths that are refused.
+//! Lists of points that are held, and allocations that fail.
 
 use crate::reading::{at, is_read_as};
 use oas_ring::{Point, Points, least_reading};
@@ -43,7 +43,7 @@ fn points_are_copied(rt: HostRuntime) -> Result<(), Fail> {
     Ok(())
 }
 
-/// How many answers were refused for want of memory, and how many were wrong.
+/// How many results were out of memory, and how many were wrong.
 #[derive(Clone, Copy)]
 struct Tally {
     refused: u32,
@@ -65,7 +65,7 @@ fn rectangle() -> [Point; 4] {
     [at(0, 0), at(10, 0), at(10, 20), at(0, 20)]
 }
 
-/// Whether it reads as it does at the least.
+/// Whether its least reading is as expected.
 fn rectangle_reads(alloc: Global) -> Result<bool, AllocError> {
     let ring = rectangle();
     let least = [at(0, 0), at(0, 20), at(10, 20), at(10, 0)];
@@ -77,7 +77,7 @@ fn is_copied(alloc: Global, points: &Points) -> Result<bool, AllocError> {
     Ok(points.try_clone(alloc)? == *points)
 }
 
-/// The answers of `rectangle_reads` and of `is_copied`, as memory comes back by one small piece after each.
+/// The results of `rectangle_reads` and of `is_copied`, as memory comes back by one small piece after each.
 fn tallies(alloc: Global, hoard: &mut Hoard, points: &Points) -> [Tally; 2] {
     let mut readings = Tally {
         refused: 0,
@@ -92,7 +92,7 @@ fn tallies(alloc: Global, hoard: &mut Hoard, points: &Points) -> [Tally; 2] {
     [readings, copies]
 }
 
-/// Which of both are refused as memory comes back, how many answers are wrong, and whether the heap was filled.
+/// Which of both fail as memory comes back, how many results are wrong, and whether the heap was filled.
 fn answers_in_want(
     alloc: Global,
     points: &Points,
@@ -103,8 +103,8 @@ fn answers_in_want(
     Ok((refused, [readings.wrong, copies.wrong], hoard.is_full()))
 }
 
-/// Each growth of `apply` and `try_clone` is refused in turn, with a budget of memory that grows by one small
-/// piece, until both succeed. Where the heap cannot be filled, as under a checker of addresses, neither is refused.
+/// Each allocation of `apply` and `try_clone` fails in turn, with a memory budget that grows by one small piece, until both
+/// succeed. Where the heap cannot be filled, as under an address checker, neither fails.
 #[test]
 fn growths_are_refused(rt: HostRuntime) -> Result<(), Fail> {
     let points = held(rt.alloc(), &rectangle())?;

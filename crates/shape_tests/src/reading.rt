@@ -1,4 +1,4 @@
-//! What a ring reads as.
+//! Readings of a ring.
 
 ghost use Rattle.std.specs.Prelude.{◌<◌, length};
 
@@ -32,7 +32,7 @@ fn counted_reading(ring: &[Point]) -> (Reading, bool)
     (reading, counted.steps() <= 7 * ring.len() as u64)
 }
 
-/// Whether the ring reads as this list at the least, by its points and by its view, and whether the second is found in at
+/// Whether the least reading of the ring is this list, by its points and by its view, and whether the second is found in at
 /// most seven steps a point.
 pub(crate) fn reads(
     alloc: Global,
@@ -48,7 +48,7 @@ pub(crate) fn reads(
     Ok([by_points, by_view, soon])
 }
 
-/// As `reads`, of the ring that this reading reads.
+/// Like `reads`, for the ring of this reading.
 pub(crate) fn turned_reads(
     alloc: Global,
     ring: &[Point],

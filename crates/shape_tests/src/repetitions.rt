@@ -94,7 +94,7 @@ fn counted(alloc: Global, bytes: &str) -> Option<(Option<u64>, Option<(i128, i12
     Some((repetition.count(), last(&repetition)))
 }
 
-/// A great number of columns and rows, and the greatest of all.
+/// Many columns and rows, and the most of all.
 const MANY: &str = "1 254 31 254 31 0 0";
 
 const MOST: &str =
@@ -108,7 +108,7 @@ fn counts_of_many(rt: HostRuntime) {
     );
 }
 
-/// Whether the bytes stand for the repetition that was used last.
+/// Whether the bytes denote the repetition that was used last.
 fn is_again(alloc: Global, bytes: &[u8]) -> bool {
     matches!(
         RepField::read(alloc, &mut SliceSource::new(bytes, 1)),
@@ -121,7 +121,7 @@ fn last_repetition_again(rt: HostRuntime) {
     assert!(rt; is_again(rt.alloc(), &[0]));
 }
 
-/// So many places, with so many copies on each.
+/// This many places, with this many copies on each.
 fn places(number: u64, copies: u64, stride: u64) -> Places {
     Places {
         number,
@@ -130,7 +130,7 @@ fn places(number: u64, copies: u64, stride: u64) -> Places {
     }
 }
 
-/// The places of columns that stand together, and of rows that do.
+/// The places of columns at one place, and of rows at one place.
 fn two_ways() -> [Places; 2] {
     let columns_together = Repetition::Matrix {
         x_dim: 1,
@@ -147,7 +147,7 @@ fn two_ways() -> [Places; 2] {
     [columns_together.places(), rows_together.places()]
 }
 
-/// The places of very many that all stand together, and of rows none of which do.
+/// The places of very many copies at one place, and of rows none of which are.
 fn of_many() -> [Places; 2] {
     let all_together = Repetition::Matrix {
         x_dim: 4094,
@@ -181,9 +181,9 @@ fn refusal(alloc: Global, bytes: &str) -> Result<u8, Why> {
 /// The bytes of a repetition, and the number of the reason.
 ///
 /// An unknown type; a space of 2^62, which is within the limit, and one more; each sum decides, also one that comes back.
-/// Evenly spaced ones aren't looked at while they are read; a grid times a space past 2^127, and a grid of 0. A dimension of
-/// 2^64 - 1, with nothing there or with some displacements. 4 times 2^61 in x, where the number of y isn't there and where it
-/// is; and a sum past the limit, which comes before the end.
+/// Evenly spaced ones aren't looked at while they are read; a grid times a space above 2^127, and a grid of 0. A dimension of
+/// 2^64 - 1, followed by nothing or by some displacements. 4 times 2^61 in x, where the number of y isn't there and where it
+/// is; and a sum that exceeds the limit, which comes before the end.
 const REFUSED: &str = "12|17
 4 0 128 128 128 128 128 128 128 128 64|0
 4 0 129 128 128 128 128 128 128 128 64|23

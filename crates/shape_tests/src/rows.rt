@@ -1,9 +1,9 @@
-//! Rows of text that give what is read, and what comes of it.
+//! Rows of text that give what is read, and the result.
 
 use oas_num::Why;
 use std::alloc::Global;
 
-/// The parts of a row, which `|` keeps apart; those that it lacks are empty.
+/// The parts of a row, separated by `|`; missing ones are empty.
 pub(crate) fn row_parts(row: &str) -> [&str; 4] {
     let (first, rest) = row.split_once("|").unwrap_or((row, ""));
     let (second, rest) = rest.split_once("|").unwrap_or((rest, ""));

@@ -1,5 +1,5 @@
-//! Keys come in hostile orders, more of them than wait loose, and a few of which more rise or more wait; what comes out is known
-//! by arithmetic.
+//! Keys come in bad orders: more of them than wait loose, with a few more that rise or wait. The expected result is known by
+//! arithmetic.
 
 ghost use Rattle.std.specs.Prelude.{◌≡◌, ◌+◌, ◌<◌, ◌^◌, OnOk};
 ghost use Rattle.std.specs.Cmp.Lexicographic.{slice_cmp};
@@ -12,7 +12,7 @@ use oas_store::KeyStore;
 use std::alloc::{AllocError, Global};
 use std::process::Abort;
 
-/// How many numbers come, of most orders.
+/// How many numbers come, in most orders.
 const COUNT: u32 = 100_000;
 
 /// An order in which numbers come.
@@ -24,9 +24,9 @@ enum Order {
     OrganPipe,
     Scattered,
     Few,
-    /// So many ascend, and then so many below them descend.
+    /// This many ascend, and then this many below them descend.
     Apart(u32, u32),
-    /// So many ascend, and then they descend so many times.
+    /// This many ascend, and then they descend this many times.
     Again(u32, u32),
 }
 
@@ -40,7 +40,7 @@ impl Order {
         }
     }
 
-    /// The number that comes after so many others.
+    /// The number that comes after this many others.
     fn number(self, before: u32) -> u32 {
         match self {
             Order::Ascending => before,
@@ -65,7 +65,7 @@ impl Order {
     }
 }
 
-/// Adds a key once, at the second try if the first is refused.
+/// Adds a key once, at the second try if the first fails.
 fn insist(store: &mut KeyStore, key: &[u8]) -> Result<(), AllocError>
     requires { count_at (slice_cmp nat_cmp) store.old key.now + 1 < 2 ^ 64 }
     ensures { OnOk result (store.new ≡ put_more (slice_cmp nat_cmp) store.old key.now 1) }
@@ -86,7 +86,7 @@ fn filled(alloc: Global, order: Order) -> Result<KeyStore, AllocError> {
     Ok(store)
 }
 
-/// What a store holds, at the second try if the first is refused.
+/// What a store holds, at the second try if the first fails.
 fn closed(store: KeyStore) -> Result<Run, AllocError> {
     match store.close() {
         Ok(run) => Ok(run),
@@ -97,7 +97,7 @@ fn closed(store: KeyStore) -> Result<Run, AllocError> {
     }
 }
 
-/// How many numbers come out of a run, each so many times; or which one does not.
+/// How many numbers come out of a run, each this many times; or which one does not.
 fn numbers_of(run: &Run, times: u64) -> Result<u32, u32> {
     let mut next: u32 = 0;
     for (key, count) in run.entries() {
@@ -109,13 +109,13 @@ fn numbers_of(run: &Run, times: u64) -> Result<u32, u32> {
     Ok(next)
 }
 
-/// The same, of the numbers in an order.
+/// The same, for the numbers in an order.
 fn numbers(alloc: Global, order: Order, times: u64) -> Result<Result<u32, u32>, AllocError> {
     let run = closed(filled(alloc, order)?)?;
     Ok(numbers_of(&run, times))
 }
 
-/// Asserts of each order that the numbers below the first one beside it come out, each as often as the second says.
+/// Asserts for each order that the numbers below the first one beside it come out, each as often as the second says.
 fn assert_numbers(
     rt: &impl Abort,
     alloc: Global,

@@ -1,4 +1,4 @@
-//! A run is written and gone over, with memory that is there.
+//! A run is written and read, where memory is there.
 
 use oas_entries::{Growing, Run};
 use std::alloc::Global;
@@ -28,7 +28,7 @@ fn gives(run: &Run, wanted: &[(u8, u64)]) -> bool {
     left.is_empty()
 }
 
-/// Whether all but the first come out once that is taken.
+/// Whether all except the first come out once that is taken.
 fn gives_others(alloc: Global) -> Result<bool, Fail> {
     let mut run = written(alloc, &[(0, 7), (1, 2), (3, 400), (9, 1)])?;
     if !run.is_empty() {

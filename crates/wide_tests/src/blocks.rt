@@ -1,15 +1,15 @@
-//! What no clause says: that a block is read where memory is there, and which fault is answered of the ways to go wrong. The
-//! streams were made by zlib 1.2.13, and what they stand for is what was given to it.
+//! What no contract says: a block is read where memory is there, and which fault is returned for each way to go wrong. The
+//! streams were made by zlib 1.2.13, and their data are what was given to it.
 
+use oas_block::oas_wide::BlockHead;
 use oas_block::{Block, BlockEnd, BlockFault, InflatedSource, read_block};
 use oas_num::{ReaderSource, SliceSource, Source, Why};
-use oas_wide::BlockHead;
 use std::alloc::Global;
 use std::io;
 use std::io::{ErrorKind, Read};
 use std::test::Fail;
 
-/// Heads with their bytes, and what they stand for: nothing, a stored block, one of fixed codes, one of its own.
+/// Heads with their bytes, and their data: nothing, a stored block, one with fixed codes, one with its own.
 const GIVEN: &[(&str, &str)] = &[
     ("0000020300", ""),
     (
@@ -32,20 +32,20 @@ const REFUSED: &[(&str, BlockFault)] = &[
     ("01110acb48cdc9c957c8409000", BlockFault::Kind),
     // one byte fewer stated
     ("00100acb48cdc9c957c8409000", BlockFault::Length),
-    // no stream begins so
+    // no stream begins like this
     ("0000020700", BlockFault::Deflate),
-    // nor so, behind eight bytes of data
+    // nor like this, after eight bytes of data
     ("00100b13a96664e012616080310000", BlockFault::Deflate),
     // the input ends in the stream
     ("00110acb48cdc9c957c84090", BlockFault::Why(Why::Truncated)),
-    // the input ends behind the stream
+    // the input ends after the stream
     (
         "00110bcb48cdc9c957c8409000",
         BlockFault::Why(Why::Truncated),
     ),
 ];
 
-/// Heads with their bytes, of which the stream doesn't end as it should, how it ends, and what zlib gives of it.
+/// Heads with their bytes, whose stream doesn't end as it should, how it ends, and what zlib gives for it.
 const WRONG: &[(&str, BlockEnd, &str)] = &[
     // no byte
     ("000000", BlockEnd::Unfinished, ""),
@@ -73,7 +73,7 @@ const WRONG: &[(&str, BlockEnd, &str)] = &[
         BlockEnd::Other,
         "68656c6c6f2068656c6c6f2068656c6c6f",
     ),
-    // a byte behind the stream
+    // a byte after the stream
     (
         "00110bcb48cdc9c957c840900000",
         BlockEnd::Other,
@@ -89,7 +89,7 @@ fn read_from<S: Source>(alloc: Global, source: &mut S, limit: usize) -> Result<B
     }
 }
 
-/// Reads the block that stands in a text.
+/// Reads the block in a text.
 fn read_text(
     alloc: Global,
     text: &str,
@@ -120,7 +120,7 @@ fn given_by(
     Ok(Ok((bytes, block.end)))
 }
 
-/// Gives its bytes, and then fails.
+/// Returns its bytes, and then fails.
 #[derive(Drop)]
 struct Failing<'a> {
     rest: &'a [u8],
@@ -139,7 +139,7 @@ impl Read for Failing<'_> {
     }
 }
 
-/// Whether the block in a text is read, of at most so many bytes, with these data and this end.
+/// Whether the block in a text is read, with at most this many bytes, with these data and this end.
 fn gives(
     alloc: Global,
     block: &str,

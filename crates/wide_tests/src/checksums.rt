@@ -1,6 +1,6 @@
 //! Checksums that are known from outside.
 
-use oas_checksum::{Crc32, Sum32};
+use oas_sums::oas_checksum::{Crc32, Sum32};
 use std::test::Fail;
 
 /// Texts, their CRC-32 as zlib gives it, and the sum of their bytes.
@@ -16,7 +16,7 @@ const ROWS: &[(&str, u32, u32)] = &[
     ),
 ];
 
-/// In two pieces, of which the first has so many bytes, and one byte before them.
+/// In two pieces, the first of which has this many bytes, with one byte before them.
 fn both(bytes: &[u8], first: usize) -> (u32, u32) {
     let mut crc = Crc32::new();
     let mut sum = Sum32::new();

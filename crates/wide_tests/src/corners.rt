@@ -1,6 +1,8 @@
-//! The corners that are drawn, as they are known from outside.
+//! Corners that are known from outside.
 
-use oas_corners::{Corners, Sides, Unsided, named_corners, sides_of, trapezoid_corners};
+use oas_foreign::oas_corners::{
+    Corners, Sides, Unsided, named_corners, sides_of, trapezoid_corners,
+};
 use std::alloc::Global;
 use std::test::Fail;
 
@@ -22,13 +24,13 @@ fn number(word: Option<&str>) -> u64 {
     word.unwrap_or("").parse::<u64>().unwrap_or(u64::MAX)
 }
 
-/// A word as a number with a sign.
+/// A word as a signed number.
 fn delta(word: Option<&str>) -> i64 {
     word.unwrap_or("").parse::<i64>().unwrap_or(i64::MIN)
 }
 
-/// A kind, a width and a height, and the corners that KLayout 0.28.5 shows. Where two of them are one it isn't consistent, and
-/// where nothing is enclosed it draws: there the rows have the rule.
+/// A kind, a width and a height, and the corners that KLayout 0.28.5 shows. Where two of them are one KLayout isn't
+/// consistent, and where no area is enclosed it draws: there the rows follow the rule.
 const NAMED: &str = "\
 0 100 30:0,0 0,30 70,30 100,0\n\
 1 100 30:0,0 0,30 100,30 70,0\n\

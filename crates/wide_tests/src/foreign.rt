@@ -1,4 +1,4 @@
-//! What is handed out for records, with answers from outside.
+//! What is returned for records, with results from outside.
 
 mod corners;
 mod memory;
@@ -6,12 +6,12 @@ mod table;
 
 use self::corners::{KINDS, TRAPEZOIDS};
 use self::table::ROWS;
+use oas_block::oas_wide::{WideRecord, WideWhy};
 use oas_foreign::{Resolved, Resolver};
 use oas_num::{INPUT_MAX, SliceSource, Source};
 use oas_record::{CellRef, Polygon, Record, Spot};
 use oas_ring::Point;
 use oas_shape::RepField;
-use oas_wide::{WideRecord, WideWhy};
 use std::alloc::{AllocError, Global};
 use std::process::Abort;
 use std::test::Fail;
@@ -32,7 +32,7 @@ fn add_coordinate(line: &mut String, given: Option<i64>) -> Result<(), AllocErro
     }
 }
 
-/// Adds where an element stands, and how often.
+/// Adds the position of an element, and its repetition.
 fn add_spot(line: &mut String, spot: &Spot) -> Result<(), AllocError> {
     add_coordinate(line, spot.x)?;
     add_coordinate(line, spot.y)?;
@@ -46,7 +46,7 @@ fn add_spot(line: &mut String, spot: &Spot) -> Result<(), AllocError> {
     }
 }
 
-/// Adds a word, fields, and where an element stands.
+/// Adds a word, fields, and the position of an element with its repetition.
 fn add_element(
     line: &mut String,
     word: &str,
@@ -71,7 +71,7 @@ fn add_points(line: &mut String, points: &[Point]) -> Result<(), AllocError> {
     Ok(())
 }
 
-/// Adds the vertices of a polygon that stands on the grid; none of one without points.
+/// Adds the vertices of a polygon on the grid; none for one without points.
 fn add_vertices(alloc: Global, line: &mut String, drawn: &Polygon) -> Result<(), AllocError> {
     let (x, y) = (drawn.spot.x.unwrap_or(0), drawn.spot.y.unwrap_or(0));
     let is_near = -FURTHEST <= x && x <= FURTHEST && -FURTHEST <= y && y <= FURTHEST;
@@ -84,7 +84,7 @@ fn add_vertices(alloc: Global, line: &mut String, drawn: &Polygon) -> Result<(),
     }
 }
 
-/// Adds a polygon: its vertices stand where it does.
+/// Adds a polygon: its vertices are at its position.
 fn add_polygon(alloc: Global, line: &mut String, drawn: &Polygon) -> Result<(), AllocError> {
     add_element(line, "polygon", &[drawn.layer, drawn.datatype], &drawn.spot)?;
     line.push_str(":")?;
@@ -125,7 +125,7 @@ fn begin_part(line: &mut String) -> Result<(), AllocError> {
     }
 }
 
-/// Adds the records that were handed out, after those before.
+/// Adds the records that were returned, after those before.
 fn add_resolved(alloc: Global, line: &mut String, resolved: &Resolved) -> Result<(), AllocError> {
     match resolved {
         Resolved::Nothing => Ok(()),
@@ -142,10 +142,10 @@ fn add_resolved(alloc: Global, line: &mut String, resolved: &Resolved) -> Result
     }
 }
 
-/// Drops what was handed out, in a step of its own.
+/// Drops what was returned, in a step of its own.
 fn discard(_answer: Result<Resolved, WideWhy>) {}
 
-/// A resolver behind a CELL.
+/// A resolver after a CELL.
 fn in_a_cell(alloc: Global) -> Resolver {
     let mut resolver = Resolver::new();
     let cell = WideRecord::Profile(Record::Cell(CellRef::Number(0)));
@@ -153,7 +153,7 @@ fn in_a_cell(alloc: Global) -> Resolver {
     resolver
 }
 
-/// What is handed out for the next record, or why it is refused.
+/// What is returned for the next record, or why it is refused.
 fn next(
     alloc: Global,
     source: &mut SliceSource<'_>,
@@ -165,7 +165,7 @@ fn next(
     }
 }
 
-/// Adds what is handed out, or why a record is refused, and answers whether it is.
+/// Adds what is returned, or why a record is refused, and returns whether it is.
 fn add_answer(
     alloc: Global,
     line: &mut String,
@@ -184,7 +184,7 @@ fn add_answer(
     }
 }
 
-/// Adds what is handed out for the next record, or why it is refused, and answers whether it is.
+/// Adds what is returned for the next record, or why it is refused, and returns whether it is.
 fn add_next(
     alloc: Global,
     line: &mut String,
@@ -197,7 +197,7 @@ fn add_next(
     is_refused
 }
 
-/// Adds what is handed out for the next records of a source, whose end is there, up to the first that is refused.
+/// Adds what is returned for the next records of a source, up to its end or the first that is refused.
 fn add_up_to(
     alloc: Global,
     line: &mut String,
@@ -214,14 +214,14 @@ fn add_up_to(
     Ok(())
 }
 
-/// Adds what is handed out for the records of these bytes behind a CELL.
+/// Adds what is returned for the records of these bytes after a CELL.
 fn add_all(alloc: Global, line: &mut String, bytes: &[u8]) -> Result<(), AllocError> {
     let mut source = SliceSource::new(bytes, INPUT_MAX);
     let mut resolver = in_a_cell(alloc);
     add_up_to(alloc, line, &mut source, &mut resolver, bytes.len())
 }
 
-/// What is handed out for these bytes, which are in hex with blanks.
+/// What is returned for these bytes, which are in hex with blanks.
 fn handed_out(alloc: Global, text: &str) -> Result<String, Fail> {
     let bytes = hex::decode(alloc, &text.replace(alloc, " ", "")?)?;
     let mut line = String::new(alloc);
@@ -229,13 +229,13 @@ fn handed_out(alloc: Global, text: &str) -> Result<String, Fail> {
     Ok(line)
 }
 
-/// Whether what is handed out for the bytes of a row is what stands behind them.
+/// Whether what is returned for the bytes of a row is what follows them.
 fn is_handed_out(alloc: Global, row: &str) -> Result<bool, Fail> {
     let (text, wanted) = row.split_once('=').unwrap_or((row, ""));
     Ok(handed_out(alloc, text)?.as_str() == wanted)
 }
 
-/// Asserts each row of a table, bytes and what is handed out.
+/// Asserts each row of a table, bytes and what is returned.
 fn compare(rt: &impl Abort, alloc: Global, rows: &str) -> Result<(), Fail> {
     for row in rows.lines() {
         assert!(rt; is_handed_out(alloc, row)?, "{row}");

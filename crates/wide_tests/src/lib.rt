@@ -1,6 +1,7 @@
-//! What no clause says of the crates that read what is outside the profile, by their public calls alone: that records and blocks
-//! are read where memory is there, which fault is answered of the ways to go wrong, and checksums, corners, reals and the records
-//! handed out for others that are known from outside. It stands here so that those crates are proved without their tests.
+//! What no contract of the crates that read what is outside the profile says, tested by their public calls alone: records and
+//! blocks are read where memory is there; which fault is returned for each way to go wrong; and checksums, corners, reals and
+//! the records returned for others that are known from outside. The tests are in a crate of their own so that those crates
+//! are proved without them.
 #![tactic(auto)]
 
 #[cfg(test)]

@@ -1,22 +1,22 @@
 //! Records that are read where memory is there, and the values of reals that are known from outside.
 
 use file_pieces::bytes_of;
-use oas_num::{INPUT_MAX, Padding, SliceSource, Source, Spelled, Why};
-use oas_wide::{
+use oas_block::oas_wide::{
     BlockHead, ExtensionGeometry, LayerName, NamedTrapezoid, Property, Trapezoid, WideEnd,
     WidePlacement, WideReal, WideRecord, WideRefusal, WideStart, read_attributed, read_string,
 };
+use oas_num::{INPUT_MAX, Padding, SliceSource, Source, Spelled, Why};
 use std::alloc::Global;
 use std::test::Fail;
 
-/// The real that stands in a text.
+/// The real in a text.
 fn real_of(alloc: Global, text: &str) -> Result<Result<WideReal, Why>, Fail> {
     let bytes = bytes_of(alloc, text)?;
     let mut source = SliceSource::new(&bytes, INPUT_MAX);
     Ok(WideReal::read(alloc, &mut source))
 }
 
-/// A real, as `num den doubled halved` behind its sign, or the number of the refusal.
+/// A real, as `num den doubled halved` after its sign, or the number of the refusal.
 fn real_line(alloc: Global, text: &str) -> Result<String, Fail> {
     match real_of(alloc, text)? {
         Ok(real) => {
@@ -109,7 +109,7 @@ fn outcome_outside(alloc: Global, kind: &str, source: &mut SliceSource<'_>) -> u
     }
 }
 
-/// A kind, how its read ends, after how many bytes, and the bytes, of which one more stands behind what is read whole.
+/// A kind, how its read ends, after how many bytes, and the bytes; one more follows what is read whole.
 const ROWS: &str = "\
 start 0 21 0103312e3000e80700 00*12 ff\n\
 start 0 15 0103312e30 07 000000000000f03f 01 ff\n\
@@ -212,7 +212,7 @@ record 13 1 01\n\
 record 12 1 23\n\
 record 2 0";
 
-/// The parts of a row. A number that is none is one that no read answers.
+/// The parts of a row. A number that is none is one that no read returns.
 fn parts_of(row: &str) -> (&str, u8, u64, &str) {
     let mut words = row.splitn(4, ' ');
     let kind = words.next().unwrap_or("");

@@ -1,4 +1,4 @@
-//! The sums of a source's bytes: those that zlib 1.2.13 gives of `abc`, behind which four bytes are taken that aren't summed,
+//! The sums of a source's bytes: those that zlib 1.2.13 gives for `abc`, after which four bytes are taken that aren't summed,
 //! and one isn't taken.
 ghost use Rattle.std.specs.Prelude.{◌≡◌};
 
@@ -7,7 +7,7 @@ use oas_sums::{Start, SummedSource, Sums};
 use std::marker::Brand;
 use std::test::Fail;
 
-/// The sums before the last four of so many bytes, and the source that is lent.
+/// The sums before the last four of this many bytes, and the source that is lent.
 fn sums_of<'a, S: Source, K: Start>(source: &'a mut S, count: usize) -> (&'a mut S, Sums)
     requires named { source.ghost_name ≡ K.name }
     requires starts { S.script source.old ≡ K.script }
@@ -19,7 +19,7 @@ fn sums_of<'a, S: Source, K: Start>(source: &'a mut S, count: usize) -> (&'a mut
     summed.finish()
 }
 
-/// What is summed of seven bytes that are given, where so many are taken: the CRC-32 and the sum.
+/// The sums of seven bytes that are given, where this many are taken: the CRC-32 and the sum.
 fn both(count: usize) -> (u32, u32) {
     let bytes = [0x61, 0x62, 0x63, 0xFF, 0xFE, 0xFD, 0xFC, 0xFB];
     let mut source = SliceSource::new(&bytes, 8);

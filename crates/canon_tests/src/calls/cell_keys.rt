@@ -1,9 +1,10 @@
-//! The keys of cells: what `sha256sum` prints of the files of one cell each.
+//! The keys of cells: what `sha256sum` prints for the files of one cell each.
 
 use super::{KEY, file_of};
 use crate::files::discard;
 use oas_canon::{
-    Layout, Limits, PROFILE, Refusal, SliceSource, Why, cell_key, key, read_layout, write_cell_keys,
+    Layout, Limits, PROFILE, Refusal, SliceSource, Why, cell_key, key, layout_key, read_layout,
+    write_cell_keys,
 };
 use std::alloc::Global;
 use std::io;
@@ -12,13 +13,13 @@ use std::io::Write;
 /// A CELL record: the name `B`.
 const B: [u8; 3] = [0x0E, 0x01, 0x42];
 
-/// The keys of the cell `A` with its rectangle alone, and of the cell `B` with nothing in it.
+/// The keys of the cell `A` with only its rectangle, and of the cell `B` with nothing in it.
 const LINES: &str = "\
 faa9cb7d21110cae5bde5660c1b56c7b0b00a54880eacf1bfeba45a6cc348d77  A
 e548ccba0286fed19248bc56d784a0083342adba183e389cec47947966846bf6  B
 ";
 
-/// Takes so many bytes, and then fails.
+/// Takes this many bytes, and then fails.
 #[derive(Drop)]
 struct Narrow {
     took: Vec<u8>,
@@ -38,15 +39,15 @@ impl Write for Narrow {
     }
 }
 
-/// The layout of the file of the front and these bytes.
+/// The layout of the file of the head and these bytes.
 fn layout_of(alloc: Global, more: &[u8]) -> Option<Layout> {
     let file = file_of(alloc, more)?;
     let mut from = SliceSource::new(&file, 1000);
     read_layout(alloc, &mut from, Limits::standard(), PROFILE).ok()
 }
 
-/// Writes the keys of the cells `A` and `B` to a writer with so much room: what is answered, how many bytes the writer
-/// took, and whether they are the first of the lines.
+/// Writes the keys of the cells `A` and `B` to a writer with this much room: the result, how many bytes the writer took, and
+/// whether they are the first of the lines.
 fn written(alloc: Global, room: usize) -> Option<(Result<u64, Refusal>, usize, bool)> {
     let took = Vec::with_capacity(alloc, 256).ok()?;
     let mut out = Narrow { took, room };
@@ -62,23 +63,23 @@ fn each_cell_has_its_line(rt: HostRuntime) {
     assert!(rt; written(rt.alloc(), 1000) == Some((Ok(136), 136, true)));
 }
 
-/// The key of the only cell of a layout.
-fn only_key(layout: &Layout) -> Option<[u8; 32]> {
-    if layout.cells() != 1 {
+/// The key of the only cell of a layout, and that of the layout.
+fn only_keys(layout: &Layout) -> Option<[[u8; 32]; 2]> {
+    if layout.cell_count() != 1 {
         return None;
     }
-    Some(cell_key(layout, 0))
+    Some([cell_key(layout, 0), layout_key(layout)])
 }
 
-/// The same of the file of the front alone.
-fn key_of_its_cell(alloc: Global) -> Option<[u8; 32]> {
+/// The same for the file with only the head.
+fn keys_of_its_layout(alloc: Global) -> Option<[[u8; 32]; 2]> {
     let layout = layout_of(alloc, &[])?;
-    let key = only_key(&layout);
+    let keys = only_keys(&layout);
     discard(layout);
-    key
+    keys
 }
 
-/// The key of the file of the front alone.
+/// The key of the file with only the head.
 fn file_key(alloc: Global) -> Option<[u8; 32]> {
     let file = file_of(alloc, &[])?;
     key(
@@ -91,8 +92,8 @@ fn file_key(alloc: Global) -> Option<[u8; 32]> {
 
 #[test]
 fn a_file_of_one_cell_has_its_key(rt: HostRuntime) {
-    let found = [key_of_its_cell(rt.alloc()), file_key(rt.alloc())];
-    assert!(rt; found == [Some(KEY); 2]);
+    let found = (keys_of_its_layout(rt.alloc()), file_key(rt.alloc()));
+    assert!(rt; found == (Some([KEY; 2]), Some(KEY)));
 }
 
 #[test]

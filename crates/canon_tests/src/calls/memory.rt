@@ -1,7 +1,7 @@
-//! Each request for memory refused in turn: the answer is `Why::Memory`, or the right one.
+//! Each memory allocation fails in turn: the result is `Why::Memory`, or the right one.
 //!
-//! The process's heap is filled with pieces, down to the smallest, and then emptied a piece at a time, so that each run
-//! has a little more memory than the one before. (Under `rt try` the heap can't be filled, and nothing is refused.)
+//! The process's heap is filled with pieces, down to the smallest, and then emptied a piece at a time, so that each run has a
+//! little more memory than the one before. (Under `rt try` the heap can't be filled, and nothing fails.)
 
 use super::rekeying::{Short, boxed};
 use super::{AGAIN, file_of};
@@ -28,7 +28,7 @@ fn is_same(alloc: Global, file: &[u8]) -> Result<bool, Refusal> {
     }
 }
 
-/// Makes the call once, and answers whether what it answers is right.
+/// Makes the call once, and returns whether its result is right.
 fn is_right(alloc: Global, call: Call, file: &[u8], digest: &[u8; 32]) -> Result<bool, Refusal> {
     let limits = Limits::standard();
     let mut from = SliceSource::new(file, 10000);
@@ -43,8 +43,8 @@ fn is_right(alloc: Global, call: Call, file: &[u8], digest: &[u8; 32]) -> Result
     }
 }
 
-/// Makes the call with a little more memory each time: how often memory is refused, how often the right thing is answered,
-/// and how often anything else.
+/// Makes the call with a little more memory each time: how often it fails out of memory, how often it returns the right
+/// result, and how often anything else.
 fn counts(
     alloc: Global,
     call: Call,
@@ -71,7 +71,7 @@ fn counts(
     [refused, done, wrong]
 }
 
-/// A file with more elements than there is room for at first; of a call that re-keys, a file with a box.
+/// A file with more elements than there is room for at first; for a call that re-keys, a file with a box.
 fn file_for(alloc: Global, call: Call) -> Option<Vec<u8>> {
     if matches!(call, Call::Rekey) {
         return boxed(alloc);
@@ -83,8 +83,8 @@ fn file_for(alloc: Global, call: Call) -> Option<Vec<u8>> {
     file_of(alloc, &rectangles)
 }
 
-/// What comes of the call with all memory taken and given back little by little: whether no answer is wrong, and, where the
-/// heap can be filled, whether memory is refused and whether the right thing is answered.
+/// The result of the call with all memory taken and given back little by little: whether no result is wrong, and, where the
+/// heap can be filled, whether some fail out of memory and some are right.
 fn at_each_growth(alloc: Global, call: Call) -> Option<[bool; 3]> {
     let file = file_for(alloc, call)?;
     let digest = key(

@@ -1,4 +1,4 @@
-//! Re-keying: its answers of small files, and a writer that fails.
+//! Re-keying: its results for small files, and a writer that fails.
 
 use super::{AGAIN, FRONT, ended};
 use oas_canon::{Limits, Refusal, Rekeyed, SliceSource, Source, Why, rekey};
@@ -6,12 +6,12 @@ use std::alloc::Global;
 use std::io;
 use std::io::{ErrorKind, Write};
 
-/// The rectangle of the front as a polygon.
+/// The rectangle of the head as a polygon.
 const BOX: [u8; 14] = [
     0x15, 0x3B, 0x01, 0x00, 0x04, 0x03, 0x01, 0x28, 0x29, 0x00, 0x01, 0x29, 0x00, 0x00,
 ];
 
-/// Takes so many bytes, and then fails.
+/// Takes this many bytes, and then fails.
 #[derive(Drop)]
 pub(super) struct Short {
     pub(super) room: usize,
@@ -32,7 +32,7 @@ impl Write for Short {
     }
 }
 
-/// A file whose cell has these elements alone.
+/// A file whose cell has only these elements.
 fn file_with(alloc: Global, elements: &[u8]) -> Option<Vec<u8>> {
     ended(alloc, &FRONT[..37], elements)
 }
@@ -42,19 +42,19 @@ pub(super) fn boxed(alloc: Global) -> Option<Vec<u8>> {
     file_with(alloc, &BOX)
 }
 
-/// A rectangle of layer 2 in the same place, and that polygon behind it.
+/// A rectangle of layer 2 in the same place, followed by that polygon.
 const HIGHER_AND_BOX: [u8; 22] = [
     0x14, 0x7B, 0x02, 0x00, 0x0A, 0x14, 0x00, 0x00, 0x15, 0x3B, 0x01, 0x00, 0x04, 0x03, 0x01, 0x28,
     0x29, 0x00, 0x01, 0x29, 0x00, 0x00,
 ];
 
-/// The rectangle of the front, and that of layer 2 behind it.
+/// The rectangle of the head, followed by that of layer 2.
 const BOTH: [u8; 16] = [
     0x14, 0x7B, 0x01, 0x00, 0x0A, 0x14, 0x00, 0x00, 0x14, 0x7B, 0x02, 0x00, 0x0A, 0x14, 0x00, 0x00,
 ];
 
-/// Re-keys the file of the cell with these elements: how many bytes it has, what is answered, and whether the file of the
-/// cell with those elements is written.
+/// Re-keys the file of the cell with these elements: how many bytes it has, the result, and whether the file of the cell with
+/// those elements is written.
 fn rekeyed(
     alloc: Global,
     elements: &[u8],
@@ -86,12 +86,12 @@ fn a_box_becomes_a_rectangle(rt: HostRuntime) {
     assert!(rt; found == wanted);
 }
 
-/// The record of a name and a CELL that calls it by its number, the rectangle of the front, and a PAD record.
+/// The record of a name and a CELL that calls it by its number, the rectangle of the head, and a PAD record.
 const NUMBERED: [u8; 14] = [
     0x03, 0x01, 0x41, 0x0D, 0x00, 0x14, 0x7B, 0x01, 0x00, 0x0A, 0x14, 0x00, 0x00, 0x00,
 ];
 
-/// What is answered of the file of these bytes behind START, how many bytes were read, and how many were written.
+/// The result for the file of these bytes after START, how many bytes were read, and how many were written.
 fn unwritten(alloc: Global, more: &[u8]) -> Option<(Result<Rekeyed, Refusal>, u64, usize)> {
     let file = ended(alloc, &FRONT[..34], more)?;
     let mut out: Vec<u8> = Vec::new(alloc);
@@ -118,7 +118,7 @@ fn a_file_that_is_not_rekeyed(rt: HostRuntime) {
     assert!(rt; found == wanted);
 }
 
-/// What is answered where the writer fails behind so many bytes.
+/// The result where the writer fails after this many bytes.
 fn cut_short(alloc: Global, room: usize) -> Option<Result<Rekeyed, Refusal>> {
     let old = boxed(alloc)?;
     let mut from = SliceSource::new(&old, 1000);

@@ -2,14 +2,14 @@
 
 use super::{COMPACT, Told, record_at, told};
 use file_pieces::bytes_of;
-use oas_file::read_layout;
+use oas_canon::oas_file::read_layout;
 use oas_layout::{Limits, Profile};
 use oas_num::{INPUT_MAX, ReaderSource, SliceSource};
 use std::alloc::Global;
 use std::io;
 use std::io::{ErrorKind, Read};
 
-/// Gives its bytes, at most `most` a call, and then fails, or ends.
+/// Returns its bytes, at most `most` a call, and then fails, or ends.
 #[derive(Drop)]
 struct Reader<'a> {
     rest: &'a [u8],
@@ -30,14 +30,14 @@ impl Read for Reader<'_> {
     }
 }
 
-/// What comes of what a reader gives.
+/// The result for what a reader gives.
 fn read(alloc: Global, reader: Reader<'_>) -> Option<Told> {
     let mut source = ReaderSource::new(alloc, reader, INPUT_MAX).ok()?;
     let outcome = read_layout(alloc, &mut source, Limits::standard(), Profile::One);
     Some(told(outcome.err()))
 }
 
-/// What comes of so many bytes of the compact file from such a reader.
+/// The result for this many bytes of the compact file from such a reader.
 fn read_front(alloc: Global, len: usize, most: usize, fails: bool) -> Option<Told> {
     let file = bytes_of(alloc, COMPACT).ok()?;
     let rest = file.as_slice().get(..len)?;
@@ -60,7 +60,7 @@ fn readers_that_fail(rt: HostRuntime) {
     }
 }
 
-/// What comes of the compact file and a byte more, of which so many may be read.
+/// The result for the compact file and one more byte, where this many bytes may be read.
 fn read_limited(alloc: Global, limit: u64) -> Option<Told> {
     let mut file = bytes_of(alloc, COMPACT).ok()?;
     file.push(0).ok()?;

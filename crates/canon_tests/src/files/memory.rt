@@ -1,11 +1,11 @@
-//! Growths refused: the answer is want of memory, at a record that was read or at END, until there is enough of it.
+//! Allocations that fail: the result is out of memory, at a record that was read or at END, until there is enough of it.
 //!
-//! The heap is filled up, and given back a small piece after each run. Where the heap cannot be filled, as under a checker
-//! of addresses, nothing is refused, and the answer is the same.
+//! The heap is filled up, and given back a small piece after each run. Where the heap cannot be filled, as under an address
+//! checker, nothing fails, and the result is the same.
 
 use super::{COMPACT, discard, read};
 use file_pieces::bytes_of;
-use oas_file::accept_file;
+use oas_canon::oas_file::accept_file;
 use oas_layout::Limits;
 use oas_num::{INPUT_MAX, Refusal, SliceSource, Why};
 use scarce_memory::Hoard;
@@ -18,12 +18,12 @@ enum Call {
     Accept,
 }
 
-/// Makes the call once, and answers whether its result is the right one.
+/// Makes the call once, and returns whether its result is the right one.
 fn is_right(alloc: Global, file: &[u8], call: Call) -> Result<bool, Refusal> {
     match call {
         Call::Read => {
             let layout = read(alloc, file, Limits::standard())?;
-            let counts = (layout.cells(), layout.count());
+            let counts = (layout.cell_count(), layout.count());
             discard(layout);
             Ok(counts == (2, 7))
         }
@@ -38,8 +38,8 @@ fn is_right(alloc: Global, file: &[u8], call: Call) -> Result<bool, Refusal> {
     }
 }
 
-/// Makes the call until it is done, and gives back a piece of memory after each refusal. Whether its result is right then,
-/// and whether memory was the only reason of the refusals; and whether there was one at 24, at 36, at 46 and at 68.
+/// Makes the call until it succeeds, and gives back a piece of memory after each failure. Whether its result is right then,
+/// and whether memory was the only reason of the failures; and whether there was one at 24, at 36, at 46 and at 68.
 fn insist(alloc: Global, file: &[u8], call: Call, hoard: &mut Hoard) -> ([bool; 2], [bool; 4]) {
     let mut is_memory = true;
     let mut were = [false; 4];
@@ -56,7 +56,7 @@ fn insist(alloc: Global, file: &[u8], call: Call, hoard: &mut Hoard) -> ([bool; 
     ([false, is_memory], were)
 }
 
-/// These with a refusal at this place more.
+/// These with one more failure, at this place.
 fn with_place(were: [bool; 4], at: u64) -> [bool; 4] {
     let [at_24, at_36, at_46, at_68] = were;
     [
@@ -67,7 +67,7 @@ fn with_place(were: [bool; 4], at: u64) -> [bool; 4] {
     ]
 }
 
-/// The same of the compact file with all memory taken. Where the heap can't be filled nothing is refused anywhere.
+/// The same for the compact file with all memory taken. Where the heap can't be filled nothing fails anywhere.
 fn insist_without_memory(alloc: Global, call: Call) -> Option<([bool; 2], [bool; 4])> {
     let file = bytes_of(alloc, COMPACT).ok()?;
     let mut hoard = Hoard::new(alloc).ok()?;

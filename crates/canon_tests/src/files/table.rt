@@ -1,11 +1,11 @@
-//! The rows, one a line: a name, a file, and what comes of it.
+//! The rows, one a line: a name, a file, and its result.
 //!
-//! A file is a list of pieces. A piece is bytes in hex, or such bytes and how often they stand, as `00*252`, or a word for
-//! bytes that stand in many rows (see `bytes_of`): HEAD is MAGIC, START, a unit of 1000 and OFFSETS; TAIL is the canonical
+//! A file is a list of pieces. A piece is bytes in hex, or such bytes and how often they are repeated, as `00*252`, or a word
+//! for bytes that many rows have (see `bytes_of`): HEAD is MAGIC, START, a unit of 1000 and OFFSETS; TAIL is the canonical
 //! END; CELL begins a cell `A`; RECT is a rectangle. `-` is no byte at all.
 //!
-//! What comes of it is a refusal, as NUMBER@OFFSET, or a file that has the same layout, mostly the canonical one, or
-//! `unlike` and a file that has another layout. The answers were worked out by hand from the rules in docs/.
+//! The result is a refusal, as NUMBER@OFFSET, or a file that has the same layout, mostly the canonical one, or `unlike` and a
+//! file that has another layout. The results were worked out by hand from the rules in docs/.
 
 /// The rows, by what they are about.
 pub const ROWS: &str = "\

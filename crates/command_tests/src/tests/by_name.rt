@@ -1,15 +1,15 @@
-//! Runs over files by name: what stands under an output's name once a run has ended.
+//! Runs over files by name: what is under an output's name once a run has ended.
 
 use super::rows::RECTANGLE;
 use file_pieces::bytes_of;
-use oas_canon::Limits;
+use oas_command::oas_canon::Limits;
 use oas_command::{run_canon, run_rekey};
 use oas_files::{Input, Output};
 use oas_num::{INPUT_MAX, ReaderSource, SliceSource};
 use std::fs;
 use std::test::Fail;
 
-/// The rectangle in a polygon, which was canonical by profile one.
+/// The rectangle as a polygon, which was canonical by profile one.
 const BOX: &str = "HEAD CELL 153B010004030128290001290000 TAIL";
 
 /// The rectangle's cell with its name by number, which is accepted, and canonical by no profile.
@@ -24,13 +24,13 @@ const RESPELLED: &str = "HEAD 0000 CELL 147B01008A00140000 TAIL";
 /// A file whose second record is refused.
 const LONGER: &str = "HEAD CELL RECT 147B01000A14000022 TAIL";
 
-/// Makes a file of this name.
+/// Makes a file with this name.
 fn make(rt: &HostRuntime, path: &str, pieces: &str) -> Result<(), Fail> {
     let bytes = bytes_of(rt.alloc(), pieces)?;
     Ok(fs::write(rt, path, bytes.as_slice())?)
 }
 
-/// Whether the file of this name has these bytes.
+/// Whether the file with this name has these bytes.
 fn has(rt: &HostRuntime, path: &str, pieces: &str) -> Result<bool, Fail> {
     let bytes = bytes_of(rt.alloc(), pieces)?;
     Ok(match fs::read(rt, path) {
@@ -39,7 +39,7 @@ fn has(rt: &HostRuntime, path: &str, pieces: &str) -> Result<bool, Fail> {
     })
 }
 
-/// Runs `canon` over bytes to a file of this name. Answers its status and whether it said this line.
+/// Runs `canon` over bytes to a file with this name. Returns its status and whether it said this line.
 fn canon_to(rt: &HostRuntime, pieces: &str, path: &str, line: &str) -> Result<(u8, bool), Fail> {
     let alloc = rt.alloc();
     let file = bytes_of(alloc, pieces)?;
@@ -70,7 +70,7 @@ fn canonical_file_that_replaces_another(rt: HostRuntime) -> Result<(), Fail> {
     Ok(())
 }
 
-/// Runs `canon`, or `rekey`, on a file by name into itself. Answers its status and whether it said nothing.
+/// Runs `canon`, or `rekey`, on a file by name into itself. Returns its status and whether it said nothing.
 fn run_in_place(rt: &HostRuntime, path: &str, rekeys: bool) -> Result<(u8, bool), Fail> {
     let alloc = rt.alloc();
     let mut from = ReaderSource::new(alloc, Input::open(rt, Some(path))?, INPUT_MAX)?;
@@ -85,7 +85,7 @@ fn run_in_place(rt: &HostRuntime, path: &str, rekeys: bool) -> Result<(u8, bool)
     Ok((status, err.is_empty()))
 }
 
-/// The same of a file that is made for it, and whether it has these bytes then.
+/// The same for a file that is made for it, and whether it then has these bytes.
 fn in_place(
     rt: &HostRuntime,
     rekeys: bool,
@@ -112,7 +112,7 @@ fn file_that_is_input_and_output(rt: HostRuntime) -> Result<(), Fail> {
     Ok(())
 }
 
-/// Runs `rekey` over bytes to a file of this name. Answers its status, and whether there is such a file then.
+/// Runs `rekey` over bytes to a file with this name. Returns its status, and whether there is then such a file.
 fn rekey_to(rt: &HostRuntime, pieces: &str, path: &str) -> Result<(u8, bool), Fail> {
     let alloc = rt.alloc();
     let file = bytes_of(alloc, pieces)?;

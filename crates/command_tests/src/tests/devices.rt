@@ -16,7 +16,7 @@ pub enum After {
     Zeros,
 }
 
-/// Gives its bytes, at most `most` a call, and then does as `after` says.
+/// Returns its bytes, at most `most` a call, and then does as `after` says.
 #[derive(Drop)]
 pub struct Reader<'a> {
     rest: &'a [u8],

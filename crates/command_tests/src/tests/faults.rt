@@ -4,21 +4,21 @@ use super::devices::{After, Full, Reader, Writer};
 use super::rows::{RECTANGLE, front_of, outcome, record_at};
 use super::runs::{Outcome, unrefused};
 use file_pieces::bytes_of;
-use oas_canon::Limits;
+use oas_command::oas_canon::Limits;
 use oas_command::{run_canon, run_refused};
 use oas_num::{INPUT_MAX, ReaderSource, Refusal, SliceSource, Why};
 use std::alloc::Global;
 use std::test::Fail;
 
-/// A writer that takes all, so many bytes a call.
+/// A writer that takes all, this many bytes a call.
 fn taker(alloc: Global, most: usize) -> Writer {
     let mut taker = Writer::new(Vec::new(alloc));
     taker.most = most;
     taker
 }
 
-/// Runs `canon` from a reader, to writers, that give and take so many bytes a call. Answers its status, whether the canonical
-/// file was put, and whether nothing was said.
+/// Runs `canon` from a reader, to writers, that give and take this many bytes a call. Returns its status, whether the
+/// canonical file was put, and whether nothing was said.
 fn cut(alloc: Global, most: usize) -> Result<(u8, [bool; 2]), Fail> {
     let file = bytes_of(alloc, "HEAD 00 0E0142 147B02008A00140300 RECT CELL TAIL")?;
     let canonical = bytes_of(alloc, "HEAD CELL 0E0142 RECT 147B02000A140300 TAIL")?;
@@ -38,8 +38,8 @@ fn readers_that_cut(rt: HostRuntime) -> Result<(), Fail> {
     Ok(())
 }
 
-/// Runs `canon` up to a limit from a reader that gives the first `len` bytes of a file, `most` a call. Answers what comes of it,
-/// which is to be a refusal.
+/// Runs `canon` up to a limit from a reader that gives the first `len` bytes of a file, `most` a call. Returns the result,
+/// which should be a refusal.
 fn outcome_of(
     alloc: Global,
     pieces: &str,
@@ -107,8 +107,8 @@ fn writers_that_fail(rt: HostRuntime) -> Result<(), Fail> {
     Ok(())
 }
 
-/// Runs `canon` on a file that is refused, to an error output that takes so many bytes. Answers its status, and whether nothing
-/// was put.
+/// Runs `canon` on a file that is refused, to an error output that takes this many bytes. Returns its status, and whether
+/// nothing was put.
 fn refused_within(alloc: Global, room: usize) -> Result<(u8, bool), Fail> {
     let file = bytes_of(alloc, "HEAD CELL 22 TAIL")?;
     let mut from = SliceSource::new(&file, INPUT_MAX);
@@ -127,7 +127,7 @@ fn error_outputs_that_fail(rt: HostRuntime) -> Result<(), Fail> {
     Ok(())
 }
 
-/// What is said of a run that cannot begin, and its status.
+/// The message of a run that cannot begin, and its status.
 fn unbegun(alloc: Global) -> (u8, bool) {
     let mut err: Vec<u8> = Vec::new(alloc);
     let why = Why::Memory;

@@ -3,27 +3,27 @@
 use super::devices::Writer;
 use super::runs::refusal_of;
 use file_pieces::bytes_of;
-use oas_canon::Limits;
+use oas_command::oas_canon::Limits;
+use oas_command::oas_difference::{Detail, Options};
 use oas_command::run_marking;
-use oas_difference::{Detail, Options};
 use oas_num::{INPUT_MAX, SliceSource};
 use std::alloc::Global;
 use std::test::Fail;
 
-/// What `diff` finds of a cell with a rectangle and one without.
+/// What `diff` prints for a cell with a rectangle and one without.
 const LINES: &str = "@ cell A\n- 1 rectangle 1 0 10 20 0 0\n";
 
 /// Room for all.
 const ALL: usize = usize::MAX;
 
-/// A writer that takes so many bytes.
+/// A writer that takes this many bytes.
 fn taker(alloc: Global, room: usize) -> Writer {
     let mut taker = Writer::new(Vec::new(alloc));
     taker.room = room;
     taker
 }
 
-/// Runs `diff` on a cell with a rectangle and on one without, and answers its status.
+/// Runs `diff` on a cell with a rectangle and on one without, and returns its status.
 fn run(
     alloc: Global,
     out: &mut Writer,
@@ -61,8 +61,8 @@ fn whole(alloc: Global) -> Result<Vec<u8>, Fail> {
     Ok(markers.taken)
 }
 
-/// Runs `diff` to writers that take so many bytes of its lines and of its markers. Answers the status, how many bytes of each
-/// were taken, whether they are the front of the lines and of the markers, and what was refused of the output of this name.
+/// Runs `diff` to writers that take this many bytes of its lines and of its markers. Returns the status, how many bytes of
+/// each were taken, whether they are prefixes of the lines and of the markers, and the refusal of the output with this name.
 fn cut(
     alloc: Global,
     rooms: [usize; 2],

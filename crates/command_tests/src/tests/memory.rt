@@ -1,7 +1,7 @@
-//! Each request for memory refused in turn: the answer is 34, with nothing written, or the file's own.
+//! Each memory allocation fails in turn: the result is 34, with nothing written, or the file's own.
 //!
-//! The process's heap is filled with pieces, down to the smallest, and then emptied a piece at a time, so that each run
-//! has a little more memory than the one before. (Under `rt try` the heap can't be filled, and nothing is refused.)
+//! The process's heap is filled with pieces, down to the smallest, and then emptied a piece at a time, so that each run has a
+//! little more memory than the one before. (Under `rt try` the heap can't be filled, and nothing fails.)
 
 use super::answers::{ANSWERS, NAMED};
 use super::devices::Writer;
@@ -22,8 +22,8 @@ fn writer(alloc: Global) -> Result<Writer, AllocError> {
     Ok(Writer::new(Vec::with_capacity(alloc, 1024)?))
 }
 
-/// Runs a command once. Answers whether it said that memory was refused and put nothing, or answered as it is to: `None` where
-/// it did neither.
+/// Runs a command once. Returns whether it reported out of memory and put nothing, or printed what it should: `None` where it
+/// did neither.
 fn is_refused(alloc: Global, run: &Run<'_>, out: &mut Writer, err: &mut Writer) -> Option<bool> {
     out.taken.clear();
     err.taken.clear();
@@ -37,7 +37,7 @@ fn is_refused(alloc: Global, run: &Run<'_>, out: &mut Writer, err: &mut Writer) 
     is_met.then_some(true)
 }
 
-/// Runs a command with a little more memory each time. Answers how often it answered, was refused memory, and did neither.
+/// Runs a command with a little more memory each time. Returns how often it succeeded, was out of memory, and did neither.
 fn growths(
     alloc: Global,
     run: &Run<'_>,
@@ -57,7 +57,7 @@ fn growths(
     [answered, refused, others]
 }
 
-/// The same of the command of a row, and whether all memory could be taken before.
+/// The same for the command of a row, and whether all memory could be taken before.
 fn growths_of_row(alloc: Global, row: &str) -> Result<(bool, [usize; 3]), Fail> {
     let run = Run::of_row(alloc, row)?;
     let (mut out, mut err) = (writer(alloc)?, writer(alloc)?);
@@ -67,8 +67,8 @@ fn growths_of_row(alloc: Global, row: &str) -> Result<(bool, [usize; 3]), Fail> 
     Ok((is_full, counts))
 }
 
-/// Refuses each growth of the command of each of these rows. One that takes little may be refused none: what earlier runs gave
-/// back serves it.
+/// Makes each allocation of the command of each of these rows fail. For one that takes little memory none may fail: it can
+/// use what earlier runs gave back.
 pub fn expect_growths(rt: &impl Abort, alloc: Global, rows: &str) -> Result<(), Fail> {
     let mut all_refused = 0usize;
     let mut is_each_full = true;

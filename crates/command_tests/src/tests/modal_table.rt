@@ -1,4 +1,4 @@
-//! Rows on modal variables and the xy-mode, each against a wrong reading that stands above it, as in `readings_table`.
+//! Rows on modal variables and the xy-mode, each with the wrong reading that it rules out above it, as in `readings_table`.
 
 /// The rows, under the standard limits.
 pub const MODAL: &str = "\

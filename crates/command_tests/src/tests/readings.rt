@@ -1,7 +1,8 @@
 //! The rows that rule out wrong readings of the rules, through `run_canon` and `run_show`, over a slice.
 
+use super::limits_table::UNDER_LIMITS;
 use super::modal_table::MODAL;
-use super::readings_table::{LISTED, READINGS, UNDER_LIMITS, WHOLE};
+use super::readings_table::{LISTED, READINGS, WHOLE};
 use super::rows::{BODY, WHOLE_FILE, expect_rows};
 use super::runs::expect_runs;
 use std::test::Fail;
@@ -28,5 +29,5 @@ fn listings(rt: HostRuntime) -> Result<(), Fail> {
 
 #[test]
 fn readings_under_limits(rt: HostRuntime) -> Result<(), Fail> {
-    expect_rows(&rt, rt.alloc(), BODY, UNDER_LIMITS, 29)
+    expect_rows(&rt, rt.alloc(), BODY, UNDER_LIMITS, 59)
 }

@@ -1,9 +1,9 @@
-//! Rows that tell the rules of docs/PROFILE.md from wrong readings of them, one a line. Above each row stands the wrong
-//! reading that it rules out: a program that is built on it, and right in all else, answers otherwise.
+//! Rows that distinguish the rules of docs/PROFILE.md from wrong readings of them, one a line. Above each row is the wrong
+//! reading that it rules out: a program with that reading, and right in all else, gives another result.
 //!
-//! A row is a name, what stands between HEAD and TAIL, and what comes of it: a refusal, as NUMBER@OFFSET, or what stands
-//! between HEAD and TAIL in the canonical file, or `same`. Bytes are in pieces, as in `table`. The answers were worked out
-//! from the rules, and programs that were written apart from this one agree on them.
+//! A row is a name, what is between HEAD and TAIL, and the result: a refusal, as NUMBER@OFFSET, or what is between HEAD and
+//! TAIL in the canonical file, or `same`. Bytes are in pieces, as in `table`. The results were worked out from the rules, and
+//! programs that were written apart from this one agree on them.
 
 /// Rows under the standard limits.
 pub const READINGS: &str = "\
@@ -183,68 +183,6 @@ polygon-of-three-deltas-type-1 | CELL 153B01000103 | 16@37
 four-displacements-in-turn | CELL 147F01000A1400000A020D08170C0D08 | CELL 147B01000A140514 RECT 147B01000A14021C 147B01000A140608
 ";
 
-/// Rows under limits of their own: after the name stand those of elements, weight and input.
-pub const UNDER_LIMITS: &str = "\
-# a modal string weighs nothing until END
-modal-string-is-weighed-at-its-text | 5 7 768 | CELL 135B02486903000000 131002 | 25@46
-# a placed cell's name behind a number weighs nothing
-placed-name-behind-a-number | 5 3 512 | CELL 11C000 030142 | 25@43
-# a text's string behind a number weighs nothing
-string-behind-a-number | 5 3 512 | CELL 1363000000 050142 | 25@45
-# a modal cell name weighs nothing until END
-modal-name-is-weighed-at-its-placement | 5 5 640 | CELL 11B001420000 112028 | 25@43
-# a name weighs once for all copies
-each-copy-weighs-its-name | 5 5 640 | CELL 11B801420000020000 | 25@37
-# elements are limited in each cell by itself
-elements-of-two-cells | 1 100 6720 | CELL RECT 0E0142 RECT | 24@48
-# the vertex that types 0 and 1 understand weighs nothing
-understood-vertex-weighs | 5 6 704 | CELL 153B0100000214280000 | 25@37
-# a cell by name weighs nothing until END
-cell-is-weighed-at-its-record | 5 1 384 | CELL | 25@34
-# 23 comes before 25
-too-heavy-and-too-far | 9 3 512 | CELL 16FB010081 80*7 100F000004000000 | 25@37
-# 25 comes before 24
-too-many-and-too-heavy | 1 2 448 | CELL 147F01000A14000002001E | 24@37
-# the copies of a record count once
-each-copy-counts | 1 100 6720 | CELL 147F01000A14000002001E | 24@37
-# equal elements count once
-equal-elements-count | 1 100 6720 | CELL RECT RECT | 24@45
-# a turned placement's name weighs nothing until END
-name-of-a-turned-placement | 5 3 512 | CELL 12B001420000 | 25@37
-# a modal point list weighs nothing
-modal-list-is-weighed | 5 9 896 | CELL 153B01000402012829000000 151B01002800 | 25@49
-# a cell by number weighs 1 at its record
-cell-by-number-weighs-at-the-end | 5 0 320 | 0D00 030141 | 25@39
-# a cell by number weighs nothing
-cell-by-number-weighs | 5 1 384 | 0D00 030141 | 25@39
-# a rectangle weighs its corners
-rectangle-weighs-one | 1 3 512 | CELL RECT | same
-# a polygon weighs nothing in the whole weight
-polygon-in-the-whole-weight | 5 5 640 | 0D00 153B01000402012829000000 030141 | 25@51
-# a path weighs nothing in the whole weight
-path-in-the-whole-weight | 5 3 512 | 0D00 16FB0100050F000004000000 030141 | 25@51
-# equal elements weigh once in the whole weight
-equal-elements-in-the-whole-weight | 5 4 576 | 0D00 RECT RECT RECT 030141 | 25@63
-# the whole weight has to be below its limit
-whole-weight-at-its-limit | 5 5 640 | 0D00 RECT RECT RECT 030141 | CELL RECT RECT RECT
-# the whole weight is asked of each cell by itself
-cells-in-the-whole-weight | 5 5 640 | 0D00 RECT 0D01 RECT 030141 030142 | 25@60
-# 25 comes before 27
-defined-twice-and-too-heavy | 5 1 384 | 0D00 0D00 030141 | 27@41
-# a box weighs 1 in the whole weight
-box-in-the-whole-weight | 5 6 704 | 0D00 153B0100000214280000 030141 | 25@49
-# a placed cell's name weighs at its placement where it is known
-known-name-behind-a-number | 5 3 512 | 030142 CELL 11F0000000 | 25@45
-# a text's string weighs at its text where it is known
-known-string-behind-a-number | 5 3 512 | 050142 CELL 137B0000000000 | 25@47
-# a cell by number weighs at its record where its name is known
-cell-by-known-number | 5 1 384 | 030141 0D00 | 25@39
-# the weight begins again at each cell
-two-cells-weigh-together | 5 5 640 | CELL RECT 0E0142 RECT | 25@48
-# 25 comes before 26
-unknown-and-too-heavy | 5 1 384 | 0D00 0D07 030141 | 26@41
-";
-
 /// Rows with a whole file, as in `table`.
 pub const WHOLE: &str = "\
 # table offsets in END have to be 0
@@ -257,7 +195,8 @@ padding-of-any-byte | HEAD 02FC01 FF*252 00 | HEAD TAIL
 end-without-its-offsets | MAGIC START 00E807 01 TAIL | 28@22
 ";
 
-/// A row of `show`, as in `runs`, of an element of each kind: equal ones are listed each, in the order of the standard's fields.
+/// A row of `show`, as in `runs`, with an element of each kind: equal ones are each listed, in the order of the standard's
+/// fields.
 pub const LISTED: &str = "\
 elements-of-each-kind | show | HEAD CELL 11B701420206 135B02486903040103 RECT RECT 153B01000402012829000000 16FB0100050F030404012900010A 1B3B0100050000 TAIL | 0 | unit 1000/1;cell A;placement B 1 3 3 1;text 3 4 0 -1 Hi;rectangle 1 0 10 20 0 0;rectangle 1 0 10 20 0 0;polygon 1 0 0,0 0,20 10,20;path 1 0 5 -1 2 0,5 10,5;circle 1 0 5 0 0;
 ";

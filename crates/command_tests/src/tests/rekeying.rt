@@ -1,4 +1,4 @@
-//! `rekey`: its answers, to memory and to writers that fail, and limits that a box is asked of.
+//! `rekey`: its results, to memory and to writers that fail, and limits that apply to a box.
 
 use super::memory::expect_growths;
 use super::rows::{WHOLE_FILE, expect_rows};

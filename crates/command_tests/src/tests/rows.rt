@@ -3,29 +3,29 @@
 use super::runs::{Outcome, refusal_of};
 use super::table::ROWS;
 use file_pieces::{bytes_of, put_pieces};
-use oas_canon::Limits;
+use oas_command::oas_canon::Limits;
 use oas_command::run_canon;
 use oas_num::{INPUT_MAX, SliceSource, Source};
 use std::alloc::Global;
 use std::process::Abort;
 use std::test::Fail;
 
-/// A file of one cell with one rectangle, of 301 bytes, which is canonical as it stands.
+/// A file of one cell with one rectangle, of 301 bytes, which is canonical.
 pub const RECTANGLE: &str = "HEAD CELL RECT TAIL";
 
-/// The same, and a byte behind it.
+/// The same, followed by a byte.
 const LONGER: &str = "HEAD CELL RECT TAIL 00";
 
 /// The name of each input.
 pub const INPUT: &str = "standard input";
 
-/// The pieces before and behind those of a row.
+/// The pieces before and after those of a row.
 pub type Frame = [&'static str; 2];
 
 /// The frame of a row of whole files.
 pub const WHOLE_FILE: Frame = ["", ""];
 
-/// The frame of a row of what stands between the beginning of a file and its END.
+/// The frame of a row of what is between the beginning of a file and its END.
 pub const BODY: Frame = ["HEAD", "TAIL"];
 
 /// The bytes of a file that is given in pieces, within a frame.
@@ -43,7 +43,7 @@ fn put_by<'a>(status: u8, bytes: &'a [u8]) -> &'a [u8] {
     if status == 0 { bytes } else { b"" }
 }
 
-/// Runs `canon` on a source, under limits. Answers what comes of it, where this is the canonical file of what is accepted.
+/// Runs `canon` on a source, under limits. Returns the result, where this is the canonical file of what is accepted.
 pub fn outcome(alloc: Global, limits: Limits, from: &mut impl Source, canonical: &[u8]) -> Outcome {
     let (mut out, mut err): (Vec<u8>, Vec<u8>) = (Vec::new(alloc), Vec::new(alloc));
     let status = run_canon(alloc, INPUT, from, &mut out, &mut err, limits);
@@ -62,7 +62,7 @@ fn limits_of(numbers: &str) -> Option<Limits> {
     )
 }
 
-/// The limits of a row, which are the standard ones where it has none, its file, and what comes of it.
+/// The limits of a row, which are the standard ones where it has none, its file, and the expected result.
 fn parts_of(row: &str) -> Option<(Limits, &str, &str)> {
     let (_, rest) = row.split_once(" | ")?;
     let (first, rest) = rest.split_once(" | ")?;
@@ -72,13 +72,13 @@ fn parts_of(row: &str) -> Option<(Limits, &str, &str)> {
     }
 }
 
-/// The number and the offset of a refusal, where a row says one.
+/// The number and the offset of a refusal, where a row gives one.
 fn refused(answer: &str) -> Option<(u8, usize)> {
     let (number, at) = answer.split_once('@')?;
     Some((number.parse().ok()?, at.parse().ok()?))
 }
 
-/// What is to come of a file of which a row says this, and its canonical file, which is itself where the row has no other.
+/// The expected result for a file with this in its row, and its canonical file, which is itself where the row has no other.
 fn wanted<'a>(file: &'a str, answer: &'a str) -> (Outcome, &'a str) {
     match (refused(answer), answer) {
         (Some(refusal), _) => ((1, true, Some(refusal)), file),
@@ -87,7 +87,7 @@ fn wanted<'a>(file: &'a str, answer: &'a str) -> (Outcome, &'a str) {
     }
 }
 
-/// What comes of a file, and of its canonical file, which stays as it is.
+/// The result for a file, and for its canonical file, which is unchanged.
 fn outcomes(
     alloc: Global,
     frame: Frame,
@@ -109,7 +109,7 @@ fn whole<'a>(input: &'a [u8]) -> SliceSource<'a> {
     SliceSource::new(input, INPUT_MAX)
 }
 
-/// The same of the file of a row, and what is to come of each.
+/// The same for the file of a row, and the expected result of each.
 fn outcomes_of_row(
     alloc: Global,
     frame: Frame,
@@ -145,8 +145,7 @@ fn each_row(rt: HostRuntime) -> Result<(), Fail> {
     expect_rows(&rt, rt.alloc(), WHOLE_FILE, ROWS, 199)
 }
 
-/// The first offset of the record that stands at an offset of the rectangle file, which is where a file that ends there is
-/// refused.
+/// The first offset of the record at an offset of the rectangle file, which is where a file that ends there is refused.
 pub fn record_at(offset: usize) -> usize {
     match offset {
         0..=12 => 0,
@@ -165,7 +164,7 @@ pub fn front_of(alloc: Global, pieces: &str, len: usize) -> Result<Vec<u8>, Fail
     Ok(bytes)
 }
 
-/// What comes of the first bytes of a file whose source gives no more than a limit, and how many there are. The canonical
+/// The result for the first bytes of a file whose source gives no more than a limit, and how many there are. The canonical
 /// file is the rectangle's.
 fn within(alloc: Global, pieces: &str, len: usize, limit: u64) -> Result<(usize, Outcome), Fail> {
     let front = front_of(alloc, pieces, len)?;

@@ -1,26 +1,41 @@
-//! Runs of the commands that are given in rows: what each answers to memory, and to writers that fail.
+//! Runs of the commands that are given in rows: the output of each to memory, and to writers that fail.
 //!
-//! A row is a name, a command, its file, or two behind one another with `&` between, the status, and the answer, with `;`
-//! for the end of a line; of `canon` and `rekey` it is a file in pieces (see `rows`). Behind `! ` stands what is said of
-//! the file instead, and nothing is answered.
+//! A row is a name, a command, its file, or two files with `&` between them, the status, and the output, with `;` for the end
+//! of a line; for `canon` and `rekey` it is a file in pieces (see `rows`). After `! ` comes the line on the error output
+//! instead, and the output is empty.
 
 use super::devices::{Full, Writer};
 use file_pieces::bytes_of;
-use oas_canon::Limits;
+use oas_command::oas_canon::Limits;
 use oas_command::{
-    run_canon, run_check, run_key, run_keys, run_named_check, run_named_key, run_rekey, run_same,
-    run_show,
+    Detail, End, Form, Label, Options, run_canon, run_check, run_diff, run_info, run_key, run_keys,
+    run_named_check, run_named_key, run_rekey, run_same, run_show,
 };
 use oas_num::{INPUT_MAX, SliceSource};
 use std::alloc::Global;
 use std::process::Abort;
 use std::test::Fail;
 
-/// What came of a run: its status, whether its output took what it is to, and the refusal that was said, as `refusal_of` gives it.
+/// The name of the first file in the line of a result.
+const PLAIN: Label<'static> = Label {
+    name: "first",
+    is_escaped: false,
+    end: End::Newline,
+};
+
+/// The same where it was escaped.
+const ESCAPED: Label<'static> = Label {
+    name: "first",
+    is_escaped: true,
+    end: End::Newline,
+};
+
+/// The result of a run: its status, whether its output took what it should, and the refusal that was said, as `refusal_of`
+/// returns it.
 pub type Outcome = (u8, bool, Option<(u8, usize)>);
 
-/// A command, and the files that it is run on, of which all but `same` read the first alone. Its answer is put, or `is_said` on
-/// the error output, and the other output takes nothing.
+/// A command, and the files that it is run on; all except `same` and `diff` read only the first. Its output is put, or
+/// `is_said` on the error output, and the other output takes nothing.
 #[derive(Drop)]
 pub struct Run<'a> {
     command: &'a str,
@@ -31,6 +46,12 @@ pub struct Run<'a> {
     is_said: bool,
 }
 
+/// All lines of a difference.
+const ALL_LINES: Options = Options {
+    detail: Detail::Elements,
+    limit: None,
+};
+
 /// The bytes of a text, with `;` for the end of a line.
 fn lines_of(alloc: Global, text: &str) -> Result<Vec<u8>, Fail> {
     let mut lines = Vec::new(alloc);
@@ -40,7 +61,7 @@ fn lines_of(alloc: Global, text: &str) -> Result<Vec<u8>, Fail> {
     Ok(lines)
 }
 
-/// The bytes that a row's last part stands for.
+/// The bytes that a row's last part denotes.
 fn answer_of(alloc: Global, command: &str, text: &str) -> Result<Vec<u8>, Fail> {
     match (text.strip_prefix("! "), command) {
         (Some(said), _) => lines_of(alloc, said),
@@ -49,7 +70,7 @@ fn answer_of(alloc: Global, command: &str, text: &str) -> Result<Vec<u8>, Fail> 
     }
 }
 
-/// The command of a row, its two files, its status, and its answer.
+/// The command of a row, its two files, its status, and its output.
 fn parts_of(row: &str) -> Option<(&str, &str, &str, &str, &str)> {
     let (_, rest) = row.split_once(" | ")?;
     let (command, rest) = rest.split_once(" | ")?;
@@ -74,7 +95,7 @@ impl<'a> Run<'a> {
         })
     }
 
-    /// Runs the command, and answers its status.
+    /// Runs the command, and returns its status.
     pub fn run(&self, alloc: Global, out: &mut Writer, err: &mut Writer) -> u8 {
         let limits = Limits::standard();
         let mut from = SliceSource::new(self.first.as_slice(), INPUT_MAX);
@@ -83,25 +104,30 @@ impl<'a> Run<'a> {
             "canon" => run_canon(alloc, "first", &mut from, out, err, limits),
             "check" => run_check(alloc, "first", &mut from, out, err, limits),
             "key" => run_key(alloc, "first", &mut from, out, err, limits),
-            "named check" => run_named_check(alloc, "first", &mut from, out, err, limits),
-            "named key" => run_named_key(alloc, "first", false, &mut from, out, err, limits),
-            "escaped key" => run_named_key(alloc, "first", true, &mut from, out, err, limits),
+            "named check" => run_named_check(alloc, "first", PLAIN, &mut from, out, err, limits),
+            "named key" => run_named_key(alloc, "first", PLAIN, &mut from, out, err, limits),
+            "escaped key" => run_named_key(alloc, "first", ESCAPED, &mut from, out, err, limits),
             "keys" => run_keys(alloc, "first", &mut from, out, err, limits),
             "show" => run_show(alloc, "first", &mut from, out, err, limits),
             "rekey" => run_rekey(alloc, "first", &mut from, out, err, limits),
+            "info" => run_info(alloc, "first", &mut from, Form::Text, out, err, limits),
+            "info --json" => run_info(alloc, "first", &mut from, Form::Json, out, err, limits),
+            "diff" => run_diff(
+                alloc, "first", &mut from, "second", &mut other, ALL_LINES, out, err, limits,
+            ),
             _ => run_same(
                 alloc, "first", &mut from, "second", &mut other, out, err, limits,
             ),
         }
     }
 
-    /// Whether an output and an error output that took these bytes took what they are to.
+    /// Whether an output and an error output that took these bytes took what they should.
     fn took(&self, out: &[u8], err: &[u8]) -> [bool; 2] {
         let (took, nothing) = if self.is_said { (err, out) } else { (out, err) };
         [took == self.answer.as_slice(), nothing.is_empty()]
     }
 
-    /// What comes of the run to an output that fails after `room` bytes, where it is to take the answer up to there.
+    /// The result of the run to an output that fails after `room` bytes, where it should take the text up to there.
     fn fault(&self, alloc: Global, room: usize, most: usize, full: Full) -> Outcome {
         let mut out = Writer::new(Vec::new(alloc));
         out.most = most;
@@ -115,7 +141,7 @@ impl<'a> Run<'a> {
     }
 }
 
-/// The number and the place of a refusal, where this is the line of one of a file of this name.
+/// The number and the place of a refusal, where this is the line of one for a file with this name.
 fn refusal_in(line: &[u8], name: &str) -> Option<(u8, usize)> {
     let line = str::from_utf8(line).ok()?;
     let refused = line.strip_prefix(name)?.strip_prefix(": refused ")?;
@@ -123,7 +149,7 @@ fn refusal_in(line: &[u8], name: &str) -> Option<(u8, usize)> {
     Some((number.parse().ok()?, at.parse().ok()?))
 }
 
-/// The same, and of any other line 0 at 0: there is none only where nothing was said.
+/// The same, and for any other line 0 at 0: there is none only where nothing was said.
 pub fn refusal_of(said: &[u8], name: &str) -> Option<(u8, usize)> {
     if said.is_empty() {
         return None;
@@ -131,7 +157,7 @@ pub fn refusal_of(said: &[u8], name: &str) -> Option<(u8, usize)> {
     Some(refusal_in(said, name).unwrap_or((0, 0)))
 }
 
-/// Runs the command of a row. Answers its status, with that which is wanted, and whether the two outputs took what they are to.
+/// Runs the command of a row. Returns its status, with the expected one, and whether the two outputs took what they should.
 fn outcome(alloc: Global, row: &str) -> Result<([u8; 2], [bool; 2]), Fail> {
     let run = Run::of_row(alloc, row)?;
     let (mut out, mut err) = (Writer::new(Vec::new(alloc)), Writer::new(Vec::new(alloc)));
@@ -148,8 +174,8 @@ pub fn expect_runs(rt: &impl Abort, alloc: Global, rows: &str) -> Result<(), Fai
     Ok(())
 }
 
-/// Runs a command to outputs that take `most` bytes a call and fail after each number of bytes, the last of them at the flush.
-/// Answers after which it first did otherwise than to refuse at the place that was reached, and what it did.
+/// Runs a command to outputs that take `most` bytes a call and fail after each number of bytes, the last of them at the
+/// flush. Returns after which of them it first did anything but refuse at the place that was reached, and what it did.
 fn first_unrefused(
     run: &Run<'_>,
     alloc: Global,
@@ -165,7 +191,7 @@ fn first_unrefused(
     None
 }
 
-/// The same of the command of a row.
+/// The same for the command of a row.
 pub fn unrefused(
     alloc: Global,
     row: &str,

@@ -1,11 +1,11 @@
-//! The worked rows, one a line: a name, a file, and what comes of it.
+//! The worked rows, one a line: a name, a file, and the result.
 //!
-//! A file is a list of pieces. A piece is bytes in hex, or such bytes and how often they stand, as `00*252`, or a word for
-//! bytes that stand in many rows (see `rows`): HEAD is MAGIC, START, a unit of 1000 and OFFSETS; TAIL is the canonical
-//! END; CELL begins a cell `A`; RECT is a rectangle. `-` is no byte at all.
+//! A file is a list of pieces. A piece is bytes in hex, or such bytes and how often they are repeated, as `00*252`, or a word
+//! for bytes that many rows have (see `rows`): HEAD is MAGIC, START, a unit of 1000 and OFFSETS; TAIL is the canonical END;
+//! CELL begins a cell `A`; RECT is a rectangle. `-` is no byte at all.
 //!
-//! What comes of it is a refusal, as NUMBER@OFFSET, or the canonical file, or `same` where the file is canonical as it
-//! stands. The answers were worked out by hand from the rules in docs/, never taken from the program.
+//! The result is a refusal, as NUMBER@OFFSET, or the canonical file, or `same` where the file is canonical. The results were
+//! worked out by hand from the rules in docs/, never taken from the program.
 
 /// The rows, by what they are about.
 pub const ROWS: &str = "\

@@ -1,17 +1,17 @@
-//! Placements and texts at hand: what is drawn against what their records draw.
+//! Placements and texts at hand: what is drawn, compared with what their records draw.
 mod weights;
 
 ghost use Rattle.std.specs.Prelude.{◌≡◌, ◌≤◌, ◌^◌, None, Some, OnOk};
 ghost use Rattle.oas_record.specs.declared.records.Record.{Record as OneRecord};
-ghost use Rattle.oas_ahead.specs.Named.{GivesName, named_record};
+ghost use Rattle.oas_peek.specs.Named.{HasValidName, named_record};
 ghost use Rattle.oas_drawing.specs.Positions.{IsNear};
 ghost use Rattle.oas_drawing.specs.Modal.{fresh, stepped};
 
 use super::{at, discard, draws, place};
-use oas_ahead::{Given, NamedOnce};
 use oas_drawing::{Drawn, DrawnOnce, Kind, ModalVariables};
 use oas_layout::{Element, Limits, Turns};
 use oas_num::{Label, Name, SliceSource, Spelled, Why};
+use oas_peek::{Given, NamedOnce};
 use oas_record::{CellRef, Placement, Text, TextRef, Turn};
 use std::alloc::{AllocError, Global};
 use std::process::Abort;
@@ -58,7 +58,7 @@ fn write(modal: &mut ModalVariables, mut written: Text)
     modal.write(&mut written);
 }
 
-/// What the element weighs, or why it is refused.
+/// The weight of the element, or why it is refused.
 fn weighs(modal: &ModalVariables, next: &NamedOnce<'_>, count: u64, weight: u64) -> Result<u64, Why>
     requires few { count ≤ 2 ^ 24 }
     requires light { weight ≤ 2 ^ 28 }
@@ -87,7 +87,7 @@ fn draws_next(
 ) -> Result<bool, Why>
     requires placement { IsNear modal.old.placement }
     requires text { IsNear modal.old.text }
-    requires named { GivesName next.now }
+    requires named { HasValidName next.now }
     ensures { OnOk result (modal.new ≡ stepped modal.old (named_record next.now)) }
 {
     modal.set_fields(next);
@@ -111,7 +111,7 @@ fn draws_both(
 ) -> Result<(bool, bool), Why>
     requires placement { IsNear modal.old.placement }
     requires text { IsNear modal.old.text }
-    requires named { GivesName next.now }
+    requires named { HasValidName next.now }
 {
     let is_drawn = draws_next(alloc, modal, next, wanted)?;
     Ok((is_drawn, draws(alloc, modal, kind, false, wanted)))
@@ -200,7 +200,7 @@ fn texts(rt: HostRuntime) {
     assert!(rt; is_written(rt.alloc()) == Ok((true, true)));
 }
 
-/// Whether a placement and a text of numbers are drawn one after another, and what the text weighs.
+/// Whether a placement and a text with numbers are drawn one after another, and the weight of the text.
 fn draws_numbers(
     alloc: Global,
     modal: &mut ModalVariables,
@@ -210,8 +210,8 @@ fn draws_numbers(
     written: &Drawn,
 ) -> Result<(bool, bool, u64), Why>
     requires modal { modal.old ≡ fresh }
-    requires placement { GivesName placement.now }
-    requires text { GivesName text.now }
+    requires placement { HasValidName placement.now }
+    requires text { HasValidName text.now }
     requires near { IsNear (stepped fresh (named_record placement.now)).placement }
     requires text_near { IsNear (stepped fresh (named_record placement.now)).text }
 {
@@ -256,7 +256,7 @@ const BY_NUMBER: (Drawn, Drawn) = (
     },
 );
 
-/// Whether these are drawn so, and what the text weighs.
+/// Whether these are drawn like this, and the weight of the text.
 fn numbers_drawn(alloc: Global, placed: &Drawn, written: &Drawn) -> Result<(bool, bool, u64), Why> {
     let (placement, text) = NUMBERED;
     let mut modal = ModalVariables::new();

@@ -7,7 +7,7 @@ ghost use Rattle.oas_drawing.specs.Modal.{stepped};
 
 use super::{at, discard, draws, refusal};
 use oas_drawing::{Drawn, Kind, ModalVariables};
-use oas_layout::Element;
+use oas_layout::{Element, Extensions as Ends, Layer};
 use oas_num::{SliceSource, Why};
 use oas_record::{Extension, Extensions, Path, Spot};
 use oas_ring::{Point, Points};
@@ -15,7 +15,7 @@ use oas_shape::{ListUse, PointList};
 use std::alloc::{AllocError, Global};
 use std::process::Abort;
 
-/// A path of layer 1 and no other field but these and its half-width.
+/// A path of layer 1 with no other fields than these and its half-width.
 fn path(
     points: Option<PointList>,
     half_width: u64,
@@ -63,7 +63,15 @@ fn line(
         y: from.y,
     })?;
     let points = Points::new(points);
-    Ok(Element::path(1, 0, half_width, start, end, points))
+    Ok(Element::path(
+        Layer {
+            layer: 1,
+            datatype: 0,
+        },
+        half_width,
+        Ends { start, end },
+        points,
+    ))
 }
 
 /// Whether the path that was drawn last is this one.
@@ -106,7 +114,7 @@ fn extensions(rt: HostRuntime) {
     assert!(rt; keeps_extensions(rt.alloc()) == Ok(true));
 }
 
-/// Why a path is refused in the cell behind that of a path.
+/// Why a path is refused in the cell after that of a path.
 fn behind_their_cell(alloc: Global) -> Result<Option<Why>, Why> {
     let points = eastward(alloc)?;
     let mut modal = ModalVariables::new();

@@ -1,4 +1,4 @@
-//! A rectangle that stands once: what it comes to, and each reason in its turn, where 2^24 elements may weigh 2^28.
+//! A rectangle without a repetition: its result, and each reason in turn, where 2^24 elements may weigh 2^28.
 
 ghost use Rattle.std.specs.Prelude.{◌≤◌, ◌^◌};
 
@@ -8,7 +8,7 @@ use oas_layout::Limits;
 use oas_num::Why;
 use std::process::Abort;
 
-/// What is seen of the rectangle that was drawn last beside so many elements of that weight, or why it is refused.
+/// What is seen of the rectangle that was drawn last after this many elements with that weight, or why it is refused.
 fn one(modal: &ModalVariables, count: u64, weight: u64) -> Result<Option<Seen>, Why>
     requires few { count ≤ 2 ^ 24 }
     requires light { weight ≤ 2 ^ 28 }

@@ -9,7 +9,7 @@ use oas_record::{CellRef, Placement, Turn};
 use std::alloc::Global;
 use std::process::Abort;
 
-/// Placement 7, with no coordinate.
+/// Placement 7, without coordinates.
 fn seventh() -> Placement
     ensures { result.spot ≡ record { x = None; y = None; repetition = None } }
 {
@@ -100,8 +100,8 @@ fn turns_before_a_placement(rt: HostRuntime) {
     assert!(rt; refused == Some(Why::ModalUndefined));
 }
 
-/// Whether an angle is negative, its degrees, a magnification, and whether the placement is repeated; and how it is turned, or
-/// why it is refused.
+/// Whether an angle is negative, its degrees, a magnification, and whether the placement is repeated; and how it is turned,
+/// or why it is refused.
 const TURNS: [(bool, u64, u64, bool, Result<Option<Turns>, Why>); 6] = [
     (false, 45, 2, true, Err(Why::ModalUndefined)),
     (false, 45, 2, false, Err(Why::Magnification)),

@@ -8,7 +8,7 @@ use std::alloc::Global;
 use std::io;
 use std::io::{ErrorKind, Read};
 
-/// Gives its bytes, at most `most` a call, and then fails, or ends.
+/// Returns its bytes, at most `most` a call, and then fails, or ends.
 #[derive(Drop)]
 struct Reader<'a> {
     rest: &'a [u8],
@@ -34,7 +34,7 @@ const FILE: &str = "HEAD CELL RECT RECT 0E0142 BOX TAIL";
 
 const LENGTH: usize = 326;
 
-/// What is answered of what a reader gives, and how many bytes were read.
+/// The result for what a reader gives, and how many bytes were read.
 fn judged(alloc: Global, reader: Reader<'_>) -> Option<(Result<bool, Why>, u64)> {
     let mut source = ReaderSource::new(alloc, reader, INPUT_MAX).ok()?;
     match is_canonical(alloc, &mut source, Limits::standard(), Profile::One) {
@@ -43,7 +43,7 @@ fn judged(alloc: Global, reader: Reader<'_>) -> Option<(Result<bool, Why>, u64)>
     }
 }
 
-/// The same of so many bytes of the file from such a reader.
+/// The same for this many bytes of the file from such a reader.
 fn front_judged(
     alloc: Global,
     len: usize,

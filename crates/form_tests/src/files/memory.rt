@@ -1,7 +1,7 @@
-//! Growths refused: the answer is want of memory until there is enough of it, and no answer is wrong.
+//! Allocations that fail: the result is out of memory until there is enough of it, and no result is wrong.
 //!
-//! The heap is filled up, and given back a small piece after each run. Where the heap cannot be filled, as under a checker
-//! of addresses, nothing is refused, and the answer is the same.
+//! The heap is filled up, and given back a small piece after each run. Where the heap cannot be filled, as under an address
+//! checker, nothing fails, and the result is the same.
 
 use super::{discard, judged};
 use file_pieces::bytes_of;
@@ -11,7 +11,7 @@ use oas_num::{INPUT_MAX, Refusal, SliceSource, Why};
 use scarce_memory::Hoard;
 use std::alloc::Global;
 
-/// Judges a file that is canonical, and reads its layout if that is wanted.
+/// Judges a file that is canonical, and reads its layout if asked to.
 fn judge(alloc: Global, file: &[u8], reads: bool) -> Result<bool, Refusal> {
     if reads {
         let (layout, yes) = judged(alloc, file, INPUT_MAX)?;
@@ -23,8 +23,8 @@ fn judge(alloc: Global, file: &[u8], reads: bool) -> Result<bool, Refusal> {
     }
 }
 
-/// How many small pieces are given back at once. An allocator may keep what was freed apart by its size, so fewer might never
-/// come to enough.
+/// How many small pieces are given back at once. An allocator may keep freed memory apart by its size, so fewer might never
+/// be enough.
 const PIECES: usize = 8;
 
 /// Gives back a little memory.
@@ -37,8 +37,8 @@ fn give_back(hoard: &mut Hoard) {
 /// A canonical file.
 const FILE: &str = "HEAD CELL 11B001420000 135B02486903000000 RECT BOX 0E0142 TAIL";
 
-/// Judges a file with a little more memory each time: how often memory is refused, how often the right thing is answered,
-/// and how often anything else.
+/// Judges a file with a little more memory each time: how often it fails out of memory, how often it returns the right
+/// result, and how often anything else.
 fn counts(alloc: Global, file: &[u8], reads: bool, hoard: &mut Hoard) -> [u64; 3] {
     let mut refused = 0u64;
     let mut done = 0u64;
@@ -59,8 +59,8 @@ fn counts(alloc: Global, file: &[u8], reads: bool, hoard: &mut Hoard) -> [u64; 3
     [refused, done, wrong]
 }
 
-/// Whether the file is judged rightly with all memory taken and given back little by little: whether no answer is wrong,
-/// and, where the heap can be filled, some are refused and some are given.
+/// Whether the file is judged correctly with all memory taken and given back little by little: whether no result is wrong,
+/// and, where the heap can be filled, some fail and some succeed.
 fn is_judged_at_each_growth(alloc: Global, reads: bool) -> Option<[bool; 3]> {
     let file = bytes_of(alloc, FILE).ok()?;
     let mut hoard = Hoard::new(alloc).ok()?;

@@ -1,6 +1,6 @@
-//! Files, one a line: a name, a file in pieces, and what is answered of it: `canonical`, `other`, or a refusal as
-//! NUMBER@OFFSET; where the profiles differ, by profile one and then by profile two. The answers were worked out by hand from
-//! the rules in docs/.
+//! Files, one a line: a name, a file in pieces, and the result for it: `canonical`, `other`, or a refusal as NUMBER@OFFSET;
+//! where the profiles differ, by profile one and then by profile two. The results were worked out by hand from the rules in
+//! docs/.
 
 /// The rows.
 pub const ROWS: &str = "\

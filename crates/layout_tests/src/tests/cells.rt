@@ -2,14 +2,15 @@
 
 use super::drafts::same;
 use super::{
-    add_cell, add_cells, discard, draft_of, draft_of_a, holds, limits_of, name, put_all, sealed,
+    add_cell, add_cells, discard, draft_of, draft_of_a, give_all, limits_of, name, put_all, sealed,
 };
-use oas_layout::{Draft, Layout, Limits, Profile};
+use oas_layout::{Cell, Draft, Layout, Limits, Profile, Refused};
 use oas_num::Why;
 use std::alloc::Global;
 use std::process::Abort;
+use std::test::Fail;
 
-/// Cells in order of definition, each a name and lines of elements; and as they are given.
+/// Cells in order of definition, each a name and lines of elements; and as they are returned.
 const CELLS: &[(&str, &str)] = &[
     (
         "TOP",
@@ -68,26 +69,29 @@ fn layout_of(alloc: Global, profile: Profile, cells: &[(&str, &str)]) -> Result<
     sealed(draft, added)
 }
 
-/// Whether there is such a cell, of this name and with exactly the pairs of the lines.
-fn is_cell(alloc: Global, layout: &Layout, cell: usize, text: &str, lines: &str) -> bool {
-    cell < layout.cells()
-        && layout.cell_name(cell).as_bytes() == text.as_bytes()
-        && holds(alloc, layout, cell, lines)
+/// Whether there is a next cell, with this name and exactly the pairs of the lines.
+fn is_cell(alloc: Global, next: Option<Cell<'_>>, text: &str, lines: &str) -> bool {
+    match next {
+        Some(cell) => {
+            cell.name().as_bytes() == text.as_bytes()
+                && give_all(alloc, &mut cell.elements(), lines)
+        }
+        None => false,
+    }
 }
 
 /// How many of these cells the layout has, each at its place.
 fn cells_as(alloc: Global, layout: &Layout, cells: &[(&str, &str)]) -> usize {
-    let mut cell = 0usize;
+    let mut left = layout.cells();
     let mut same = 0usize;
     for &(text, lines) in cells {
-        same = same.saturating_add(usize::from(is_cell(alloc, layout, cell, text, lines)));
-        cell = cell.saturating_add(1);
+        same = same.saturating_add(usize::from(is_cell(alloc, left.next(), text, lines)));
     }
     same
 }
 
-/// Of the layout of the first cells, how many cells it has, how many of the second ones, its profile, the number of its unit,
-/// and how many elements it has and their weight.
+/// For the layout of the first cells: how many cells it has, how many of the second ones, its profile, the number of its
+/// unit, how many elements it has, and their weight.
 fn seen(
     alloc: Global,
     profile: Profile,
@@ -95,7 +99,7 @@ fn seen(
     ascending: &[(&str, &str)],
 ) -> Result<([usize; 2], Profile, [u64; 3]), Why> {
     let layout = layout_of(alloc, profile, given)?;
-    let cells = [layout.cells(), cells_as(alloc, &layout, ascending)];
+    let cells = [layout.cell_count(), cells_as(alloc, &layout, ascending)];
     let numbers = [layout.unit().num(), layout.count(), layout.weight()];
     let profile = layout.profile();
     discard(layout);
@@ -155,11 +159,11 @@ fn units_and_cells_tell_layouts_apart(rt: HostRuntime) {
     }
 }
 
-/// Why the draft hands back a cell of this name, if it does.
+/// Why the draft hands back a cell with this name, if it does.
 fn refusal(draft: &mut Draft, alloc: Global, text: &str) -> Option<Why> {
     match draft.add_cell(name(alloc, text).ok()?) {
         Ok(_) => None,
-        Err((why, back)) => {
+        Err(Refused { why, value: back }) => {
             if back.as_bytes() == text.as_bytes() {
                 Some(why)
             } else {
@@ -171,15 +175,15 @@ fn refusal(draft: &mut Draft, alloc: Global, text: &str) -> Option<Why> {
 
 /// Whether it is the layout of the cell A, which is empty.
 fn is_of_a(layout: &Layout) -> bool {
-    layout.cells() == 1
+    layout.cell_count() == 1
         && layout.count() == 0
         && layout.weight() == 2
         && layout.cell_name(0).as_bytes() == "A".as_bytes()
         && layout.elements(0).next().is_none()
 }
 
-/// Why a draft of the cell A that has no room for another hands back a cell of this name, if it does, and whether its layout
-/// is then that of the cell A.
+/// Why a draft of the cell A that has no room for another hands back a cell with this name, if it does, and whether its
+/// layout is then that of the cell A.
 fn refused(alloc: Global, text: &str) -> Result<(Option<Why>, bool), Why> {
     let limits = limits_of(1, 2, 448)?;
     let mut draft = draft_of_a(alloc, limits, Profile::Two)?;
@@ -195,4 +199,16 @@ fn cells_that_are_refused(rt: HostRuntime) {
     for (text, why) in [("A", Why::DuplicateCell), ("B", Why::TooHeavy)] {
         assert!(rt; refused(rt.alloc(), text) == Ok((Some(why), true)));
     }
+}
+
+#[test]
+fn refused_in_a_line(rt: HostRuntime) -> Result<(), Fail> {
+    let refused = Refused {
+        why: Why::TooHeavy,
+        value: 5u8,
+    };
+    let line = format!(in rt.alloc(); "{refused}")?;
+    let found = (line.as_str() == "refused 25: TooHeavy", Why::from(refused));
+    assert!(rt; found == (true, Why::TooHeavy));
+    Ok(())
 }

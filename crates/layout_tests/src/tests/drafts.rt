@@ -7,8 +7,8 @@ use oas_ring::{Point, Points};
 use std::alloc::Global;
 use std::process::Abort;
 
-/// A profile, the elements that are added, the pairs that are held, and the weight. A polygon is held in its least
-/// reading, and under profile two as its rectangle: not with crossing sides, a side of length 0, or a point twice.
+/// A profile, the elements that are added, the pairs that are held, and the weight. A polygon is held in its least reading,
+/// and under profile two as its rectangle; but not with crossing sides, a side of length 0, or a repeated point.
 const KEPT: &[(Profile, &str, &str, u64)] = &[
     (
         Profile::One,
@@ -167,7 +167,7 @@ fn sameness_with(
     Ok(sameness)
 }
 
-/// The same of the layouts of these lines.
+/// The same for the layouts of these lines.
 fn sameness(alloc: Global, profile: Profile, first: &str, second: &str) -> Result<[bool; 4], Why> {
     let a = layout_of_a(alloc, profile, first)?;
     let sameness = sameness_with(alloc, profile, &a, second);
@@ -188,7 +188,7 @@ fn layouts_that_are_the_same_or_not(rt: HostRuntime) {
     }
 }
 
-/// A ring of 65536 points, of which the last is the least, from one of them on.
+/// A ring of 65536 points whose last is the least, from one of them on.
 fn long_ring(alloc: Global, from: u32, step: u32) -> Result<Element, Why> {
     let mut list = Vec::new(alloc);
     let mut place = from;
@@ -226,7 +226,7 @@ fn has_three(alloc: Global, ring: &Element) -> Result<bool, Why> {
     let mut draft = draft_of_a(alloc, Limits::standard(), Profile::Two)?;
     let added = add_rings(&mut draft, alloc);
     let layout = sealed(draft, added)?;
-    let has_three = layout.cells() > 0 && is_three(layout.elements(0).next(), ring);
+    let has_three = layout.cell_count() > 0 && is_three(layout.elements(0).next(), ring);
     discard(layout);
     Ok(has_three)
 }

@@ -1,7 +1,7 @@
 //! Elements written as in a listing.
 
 use oas_layout::{Element, Turns};
-use oas_num::{Label, Name, SliceSource, Spelled, Why};
+use oas_num::{Label, Name, Why};
 use oas_ring::{Point, Points};
 use std::alloc::Global;
 
@@ -27,23 +27,12 @@ impl<'a> Words<'a> {
     }
 }
 
-/// The bytes of a string of at most seven, its length before them.
-fn spelled(text: &str) -> [u8; 8] {
-    let bytes = text.as_bytes();
-    let mut spelled = [0; 8];
-    spelled[0] = bytes.len().min(127) as u8;
-    for i in 0..bytes.len().min(7) {
-        spelled[i + 1] = bytes[i];
-    }
-    spelled
-}
-
 pub(super) fn name(alloc: Global, text: &str) -> Result<Name, Why> {
-    Name::read(alloc, &mut SliceSource::new(&spelled(text), 1000))
+    Name::new(alloc, text.as_bytes())
 }
 
 fn label(alloc: Global, text: &str) -> Result<Label, Why> {
-    Label::read(alloc, &mut SliceSource::new(&spelled(text), 1000))
+    Label::new(alloc, text.as_bytes())
 }
 
 fn placement(alloc: Global, words: &mut Words<'_>) -> Result<Element, Why> {
@@ -65,7 +54,7 @@ fn placement(alloc: Global, words: &mut Words<'_>) -> Result<Element, Why> {
     })
 }
 
-/// A text's string stands last.
+/// A text's string comes last.
 fn text(alloc: Global, words: &mut Words<'_>) -> Result<Element, Why> {
     let textlayer = words.unsigned();
     let texttype = words.unsigned();

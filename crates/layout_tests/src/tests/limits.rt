@@ -2,7 +2,7 @@
 
 use super::elements::twice;
 use super::{discard, draft_of_a, layout_of_a, limits_of, put, put_many, sealed, whole};
-use oas_layout::{Draft, Element, Limits, Profile};
+use oas_layout::{Draft, Element, Limits, Profile, Refused};
 use oas_num::Why;
 use std::alloc::Global;
 use std::process::Abort;
@@ -42,21 +42,21 @@ fn limits_that_there_are(rt: HostRuntime) {
     }
 }
 
-/// The number of the reason for which the draft hands so many of the element back; 0 where it doesn't.
+/// The number of the reason for which the draft hands this many of the element back; 0 where it doesn't.
 fn number(draft: &mut Draft, given: Element, times: u64, wanted: &Element) -> u8 {
     match put_many(draft, 0, given, times) {
         Ok(()) => 0,
-        Err((why, back)) => { if back == *wanted { why.number() } else { 0 } }
+        Err(Refused { why, value: back }) => { if back == *wanted { why.number() } else { 0 } }
     }
 }
 
-/// The same of the element of the line.
+/// The same for the element of the line.
 fn refusal(draft: &mut Draft, alloc: Global, times: u64, line: &str) -> Result<u8, Why> {
     let (given, wanted) = twice(alloc, line)?;
     Ok(number(draft, given, times, &wanted))
 }
 
-/// Limits of elements and weight, so many of an element, and the number of the reason: 16 before 24, 24 before 25, 25
+/// Limits of elements and weight, this many of an element, and the number of the reason: 16 before 24, 24 before 25, 25
 /// before 23. Then each coordinate, one past the grid.
 const REFUSED: &[([u64; 4], &str)] = &[
     ([16777216, 268435456, 1, 16], "polygon 1 0 0,0 1,1"),
@@ -83,8 +83,8 @@ const REFUSED: &[([u64; 4], &str)] = &[
     ([9, 99, 1, 23], "polygon 1 0 0,0 1,1 0,1152921504606846977"),
 ];
 
-/// The number of the reason for which a draft within these limits hands so many of the element of the line back, and how many
-/// elements its layout then has and their weight.
+/// The number of the reason for which a draft within these limits hands this many of the element of the line back; then how
+/// many elements its layout has, and their weight.
 fn refused(
     alloc: Global,
     limits: Result<Limits, Why>,
@@ -132,7 +132,7 @@ fn elements_at_the_edge_of_the_grid(rt: HostRuntime) {
     assert!(rt; count(rt.alloc(), AT_THE_EDGE) == Ok(7));
 }
 
-/// The number of the reason for which a circle is handed back behind the elements of a line.
+/// The number of the reason for which a circle is handed back after the elements of a line.
 fn behind(
     alloc: Global,
     limits: Result<Limits, Why>,

@@ -1,9 +1,9 @@
-//! Each growth refused in turn: a refused call answers want of memory, hands back what it was given and changes nothing.
+//! Each allocation fails in turn: a failed call returns out of memory, hands back what it was given and changes nothing.
 
 use super::elements::{name, twice};
 use super::want::Want;
 use super::{discard, holds, put_many, sealed};
-use oas_layout::{Draft, Element, Limits, Profile};
+use oas_layout::{Draft, Element, Limits, Profile, Refused};
 use oas_num::{Fraction, Name, Why};
 use std::alloc::{AllocError, Global};
 use std::process::Abort;
@@ -19,18 +19,18 @@ fn insist_on_draft(unit: Fraction, want: &mut Want) -> Option<Draft> {
     None
 }
 
-/// Adds a cell with a name of one byte, and gives back a piece of memory after each refusal. Whether it is added at last, and
-/// was handed back before for want of memory alone, with nothing changed.
+/// Adds a cell with a name of one byte, and gives back a piece of memory after each failure. Whether it is added at last, and
+/// was handed back before only out of memory, with nothing changed.
 fn insist_on_cell(draft: &mut Draft, mut name: Name, want: &mut Want) -> bool {
-    let before = draft.cells();
+    let before = draft.cell_count();
     let mut is_right = true;
     for _ in 0..4000u32 {
         match draft.add_cell(name) {
             Ok(place) => return is_right && place == before,
-            Err((why, back)) => {
+            Err(Refused { why, value: back }) => {
                 is_right &= why == Why::Memory
                     && back.as_bytes().len() == 1
-                    && draft.cells() == before;
+                    && draft.cell_count() == before;
                 name = back;
             }
         }
@@ -39,7 +39,7 @@ fn insist_on_cell(draft: &mut Draft, mut name: Name, want: &mut Want) -> bool {
     false
 }
 
-/// Adds cells of these names, the last name first. Whether all are, and how many of them were refused at first.
+/// Adds cells with these names, the last name first. Whether all are added, and how many of them failed at first.
 fn insist_on_cells(draft: &mut Draft, names: &mut Vec<Name>, want: &mut Want) -> (bool, usize) {
     let mut all = true;
     let mut refused = 0usize;
@@ -52,8 +52,8 @@ fn insist_on_cells(draft: &mut Draft, names: &mut Vec<Name>, want: &mut Want) ->
     (all, refused)
 }
 
-/// Adds the element so many times, and gives back a piece of memory after each refusal. Whether it is added at last, and was
-/// handed back before for want of memory alone.
+/// Adds the element this many times, and gives back a piece of memory after each failure. Whether it is added at last, and
+/// was handed back before only out of memory.
 fn insist_on_element(
     draft: &mut Draft,
     mut element: Element,
@@ -65,7 +65,7 @@ fn insist_on_element(
     for _ in 0..4000u32 {
         match put_many(draft, 0, element, times) {
             Ok(()) => return is_right,
-            Err((why, back)) => {
+            Err(Refused { why, value: back }) => {
                 is_right &= why == Why::Memory && back == *wanted;
                 element = back;
             }
@@ -127,7 +127,7 @@ const HELD: &str = "1 text 3 0 0 0 Hi
 7 circle 1 0 19 0 0
 6 circle 1 0 20 0 0";
 
-/// Each element twice: one to be added, and one that a refusal hands back.
+/// Each element twice: one to be added, and one that a failure hands back.
 fn elements(alloc: Global) -> Result<Vec<(Element, Element)>, Why> {
     let mut list = Vec::new(alloc);
     for line in LINES.lines() {
@@ -145,7 +145,7 @@ fn names(alloc: Global) -> Result<Vec<Name>, Why> {
     Ok(list)
 }
 
-/// Adds the elements, the last once, the one before it twice, and so on. Whether all are, and how many of them were refused
+/// Adds the elements, the last once, the one before it twice, and so on. Whether all are added, and how many of them failed
 /// at first.
 fn insist_on_elements(
     draft: &mut Draft,
@@ -166,8 +166,8 @@ fn insist_on_elements(
 }
 
 /// A draft of the names' cells, the first of them with the elements; whether all are added; and whether, where the heap was
-/// full, enough was refused at first: the draft, a cell for which the draft had no room, the cell's first element, one more
-/// than a node of the tree holds, and the polygon that is kept in another reading.
+/// full, enough failed at first: the draft, a cell for which the draft had no room, the cell's first element, one more than a
+/// node of the tree holds, and the polygon that is kept in another reading.
 fn insist_on_all(
     unit: Fraction,
     names: &mut Vec<Name>,
@@ -202,7 +202,7 @@ fn filled_in_want(alloc: Global) -> Result<([bool; 2], (usize, u64), bool), Why>
     let mut elements = elements(alloc)?;
     let (draft, seen) = draft_in_want(alloc, &mut names, &mut elements).ok_or(Why::Memory)?;
     let layout = sealed(draft, Ok(()))?;
-    let counts = (layout.cells(), layout.count());
+    let counts = (layout.cell_count(), layout.count());
     let is_held = holds(alloc, &layout, 0, HELD);
     discard(layout);
     Ok((seen, counts, is_held))

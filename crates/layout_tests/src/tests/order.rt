@@ -6,8 +6,8 @@ use oas_num::Why;
 use std::alloc::Global;
 use std::process::Abort;
 
-/// By kind, and then by each field in its turn: of two neighbours that agree up to a field, that field decides, against
-/// those that follow it. Numbers go by value, strings by bytes, a beginning of another first.
+/// By kind, and then by each field in turn: where two neighbours agree up to a field, that field decides, against those that
+/// follow it. Numbers go by value, strings by bytes, a proper prefix first.
 const ASCENDING: &str = "2 placement A -7 9 3 1
 2 placement A 1 -9 3 1
 2 placement A 1 2 1 1

@@ -23,24 +23,24 @@ fn three(alloc: Global) -> Result<PlainElements, Why> {
     Ok(elements)
 }
 
-/// What the draft answers to three rectangles in a cell B.
+/// What the draft returns for three rectangles in a cell B.
 fn add_three(draft: &mut Draft, alloc: Global) -> Result<usize, Why> {
     let name = name(alloc, "B")?;
     draft.add_plain(name, three(alloc)?)
 }
 
-/// The pairs of B, which is added as a whole, and then given two circles and a rectangle more.
+/// The pairs of B, which is added as a whole, and then gets two circles and one more rectangle.
 const WHOLE: &str = "4 rectangle 1 0 10 20 0 0\n2 circle 1 0 5 0 0";
 
-/// What a draft of A answers to B, and to B again; then, with more elements in B, how many cells and elements its layout
-/// has and their weight, and whether the pairs of B are those.
+/// What a draft of A returns for B, and for B again; then, with more elements in B, how many cells and elements its layout
+/// has, their weight, and whether the pairs of B are those.
 fn taken_whole(alloc: Global) -> Result<([Result<usize, Why>; 2], (usize, u64, u64), bool), Why> {
     let mut draft = draft_of_a(alloc, Limits::standard(), Profile::Two)?;
     let answers = [add_three(&mut draft, alloc), add_three(&mut draft, alloc)];
     let more = "2 circle 1 0 5 0 0\n1 rectangle 1 0 10 20 0 0";
     let added = put_all(&mut draft, alloc, 1, more);
     let layout = sealed(draft, added)?;
-    let counts = (layout.cells(), layout.count(), layout.weight());
+    let counts = (layout.cell_count(), layout.count(), layout.weight());
     let is_whole = holds(alloc, &layout, 1, WHOLE);
     discard(layout);
     Ok((answers, counts, is_whole))
@@ -52,7 +52,7 @@ fn cells_taken_as_a_whole(rt: HostRuntime) {
     assert!(rt; taken_whole(rt.alloc()) == Ok((answers, (2, 6, 10), true)));
 }
 
-/// What a draft of one cell, A, within these limits, answers to three rectangles in another.
+/// What a draft of one cell, A, within these limits, returns for three rectangles in another.
 fn answer(alloc: Global, elements: u64, weight: u64) -> Result<usize, Why> {
     let limits = limits_of(elements, weight, 768)?;
     let mut draft = draft_of_a(alloc, limits, Profile::One)?;

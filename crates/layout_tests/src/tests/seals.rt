@@ -1,4 +1,4 @@
-//! Sealing refused in turn: it answers want of memory, or the layout.
+//! Sealing fails in turn: it returns out of memory, or the layout.
 
 use super::want::Want;
 use super::{add_cells, discard, draft_of_a, put, sealed, whole};
@@ -25,10 +25,11 @@ fn draft_of_many(alloc: Global) -> Result<Draft, Why> {
 
 /// Whether it is the layout of such a draft.
 fn is_of_many(layout: &Layout) -> bool {
-    layout.cells() == 26 && layout.count() == 3 && layout.weight() == 55
+    layout.cell_count() == 26 && layout.count() == 3 && layout.weight() == 55
 }
 
-/// Seals one draft after the other, each after a refusal with a piece of memory more. Whether each layout is as it should be.
+/// Seals one draft after the other, each after a failure with one more piece of memory. Whether each layout is as it should
+/// be.
 fn seal_all(drafts: Vec<Draft>, want: &mut Want) -> bool {
     let mut all = true;
     for draft in drafts {
@@ -50,7 +51,7 @@ fn drafts_of_many(alloc: Global) -> Result<Vec<Draft>, Why> {
 }
 
 /// Seals them where all memory is taken at first. Whether each layout is as it should be, and whether, where the heap was
-/// full, a seal was refused.
+/// full, a seal failed.
 fn seal_in_want(alloc: Global, drafts: Vec<Draft>) -> [bool; 2] {
     match Want::new(alloc) {
         Ok(mut want) => {
@@ -61,7 +62,7 @@ fn seal_in_want(alloc: Global, drafts: Vec<Draft>) -> [bool; 2] {
     }
 }
 
-/// The same, and whether the layout of one that is sealed behind them is as it should be.
+/// The same, and whether the layout of one that is sealed after them is as it should be.
 fn seals(alloc: Global) -> Result<([bool; 2], bool), Why> {
     let last = draft_of_many(alloc)?;
     let drafts = drafts_of_many(alloc)?;

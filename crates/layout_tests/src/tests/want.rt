@@ -1,13 +1,13 @@
-//! Memory that is refused and given back.
+//! Memory that is taken and given back.
 //!
-//! The heap is filled up before a call, and given back a small piece after each refusal, so that the call meets every state
-//! of want in its turn. Where the heap cannot be filled, as under a checker of addresses, no call is refused, and the
-//! answers are the same.
+//! The heap is filled up before a call, and a small piece is given back after each failure, so that the call meets every way
+//! to run out of memory. Where the heap cannot be filled, as under an address checker, no call fails, and the results are the
+//! same.
 
 use scarce_memory::Hoard;
 use std::alloc::{AllocError, Global};
 
-/// All memory, kept from the calls that a test makes, and how many of them were refused since it was full.
+/// All memory, kept from the calls that a test makes, and how many of them failed since it was full.
 #[derive(Drop)]
 pub(super) struct Want {
     pub(super) alloc: Global,
@@ -16,7 +16,7 @@ pub(super) struct Want {
 }
 
 impl Want {
-    /// All memory that is there.
+    /// Takes all memory that there is.
     pub(super) fn new(alloc: Global) -> Result<Want, AllocError> {
         let hoard = Hoard::new(alloc)?;
         Ok(Want {
@@ -26,13 +26,13 @@ impl Want {
         })
     }
 
-    /// Counts a refused call, and gives back a piece.
+    /// Counts a failed call, and gives back a piece.
     pub(super) fn give_back(&mut self) {
         self.refused = self.refused.saturating_add(1);
         self.hoard.give_back();
     }
 
-    /// Counts a refused call, fills the heap again, and gives back a piece more than after the one before.
+    /// Counts a failed call, fills the heap again, and gives back one more piece than after the one before.
     pub(super) fn give_back_anew(&mut self) {
         self.refused = self.refused.saturating_add(1);
         self.hoard.fill_again();
@@ -41,7 +41,7 @@ impl Want {
         }
     }
 
-    /// Fills the heap again, and answers whether a call was refused since it was last full.
+    /// Fills the heap again, and returns whether a call failed since it was last full.
     pub(super) fn fill_again(&mut self) -> bool {
         let refused = self.refused > 0;
         self.refused = 0;

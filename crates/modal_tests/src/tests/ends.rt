@@ -1,10 +1,10 @@
-//! Cells by name and by number, and what END refuses. The answers are those of the plain program in tests/reference.
+//! Cells by name and by number, and what END refuses. The results are those of the plain program in tests/reference.
 
 use super::{answer, expect, limits_of};
 use oas_layout::Profile;
 use std::process::Abort;
 
-/// Two names in hex, 0 for `A` and 1 for `BB`, and CELL records behind them; a limit on the weight; and what comes of them.
+/// Two names in hex, 0 for `A` and 1 for `BB`, and CELL records after them; a limit on the weight; and the result.
 const ROWS: &[(&str, u64, &str)] = &[
     (
         "030141 03024242 0E0141 0E024242",

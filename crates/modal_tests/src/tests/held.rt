@@ -1,14 +1,14 @@
-//! Each growth of a held cell refused in turn: what is drawn is handed back.
+//! Each allocation of a held cell fails in turn: what is drawn is handed back.
 //!
-//! The heap is filled up and given back a small piece at a time, so that the cell meets every state of want in its turn.
-//! Where the heap cannot be filled, as under a checker of addresses, no call is refused, and the answers are the same.
+//! The heap is filled up and given back a small piece at a time, so that the cell meets every way to run out of memory in
+//! turn. Where the heap cannot be filled, as under an address checker, no call fails, and the results are the same.
 
 ghost use Rattle.oas_modal.specs.Finish.{IsFit};
 
 use super::{Refused, discard, is_met};
-use oas_drawing::Drawn;
 use oas_layout::Element;
 use oas_modal::HeldCell;
+use oas_modal::oas_drawing::Drawn;
 use oas_num::Why;
 use oas_record::CellRef;
 use scarce_memory::Hoard;
@@ -50,7 +50,7 @@ fn refused(alloc: Global, number: u64) -> Option<bool> {
     }
 }
 
-/// Draws it, and gives back a piece of memory after each refusal. How many there were; none where it is never drawn, or isn't
+/// Draws it, and gives back a piece of memory after each failure. How many there were; none where it is never drawn, or isn't
 /// handed back.
 fn insist_on_drawing(alloc: Global, number: u64, hoard: &mut Hoard) -> Option<u32> {
     for times in 0..4000u32 {
@@ -63,7 +63,7 @@ fn insist_on_drawing(alloc: Global, number: u64, hoard: &mut Hoard) -> Option<u3
     None
 }
 
-/// Whether the heap can be filled, and how often the drawing is then refused.
+/// Whether the heap can be filled, and how often the drawing then fails.
 fn refusals(alloc: Global, number: u64) -> Refused {
     match Hoard::new(alloc) {
         Ok(mut hoard) => Ok((

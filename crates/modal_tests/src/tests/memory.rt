@@ -1,8 +1,8 @@
-//! Growths refused: a refused call answers want of memory, at the place that it was given.
+//! Allocations that fail: a failed call returns out of memory, at the place that it was given.
 //!
-//! The heap is filled up, and given back a small piece after each run, so that the name and the first rectangle are each refused
-//! before they succeed, and so is the finish, by a reader that has taken its records before. Where the heap cannot be filled, as
-//! under a checker of addresses, no call is refused, and the answers are the same.
+//! The heap is filled up, and given back a small piece after each run. So the name and the first rectangle each fail before
+//! they succeed, and so does the finish of a reader that has taken its records before. Where the heap cannot be filled, as
+//! under an address checker, no call fails, and the results are the same.
 
 use super::{Refused, discard, is_met, refuses_on, unit};
 use oas_layout::{Layout, Limits, Profile};
@@ -36,13 +36,13 @@ fn rectangle() -> Record {
     })
 }
 
-/// What is answered where no name is left: no reader refuses so.
+/// Returned where no name is left: no reader returns this refusal.
 const NO_NAME: Refusal = Refusal {
     at: u64::MAX,
     why: Why::Memory,
 };
 
-/// Has the reader take two cells, each with a rectangle, the second by the last of the names.
+/// Gives the reader two cells, each with a rectangle, the second named by the last of the names.
 fn take_cells(reader: &mut Reader, names: &mut Vec<Name>) -> Result<(), Refusal> {
     reader.take(3, Record::Cell(CellRef::Number(0)))?;
     reader.take(5, rectangle())?;
@@ -51,14 +51,14 @@ fn take_cells(reader: &mut Reader, names: &mut Vec<Name>) -> Result<(), Refusal>
     reader.take(16, rectangle())
 }
 
-/// Has the reader take the last of the names as that of a cell, and two cells.
+/// Gives the reader the last of the names as that of a cell, and two cells.
 fn take_all(reader: &mut Reader, names: &mut Vec<Name>) -> Result<(), Refusal> {
     let name = names.pop().ok_or(NO_NAME)?;
     reader.take(0, Record::CellName { name, number: None })?;
     take_cells(reader, names)
 }
 
-/// Has the reader take them. Whether, if it was refused, it refuses a record more.
+/// Gives them to the reader. Whether, if it was refused, it refuses one more record.
 fn is_kept(reader: &mut Reader, names: &mut Vec<Name>) -> bool {
     match take_all(reader, names) {
         Ok(()) => true,
@@ -68,7 +68,7 @@ fn is_kept(reader: &mut Reader, names: &mut Vec<Name>) -> bool {
 
 /// Whether the layout is of two cells with a rectangle each.
 fn is_right(layout: &Layout) -> bool {
-    layout.cells() == 2 && layout.count() == 2
+    layout.cell_count() == 2 && layout.count() == 2
 }
 
 /// Finishes the reader. Where it is refused, or else whether the layout is right.
@@ -79,7 +79,7 @@ fn finished(reader: Reader) -> Result<bool, Refusal> {
     }
 }
 
-/// Has a new reader take them, and finish. Where it is refused, or else whether all is right.
+/// Gives them to a new reader, and finishes it. Where it is refused, or else whether all is right.
 fn run(alloc: Global, unit: Fraction, names: &mut Vec<Name>) -> Result<bool, Refusal> {
     let mut reader = Reader::new(alloc, unit, Limits::standard(), Profile::One);
     let is_kept = is_kept(&mut reader, names);
@@ -90,8 +90,8 @@ fn run(alloc: Global, unit: Fraction, names: &mut Vec<Name>) -> Result<bool, Ref
     }
 }
 
-/// Runs until the layout is made, and gives back a piece of memory after each refusal. Whether all is right then, and
-/// whether the name and the first rectangle were each refused.
+/// Runs until the layout is made, and gives back a piece of memory after each failure. Whether all is right then, and whether
+/// the name and the first rectangle each failed.
 fn insist(
     alloc: Global,
     unit: Fraction,
@@ -113,7 +113,7 @@ fn insist(
     (false, refused)
 }
 
-/// So many names, by turns A and B.
+/// This many names, A and B in turn.
 pub(super) fn many_names(alloc: Global, count: u32) -> Result<Vec<Name>, Why> {
     let mut names = Vec::new(alloc);
     for number in 0..count {
@@ -124,7 +124,7 @@ pub(super) fn many_names(alloc: Global, count: u32) -> Result<Vec<Name>, Why> {
 }
 
 /// Whether all is right where there is no memory at first, and whether, where the heap can be filled, the name and the first
-/// rectangle are each refused.
+/// rectangle each fail.
 fn in_want(alloc: Global, unit: Fraction, names: &mut Vec<Name>) -> (bool, [bool; 2]) {
     match Hoard::new(alloc) {
         Ok(mut hoard) => {
@@ -148,7 +148,7 @@ fn reader_without_memory(rt: HostRuntime) {
     assert!(rt; reader_in_want(rt.alloc()) == Ok((true, [true; 2])));
 }
 
-/// Has the reader take a name of a cell, and two cells.
+/// Gives the reader a name of a cell, and two cells.
 fn make_ready(reader: &mut Reader, alloc: Global) -> Result<(), Why> {
     let mut names = many_names(alloc, 2)?;
     match take_all(reader, &mut names) {
@@ -178,8 +178,8 @@ fn all_ready(alloc: Global, unit: Fraction) -> Result<Vec<Reader>, Why> {
     Ok(readers)
 }
 
-/// Finishes one after another until a layout is made, and gives back a piece of memory after each refusal. How many were refused;
-/// none where no layout is made, or one is wrong, or anything but want of memory is answered.
+/// Finishes one after another until a layout is made, and gives back a piece of memory after each failure. How many failed;
+/// none where no layout is made, or one is wrong, or anything other than out of memory is returned.
 fn insist_on_finish(readers: &mut Vec<Reader>, hoard: &mut Hoard) -> Option<u32> {
     let refusal = Refusal {
         at: END,
@@ -200,7 +200,7 @@ fn insist_on_finish(readers: &mut Vec<Reader>, hoard: &mut Hoard) -> Option<u32>
     None
 }
 
-/// Whether the heap can be filled, and how many readers are then refused.
+/// Whether the heap can be filled, and how many readers then fail.
 fn finish_in_want(alloc: Global, readers: &mut Vec<Reader>) -> Refused {
     match Hoard::new(alloc) {
         Ok(mut hoard) => Ok((hoard.is_full(), insist_on_finish(readers, &mut hoard))),
@@ -208,7 +208,7 @@ fn finish_in_want(alloc: Global, readers: &mut Vec<Reader>) -> Refused {
     }
 }
 
-/// The same of those readers.
+/// The same for those readers.
 fn finish_refused(alloc: Global) -> Refused {
     let mut readers = all_ready(alloc, unit()?)?;
     finish_in_want(alloc, &mut readers)

@@ -1,35 +1,35 @@
-//! A placement or a text that stands once, taken at hand and as a record: what comes of both is the same.
+//! A placement or a text without a repetition, taken at hand and as a record: the result is the same.
 
 use super::named_table::{LISTED, RECORDS, RENAMED, RENAMED_LISTED};
 use super::{Refused, discard, expect, is_met, limits_of, listed, unit};
-use oas_ahead::named_ahead;
 use oas_layout::{Limits, Profile};
 use oas_modal::{CellStore, CountedCell, HeldCell, Reader};
 use oas_num::{Fraction, Refusal, SliceSource, Why};
+use oas_peek::peek_named;
 use oas_record::{CellRef, Record};
 use scarce_memory::Hoard;
 use std::alloc::{AllocError, Global};
 use std::process::Abort;
 
-/// What is answered where bytes are no element at hand: no reader refuses so.
+/// Returned where bytes are no element at hand: no reader returns this refusal.
 const NOT_AT_HAND: Refusal = Refusal {
     at: u64::MAX,
     why: Why::Memory,
 };
 
-/// Has the reader take a placement or a text at hand.
+/// Gives the reader a placement or a text at hand.
 fn take_at_hand<S: CellStore>(
     reader: &mut Reader<S>,
     at: u64,
     bytes: &[u8],
 ) -> Result<(), Refusal> {
-    match named_ahead(bytes) {
+    match peek_named(bytes) {
         Some(found) => reader.take_named(at, &found.element),
         None => Err(NOT_AT_HAND),
     }
 }
 
-/// Has the reader take a record, a placement or a text at hand where it may be so.
+/// Gives the reader a record, where possible as a placement or a text at hand.
 fn take_one<S: CellStore>(
     alloc: Global,
     reader: &mut Reader<S>,
@@ -44,7 +44,7 @@ fn take_one<S: CellStore>(
     reader.take(at, record)
 }
 
-/// Has the reader take these records, up to the first that it refuses.
+/// Gives the reader these records, up to the first that it refuses.
 fn take_records<S: CellStore>(
     alloc: Global,
     reader: &mut Reader<S>,
@@ -72,7 +72,7 @@ fn taken<S: CellStore>(
     reader
 }
 
-/// What comes of the records, at hand or by records.
+/// The result for the records, at hand or by records.
 fn answer(alloc: Global, records: &[&[u8]; 14], by_hand: bool) -> Option<String> {
     let unit = unit().ok()?;
     let reader: Reader<HeldCell> = taken(alloc, unit, Limits::standard(), records, by_hand);
@@ -128,8 +128,8 @@ fn refused(at: u64, why: Why) -> Option<Refusal> {
     Some(Refusal { at, why })
 }
 
-/// The ten elements weigh 22 with the name of the cell: one each, and one for each byte of a name. Three of their names and one
-/// of their strings are known at the end alone; all others weigh 18.
+/// The ten elements weigh 22 with the name of the cell: one each, and one for each byte of a name. Three of their names and
+/// one of their strings are known only at the end; all others weigh 18.
 #[test]
 fn named_within_limits(rt: HostRuntime) {
     for (elements, weight, wanted) in [
@@ -145,7 +145,7 @@ fn named_within_limits(rt: HostRuntime) {
     }
 }
 
-/// What the reader answers to a placement or a text at hand, in a cell if it's inside, and to a record behind it.
+/// What the reader returns for a placement or a text at hand, in a cell if it's inside, and for a record after it.
 fn take_behind(reader: &mut Reader, inside: bool, bytes: &[u8]) -> [Result<(), Refusal>; 2] {
     if inside && reader.take(3, Record::Cell(CellRef::Number(7))).is_err() {
         return [Ok(()); 2];
@@ -153,7 +153,7 @@ fn take_behind(reader: &mut Reader, inside: bool, bytes: &[u8]) -> [Result<(), R
     [take_at_hand(reader, 5, bytes), reader.take(9, Record::Pad)]
 }
 
-/// The same of a new reader.
+/// The same for a new reader.
 fn answers_behind(
     alloc: Global,
     inside: bool,
@@ -199,8 +199,8 @@ fn placed_within(alloc: Global, unit: Fraction, limits: Limits) -> Option<Refusa
     refused
 }
 
-/// Has readers take a placement until one does so, and gives back a piece of memory after each that doesn't. How many didn't;
-/// none where no reader does, or where one refuses it for another reason than want of memory. Those that refuse it for its
+/// Gives readers a placement until one takes it, and gives back a piece of memory after each that doesn't. How many didn't;
+/// none where no reader does, or where one refuses it for another reason than out of memory. Those that refuse it for its
 /// weight do so for that alone.
 fn insist_on_placing(
     alloc: Global,
@@ -224,7 +224,7 @@ fn insist_on_placing(
     None
 }
 
-/// Whether the heap can be filled, and how often the placement is then refused.
+/// Whether the heap can be filled, and how often the placement then fails.
 fn placing_refused(alloc: Global) -> Refused {
     let unit = unit()?;
     let light = limits_of(10, 3, 2000)?;
@@ -237,22 +237,22 @@ fn placing_refused(alloc: Global) -> Refused {
     }
 }
 
-/// A placement weighs one, and one for each byte of its name. The heap is filled up, and given back a small piece after each run.
-/// Where it cannot be filled, as under a checker of addresses, no call wants memory.
+/// A placement weighs one, and one for each byte of its name. The heap is filled up, and given back a small piece after each
+/// run. Where it cannot be filled, as under an address checker, no call runs out of memory.
 #[test]
 fn named_without_memory(rt: HostRuntime) {
     let refused = placing_refused(rt.alloc());
     assert!(rt; is_met(refused), "{refused:?}");
 }
 
-/// Has a reader take placements of names that aren't longer than the modal one.
+/// Gives a reader placements of names that aren't longer than the modal one.
 fn take_shorter(reader: &mut Reader<CountedCell>) -> Result<(), Refusal> {
     take_at_hand(reader, 13, b"\x11\xB0\x03BCE\x02\x00")?;
     take_at_hand(reader, 21, b"\x11\xB0\x01B\x02\x00")?;
     take_at_hand(reader, 27, b"\x11\x30\x04\x00")
 }
 
-/// Has a reader take them where there is no memory.
+/// Gives them to a reader where there is no memory.
 fn take_shorter_in_want(alloc: Global, reader: &mut Reader<CountedCell>) -> Result<(), Refusal> {
     match Hoard::new(alloc) {
         Ok(hoard) => {
@@ -264,7 +264,7 @@ fn take_shorter_in_want(alloc: Global, reader: &mut Reader<CountedCell>) -> Resu
     }
 }
 
-/// What a reader answers to a cell, to a placement in it, and to those of shorter names where there is no memory.
+/// What a reader returns for a cell, for a placement in it, and for those of shorter names where there is no memory.
 fn answers_in_want(alloc: Global) -> Result<[Result<(), Refusal>; 3], Why> {
     let mut reader: Reader<CountedCell> = Reader::new(
         alloc,
@@ -281,7 +281,7 @@ fn answers_in_want(alloc: Global) -> Result<[Result<(), Refusal>; 3], Why> {
     Ok(answers)
 }
 
-/// Such a name goes into the memory of the modal one: a cell that is counted wants none for it.
+/// Such a name goes into the memory of the modal one: a cell that is counted needs none for it.
 #[test]
 fn shorter_without_memory(rt: HostRuntime) {
     assert!(rt; answers_in_want(rt.alloc()) == Ok([Ok(()); 3]));

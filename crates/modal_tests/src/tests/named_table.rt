@@ -1,6 +1,6 @@
-//! The records of the tests of placements and texts, and what comes of them.
+//! The records of the tests of placements and texts, and their results.
 
-/// Records: a cell, placements and texts, which are also taken at hand, one behind which positions are relative, and the names
+/// Records: a cell, placements and texts, which are also taken at hand, one after which positions are relative, and the names
 /// of two numbers.
 pub const RECORDS: [&[u8]; 14] = [
     b"\x0E\x01A",
@@ -19,13 +19,13 @@ pub const RECORDS: [&[u8]; 14] = [
     b"\x06\x01T\x03",
 ];
 
-/// What comes of them.
+/// Their result.
 pub const LISTED: &str =
     "unit 1000/1;cell A;1 placement B 0 0 0 0;1 placement B 5 -3 1 1;1 placement B 5 4 0 0;\
 1 placement C -1 4 0 0;1 placement C 0 4 2 0;1 placement C 0 4 3 0;1 text 1 2 0 0 S;1 text 1 2 1 1 S;1 text 1 5 1 1 S;\
 1 text 9 5 1 3 T;";
 
-/// Records whose names aren't the modal ones: where there is none, shorter and longer ones, a number, and one behind a number.
+/// Records whose names aren't the modal ones: where there is none, shorter and longer ones, a number, and one after a number.
 pub const RENAMED: [&[u8]; 14] = [
     b"\x0E\x01A",
     b"\x11\xB0\x03BCD\x00\x00",
@@ -43,7 +43,7 @@ pub const RENAMED: [&[u8]; 14] = [
     b"\x06\x01T\x03",
 ];
 
-/// What comes of them.
+/// Their result.
 pub const RENAMED_LISTED: &str =
     "unit 1000/1;cell A;1 placement B 1 0 0 0;1 placement BC 4 0 0 0;1 placement BC 5 0 0 0;\
 1 placement BCD 0 0 0 0;1 placement BCDEF 2 0 0 0;1 placement C 3 0 0 0;1 text 1 2 1 0 ;1 text 1 2 4 0 S;\

@@ -1,7 +1,7 @@
-//! Names where memory is refused: a refused call answers want of memory, at the place that it was given.
+//! Names where allocations fail: a failed call returns out of memory, at the place that it was given.
 //!
-//! The heap is filled up, and given back a small piece more before each run, so that the first of 13 names is refused before it
-//! succeeds. Where the heap cannot be filled, as under a checker of addresses, no call is refused, and the answers are the same.
+//! The heap is filled up, and one more small piece is given back before each run, so that the first of 13 names fails before
+//! it succeeds. Where the heap cannot be filled, as under an address checker, no call fails, and the results are the same.
 
 use super::memory::many_names;
 use super::{Refused, discard, is_met, refuses_on, unit};
@@ -22,8 +22,8 @@ const NAMES: u64 = 13;
 /// More runs than it takes until all names are taken.
 const RUNS: u32 = 200;
 
-/// Has the reader take 13 of the names one after another, each at its number. How many it takes; none where it is refused for
-/// another reason than want of memory, or doesn't refuse a record more.
+/// Gives the reader 13 of the names one after another, each at its number. How many it takes; none where it fails for another
+/// reason than out of memory, or doesn't refuse one more record.
 fn take_names(reader: &mut Reader, names: &mut Vec<Name>) -> Option<u64> {
     for at in 0..NAMES {
         let name = names.pop()?;
@@ -36,7 +36,7 @@ fn take_names(reader: &mut Reader, names: &mut Vec<Name>) -> Option<u64> {
     Some(NAMES)
 }
 
-/// The same of a new reader.
+/// The same for a new reader.
 fn taken(alloc: Global, unit: Fraction, names: &mut Vec<Name>) -> Option<u64> {
     let mut reader = Reader::new(alloc, unit, Limits::standard(), Profile::One);
     let count = take_names(&mut reader, names);
@@ -44,7 +44,7 @@ fn taken(alloc: Global, unit: Fraction, names: &mut Vec<Name>) -> Option<u64> {
     count
 }
 
-/// Gives back so many pieces, and nothing else that was freed.
+/// Gives back this many pieces, and nothing else that was freed.
 fn give_back(hoard: &mut Hoard, pieces: u32) {
     hoard.fill_again();
     for _ in 0..pieces {
@@ -52,7 +52,7 @@ fn give_back(hoard: &mut Hoard, pieces: u32) {
     }
 }
 
-/// Runs until all names are taken, each time with a piece of memory more. How often the first name was refused before that; none
+/// Runs until all names are taken, each time with one more piece of memory. How often the first name failed before that; none
 /// where they are never taken.
 fn insist_on_names(
     alloc: Global,
@@ -72,7 +72,7 @@ fn insist_on_names(
     None
 }
 
-/// Whether the heap can be filled, and how often the first name is then refused.
+/// Whether the heap can be filled, and how often the first name then fails.
 fn names_in_want(alloc: Global, unit: Fraction, names: &mut Vec<Name>) -> Refused {
     match Hoard::new(alloc) {
         Ok(mut hoard) => Ok((

@@ -1,4 +1,4 @@
-//! A rectangle that gives no repetition, taken by itself and as a record: what comes of both is the same.
+//! A rectangle without a repetition, taken by itself and as a record: the result is the same.
 
 ghost use Rattle.std.specs.Prelude.{◌≡◌, None};
 
@@ -10,7 +10,7 @@ use oas_record::{CellRef, Record, Rectangle, Spot};
 use std::alloc::Global;
 use std::process::Abort;
 
-/// What comes of a rectangle, one that is 5 to its left and 3 above it, and one where the first is.
+/// The result for a rectangle, one that is 5 to its left and 3 above it, and one where the first is.
 const LISTED_THREE: &str =
     "unit 1000/1;cell A;1 rectangle 1 0 10 20 0 0;2 rectangle 1 0 10 20 5 -3;";
 
@@ -32,7 +32,7 @@ fn rectangle(layer: Option<u64>, x: i64, y: i64) -> Rectangle
     }
 }
 
-/// Has the reader take a rectangle, by itself or as a record.
+/// Gives the reader a rectangle, by itself or as a record.
 fn take_one(reader: &mut Reader, alone: bool, at: u64, next: Rectangle) -> Result<(), Refusal>
     requires { next.spot.repetition ≡ None }
 {
@@ -43,7 +43,7 @@ fn take_one(reader: &mut Reader, alone: bool, at: u64, next: Rectangle) -> Resul
     }
 }
 
-/// Has the reader take a cell and three rectangles.
+/// Gives the reader a cell and three rectangles.
 fn take_three(reader: &mut Reader, alone: bool, cell: Name) -> Result<(), Refusal> {
     reader.take(0, Record::Cell(CellRef::Name(cell)))?;
     take_one(reader, alone, 3, rectangle(Some(1), 5, -3))?;
@@ -58,7 +58,7 @@ fn layout_of_three(mut reader: Reader, alone: bool, cell: Name) -> Result<Layout
     finish(reader, taken, 23)
 }
 
-/// What comes of three rectangles, within these limits: the lines of the layout, or NUMBER@OFFSET.
+/// The result for three rectangles, within these limits: the lines of the layout, or NUMBER@OFFSET.
 fn three(alloc: Global, alone: bool, limits: Result<Limits, Why>) -> Option<String> {
     let (unit, limits) = (unit().ok()?, limits.ok()?);
     let cell = Name::read(alloc, &mut SliceSource::new(b"\x01A", 100)).ok()?;
@@ -66,7 +66,7 @@ fn three(alloc: Global, alone: bool, limits: Result<Limits, Why>) -> Option<Stri
     listed(alloc, layout_of_three(reader, alone, cell))
 }
 
-/// Two elements may stand there, and then a third may not; or all may weigh 4 with a name that weighs 2.
+/// Two elements are allowed, and then a third is not; or all may weigh 4 with a name that weighs 2.
 #[test]
 fn taken_or_refused_alike(rt: HostRuntime) {
     for (elements, weight, input, wanted) in [
@@ -80,7 +80,7 @@ fn taken_or_refused_alike(rt: HostRuntime) {
     }
 }
 
-/// What the reader answers to a rectangle of the modal layer, to one of a layer, and to a record.
+/// What the reader returns for a rectangle of the modal layer, for one of a layer, and for a record.
 fn take_on(reader: &mut Reader, at: u64) -> [Result<(), Refusal>; 3] {
     [
         reader.take_rectangle(at, rectangle(None, 0, 0)),
@@ -89,7 +89,7 @@ fn take_on(reader: &mut Reader, at: u64) -> [Result<(), Refusal>; 3] {
     ]
 }
 
-/// What it answers to them in a cell, if it's inside, or outside.
+/// What it returns for them in a cell, if it's inside, or outside.
 fn take_behind(reader: &mut Reader, inside: bool, at: u64) -> [Result<(), Refusal>; 3] {
     if inside && reader.take(3, Record::Cell(CellRef::Number(7))).is_err() {
         return [Ok(()); 3];
@@ -97,7 +97,7 @@ fn take_behind(reader: &mut Reader, inside: bool, at: u64) -> [Result<(), Refusa
     take_on(reader, at)
 }
 
-/// The same of a new reader.
+/// The same for a new reader.
 fn answers(alloc: Global, inside: bool, at: u64) -> Result<[Result<(), Refusal>; 3], Why> {
     let mut reader = Reader::new(alloc, unit()?, Limits::standard(), Profile::One);
     let answers = take_behind(&mut reader, inside, at);

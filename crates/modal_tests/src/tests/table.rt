@@ -1,7 +1,7 @@
-//! The rows, one a line: a name, the records in hex, and what comes of them.
+//! The rows, one a line: a name, the records in hex, and the result.
 //!
-//! What comes of them is the lines of the layout (see `listed`), or a refusal, as NUMBER@OFFSET, where the first
-//! record is at 0. The answers are those of the plain program in tests/reference, from the same records in a whole file.
+//! The result is the lines of the layout (see `listed`), or a refusal, as NUMBER@OFFSET, where the first record is at 0. The
+//! results are those of the plain program in tests/reference, from the same records in a whole file.
 
 /// The rows.
 pub const ROWS: &str = "\

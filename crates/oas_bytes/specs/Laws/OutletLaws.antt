@@ -1,9 +1,9 @@
--- What follows of a writer, where an outlet over it was given bytes.
+-- What follows for a writer, where an outlet over it was given bytes.
 use Rattle.std.proofs.Common.{◌≡◌, ℕ, ◌+◌, ◌-◌, ◌^◌, min, List, [], ◌∷◌, ◌++◌, length, Option, Some, None, refl, sym, ap, ◌∙◌, append_assoc, append-nil, arith, MutBor}
 use Rattle.std.specs.Io.KnownBytes.{Appends, Keeps}
 use Rattle.oas_bytes.specs.declared.outlets.Outlet.{Outlet}
-use Rattle.oas_bytes.specs.Writing.{Puts, PutsFront}
-use Rattle.oas_bytes.specs.Outlets.{unsent, failures_of, Opens, IsGiven, IsSent, TakesFront}
+use Rattle.oas_bytes.specs.Writing.{Puts, PutsPrefix}
+use Rattle.oas_bytes.specs.Outlets.{unsent, failures_of, Opens, IsGiven, IsSent, ConsumesPrefix}
 
 pub Appends-none : (a : Option (List ℕ)) → Appends a a []
 Appends-none None = tt
@@ -28,7 +28,7 @@ front_of_none (x ∷ a) b e = absurd (cc)
 zero_more : (n : ℕ) → min (0 + n) (2 ^ 64 - 1) ≡ min n (2 ^ 64 - 1)
 zero_more n = omega arith
 
--- what nothing was put to was given nothing
+-- if nothing was put, nothing was given
 pub IsGiven-none : {W : Type 0} (contents : W → Option (List ℕ)) (o : Outlet W) → IsGiven contents o [] o
 IsGiven-none contents o = record {
   same_writer = refl;
@@ -56,8 +56,8 @@ module _ {W : Type 0} (contents : W → Option (List ℕ)) (writer : MutBor W) w
   pub given_since : (o p : Outlet W) (bytes : List ℕ) → Opens writer o → Puts (IsGiven contents) failures_of o bytes p → IsGiven contents o bytes p
   given_since o p bytes h puts = puts.after o [] (opened o h)
 
-  -- what the writer took is a front of what was given
-  pub takes_front : (o p : Outlet W) (bytes : List ℕ) → Opens writer o → IsGiven contents o bytes p → TakesFront contents writer.now p.writer.now bytes p.taken
+  -- what the writer took is a prefix of what was given
+  pub takes_front : (o p : Outlet W) (bytes : List ℕ) → Opens writer o → IsGiven contents o bytes p → ConsumesPrefix contents writer.now p.writer.now bytes p.taken
   takes_front o p bytes h g = record {
     front = g.sent;
     back = g.kept;
@@ -73,11 +73,11 @@ module _ {W : Type 0} (contents : W → Option (List ℕ)) (writer : MutBor W) w
       let all : bytes ≡ g.sent = sym (ap (λ (t : List ℕ). t ++ bytes) h.none_unsent) ∙ g.split ∙ ap (λ (t : List ℕ). g.sent ++ t) none ∙ append-nil g.sent in
       rw (all, ← h.same) g.took
 
-  -- the outlet still stands before that writer
+  -- the outlet is still over that writer
   pub stays : (o p : Outlet W) (bytes : List ℕ) → Opens writer o → IsGiven contents o bytes p → p.writer.ghost_name ≡ writer.ghost_name
   stays o p bytes h g = g.same_writer ∙ h.same_writer
 
-  -- the same of the writer's value once the outlet is gone: all was put, and then it was closed
+  -- the same for the writer's value once the outlet is gone: all was put, and then it was closed
   pub writer_has : (o m p : Outlet W) (bytes : List ℕ) (last : W) → Opens writer o → Puts (IsGiven contents) failures_of o bytes m
       → Puts (IsGiven contents) failures_of m [] p → IsSent p → (writer.ghost_name ≡ p.writer.ghost_name → last ≡ p.writer.now)
       → Appends (contents writer.now) (contents last) bytes
@@ -87,9 +87,9 @@ module _ {W : Type 0} (contents : W → Option (List ℕ)) (writer : MutBor W) w
       let a : Appends (contents writer.now) (contents p.writer.now) (bytes ++ []) = takes_all o p (bytes ++ []) h g done in
       rw e (rw append-nil at a)
 
-  -- and where a fault was met while these bytes were put
-  pub writer_took : (o p : Outlet W) (bytes : List ℕ) (last : W) → Opens writer o → PutsFront (IsGiven contents) failures_of o bytes p
-      → (writer.ghost_name ≡ p.writer.ghost_name → last ≡ p.writer.now) → TakesFront contents writer.now last bytes p.taken
+  -- and where a fault occurred while these bytes were put
+  pub writer_took : (o p : Outlet W) (bytes : List ℕ) (last : W) → Opens writer o → PutsPrefix (IsGiven contents) failures_of o bytes p
+      → (writer.ghost_name ≡ p.writer.ghost_name → last ≡ p.writer.now) → ConsumesPrefix contents writer.now last bytes p.taken
   writer_took o p bytes last h puts follows =
       let g = given_since o p puts.front h puts.puts in
       let e : last ≡ p.writer.now = follows (sym (stays o p puts.front h g)) in
@@ -104,8 +104,8 @@ module _ {W : Type 0} (contents : W → Option (List ℕ)) (writer : MutBor W) w
 
   -- or while it was closed
   pub writer_took_rest : (o m p : Outlet W) (bytes : List ℕ) (last : W) → Opens writer o → Puts (IsGiven contents) failures_of o bytes m
-      → PutsFront (IsGiven contents) failures_of m [] p → (writer.ghost_name ≡ p.writer.ghost_name → last ≡ p.writer.now)
-      → TakesFront contents writer.now last bytes p.taken
+      → PutsPrefix (IsGiven contents) failures_of m [] p → (writer.ghost_name ≡ p.writer.ghost_name → last ≡ p.writer.now)
+      → ConsumesPrefix contents writer.now last bytes p.taken
   writer_took_rest o m p bytes last h puts fails follows =
       let g : IsGiven contents o (bytes ++ fails.front) p = fails.puts.after o bytes (given_since o m bytes h puts) in
       let e : last ≡ p.writer.now = follows (sym (stays o p (bytes ++ fails.front) h g)) in

@@ -5,18 +5,18 @@ ghost use Rattle.oas_num.specs.declared.refusals.Refusal.{Refusal as Refused};
 ghost use Rattle.oas_num.specs.Written.{IsWritten, IsCutOff};
 ghost use Rattle.oas_command.specs.Calls.{Judges};
 ghost use Rattle.oas_command.specs.Lines.{check_text, check_line, named_check_line};
-ghost use Rattle.oas_command.specs.Runs.{verdict_status, Delivers, said, Ends, AppendsFront};
+ghost use Rattle.oas_command.specs.Runs.{verdict_status, Delivers, said, Ends, AppendsPrefix};
 
 use super::ends::{conclude, refuse, status_of_verdict};
-use crate::lines::{Pieces, write_line, write_pieces};
+use crate::lines::{Label, Pieces, write_line, write_pieces};
 use oas_canon::{Limits, is_canonical};
 use oas_num::{Outlet, Refusal, Sink, Source};
 use std::alloc::Global;
 use std::io::Write;
 
-/// Writes whether all that `from` gives within these limits is canonical as it stands, as a line to `out`, `canonical` or
-/// `not canonical`, and answers the status of the command: 0 or 3, or 1 after a refusal, which is named on `err` in a line
-/// that begins with `name`. A fault of `out` is the refusal `Why::Write`; a fault of `err` changes nothing.
+/// Writes whether all that `from` gives within these limits is canonical, as a line to `out`, `canonical` or `not canonical`,
+/// and returns the status of the command: 0 or 3, or 1 after a refusal, which is named on `err` in a line that begins with
+/// `name`. A fault of `out` is the refusal `Why::Write`; a fault of `err` changes nothing.
 pub fn run_check<S: Source, W: Write, E: Write>(
     alloc: Global,
     name: &str,
@@ -28,7 +28,7 @@ pub fn run_check<S: Source, W: Write, E: Write>(
     ensures { (found : Result Bool Refused) × (answer : Result Bool Refused) × (result ≡ verdict_status answer)
         × Judges limits (S.script from.old) found (S.script from.new)
         × Delivers W.contents check_line out.old found answer out.new
-        × AppendsFront (E.contents err.old) (E.contents err.new) (said name.now answer) }
+        × AppendsPrefix (E.contents err.old) (E.contents err.new) (said name.now answer) }
 {
     let mut told = Outlet::new(err);
     let status = check_telling(alloc, name, from, out, &mut told, limits);
@@ -36,7 +36,7 @@ pub fn run_check<S: Source, W: Write, E: Write>(
     status
 }
 
-/// As `run_check`, with a sink for the line of a refusal.
+/// Like `run_check`, with a sink for the line of a refusal.
 pub fn check_telling<S: Source, W: Write, K: Sink>(
     alloc: Global,
     name: &str,
@@ -59,10 +59,11 @@ pub fn check_telling<S: Source, W: Write, K: Sink>(
     }
 }
 
-/// As `run_check`, and the line begins with the name: `NAME: canonical`, `NAME: not canonical`.
+/// Like `run_check`, except that the line begins with the name of this label: `NAME: canonical`, `NAME: not canonical`.
 pub fn run_named_check<S: Source, W: Write, E: Write>(
     alloc: Global,
     name: &str,
+    label: Label<'_>,
     from: &mut S,
     out: &mut W,
     err: &mut E,
@@ -70,19 +71,20 @@ pub fn run_named_check<S: Source, W: Write, E: Write>(
 ) -> u8
     ensures { (found : Result Bool Refused) × (answer : Result Bool Refused) × (result ≡ verdict_status answer)
         × Judges limits (S.script from.old) found (S.script from.new)
-        × Delivers W.contents (named_check_line name.now) out.old found answer out.new
-        × AppendsFront (E.contents err.old) (E.contents err.new) (said name.now answer) }
+        × Delivers W.contents (named_check_line label.entry) out.old found answer out.new
+        × AppendsPrefix (E.contents err.old) (E.contents err.new) (said name.now answer) }
 {
     let mut told = Outlet::new(err);
-    let status = named_check_telling(alloc, name, from, out, &mut told, limits);
+    let status = named_check_telling(alloc, name, label, from, out, &mut told, limits);
     let _ = told.close();
     status
 }
 
-/// As `run_named_check`, with a sink for the line of a refusal.
+/// Like `run_named_check`, with a sink for the line of a refusal.
 pub fn named_check_telling<S: Source, W: Write, K: Sink>(
     alloc: Global,
     name: &str,
+    label: Label<'_>,
     from: &mut S,
     out: &mut W,
     told: &mut K,
@@ -90,33 +92,34 @@ pub fn named_check_telling<S: Source, W: Write, K: Sink>(
 ) -> u8
     ensures { (found : Result Bool Refused) × (answer : Result Bool Refused) × (result ≡ verdict_status answer)
         × Judges limits (S.script from.old) found (S.script from.new)
-        × Delivers W.contents (named_check_line name.now) out.old found answer out.new
+        × Delivers W.contents (named_check_line label.entry) out.old found answer out.new
         × Ends K.given K.failures name.now told.old answer told.new }
 {
     match is_canonical(alloc, from, limits) {
         Ok(yes) => {
-            let written = write_named(out, name, yes);
+            let written = write_named(out, label, yes);
             conclude(name, written, status_of_verdict(yes), told)
         }
         Err(refusal) => refuse(name, refusal, told),
     }
 }
 
-/// Writes the line of an answer with the name before it.
-fn write_named<W: Write>(out: &mut W, name: &str, yes: bool) -> Result<u64, Refusal>
-    ensures written { IfOk result (IsWritten W.contents out.old (named_check_line name.now yes) out.new) }
-    ensures refused { IfErr result (IsCutOff W.contents out.old (named_check_line name.now yes) out.new) }
+/// Writes the line of a result after the name.
+fn write_named<W: Write>(out: &mut W, label: Label<'_>, yes: bool) -> Result<u64, Refusal>
+    ensures written { IfOk result (IsWritten W.contents out.old (named_check_line label.entry yes) out.new) }
+    ensures refused { IfErr result (IsCutOff W.contents out.old (named_check_line label.entry yes) out.new) }
 {
     let pieces = Pieces {
-        first: name.as_bytes(),
+        first: label.name.as_bytes(),
         second: b": ",
         third: verdict(yes),
         fourth: b"",
+        end: label.end.byte(),
     };
     write_pieces(out, pieces)
 }
 
-/// What is answered.
+/// The text of a result.
 fn verdict(yes: bool) -> &'static [u8]
     ensures { result.now ≡ check_text yes }
 {

@@ -5,19 +5,19 @@ ghost use Rattle.oas_num.specs.declared.refusals.Refusal.{Refusal as Refused};
 ghost use Rattle.oas_layout.specs.Contents.{Contents};
 ghost use Rattle.oas_canon.specs.declared.sameness.Which.{Which as WhichFile};
 ghost use Rattle.oas_command.specs.Diff.{ReadsBoth, diff_text, diff_status, length_status};
-ghost use Rattle.oas_command.specs.Runs.{Delivers, found_in, blamed, said, Ends, AppendsFront};
+ghost use Rattle.oas_command.specs.Runs.{Delivers, found_in, blamed, said, Ends, AppendsPrefix};
 
 use super::ends::{DONE, NO, conclude, refuse};
 use oas_canon::{Layout, Limits, PROFILE, Which, read_layout};
-use oas_difference::{Options, write_difference};
+use oas_markers::oas_difference::{Options, write_difference};
 use oas_num::{Outlet, Refusal, Sink, Source};
 use std::alloc::Global;
 use std::io::Write;
 
-/// Writes the difference of the layout that all that `a` gives within these limits means, and of what `b` gives, to `out`
-/// as the options say, and answers the status of the command: 0 where there is no line, 3 where there is, or 1 after a refusal, which is named
-/// on `err` in a line that begins with the name of the refused file. `a` is read whole before `b` is begun. A fault of
-/// `out` is the refusal `Why::Write`, under the name of `a`; a fault of `err` changes nothing.
+/// Writes the difference of the layouts of all that `a` and `b` give within these limits to `out`, as the options say.
+/// Returns the status of the command: 0 where there is no line, 3 where there is, or 1 after a refusal, which is named on
+/// `err` in a line that begins with the name of the refused file. `a` is read whole before `b` is begun. A fault of `out` is
+/// the refusal `Why::Write`, under the name of `a`; a fault of `err` changes nothing.
 pub fn run_diff<S: Source, T: Source, W: Write, E: Write>(
     alloc: Global,
     name_a: &str,
@@ -32,7 +32,7 @@ pub fn run_diff<S: Source, T: Source, W: Write, E: Write>(
     ensures { (found : Result (Contents × Contents) (WhichFile × Refused)) × (answer : Result (Contents × Contents) Refused) × (result ≡ diff_status options answer)
         × ReadsBoth T.script limits (S.script a.old) (S.script a.new) b.old b.new found
         × Delivers W.contents (diff_text options) out.old (found_in found) answer out.new
-        × AppendsFront (E.contents err.old) (E.contents err.new) (said (blamed name_a.now name_b.now found) answer) }
+        × AppendsPrefix (E.contents err.old) (E.contents err.new) (said (blamed name_a.now name_b.now found) answer) }
 {
     let mut told = Outlet::new(err);
     let status = diff_telling(alloc, name_a, a, name_b, b, options, out, &mut told, limits);
@@ -40,7 +40,7 @@ pub fn run_diff<S: Source, T: Source, W: Write, E: Write>(
     status
 }
 
-/// As `run_diff`, with a sink for the line of a refusal.
+/// Like `run_diff`, with a sink for the line of a refusal.
 pub fn diff_telling<S: Source, T: Source, W: Write, K: Sink>(
     alloc: Global,
     name_a: &str,
@@ -67,7 +67,7 @@ pub fn diff_telling<S: Source, T: Source, W: Write, K: Sink>(
     }
 }
 
-/// The status of a run that wrote a difference of so many bytes.
+/// The status of a run that wrote a difference of this many bytes.
 pub(super) fn status_of_length(written: Result<u64, Refusal>) -> u8
     ensures { IfOk written (λ n. result ≡ length_status n) }
 {
@@ -77,8 +77,8 @@ pub(super) fn status_of_length(written: Result<u64, Refusal>) -> u8
     }
 }
 
-/// The layouts of two sources. The first is read whole before the second is begun, and where it is refused nothing is read
-/// of the second.
+/// The layouts of two sources. The first is read whole before the second is begun, and where it is refused nothing of the
+/// second is read.
 pub(super) fn read_both<S: Source, T: Source>(
     alloc: Global,
     a: &mut S,

@@ -3,7 +3,7 @@
 ghost use Rattle.std.specs.Prelude.{◌≡◌, ◌≢◌, ◌⊎◌, Ok};
 ghost use Rattle.oas_num.specs.Refusals.{number_of};
 ghost use Rattle.oas_command.specs.Lines.{refusal_line};
-ghost use Rattle.oas_command.specs.Runs.{status_after, verdict_status, Tells, Ends, AppendsFront};
+ghost use Rattle.oas_command.specs.Runs.{status_after, verdict_status, Tells, Ends, AppendsPrefix};
 
 use crate::messages::put_refusal;
 use oas_num::{Outlet, Refusal, Sink};
@@ -15,17 +15,17 @@ pub(super) const DONE: u8 = 0;
 /// The status of a run that refused its input.
 const REFUSED: u8 = 1;
 
-/// The status of a run whose answer is no.
+/// The status of a run with the result no.
 pub(super) const NO: u8 = 3;
 
-/// The status of a run whose answer is yes or no.
+/// The status of a run with the result yes or no.
 pub(super) fn status_of_verdict(yes: bool) -> u8
     ensures { result ≡ verdict_status (Ok yes) }
 {
     if yes { DONE } else { NO }
 }
 
-/// The status of two runs together: 1 where one of them was refused, else 3 where the answer of one is no.
+/// The status of two runs together: 1 where one of them was refused, else 3 where the result of one is no.
 pub fn worse(a: u8, b: u8) -> u8
     ensures refused { (a ≡ 1) ⊎ (b ≡ 1) → result ≡ 1 }
     ensures no { a ≢ 1 → b ≢ 1 → (a ≡ 3) ⊎ (b ≡ 3) → result ≡ 3 }
@@ -40,7 +40,7 @@ pub fn worse(a: u8, b: u8) -> u8
     }
 }
 
-/// Names a refusal, and answers its status.
+/// Names a refusal, and returns its status.
 pub(super) fn refuse<K: Sink>(name: &str, refusal: Refusal, told: &mut K) -> u8
     ensures status { result ≡ 1 }
     ensures tells { Tells K.given K.failures told.old (refusal_line name.now (number_of refusal.why) refusal.at) told.new }
@@ -49,7 +49,7 @@ pub(super) fn refuse<K: Sink>(name: &str, refusal: Refusal, told: &mut K) -> u8
     REFUSED
 }
 
-/// Ends a run whose answer was to be written, and has this status where it was. Where it wasn't, the refusal is named.
+/// Ends a run whose result should be written, and has this status where it was. Where it wasn't, the refusal is named.
 pub(super) fn conclude<K: Sink>(
     name: &str,
     written: Result<u64, Refusal>,
@@ -65,10 +65,10 @@ pub(super) fn conclude<K: Sink>(
     }
 }
 
-/// Ends a run that could not begin: names the refusal on `err`, and answers its status.
+/// Ends a run that could not begin: names the refusal on `err`, and returns its status.
 pub fn run_refused<E: Write>(name: &str, refusal: Refusal, err: &mut E) -> u8
     ensures status { result ≡ 1 }
-    ensures tells { AppendsFront (E.contents err.old) (E.contents err.new)
+    ensures tells { AppendsPrefix (E.contents err.old) (E.contents err.new)
         (refusal_line name.now (number_of refusal.why) refusal.at) }
 {
     let mut told = Outlet::new(err);

@@ -4,12 +4,12 @@ ghost use Rattle.std.specs.Prelude.{◌≡◌, Result, IfOk};
 ghost use Rattle.oas_num.specs.declared.refusals.Refusal.{Refusal as Refused};
 ghost use Rattle.oas_num.specs.declared.refusals.Why.TheVariants.{Memory as NoMemory};
 ghost use Rattle.oas_layout.specs.Contents.{Contents, meaning_of};
-ghost use Rattle.oas_file.specs.Reading.{ReadsLayout};
+ghost use Rattle.oas_canon.specs.oas_file.Reading.{ReadsLayout};
 ghost use Rattle.oas_info.specs.declared.info.Info.{Info as Told};
 ghost use Rattle.oas_info.specs.Info.{IsInfo};
 ghost use Rattle.oas_info.specs.Form.{form_text};
 ghost use Rattle.oas_command.specs.Info.{Informs, info_lines};
-ghost use Rattle.oas_command.specs.Runs.{status_of, Delivers, said, Ends, AppendsFront};
+ghost use Rattle.oas_command.specs.Runs.{status_of, Delivers, said, Ends, AppendsPrefix};
 
 use super::ends::{DONE, conclude, refuse};
 use crate::lines::write_line;
@@ -19,10 +19,10 @@ use oas_num::{Outlet, Refusal, Sink, Source, Why};
 use std::alloc::{AllocError, Global};
 use std::io::Write;
 
-/// Writes the facts of the layout that all that `from` gives within these limits means to `out`, in this form, and answers the
-/// status of the command: 0, or 1 after a refusal, which is named on `err` in a line that begins with `name`. Want of memory
-/// for the facts or their text is the refusal `Why::Memory`, and nothing is written. A fault of `out` is the refusal
-/// `Why::Write`; a fault of `err` changes nothing.
+/// Writes the facts of the layout of all that `from` gives within these limits to `out`, in this format. Returns the status
+/// of the command: 0, or 1 after a refusal, which is named on `err` in a line that begins with `name`. Out of memory for the
+/// facts or their text is the refusal `Why::Memory`, and nothing is written. A fault of `out` is the refusal `Why::Write`; a
+/// fault of `err` changes nothing.
 pub fn run_info<S: Source, W: Write, E: Write>(
     alloc: Global,
     name: &str,
@@ -34,9 +34,9 @@ pub fn run_info<S: Source, W: Write, E: Write>(
 ) -> u8
     ensures { (read : Result Contents Refused) × (found : Result Told Refused) × (answer : Result Told Refused) × (result ≡ status_of answer)
         × ReadsLayout limits PROFILE (S.script from.old) read (S.script from.new)
-        × Informs read found
+        × Informs (S.script from.new) read found
         × Delivers W.contents (info_lines form) out.old found answer out.new
-        × AppendsFront (E.contents err.old) (E.contents err.new) (said name.now answer) }
+        × AppendsPrefix (E.contents err.old) (E.contents err.new) (said name.now answer) }
 {
     let mut told = Outlet::new(err);
     let status = info_telling(alloc, name, from, form, out, &mut told, limits);
@@ -44,7 +44,7 @@ pub fn run_info<S: Source, W: Write, E: Write>(
     status
 }
 
-/// As `run_info`, with a sink for the line of a refusal.
+/// Like `run_info`, with a sink for the line of a refusal.
 pub fn info_telling<S: Source, W: Write, K: Sink>(
     alloc: Global,
     name: &str,
@@ -56,7 +56,7 @@ pub fn info_telling<S: Source, W: Write, K: Sink>(
 ) -> u8
     ensures { (read : Result Contents Refused) × (found : Result Told Refused) × (answer : Result Told Refused) × (result ≡ status_of answer)
         × ReadsLayout limits PROFILE (S.script from.old) read (S.script from.new)
-        × Informs read found
+        × Informs (S.script from.new) read found
         × Delivers W.contents (info_lines form) out.old found answer out.new
         × Ends K.given K.failures name.now told.old answer told.new }
 {
@@ -72,9 +72,10 @@ pub fn info_telling<S: Source, W: Write, K: Sink>(
     }
 }
 
-/// The refusal for want of memory, behind what was read.
+/// The refusal out of memory, after what was read.
 fn no_memory(at: u64) -> Refusal
-    ensures { result.why ≡ NoMemory }
+    ensures why { result.why ≡ NoMemory }
+    ensures place { result.at ≡ at }
 {
     Refusal {
         at,
@@ -82,7 +83,7 @@ fn no_memory(at: u64) -> Refusal
     }
 }
 
-/// The facts of a layout, and their text in this form.
+/// The facts of a layout, and their text in this format.
 fn facts_and_text(alloc: Global, layout: &Layout, form: Form) -> Result<(Info, Vec<u8>), AllocError>
     ensures facts { IfOk result (λ both. IsInfo (meaning_of layout.now) both.0) }
     ensures text { IfOk result (λ both. both.1.items ≡ form_text form both.0) }

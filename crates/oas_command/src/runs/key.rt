@@ -6,17 +6,17 @@ ghost use Rattle.oas_num.specs.declared.refusals.Refusal.{Refusal as Refused};
 ghost use Rattle.oas_num.specs.Written.{IsWritten, IsCutOff};
 ghost use Rattle.oas_command.specs.Calls.{Keys};
 ghost use Rattle.oas_command.specs.Lines.{key_line, escape_mark, named_key_line};
-ghost use Rattle.oas_command.specs.Runs.{status_of, Delivers, said, Ends, AppendsFront};
+ghost use Rattle.oas_command.specs.Runs.{status_of, Delivers, said, Ends, AppendsPrefix};
 
 use super::ends::{DONE, conclude, refuse};
-use crate::lines::{Pieces, write_line, write_pieces};
+use crate::lines::{Label, Pieces, write_line, write_pieces};
 use hex::encode_to_slice;
 use oas_canon::{Limits, key};
 use oas_num::{Outlet, Refusal, Sink, Source};
 use std::alloc::Global;
 use std::io::Write;
 
-/// Writes the key of all that `from` gives within these limits, as a line of 64 lower-case hex digits to `out`, and answers
+/// Writes the key of all that `from` gives within these limits, as a line of 64 lower-case hex digits to `out`, and returns
 /// the status of the command: 0, or 1 after a refusal, which is named on `err` in a line that begins with `name`. A fault of
 /// `out` is the refusal `Why::Write`; a fault of `err` changes nothing.
 pub fn run_key<S: Source, W: Write, E: Write>(
@@ -30,7 +30,7 @@ pub fn run_key<S: Source, W: Write, E: Write>(
     ensures { (found : Result (List ℕ) Refused) × (answer : Result (List ℕ) Refused) × (result ≡ status_of answer)
         × Keys limits (S.script from.old) found (S.script from.new)
         × Delivers W.contents key_line out.old found answer out.new
-        × AppendsFront (E.contents err.old) (E.contents err.new) (said name.now answer) }
+        × AppendsPrefix (E.contents err.old) (E.contents err.new) (said name.now answer) }
 {
     let mut told = Outlet::new(err);
     let status = key_telling(alloc, name, from, out, &mut told, limits);
@@ -38,7 +38,7 @@ pub fn run_key<S: Source, W: Write, E: Write>(
     status
 }
 
-/// As `run_key`, with a sink for the line of a refusal.
+/// Like `run_key`, with a sink for the line of a refusal.
 pub fn key_telling<S: Source, W: Write, K: Sink>(
     alloc: Global,
     name: &str,
@@ -61,12 +61,12 @@ pub fn key_telling<S: Source, W: Write, K: Sink>(
     }
 }
 
-/// As `run_key`, and the line ends with the name, as `sha256sum` prints it: `HEX  NAME`, with a backslash before it where
-/// the name was escaped.
+/// Like `run_key`, except that the line ends with the name of this label, as `sha256sum` prints it: `HEX  NAME`, with a
+/// backslash before it where the name was escaped.
 pub fn run_named_key<S: Source, W: Write, E: Write>(
     alloc: Global,
     name: &str,
-    is_escaped: bool,
+    label: Label<'_>,
     from: &mut S,
     out: &mut W,
     err: &mut E,
@@ -74,20 +74,20 @@ pub fn run_named_key<S: Source, W: Write, E: Write>(
 ) -> u8
     ensures { (found : Result (List ℕ) Refused) × (answer : Result (List ℕ) Refused) × (result ≡ status_of answer)
         × Keys limits (S.script from.old) found (S.script from.new)
-        × Delivers W.contents (named_key_line is_escaped name.now) out.old found answer out.new
-        × AppendsFront (E.contents err.old) (E.contents err.new) (said name.now answer) }
+        × Delivers W.contents (named_key_line label.entry) out.old found answer out.new
+        × AppendsPrefix (E.contents err.old) (E.contents err.new) (said name.now answer) }
 {
     let mut told = Outlet::new(err);
-    let status = named_key_telling(alloc, name, is_escaped, from, out, &mut told, limits);
+    let status = named_key_telling(alloc, name, label, from, out, &mut told, limits);
     let _ = told.close();
     status
 }
 
-/// As `run_named_key`, with a sink for the line of a refusal.
+/// Like `run_named_key`, with a sink for the line of a refusal.
 pub fn named_key_telling<S: Source, W: Write, K: Sink>(
     alloc: Global,
     name: &str,
-    is_escaped: bool,
+    label: Label<'_>,
     from: &mut S,
     out: &mut W,
     told: &mut K,
@@ -95,39 +95,35 @@ pub fn named_key_telling<S: Source, W: Write, K: Sink>(
 ) -> u8
     ensures { (found : Result (List ℕ) Refused) × (answer : Result (List ℕ) Refused) × (result ≡ status_of answer)
         × Keys limits (S.script from.old) found (S.script from.new)
-        × Delivers W.contents (named_key_line is_escaped name.now) out.old found answer out.new
+        × Delivers W.contents (named_key_line label.entry) out.old found answer out.new
         × Ends K.given K.failures name.now told.old answer told.new }
 {
     match key(alloc, from, limits) {
         Ok(digest) => {
-            let written = write_named(out, name, is_escaped, &digest);
+            let written = write_named(out, label, &digest);
             conclude(name, written, DONE, told)
         }
         Err(refusal) => refuse(name, refusal, told),
     }
 }
 
-/// Writes the line of a key with the name behind it.
-fn write_named<W: Write>(
-    out: &mut W,
-    name: &str,
-    is_escaped: bool,
-    digest: &[u8; 32],
-) -> Result<u64, Refusal>
-    ensures written { IfOk result (IsWritten W.contents out.old (named_key_line is_escaped name.now digest.now) out.new) }
-    ensures refused { IfErr result (IsCutOff W.contents out.old (named_key_line is_escaped name.now digest.now) out.new) }
+/// Writes the line of a key with the name after it.
+fn write_named<W: Write>(out: &mut W, label: Label<'_>, digest: &[u8; 32]) -> Result<u64, Refusal>
+    ensures written { IfOk result (IsWritten W.contents out.old (named_key_line label.entry digest.now) out.new) }
+    ensures refused { IfErr result (IsCutOff W.contents out.old (named_key_line label.entry digest.now) out.new) }
 {
     let text = hex_text(digest);
     let pieces = Pieces {
-        first: mark(is_escaped),
+        first: mark(label.is_escaped),
         second: text.as_slice(),
         third: b"  ",
-        fourth: name.as_bytes(),
+        fourth: label.name.as_bytes(),
+        end: label.end.byte(),
     };
     write_pieces(out, pieces)
 }
 
-/// What stands before a key.
+/// What comes before a key.
 fn mark(is_escaped: bool) -> &'static [u8]
     ensures { result.now ≡ escape_mark is_escaped }
 {
@@ -135,7 +131,7 @@ fn mark(is_escaped: bool) -> &'static [u8]
 }
 
 /// The hex digits of a digest.
-fn hex_text(digest: &[u8; 32]) -> [u8; 64]
+pub(super) fn hex_text(digest: &[u8; 32]) -> [u8; 64]
     ensures { result ≡ encode_lower digest.now }
 {
     let mut text = [0; 64];

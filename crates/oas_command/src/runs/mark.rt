@@ -6,20 +6,20 @@ ghost use Rattle.oas_layout.specs.Contents.{Contents};
 ghost use Rattle.oas_canon.specs.declared.sameness.Which.{Which as WhichFile};
 ghost use Rattle.oas_command.specs.Diff.{ReadsBoth, diff_text, diff_status};
 ghost use Rattle.oas_command.specs.Marking.{Marks, blamed_marking};
-ghost use Rattle.oas_command.specs.Runs.{Delivers, found_in, said, Ends, AppendsFront};
+ghost use Rattle.oas_command.specs.Runs.{Delivers, found_in, said, Ends, AppendsPrefix};
 
 use super::diff::{read_both, status_of_length};
 use super::ends::{conclude, refuse};
 use oas_canon::{Limits, Which};
-use oas_difference::{Options, write_difference};
+use oas_markers::oas_difference::{Options, write_difference};
 use oas_markers::write_markers;
 use oas_num::{Outlet, Sink, Source};
 use std::alloc::Global;
 use std::io::Write;
 
-/// Writes the difference of two layouts to `out` as `run_diff` does, and after that its markers to `markers`, of which the
-/// options say nothing. The status is that of `run_diff`, and 1 too where `markers` failed: that is the refusal
-/// `Why::Write`, under the markers' own name. Where an input is refused, or `out` failed, `markers` is given nothing.
+/// Writes the difference of two layouts to `out` as `run_diff` does, and after that its markers to `markers`, which the
+/// options don't affect. The status is that of `run_diff`, or 1 where `markers` failed: that is the refusal `Why::Write`,
+/// under the markers' own name. Where an input is refused, or `out` failed, `markers` is given nothing.
 pub fn run_marking<S: Source, T: Source, W: Write, M: Write, E: Write>(
     alloc: Global,
     name_a: &str,
@@ -38,7 +38,7 @@ pub fn run_marking<S: Source, T: Source, W: Write, M: Write, E: Write>(
         × ReadsBoth T.script limits (S.script a.old) (S.script a.new) b.old b.new found
         × Delivers W.contents (diff_text options) out.old (found_in found) lines out.new
         × Marks M.contents markers.old lines last markers.new
-        × AppendsFront (E.contents err.old) (E.contents err.new) (said (blamed_marking name_a.now name_b.now name_of_markers.now found lines) last) }
+        × AppendsPrefix (E.contents err.old) (E.contents err.new) (said (blamed_marking name_a.now name_b.now name_of_markers.now found lines) last) }
 {
     let mut told = Outlet::new(err);
     let status = marking_telling(
@@ -58,7 +58,7 @@ pub fn run_marking<S: Source, T: Source, W: Write, M: Write, E: Write>(
     status
 }
 
-/// As `run_marking`, with a sink for the line of a refusal.
+/// Like `run_marking`, with a sink for the line of a refusal.
 pub fn marking_telling<S: Source, T: Source, W: Write, M: Write, K: Sink>(
     alloc: Global,
     name_a: &str,

@@ -7,7 +7,7 @@ ghost use Rattle.oas_num.specs.Writing.{Writes};
 ghost use Rattle.oas_command.specs.Calls.{RekeysFile};
 ghost use Rattle.oas_command.specs.Lines.{not_profile_1_line};
 ghost use Rattle.oas_command.specs.Rekeying.{rekey_status, rekey_said, EndsRekeying};
-ghost use Rattle.oas_command.specs.Runs.{AppendsFront};
+ghost use Rattle.oas_command.specs.Runs.{AppendsPrefix};
 
 use super::ends::{DONE, NO, refuse};
 use oas_canon::{Limits, Rekeyed, rekey};
@@ -15,10 +15,10 @@ use oas_num::{Outlet, Refusal, Sink, SinkFault, Source};
 use std::alloc::Global;
 use std::io::Write;
 
-/// Writes the canonical bytes by profile two of all that `from` gives within these limits, which is canonical by profile
-/// one, to `out`, and answers the status of the command: 0; or 3 where it isn't canonical by profile one, and 1 after a
-/// refusal. Each of these two is said on `err`, in a line that begins with `name`, and neither writes anything to `out`
-/// but where `out` itself failed. A fault of `err` changes nothing.
+/// Writes the canonical bytes by profile two of all that `from` gives within these limits, which is canonical by profile one,
+/// to `out`, and returns the status of the command: 0; or 3 where it isn't canonical by profile one, and 1 after a refusal.
+/// Each of these two is said on `err`, in a line that begins with `name`, and neither writes anything to `out` unless `out`
+/// itself failed. A fault of `err` changes nothing.
 pub fn run_rekey<S: Source, W: Write, E: Write>(
     alloc: Global,
     name: &str,
@@ -29,7 +29,7 @@ pub fn run_rekey<S: Source, W: Write, E: Write>(
 ) -> u8
     ensures { (answer : Result WasRekeyed Refused) × (result ≡ rekey_status answer)
         × RekeysFile W.contents limits (S.script from.old) out.old answer (S.script from.new) out.new
-        × AppendsFront (E.contents err.old) (E.contents err.new) (rekey_said name.now answer) }
+        × AppendsPrefix (E.contents err.old) (E.contents err.new) (rekey_said name.now answer) }
 {
     let mut told = Outlet::new(err);
     let status = rekey_telling(alloc, name, from, out, &mut told, limits);
@@ -37,7 +37,7 @@ pub fn run_rekey<S: Source, W: Write, E: Write>(
     status
 }
 
-/// As `run_rekey`, with a sink for the line.
+/// Like `run_rekey`, with a sink for the line.
 pub fn rekey_telling<S: Source, W: Write, K: Sink>(
     alloc: Global,
     name: &str,
@@ -53,7 +53,7 @@ pub fn rekey_telling<S: Source, W: Write, K: Sink>(
     conclude_rekeying(name, rekey(alloc, from, out, limits), told)
 }
 
-/// Ends a run that was to re-key: says so where it didn't, and answers its status.
+/// Ends a run that should re-key: says so where it didn't, and returns its status.
 fn conclude_rekeying<K: Sink>(name: &str, rekeyed: Result<Rekeyed, Refusal>, told: &mut K) -> u8
     ensures answers { result ≡ rekey_status rekeyed }
     ensures ends { EndsRekeying K.given K.failures name.now told.old rekeyed told.new }

@@ -5,7 +5,7 @@ ghost use Rattle.oas_num.specs.declared.refusals.Refusal.{Refusal as Refused};
 ghost use Rattle.oas_canon.specs.declared.sameness.Which.{Which as WhichFile};
 ghost use Rattle.oas_command.specs.Calls.{Compares};
 ghost use Rattle.oas_command.specs.Lines.{same_text, same_line};
-ghost use Rattle.oas_command.specs.Runs.{verdict_status, Delivers, found_in, blamed, said, Ends, AppendsFront};
+ghost use Rattle.oas_command.specs.Runs.{verdict_status, Delivers, found_in, blamed, said, Ends, AppendsPrefix};
 
 use super::ends::{conclude, refuse, status_of_verdict};
 use crate::lines::write_line;
@@ -15,7 +15,7 @@ use std::alloc::Global;
 use std::io::Write;
 
 /// Writes whether all that `a` gives within these limits, and all that `b` gives, mean the same layout, as a line to `out`,
-/// `same` or `different`, and answers the status of the command: 0 or 3, or 1 after a refusal, which is named on `err` in a
+/// `same` or `different`, and returns the status of the command: 0 or 3, or 1 after a refusal, which is named on `err` in a
 /// line that begins with the name of the refused file. `a` is read whole before `b` is begun. A fault of `out` is the
 /// refusal `Why::Write`, under the name of `a`; a fault of `err` changes nothing.
 pub fn run_same<S: Source, T: Source, W: Write, E: Write>(
@@ -31,7 +31,7 @@ pub fn run_same<S: Source, T: Source, W: Write, E: Write>(
     ensures { (found : Result Bool (WhichFile × Refused)) × (answer : Result Bool Refused) × (result ≡ verdict_status answer)
         × Compares T.script limits (S.script a.old) (S.script a.new) b.old b.new found
         × Delivers W.contents same_line out.old (found_in found) answer out.new
-        × AppendsFront (E.contents err.old) (E.contents err.new) (said (blamed name_a.now name_b.now found) answer) }
+        × AppendsPrefix (E.contents err.old) (E.contents err.new) (said (blamed name_a.now name_b.now found) answer) }
 {
     let mut told = Outlet::new(err);
     let status = same_telling(alloc, name_a, a, name_b, b, out, &mut told, limits);
@@ -39,7 +39,7 @@ pub fn run_same<S: Source, T: Source, W: Write, E: Write>(
     status
 }
 
-/// As `run_same`, with a sink for the line of a refusal.
+/// Like `run_same`, with a sink for the line of a refusal.
 pub fn same_telling<S: Source, T: Source, W: Write, K: Sink>(
     alloc: Global,
     name_a: &str,
@@ -65,7 +65,7 @@ pub fn same_telling<S: Source, T: Source, W: Write, K: Sink>(
     }
 }
 
-/// What is answered.
+/// The text of a result.
 fn sameness(same: bool) -> &'static [u8]
     ensures { result.now ≡ same_text same }
 {

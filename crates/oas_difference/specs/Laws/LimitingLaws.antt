@@ -1,4 +1,4 @@
--- What follows of a sink that hands the first lines on.
+-- What follows for a sink that passes on the first lines.
 use Rattle.std.specs.Prelude.{◌≡◌, ℕ, zero, suc, ◌||◌, Bool, true, false, List, []}
 use Rattle.std.proofs.Common.{inl, refl, sym, ap, ◌∙◌, subst}
 use Rattle.oas_num.specs.Outlet.{Outlet}
@@ -24,7 +24,7 @@ pub or_false : (b : Bool) → (b || false) ≡ b
 or_false true = refl
 or_false false = refl
 
--- what nothing was put to was given nothing
+-- if nothing was put, nothing was given
 pub Passes-none : {W : Type 0} (given : Outlet W → List ℕ → Outlet W → Type 0) (failures : Outlet W → ℕ) (s : Limited W) → Passes given failures s [] s
 Passes-none given failures s = record {
   puts = subst (λ (bs : List ℕ). Puts given failures s.sink bs s.sink) (sym (none_first s.left)) (Puts-none given failures s.sink);

@@ -15,7 +15,7 @@ use Rattle.oas_drawing.specs.contracts.drawn.DrawnOrd.TheImpl as order
 use Rattle.oas_drawing.specs.contracts.drawn.DrawnOrd.TheImpl.Laws as laws
 use Rattle.oas_drawing.specs.Drawn.{drawn_cmp}
 
--- what the derived `cmp` answers
+-- what the derived `cmp` returns
 abbrev pub derived_cmp : Drawn → Drawn → Ordering
 derived_cmp = order.ghosts.cmp
 
@@ -27,7 +27,7 @@ order_is_stated_of (PlacementBy number x y turns flip) (PlacementBy number' x' y
 order_is_stated_of (TextBy number textlayer texttype x y) (TextBy number' textlayer' texttype' x' y') = refl
 order_is_stated_of a b = refl
 
--- so is it as a whole
+-- also as a whole
 pub stated_cmp : derived_cmp ≡ drawn_cmp
 stated_cmp i a b = order_is_stated_of a b i
 
@@ -35,7 +35,7 @@ stated_cmp i a b = order_is_stated_of a b i
 pub drawn_total : IsTotalOrder drawn_cmp
 drawn_total = subst (λ R. IsTotalOrder R) stated_cmp laws.total-law
 
--- quarter turns that tie are one
+-- quarter turns that tie are equal
 turns_exact : CmpEqualImpliesEq turns_cmp
 turns_exact T0 T0 h = refl
 turns_exact T1 T1 h = refl

@@ -1,10 +1,10 @@
-//! The copies of a record, by the modal variables after it: on which places they stand, and each of them.
+//! The copies of a record, by the modal variables after it: their places, and each of them.
 ghost use Rattle.std.specs.Prelude.{◌≡◌, ◌<◌, ◌^◌, ◌⊎◌, None, Some, IfOk, IfErr};
 ghost use Rattle.oas_num.specs.declared.refusals.Why.TheVariants.{Memory};
 ghost use Rattle.oas_num.specs.Deltas.{step};
 ghost use Rattle.oas_drawing.specs.Drawn.{drawn_fits};
 ghost use Rattle.oas_drawing.specs.Drawing.{number_if, offset_if, places_if, drawn_by};
-ghost use Rattle.oas_drawing.specs.Reasons.{fault_of, MayWant};
+ghost use Rattle.oas_drawing.specs.Reasons.{fault_of, MayRunOut};
 
 use super::ModalVariables;
 use super::drawing::coordinate;
@@ -14,7 +14,7 @@ use oas_num::Why;
 use oas_shape::Places;
 use std::alloc::Global;
 
-/// Whether an element lies within the grid, whatever its number means.
+/// Whether an element is within the grid, whatever its number means.
 fn fits(drawn: &Drawn) -> bool
     ensures { result ≡ drawn_fits drawn.now }
 {
@@ -27,7 +27,7 @@ fn fits(drawn: &Drawn) -> bool
 }
 
 impl ModalVariables {
-    /// The places on which the copies of a record stand, as many on each. There are fewer than 2^64 copies.
+    /// The places of a record's copies, with equally many on each. There are fewer than 2^64 copies.
     pub fn places(&self, repeated: bool) -> Places
         requires { number_if repeated self.now.repetition < 2 ^ 64 }
         ensures { result ≡ places_if repeated self.now.repetition }
@@ -47,7 +47,7 @@ impl ModalVariables {
         }
     }
 
-    /// Where copy `i` of a record stands, from copy 0 on.
+    /// The offset of copy `i` of a record, counted from 0.
     fn offset(&self, repeated: bool, i: u64) -> (i128, i128)
         requires below { i < number_if repeated self.now.repetition }
         requires small { i < 2 ^ 32 }
@@ -59,9 +59,9 @@ impl ModalVariables {
         }
     }
 
-    /// Copy `i` of an element record, from copy 0 on. It is refused by `ModalUndefined` and `CoordinateRange`, in this order, or
-    /// by `Memory`: a placement or a text only where it isn't refused otherwise, a polygon or a path as soon as its variables
-    /// are defined, since its vertices are looked at as they are made.
+    /// Copy `i` of an element record, counted from 0. It is refused with `ModalUndefined` and `CoordinateRange`, in this
+    /// order, or fails with `Memory`: a placement or a text only where it isn't refused otherwise, a polygon or a path as
+    /// soon as its variables are defined, since its vertices are checked as they are made.
     #[tactic(auto, using(crate::proofs::Grids::never_memory))]
     pub fn copy(&self, alloc: Global, kind: &Kind, repeated: bool, i: u64) -> Result<Drawn, Why>
         requires below { i < number_if repeated self.now.repetition }
@@ -69,7 +69,7 @@ impl ModalVariables {
         ensures ok { IfOk result (λ d. drawn_by self.now kind.now (offset_if repeated self.now.repetition i) ≡ Some d) }
         ensures fits { IfOk result (λ d. fault_of (drawn_by self.now kind.now (offset_if repeated self.now.repetition i)) ≡ None) }
         ensures err { IfErr result (λ why. (why ≡ Memory) ⊎ (fault_of (drawn_by self.now kind.now (offset_if repeated self.now.repetition i)) ≡ Some why)) }
-        ensures memory { IfErr result (λ why. why ≡ Memory → MayWant kind.now (drawn_by self.now kind.now (offset_if repeated self.now.repetition i))) }
+        ensures memory { IfErr result (λ why. why ≡ Memory → MayRunOut (drawn_by self.now kind.now (offset_if repeated self.now.repetition i))) }
     {
         let drawn = self.drawn_by(alloc, kind, self.offset(repeated, i))?;
         if fits(&drawn) {

@@ -1,9 +1,9 @@
-//! A placement or a text that stands once and is at hand, by the modal variables.
+//! A placement or a text without a repetition at hand, by the modal variables.
 ghost use Rattle.std.specs.Prelude.{◌≡◌, ◌≤◌, ◌<◌, ◌+◌, nat_lt, not, [], ◌∷◌, true, false, None, Some, IfSome, IfErr, OnOk};
 ghost use Rattle.std.specs.Option.{option_or};
 ghost use Rattle.oas_shape.specs.Steps.{still};
 ghost use Rattle.oas_num.specs.declared.refusals.Why.TheVariants.{TooManyElements, TooHeavy, CoordinateRange};
-ghost use Rattle.oas_ahead.specs.Named.{GivesName, GivesCell, GivesString, cell_given, string_given, named_record};
+ghost use Rattle.oas_peek.specs.Named.{HasValidName, HasValidCell, HasValidString, cell_given, string_given, named_record};
 ghost use Rattle.oas_drawing.specs.Positions.{IsNear};
 ghost use Rattle.oas_drawing.specs.Modal.{stepped};
 ghost use Rattle.oas_drawing.specs.Drawing.{drawn_by, place_of};
@@ -15,13 +15,13 @@ use super::{ModalVariables, set};
 use crate::once::DrawnOnce;
 use crate::positions::Position;
 use crate::turning::turned;
-use oas_ahead::{Given, NamedOnce};
 use oas_layout::Limits;
 use oas_num::{Label, Name, Why};
+use oas_peek::{Given, NamedOnce};
 use oas_record::{CellRef, TextRef, Turn};
 use std::alloc::{AllocError, Global};
 
-/// What a placement weighs by the cell that it gives, or else the modal one; None where there is neither.
+/// The weight of a placement with the cell that it gives, or else the modal one; None where there is neither.
 fn weight_placed(given: &Given<'_>, modal: &Option<CellRef>) -> Option<u64>
     ensures { result ≡ cell_weight (option_or (cell_given given.now) modal.now) }
 {
@@ -35,7 +35,7 @@ fn weight_placed(given: &Given<'_>, modal: &Option<CellRef>) -> Option<u64>
     }
 }
 
-/// What a text weighs by the string that it gives, or else the modal one; None where there is neither.
+/// The weight of a text with the string that it gives, or else the modal one; None where there is neither.
 fn weight_written(given: &Given<'_>, modal: &Option<TextRef>) -> Option<u64>
     ensures { result ≡ string_weight (option_or (string_given given.now) modal.now) }
 {
@@ -49,8 +49,8 @@ fn weight_written(given: &Given<'_>, modal: &Option<TextRef>) -> Option<u64>
     }
 }
 
-/// Refuses one element more, which weighs so much and stands there, by `TooManyElements`, `TooHeavy` and `CoordinateRange`, in
-/// this order. `count` elements that weigh `weight` stand before it.
+/// Refuses one more element with this weight and position, with `TooManyElements`, `TooHeavy` and `CoordinateRange`, in this
+/// order. Before it there are `count` elements with weight `weight`.
 fn check_once(one: u64, at: Position, limits: Limits, count: u64, weight: u64) -> Result<(), Why>
     requires few { count ≤ limits.elements }
     requires light { weight ≤ limits.weight }
@@ -70,7 +70,7 @@ fn check_once(one: u64, at: Position, limits: Limits, count: u64, weight: u64) -
 }
 
 impl ModalVariables {
-    /// What a placement or a text sets, but for its name.
+    /// What a placement or a text sets, except its name.
     pub fn set_fields(&mut self, next: &NamedOnce<'_>)
         requires placement { IsNear self.old.placement }
         requires text { IsNear self.old.text }
@@ -94,8 +94,8 @@ impl ModalVariables {
         }
     }
 
-    /// Refuses a placement or a text whose other fields are set, by `ModalUndefined`, `TooManyElements`, `TooHeavy` and
-    /// `CoordinateRange`, in this order. `count` elements that weigh `weight` stand before it.
+    /// Refuses a placement or a text whose other fields are set, with `ModalUndefined`, `TooManyElements`, `TooHeavy` and
+    /// `CoordinateRange`, in this order. Before it there are `count` elements with weight `weight`.
     pub fn check_named(
         &self,
         next: &NamedOnce<'_>,
@@ -129,9 +129,9 @@ impl ModalVariables {
         }
     }
 
-    /// Makes the name that a placement or a text gives the modal one, in the memory that that has where it is enough.
+    /// Makes the name that a placement or a text gives the modal one, in the memory of that one where it is enough.
     pub fn set_name(&mut self, alloc: Global, next: &NamedOnce<'_>) -> Result<(), AllocError>
-        requires { GivesName next.now }
+        requires { HasValidName next.now }
         ensures { OnOk result (self.new ≡ named_by self.old next.now) }
     {
         match next {
@@ -140,7 +140,7 @@ impl ModalVariables {
         }
     }
 
-    /// What such a record draws, by the modal variables after it; None only where one that it needs is undefined, or it lies
+    /// What such a record draws, by the modal variables after it; None only where one that it needs is undefined, or it is
     /// outside the grid.
     pub fn one_named(&self, next: &NamedOnce<'_>) -> Option<DrawnOnce<'_>>
         ensures some { IfSome result (λ d. drawn_by self.now (named_kind next.now) still ≡ Some (drawn_once d)) }
@@ -168,7 +168,7 @@ impl ModalVariables {
 
 /// Makes the cell that is given, if one is, the modal one.
 fn set_cell(alloc: Global, modal: &mut Option<CellRef>, given: &Given<'_>) -> Result<(), AllocError>
-    requires { GivesCell given.now }
+    requires { HasValidCell given.now }
     ensures { OnOk result (modal.new ≡ option_or (cell_given given.now) modal.old) }
 {
     match given {
@@ -188,7 +188,7 @@ fn set_string(
     modal: &mut Option<TextRef>,
     given: &Given<'_>,
 ) -> Result<(), AllocError>
-    requires { GivesString given.now }
+    requires { HasValidString given.now }
     ensures { OnOk result (modal.new ≡ option_or (string_given given.now) modal.old) }
 {
     match given {

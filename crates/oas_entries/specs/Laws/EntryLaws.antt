@@ -9,7 +9,7 @@ use Rattle.oas_entries.specs.Entries.{Entry, number_bytes, entry_bytes, block_by
 
 -- ---- numbers
 
--- what was written is what stands there, whatever comes after it
+-- what was written is what is there, whatever comes after it
 pub number-read : (n : ℕ) (rest : List ℕ) → n < 2 ^ 64 → number_at (number_bytes n ++ rest) ≡ n
 number-read n rest fits =
     elim (nat_lt n 255) as (λ b. nat_lt n 255 ≡ b → number_at (cond b (n ∷ []) (255 ∷ to_le_bytes w64 n) ++ rest) ≡ n) [
@@ -38,7 +38,7 @@ number_size-most bytes = elim (nat_lt (slice_index bytes 0) 255) as (λ b. cond 
 
 -- ---- entries
 
--- skipping passes over what is skipped
+-- skipping skips what is skipped
 pub entries_after-drop : (s : ℕ) (bytes : List ℕ) → entries_after s bytes ≡ entries (drop s bytes)
 entries_after-drop zero [] = refl
 entries_after-drop (suc s) [] = refl
@@ -49,7 +49,7 @@ drop-less : (n : ℕ) (b : ℕ) (bytes : List ℕ) → 0 < n → drop (n - 1) by
 drop-less zero b bytes h = absurd (omega (arith, h))
 drop-less (suc n) b bytes h = let e : suc n - 1 ≡ n = omega arith in ap (λ (m : ℕ). drop m bytes) e
 
--- where bytes are left, an entry stands, and then the rest
+-- where bytes are left, there is an entry, and then the rest
 pub entries-some : (bytes : List ℕ) → 0 < length bytes → entries bytes ≡ entry_at bytes ∷ entries (drop (entry_end bytes) bytes)
 entries-some [] h = absurd (omega (arith, h))
 entries-some (b ∷ bytes) h =
@@ -60,7 +60,7 @@ pub entries-none : (bytes : List ℕ) → length bytes ≡ 0 → entries bytes �
 entries-none [] h = refl
 entries-none (b ∷ bytes) h = absurd (omega (arith, h))
 
--- what the parts of an entry say of where they stand
+-- what the parts of an entry say about where they are
 pub record IsRead (bytes key others : List ℕ) (times : ℕ) : Type 0 where
   pub is : entry_at bytes ≡ (key, times)
   pub rest : drop (entry_end bytes) bytes ≡ others
@@ -127,7 +127,7 @@ fits_append : (ps : List Entry) (p : Entry) → AllByRecursion Fits ps → Fits 
 fits_append [] p h f = (f, tt)
 fits_append (q ∷ qs) p h f = (h.0, fits_append qs p h.1 f)
 
--- one entry more
+-- one more entry
 pub record IsMore (bytes : List ℕ) (ps : List Entry) : Type 0 where
   pub block : IsBlock bytes
   pub entries : entries bytes ≡ ps
@@ -141,7 +141,7 @@ block-append bytes p b fits =
 
 -- ---- reading the first entry of a block
 
--- what reading it needs, and what is read
+-- what reading it requires, and what is read
 pub record Stands (bytes : List ℕ) : Type 0 where
   pub long : slice_index bytes 0 ≡ 255 → 9 ≤ length bytes
   pub after : number_size bytes ≤ length bytes

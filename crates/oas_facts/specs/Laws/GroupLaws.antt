@@ -10,7 +10,7 @@ use Rattle.oas_facts.specs.contracts.group.GroupOrd.TheImpl as order
 use Rattle.oas_facts.specs.contracts.group.GroupOrd.TheImpl.Laws as laws
 use Rattle.oas_facts.specs.Groups.{group_cmp}
 
--- what the derived `cmp` answers
+-- what the derived `cmp` returns
 abbrev pub derived_cmp : Group → Group → Ordering
 derived_cmp = order.ghosts.cmp
 
@@ -26,7 +26,7 @@ order_is_stated (Layer layer datatype) (Layer layer' datatype') = refl
 order_is_stated (TextLayer textlayer texttype) (TextLayer textlayer' texttype') = refl
 order_is_stated a b = refl
 
--- so is it as a whole
+-- also as a whole
 pub stated_cmp : derived_cmp ≡ group_cmp
 stated_cmp i a b = order_is_stated a b i
 

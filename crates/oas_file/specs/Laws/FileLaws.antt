@@ -1,7 +1,7 @@
 -- The laws of files.
 use Rattle.std.proofs.Common.{◌≡◌, ℕ, List, [], refl, ap, sym, ◌∙◌}
-use Rattle.oas_num.specs.Grammar.{OneFront}
-use Rattle.oas_num.specs.Laws.GrammarLaws.{OneFront-pair}
+use Rattle.oas_num.specs.Grammar.{PrefixFree}
+use Rattle.oas_num.specs.Laws.GrammarLaws.{PrefixFree-pair}
 use Rattle.oas_num.specs.Combinators.{OneSpelling, IsWithin}
 use Rattle.oas_num.specs.Laws.CombinatorLaws.{OneSpelling-pair, IsWithin-pair}
 use Rattle.oas_num.specs.Style.{Style, Any, Shortest}
@@ -9,22 +9,22 @@ use Rattle.oas_record.specs.declared.heads.Head.{Head}
 use Rattle.oas_record.specs.declared.records.Record.{Record}
 use Rattle.oas_record.specs.declared.records.Record.TheVariants.{End}
 use Rattle.oas_record.specs.Heads.{head_in}
-use Rattle.oas_record.specs.Laws.HeadLaws.{OneFront-head, OneSpelling-head, IsWithin-head}
+use Rattle.oas_record.specs.Laws.HeadLaws.{PrefixFree-head, OneSpelling-head, IsWithin-head}
 use Rattle.oas_record.specs.Records.{records_in}
-use Rattle.oas_record.specs.Laws.RecordLaws.{OneFront-records, OneSpelling-records, IsWithin-records}
+use Rattle.oas_record.specs.Laws.RecordLaws.{PrefixFree-records, OneSpelling-records, IsWithin-records}
 use Rattle.oas_modal.specs.Stands.{records_mean}
 use Rattle.oas_file.specs.Files.{Parts, file_in, FileIn, FileOf, OneReading}
 use Rattle.oas_file.specs.Acceptance.{OneMeaning}
 
--- none begins another, in any style
-pub OneFront-file : (style : Style) → OneFront (file_in style)
-OneFront-file style = OneFront-pair (head_in style) (λ head. records_in style head.flag_in_end) (OneFront-head style) (λ head. OneFront-records style head.flag_in_end)
+-- none is a prefix of another, in any style
+pub PrefixFree-file : (style : Style) → PrefixFree (file_in style)
+PrefixFree-file style = PrefixFree-pair (head_in style) (λ head. records_in style head.flag_in_end) (PrefixFree-head style) (λ head. PrefixFree-records style head.flag_in_end)
 
 -- in the shortest style each has one spelling
 pub OneSpelling-file : OneSpelling (file_in Shortest)
 OneSpelling-file = OneSpelling-pair (head_in Shortest) (λ head. records_in Shortest head.flag_in_end) OneSpelling-head (λ head. OneSpelling-records head.flag_in_end)
 
--- the shortest style is within any
+-- a spelling in the shortest style is one in any style
 pub IsWithin-file : IsWithin (file_in Shortest) (file_in Any)
 IsWithin-file = IsWithin-pair (head_in Shortest) (head_in Any) (λ head. records_in Shortest head.flag_in_end) (λ head. records_in Any head.flag_in_end) IsWithin-head
     (λ head. IsWithin-records head.flag_in_end)
@@ -35,7 +35,7 @@ file_of Shortest head rs b p = record { spelled = IsWithin-file.within (head, (r
 
 pub one_reading : OneReading
 one_reading style other head first rs ss b p q =
-    let both = (OneFront-file Any).one (head, (rs, End)) (first, (ss, End)) b b [] [] (file_of style head rs b p).spelled (file_of other first ss b q).spelled refl in
+    let both = (PrefixFree-file Any).one (head, (rs, End)) (first, (ss, End)) b b [] [] (file_of style head rs b p).spelled (file_of other first ss b q).spelled refl in
     (ap (λ (s : Parts). s.0) both.1, ap (λ (s : Parts). s.1.0) both.1)
 
 -- in the shortest style, the same parts are the same bytes

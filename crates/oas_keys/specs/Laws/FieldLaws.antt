@@ -1,4 +1,4 @@
--- Strings, turns and lists of points are ordered as their bytes are, whatever stands behind them.
+-- Strings, turns and lists of points are ordered as their bytes are, whatever follows them.
 use Rattle.std.proofs.Common.{◌≡◌, ℕ, ◌+◌, ◌-◌, ◌*◌, ◌<◌, ◌^◌, ℤ, pos, negsuc, ◌-ℤ◌, ◌<ℤ◌, ◌≤ℤ◌, Bool, true, false, List, [], ◌∷◌, ◌++◌, refl, sym, ap, ◌∙◌, subst, append_assoc, arith}
 use Rattle.std.specs.Ordering.{nat_cmp, int_cmp, bool_cmp, ordering_then, MatchOrdering}
 use Rattle.std.specs.declared.cmp.Ordering.{Ordering}
@@ -16,7 +16,7 @@ use Rattle.oas_keys.specs.Numbers.{IsStep, signed_key}
 use Rattle.oas_keys.specs.Keys.{text_key, step_key, points_key, turned_key, flip_count}
 use Rattle.oas_keys.specs.Laws.NumberLaws.{Decided, signed_order, then_assoc, by_parts, added, signed_begins}
 
--- the same under a name of its own
+-- the same with a name of its own
 pub record Ordered (o : Ordering) (a b : List ℕ) : Type 0 where
   pub at : Decided o a b
 
@@ -30,7 +30,7 @@ pub ◌▸◌ : {r s : Ordering} {a b c d : List ℕ} → Ordered r a b → Orde
         let first = h.at (c ++ us) (d ++ vs) in
         rw (append_assoc a c us, append_assoc b d vs) (first ∙ ap (λ (o : Ordering). ordering_then r o) (k.at us vs) ∙ sym (then_assoc r s (slice_cmp nat_cmp us vs)))
 
--- one comparison for another
+-- one comparison in place of another
 pub ordered_as : {r s : Ordering} {a b : List ℕ} → r ≡ s → Ordered r a b → Ordered s a b
 ordered_as {r} {s} {a} {b} e h = subst (λ (o : Ordering). Ordered o a b) e h
 
@@ -72,7 +72,7 @@ turned_order s t f g us vs =
     ∙ by_parts (turn_count s) (flip_count f) (turn_count t) (flip_count g) 2 (flip_small f) (flip_small g)
     ∙ ap (λ (o : Ordering). ordering_then (nat_cmp (turn_count s) (turn_count t)) o) (flip_order f g))
 
--- a coordinate lies within the grid
+-- a coordinate is within the grid
 pub coordinate_bounds : (x : ℤ) → is_coordinate x ≡ true → (negsuc (2 ^ 60 - 1) ≤ℤ x) × (x ≤ℤ pos (2 ^ 60))
 coordinate_bounds x h = grind (arith, ints)
 
@@ -94,7 +94,7 @@ coordinate_fits x h =
     let a : (negsuc (2 ^ 60 - 1) ≤ℤ x) × (x ≤ℤ pos (2 ^ 60)) = coordinate_bounds x h in
     record { above = omega (arith, ints); below = omega (arith, ints) }
 
--- what is taken from both sides changes no comparison
+-- subtracting the same on both sides changes no comparison
 taken : (a x y : ℤ) → int_cmp (x -ℤ a) (y -ℤ a) ≡ int_cmp x y
 taken a x y = int_cmp_is x y (int_cmp (x -ℤ a) (y -ℤ a)) (match_of (int_cmp (x -ℤ a) (y -ℤ a)) (int_ranks (x -ℤ a) (y -ℤ a)))
   where
@@ -107,7 +107,7 @@ taken a x y = int_cmp_is x y (int_cmp (x -ℤ a) (y -ℤ a)) (match_of (int_cmp 
 pub parts : (p : Point) → is_grid_point p ≡ true → (is_coordinate p.x ≡ true) × (is_coordinate p.y ≡ true)
 parts p h = grind arith
 
--- the ways from one point to two others are ordered as these are
+-- the steps from one point to two others are ordered as these are
 step_order : (q p r : Point) → is_grid_point q ≡ true → is_grid_point p ≡ true → is_grid_point r ≡ true
     → Ordered (point_cmp p r) (step_key q p) (step_key q r)
 step_order q p r g h k =

@@ -24,7 +24,7 @@ use Rattle.oas_keys.specs.Keys.{key_of, text_key, points_key, turned_key}
 use Rattle.oas_keys.specs.Laws.NumberLaws.{signed_order, unsigned_order}
 use Rattle.oas_keys.specs.Laws.FieldLaws.{Ordered, ◌▸◌, NoZero, text_order, turned_order, AreWithin, coordinate_fits, points_order}
 
--- a name's bytes aren't 0
+-- none of a name's bytes is 0
 pub name_bytes : (bytes : List ℕ) → IsOf IsNameByte bytes → NoZero bytes
 name_bytes [] h = tt
 name_bytes (b ∷ bs) h = (omega (arith, h.0.0), name_bytes bs h.1)
@@ -59,7 +59,7 @@ turned s t f g = record { at = turned_order s t f g }
 path : (ps qs : List Point) → list_all is_grid_point ps ≡ true → list_all is_grid_point qs ≡ true → Ordered (list_cmp ps qs) (points_key origin ps) (points_key origin qs)
 path ps qs p q = record { at = points_order origin ps qs refl (all_within ps p) (all_within qs q) }
 
--- two sound elements are ordered as their keys are, whatever stands behind these
+-- two sound elements are ordered as their keys are, whatever follows these
 pub keys_order : (e f : Element) → IsSound e → IsSound f → Ordered (element_cmp e f) (key_of e) (key_of f)
 keys_order (Placement cell x y turns flip) (Placement cell' x' y' turns' flip') p q =
     let a = both (is_coordinate x) (is_coordinate y) p.inside in
@@ -122,7 +122,7 @@ key_order e f p q =
     then_equal Equal = refl
     then_equal Greater = refl
 
--- what key and rest stand for is one element and one rest
+-- key and rest spell one element and one rest
 pub one_key : (e f : Element) → IsSound e → IsSound f → (us vs : List ℕ) → key_of e ++ us ≡ key_of f ++ vs → (e ≡ f) × (us ≡ vs)
 one_key e f p q us vs same =
     let h = keys_order e f p q in

@@ -1,4 +1,4 @@
--- Numbers are ordered as their bytes are, whatever stands behind them.
+-- Numbers are ordered as their bytes are, whatever follows them.
 use Rattle.std.proofs.Common.{◌≡◌, ℕ, zero, suc, ◌+◌, ◌-◌, ◌*◌, ◌/◌, ◌%◌, ◌^◌, ◌<◌, ◌≤◌, nat_lt, cond, ℤ, pos, negsuc, unsigned_abs, ◌+ℤ◌, ◌<ℤ◌, ◌≤ℤ◌, true, false}
 use Rattle.std.proofs.Common.{◌↔◌, ◌⊎◌, List, [], ◌∷◌, ◌++◌, refl, sym, ap, ◌∙◌, ⊎_elim, arith}
 use Rattle.std.specs.Ordering.{nat_cmp, int_cmp, ordering_then, MatchOrdering}
@@ -14,7 +14,7 @@ use Rattle.std.proofs.Math.Nat.{mul-le-mul_right, div-lt_iff_lt-mul}
 use Rattle.oas_keys.specs.declared.classes.Class.{Class}
 use Rattle.oas_keys.specs.Numbers.{digits, AreClasses, room, first_of, more_of, number_in, unsigned_classes, signed_classes, unsigned_key, signed_key, signed_start, place, IsStep}
 
--- two codes with anything behind them are ordered by what they are codes of, and then by what stands behind
+-- two codes followed by anything are ordered by what they encode, and then by what follows
 abbrev pub Decided : Ordering → List ℕ → List ℕ → Type 0
 Decided o a b = (us vs : List ℕ) → slice_cmp nat_cmp (a ++ us) (b ++ vs) ≡ ordering_then o (slice_cmp nat_cmp us vs)
 
@@ -27,7 +27,7 @@ more n m h = sym (nat_cmp_is n m Greater h)
 same : (n : ℕ) → nat_cmp n n ≡ Equal
 same n = sym (nat_cmp_is n n Equal refl)
 
--- a number of a lower quotient is lower
+-- a number with a lower quotient is lower
 lower : (a b c d p : ℕ) → b < p → a < c → a * p + b < c * p + d
 lower a b c d p h l =
     let k : suc a * p ≤ c * p = mul-le-mul_right p (omega arith) in
@@ -58,7 +58,7 @@ by_parts a b c d p h k =
     s)
     (cases_order a c)
 
--- the same of any two numbers
+-- the same for any two numbers
 by_division : (n m p : ℕ) → 0 < p → nat_cmp n m ≡ ordering_then (nat_cmp (n / p) (m / p)) (nat_cmp (n % p) (m % p))
 by_division n m p some =
     let parts = by_parts (n / p) (n % p) (m / p) (m % p) p (mod_below n p some) (mod_below m p some) in
@@ -66,7 +66,7 @@ by_division n m p some =
     let f : m / p * p + m % p ≡ m = div-add-mod' m p in
     ap (λ t. nat_cmp t m) (sym e) ∙ ap (λ t. nat_cmp (n / p * p + n % p) t) (sym f) ∙ parts
 
--- of three comparisons
+-- the comparison of three parts
 pub then_assoc : (r s t : Ordering) → ordering_then (ordering_then r s) t ≡ ordering_then r (ordering_then s t)
 then_assoc Less s t = refl
 then_assoc Equal s t = refl
@@ -96,7 +96,7 @@ begins (c ∷ cs) first n =
       | false ↦ begins cs (first + c.firsts) (n - c.size)
     ]
 
--- which is none below those of the classes
+-- which is not below those of the classes
 pub first_above : (cs : List Class) (first n : ℕ) → first ≤ first_of cs first n
 first_above [] first n = omega arith
 first_above (c ∷ cs) first n =
@@ -119,7 +119,7 @@ byte_below a b xs ys us vs h = ap (λ (o : Ordering). ordering_then o (slice_cmp
 byte_above : (a b : ℕ) (xs ys us vs : List ℕ) → b < a → slice_cmp nat_cmp ((a ∷ xs) ++ us) ((b ∷ ys) ++ vs) ≡ Greater
 byte_above a b xs ys us vs h = ap (λ (o : Ordering). ordering_then o (slice_cmp nat_cmp (xs ++ us) (ys ++ vs))) (more a b h)
 
--- what is added to both sides changes no comparison
+-- adding the same on both sides changes no comparison
 pub added : (a n m : ℕ) → nat_cmp (a + n) (a + m) ≡ nat_cmp n m
 added a n m =
     ⊎_elim
@@ -130,7 +130,7 @@ added a n m =
     s)
     (cases_order n m)
 
--- nor what is taken from both
+-- nor does subtracting it
 taken : (a n m : ℕ) → a ≤ n → a ≤ m → nat_cmp (n - a) (m - a) ≡ nat_cmp n m
 taken a n m p q =
     let e : a + (n - a) ≡ n = omega arith in
@@ -154,7 +154,7 @@ in_class : (c : Class) (cs : List Class) (first n : ℕ) → n < c.size
     → number_in (c ∷ cs) first n ≡ (first + n / 2 ^ (8 * c.more)) ∷ digits c.more (n % 2 ^ (8 * c.more))
 in_class c cs first n h = cond-true _ _ _ (lt-ltb n c.size h)
 
--- a number of those behind it
+-- a number of those after it
 past_class : (c : Class) (cs : List Class) (first n : ℕ) → c.size ≤ n
     → number_in (c ∷ cs) first n ≡ number_in cs (first + c.firsts) (n - c.size)
 past_class c cs first n h = cond-false _ _ _ (le-ltb n c.size h)
@@ -257,7 +257,7 @@ places_order s x y a b p q = int_cmp_is x y (nat_cmp a b) (match_of (nat_cmp a b
     match_of Equal h = omega (arith, ints)
     match_of Greater h = omega (arith, ints)
 
--- a step's place stands within the classes
+-- a step's place is within the classes
 pub place_is : (x : ℤ) → IsStep x → (pos (place x) ≡ x +ℤ pos signed_start) × (place x < room signed_classes)
 place_is x step =
     let e : pos (place x) ≡ x +ℤ pos signed_start = place_from (signed_start - 1) x (omega (arith, ints, step.above)) in
@@ -272,7 +272,7 @@ signed_order x y p q us vs =
     (number_order signed_classes 1 (place x) (place y) signed_fit a.1 b.1 us vs
     ∙ ap (λ (o : Ordering). ordering_then o (slice_cmp nat_cmp us vs)) (places_order signed_start x y (place x) (place y) a.0 b.0))
 
--- a byte that isn't 0, and what stands behind it
+-- a byte that isn't 0, and what follows it
 pub record Begun (key : List ℕ) : Type 0 where
   pub byte : ℕ
   pub rest : List ℕ

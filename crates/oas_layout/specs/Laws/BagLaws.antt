@@ -56,7 +56,7 @@ module _ {K : Type 0} where
         | Greater ↦ λ e. ap (λ (es : List (K × ℕ)). p ∷ es) (insert_entry-count o ps k n (sorted_tail R p.0 (keys_of ps) s))
       ] refl
 
--- so often, or not at all
+-- this often, or not at all
 pub times : (b : Bool) (n : ℕ) → n * cond b 1 0 ≡ cond b n 0
 times true n = omega arith
 times false n = omega arith

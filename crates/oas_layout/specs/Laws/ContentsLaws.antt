@@ -1,4 +1,4 @@
--- What the sums over the cells grow by, where a cell is given more elements, and where there is a new one.
+-- What the sums over the cells grow by, where a cell gets more elements, or there is a new one.
 use Rattle.std.specs.Prelude.{◌≡◌, ℕ, zero, suc, ◌+◌, ◌*◌, ◌<◌, List, [], ◌∷◌, ◌++◌, length, replicate, sum_by, refl}
 use Rattle.std.proofs.Common.{sym, ◌∙◌, ap, arith, length-append}
 use Rattle.std.proofs.lemmas.List.{length-replicate}
@@ -27,7 +27,7 @@ module _ (e : Element) (n : ℕ) where
       sum_by-items weight_of (with_more es e n) ∙ total-put_more element_cmp weight_of es e n (λ x h. ap weight_of (sym (exact_elements e x h)))
       ∙ ap (λ (k : ℕ). k + n * weight_of e) (sym (sum_by-items weight_of es))
 
-  -- what a sum over the cells grows by, if it grows so in the cell that is given more
+  -- what a sum over the cells grows by, if it grows by that in the cell that gets more
   cells_sum-with_more : (f : List ℕ × List Element → ℕ) (w : ℕ) → ((c : Cell) → f (c.0, items (with_more c.1 e n)) ≡ f (c.0, items c.1) + w) → (cs : List Cell) (i : ℕ) → i < length cs →
       cells_sum f (expanded (cells_with_more cs i e n)) ≡ cells_sum f (expanded cs) + w
   cells_sum-with_more f w step [] i h = absurd (omega arith)
@@ -42,7 +42,7 @@ module _ (e : Element) (n : ℕ) where
   pub cells_weight-with_more : (cs : List Cell) (i : ℕ) → i < length cs → cells_weight (expanded (cells_with_more cs i e n)) ≡ cells_weight (expanded cs) + n * weight_of e
   cells_weight-with_more cs i h = cells_sum-with_more (λ c. (1 + length c.0) + sum_by weight_of c.1) (n * weight_of e) (λ c. omega (arith, weight-with_more c.1)) cs i h
 
--- a new cell adds what it gives itself
+-- a new cell adds what it has itself
 pub cells_sum-push : (f : List ℕ × List Element → ℕ) (cs : List Cell) (name : List ℕ) → cells_sum f (expanded (cs ++ (name, []) ∷ [])) ≡ cells_sum f (expanded cs) + f (name, [])
 cells_sum-push f [] name = omega arith
 cells_sum-push f (x ∷ xs) name = omega (arith, cells_sum-push f xs name)

@@ -19,7 +19,7 @@ use Rattle.oas_layout.specs.Element.{element_cmp, turn_count, ◌then◌}
 use Rattle.oas_layout.specs.contracts.element.ElementOrd.TheImpl as order
 use Rattle.oas_layout.specs.contracts.element.ElementOrd.TheImpl.Laws as laws
 
--- what the derived `cmp` answers
+-- what the derived `cmp` returns
 abbrev pub derived_cmp : Element → Element → Ordering
 derived_cmp = order.ghosts.cmp
 
@@ -31,7 +31,7 @@ derived_total = laws.total-law
 abbrev pub turns_cmp : Turns → Turns → Ordering
 turns_cmp s t = nat_cmp (turn_count s) (turn_count t)
 
--- what the derived `cmp` of quarter turns answers
+-- what the derived `cmp` of quarter turns returns
 abbrev pub derived_turns_cmp : Turns → Turns → Ordering
 derived_turns_cmp = turns_order.ghosts.cmp
 
@@ -54,7 +54,7 @@ order_is_stated (Path layer datatype half_width start end points) (Path layer' d
 order_is_stated (Circle layer datatype radius x y) (Circle layer' datatype' radius' x' y') = refl
 order_is_stated a b = refl
 
--- quarter turns that tie are one
+-- quarter turns that tie are equal
 turns_exact : CmpEqualImpliesEq turns_cmp
 turns_exact T0 T0 h = refl
 turns_exact T1 T1 h = refl
@@ -68,7 +68,7 @@ bool_exact false false h = refl
 bool_exact true true h = refl
 bool_exact a b h = cc
 
--- elements that tie are one
+-- elements that tie are equal
 pub exact_elements : CmpEqualImpliesEq element_cmp
 exact_elements (Placement cell x y turns flip) (Placement cell' x' y' turns' flip') h =
     ap (λ (p : List ℕ × (ℤ × (ℤ × (Turns × Bool)))). Placement p.0 p.1.0 p.1.1.0 p.1.1.1.0 p.1.1.1.1)
@@ -103,15 +103,15 @@ stated_cmp i a b = order_is_stated a b i
 pub element_total : IsTotalOrder element_cmp
 element_total = subst (λ R. IsTotalOrder R) stated_cmp derived_total
 
--- elements that tie in the derived order are one
+-- elements that tie in the derived order are equal
 pub exact_derived : CmpEqualImpliesEq derived_cmp
 exact_derived a b h = exact_elements a b (sym (order_is_stated a b) ∙ h)
 
--- what the derived `==` answers
+-- what the derived `==` returns
 abbrev pub derived_eq : Element → Element → Bool
 derived_eq = equality.ghosts.eq
 
--- which is true exactly of equal elements
+-- which is true exactly for equal elements
 pub derived_eq-Decides : (a b : Element) → Decides (derived_eq a b) (a ≡ b)
 derived_eq-Decides a b =
     let tie : derived_eq a b ≡ is_eq (derived_cmp a b) = laws.matches_eq-law a b in

@@ -29,12 +29,12 @@ SameIfKeptEqual profile = (a b : Element) → SameElement profile a b ↔ (norma
 abbrev pub KeptIsKept : Profile → Type 0
 KeptIsKept profile = (e : Element) → IsNormal profile (normal profile e)
 
--- the polygons that are kept as they are: in their least reading, and round no rectangle that the profile would keep
+-- the polygons that are kept unchanged: in their least reading, and round no rectangle that the profile would keep
 abbrev pub KeptPolygons : Profile → Type 0
 KeptPolygons profile =
     (layer datatype : ℕ) (points : List Point) → IsNormal profile (Polygon layer datatype points) ↔ (IsLeastReading points × ((corners : Corners) → IsDrawn profile points corners → ⊥))
 
--- more of an element adds to the count of what is the same, and to no other
+-- more of an element adds to the count of what is the same, and to no other count
 abbrev pub AddingCounts : Profile → Type 0
 AddingCounts profile =
     (es : List (Element × ℕ)) (e q : Element) (n : ℕ) → count_of profile q (items (with_more es (normal profile e) n)) ≡ count_of profile q (items es) + (if same_element profile q e then n else 0)
@@ -58,10 +58,10 @@ EqualCounts profile =
 abbrev pub IsReflexive : Profile → Type 0
 IsReflexive profile = (a : Meaning) → SameLayout profile a a
 
--- sameness goes in either direction
+-- sameness is symmetric
 abbrev pub IsSymmetric : Profile → Type 0
 IsSymmetric profile = (a b : Meaning) → SameLayout profile a b → SameLayout profile b a
 
--- and over a third layout
+-- and transitive
 abbrev pub IsTransitive : Profile → Type 0
 IsTransitive profile = (a b c : Meaning) → SameLayout profile a b → SameLayout profile b c → SameLayout profile a c

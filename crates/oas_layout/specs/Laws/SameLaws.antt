@@ -36,12 +36,12 @@ three true true c P Q R p q r = (λ e. (p.0 refl, q.0 refl, r.0 e), λ h. r.1 h.
 three true false c P Q R p q r = (λ e. absurd (true≢false (sym e)), λ h. absurd (true≢false (sym (q.1 h.1))))
 three false b c P Q R p q r = (λ e. absurd (true≢false (sym e)), λ h. absurd (true≢false (sym (p.1 h.0))))
 
--- the test of `IsDrawn` is true exactly of it
+-- the test of `IsDrawn` is true exactly for it
 drawn-Decides : (profile : Profile) (points : List Point) (corners : Corners) → Decides (is_drawn profile points corners) (IsDrawn profile points corners)
 drawn-Decides One points corners = (λ e. true≢false (sym e), λ no. absurd no)
 drawn-Decides Two points corners = is_box-Decides points corners
 
--- the test of `SameElement` is true exactly of it
+-- the test of `SameElement` is true exactly for it
 pub same_element-Decides : (profile : Profile) (a b : Element) → Decides (same_element profile a b) (SameElement profile a b)
 same_element-Decides profile (Polygon layer datatype points) (Polygon layer' datatype' points') =
     three _ _ _ _ _ _ (Decides-eqb layer layer') (Decides-eqb datatype datatype') (is_same_ring-SameRing points points')
@@ -88,7 +88,7 @@ rectangle_back layer datatype width height x y = λ i. Rectangle layer datatype 
 pub corners_back : (c : Corners) → c.low.x <ℤ c.high.x → c.low.y <ℤ c.high.y → rectangle_corners (unsigned_abs (c.high.x -ℤ c.low.x)) (unsigned_abs (c.high.y -ℤ c.low.y)) c.low.x c.low.y ≡ c
 corners_back c wide tall = λ i. record { low = c.low; high = record { x = side_there c.low.x c.high.x wide i; y = side_there c.low.y c.high.y tall i } }
 
--- the rectangle that is drawn, from that in which it is kept
+-- the rectangle that is drawn, from the one that is kept
 drawn_from_kept : (profile : Profile) (points : List Point) (c : Corners) (layer layer' datatype datatype' width height : ℕ) (x y : ℤ) → drawn_box profile points ≡ Some c →
     rectangle_of layer datatype c ≡ Rectangle layer' datatype' width height x y → IsDrawn profile points (rectangle_corners width height x y)
 drawn_from_kept One points c layer layer' datatype datatype' width height x y e h = cc
@@ -184,7 +184,7 @@ same_element-is profile a b =
 
 -- ---- the kept form
 
--- a kept polygon is kept as it is
+-- a kept polygon is kept unchanged
 kept_again : (profile : Profile) (layer datatype : ℕ) (points : List Point) (o : Option Corners) → drawn_box profile points ≡ o →
     normal profile (normal_polygon layer datatype (least_of points) o) ≡ normal_polygon layer datatype (least_of points) o
 kept_again profile layer datatype points None e =
@@ -201,7 +201,7 @@ normal-normal profile e = refl
 pub normal-same : (profile : Profile) (e : Element) → SameElement profile (normal profile e) e
 normal-same profile e = same_from_normal profile (normal profile e) e (normal-normal profile e)
 
--- under profile one an element weighs what its kept form does
+-- under profile one an element weighs as much as its kept form
 pub weight_of-normal : (e : Element) → weight_of (normal One e) ≡ weight_of e
 weight_of-normal (Polygon layer datatype points) = ap (λ (n : ℕ). 1 + n) (length-least_of points)
 weight_of-normal e = refl
@@ -222,7 +222,7 @@ kept_polygon : (profile : Profile) (layer datatype : ℕ) (points : List Point) 
 kept_polygon profile layer datatype points None e h = (cc, refl)
 kept_polygon profile layer datatype points (Some c) e h = let no : ⊥ = cc in absurd no
 
--- a polygon that is kept as it is is in its least reading
+-- a polygon that is kept unchanged is in its least reading
 pub normal-least : (profile : Profile) (layer datatype : ℕ) (points : List Point) → IsNormal profile (Polygon layer datatype points) → IsLeastReading points
 normal-least profile layer datatype points h =
     subst IsLeastReading (kept_polygon profile layer datatype points (drawn_box profile points) refl h).0 (least_of-IsLeastReadingOf points).least
@@ -233,7 +233,7 @@ normal-no_box layer datatype points corners h b =
     let none : box_of points ≡ None = (kept_polygon Two layer datatype points (box_of points) refl h).1 in
     let some : box_of points ≡ Some corners = box_of-is points corners b in cc
 
--- and each such polygon is kept as it is
+-- and each such polygon is kept unchanged
 pub normal-polygon : (profile : Profile) (layer datatype : ℕ) (points : List Point) → IsLeastReading points → ((corners : Corners) → IsDrawn profile points corners → ⊥) →
     IsNormal profile (Polygon layer datatype points)
 normal-polygon One layer datatype points least none =
@@ -241,7 +241,7 @@ normal-polygon One layer datatype points least none =
 normal-polygon Two layer datatype points least none =
     λ i. normal_polygon layer datatype (sym (least_of-is points points (record { same = same_ring_itself points; least = least })) i) (box_of-none points none i)
 
--- among kept elements the same are the equal ones
+-- among kept elements the same ones are the equal ones
 pub same_normal : (profile : Profile) (a b : Element) → IsNormal profile a → IsNormal profile b → same_element profile a b ≡ eq_by_cmp element_cmp a b
 same_normal profile a b h k = same_element-is profile a b ∙ (λ i. eq_by_cmp element_cmp (h i) (k i))
 

@@ -1,7 +1,7 @@
--- What stores stand for, in whatever order it was drawn.
+-- What stores represent, in whatever order it was drawn.
 use Rattle.std.proofs.Common.{List, ◌∙◌, ap}
-use Rattle.oas_drawing.specs.declared.drawn.Drawn.{Drawn}
-use Rattle.oas_drawing.specs.Drawn.{weight_so_far}
+use Rattle.oas_names.specs.oas_drawing.declared.drawn.Drawn.{Drawn}
+use Rattle.oas_names.specs.oas_drawing.Drawn.{weight_so_far}
 use Rattle.oas_modal.specs.Alike.{SameDrawn}
 use Rattle.oas_modal.specs.Held.{Held}
 use Rattle.oas_names.specs.Weights.{capped}

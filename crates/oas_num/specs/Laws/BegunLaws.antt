@@ -1,4 +1,4 @@
--- What is made of spellings is spelled, where they are.
+-- What is made of spellings has a spelling if its parts have.
 use Rattle.std.proofs.Common.{ℕ, zero, suc, Bool, true, false, List, [], ◌∷◌, ◌++◌, ◌<◌, Some, None, refl, sym, ap, subst, arith}
 use Rattle.oas_num.specs.Grammar.{IsPair, IsSuch, IsImage, IsThere, IsEach, IsCount, IsByte}
 use Rattle.oas_num.specs.Combinators.{IsExactly, IsEither, IsKeyed, IsWithin}
@@ -14,7 +14,7 @@ HasSome-byte = record { value = 0; bytes = 0 ∷ []; spelled = byte_itself 0 (om
 pub HasSome-exactly : (wanted : List ℕ) → HasSome (IsExactly wanted)
 HasSome-exactly wanted = record { value = tt; bytes = wanted; spelled = refl }
 
--- the second kind is wanted only after the value that the first is seen to have
+-- the second kind is needed only for a value that the first is known to have
 pub HasSome-pair : {V W : Type 0} (A : V → List ℕ → Type 0) (B : V → W → List ℕ → Type 0) (some : HasSome A) → HasSome (B some.value) → HasSome (IsPair A B)
 HasSome-pair A B some more = record {
   value = (some.value, more.value);
@@ -49,7 +49,7 @@ pub HasSome-either : {V : Type 0} (test : Bool) (A B : V → List ℕ → Type 0
 HasSome-either true A B some other = record { value = some.value; bytes = some.bytes; spelled = some.spelled }
 HasSome-either false A B some other = record { value = other.value; bytes = other.bytes; spelled = other.spelled }
 
--- of one value the key is spelled, and then the value
+-- the key of one value is spelled, and then the value
 pub HasSome-keyed : {K V : Type 0} (key : V → K) (A : K → List ℕ → Type 0) (B : K → V → List ℕ → Type 0) (v : V) (a b : List ℕ) → A (key v) a → B (key v) v b → HasSome (IsKeyed key A B)
 HasSome-keyed key A B v a b first second = record {
   value = v;
@@ -60,7 +60,7 @@ HasSome-keyed key A B v a b first second = record {
 pub HasSome-within : {V : Type 0} (A B : V → List ℕ → Type 0) → IsWithin A B → HasSome A → HasSome B
 HasSome-within A B f some = record { value = some.value; bytes = some.bytes; spelled = f.within some.value some.bytes some.spelled }
 
--- the parts of a pair of which the second doesn't depend on the first
+-- the parts of a pair whose second part doesn't depend on the first
 pub HasSome-first : {V W : Type 0} (A : V → List ℕ → Type 0) (B : V → W → List ℕ → Type 0) → HasSome (IsPair A B) → HasSome A
 HasSome-first A B some = record { value = some.value.0; bytes = some.spelled.front; spelled = some.spelled.first }
 
@@ -69,7 +69,7 @@ HasSome-second_of A B some = record { value = some.value.1; bytes = some.spelled
 
 -- ---- what begins
 
--- nothing at all begins what is spelled
+-- no bytes are a prefix of any spelling
 pub Begins-none : {V : Type 0} (A : V → List ℕ → Type 0) → HasSome A → Begins A []
 Begins-none A some = record { value = some.value; rest = some.bytes; spelled = some.spelled }
 

@@ -1,29 +1,30 @@
--- Laws of spellings made of spellings: of none does one begin another; each value has one; the one is within the other.
+-- Laws of spellings made of spellings: none is a prefix of another; each value has one; spellings in one style are spellings
+-- in the other.
 use Rattle.std.proofs.Common.{◌≡◌, ℕ, Bool, true, false, List, [], ◌∷◌, ◌++◌, Option, Some, None, refl, sym, ap, subst, ◌∙◌, append_assoc}
-use Rattle.oas_num.specs.Grammar.{OneFront, IsPair, IsSuch, IsImage, IsThere, IsEach, IsCount, IsByte}
-use Rattle.oas_num.specs.Laws.GrammarLaws.{OneFront-pair, after_same}
+use Rattle.oas_num.specs.Grammar.{PrefixFree, IsPair, IsSuch, IsImage, IsThere, IsEach, IsCount, IsByte}
+use Rattle.oas_num.specs.Laws.GrammarLaws.{PrefixFree-pair, after_same}
 use Rattle.oas_num.specs.Combinators.{IsExactly, IsNever, IsEither, IsKeyed, IsApart, OneSpelling, IsWithin}
 
--- ---- none begins another
+-- ---- none is a prefix of another
 
-pub OneFront-exactly : (wanted : List ℕ) → OneFront (IsExactly wanted)
-OneFront-exactly wanted = record { one = λ v w a b x y p q e. (p ∙ sym q, refl) }
+pub PrefixFree-exactly : (wanted : List ℕ) → PrefixFree (IsExactly wanted)
+PrefixFree-exactly wanted = record { one = λ v w a b x y p q e. (p ∙ sym q, refl) }
 
-pub OneFront-never : {V : Type 0} → OneFront {V = V} IsNever
-OneFront-never = record { one = λ v w a b x y p q e. absurd p }
+pub PrefixFree-never : {V : Type 0} → PrefixFree {V = V} IsNever
+PrefixFree-never = record { one = λ v w a b x y p q e. absurd p }
 
-pub OneFront-either : {V : Type 0} (test : Bool) (A B : V → List ℕ → Type 0) → OneFront A → OneFront B → OneFront (IsEither test A B)
-OneFront-either true A B f g = record { one = f.one }
-OneFront-either false A B f g = record { one = g.one }
+pub PrefixFree-either : {V : Type 0} (test : Bool) (A B : V → List ℕ → Type 0) → PrefixFree A → PrefixFree B → PrefixFree (IsEither test A B)
+PrefixFree-either true A B f g = record { one = f.one }
+PrefixFree-either false A B f g = record { one = g.one }
 
-pub OneFront-keyed : {K V : Type 0} (key : V → K) (A : K → List ℕ → Type 0) (B : K → V → List ℕ → Type 0) → OneFront A → ((k : K) → OneFront (B k)) → OneFront (IsKeyed key A B)
-OneFront-keyed key A B f g = record {
+pub PrefixFree-keyed : {K V : Type 0} (key : V → K) (A : K → List ℕ → Type 0) (B : K → V → List ℕ → Type 0) → PrefixFree A → ((k : K) → PrefixFree (B k)) → PrefixFree (IsKeyed key A B)
+PrefixFree-keyed key A B f g = record {
   one = λ v w a b x y p q e.
-      let both = (OneFront-pair A B f g).one (key v, v) (key w, w) a b x y p q e in
+      let both = (PrefixFree-pair A B f g).one (key v, v) (key w, w) a b x y p q e in
       (both.0, ap (λ p. p.1) both.1);
 }
 
-until_one : {V W : Type 0} (A : V → List ℕ → Type 0) (E : W → List ℕ → Type 0) → OneFront A → OneFront E → IsApart A E
+until_one : {V W : Type 0} (A : V → List ℕ → Type 0) (E : W → List ℕ → Type 0) → PrefixFree A → PrefixFree E → IsApart A E
     → (vs ws : List V) (v w : W) (a b c d x y : List ℕ) → IsEach A vs a → IsEach A ws b → E v c → E w d → a ++ (c ++ x) ≡ b ++ (d ++ y)
     → (a ++ c ≡ b ++ d) × ◌≡◌ {A = List V × W} (vs, v) (ws, w)
 until_one A E f g h [] [] v w a b c d x y p q r s e =
@@ -46,9 +47,9 @@ until_one A E f g h (t ∷ ts) (u ∷ us) v w a b c d x y p q r s e =
     let right : b ++ d ≡ q.0 ++ (q.1 ++ d) = ap (λ (m : List ℕ). m ++ d) q.4 ∙ append_assoc q.0 q.1 d in
     (left ∙ (λ i. one.0 i ++ more.0 i) ∙ sym right, (λ i. (one.1 i ∷ (more.1 i).0, (more.1 i).1)))
 
--- so many of the one until there is the other
-pub OneFront-until : {V W : Type 0} (A : V → List ℕ → Type 0) (E : W → List ℕ → Type 0) → OneFront A → OneFront E → IsApart A E → OneFront (IsPair (IsEach A) (λ _. E))
-OneFront-until A E f g h = record {
+-- this many of the one, and then the other
+pub PrefixFree-until : {V W : Type 0} (A : V → List ℕ → Type 0) (E : W → List ℕ → Type 0) → PrefixFree A → PrefixFree E → IsApart A E → PrefixFree (IsPair (IsEach A) (λ _. E))
+PrefixFree-until A E f g h = record {
   one = λ v w a b x y p q e.
       let e1 : p.front ++ (p.back ++ x) ≡ q.front ++ (q.back ++ y) =
       sym (append_assoc p.front p.back x) ∙ ap (λ (c : List ℕ). c ++ x) (sym p.joined) ∙ e ∙ ap (λ (c : List ℕ). c ++ y) q.joined ∙ append_assoc q.front q.back y in
@@ -85,7 +86,7 @@ OneSpelling-keyed key A B f g = record { same = λ v a b p q. (OneSpelling-pair 
 pub OneSpelling-such : {V : Type 0} (P : V → Type 0) (A : V → List ℕ → Type 0) → OneSpelling A → OneSpelling (IsSuch P A)
 OneSpelling-such P A f = record { same = λ v a b p q. f.same v a b p.spelled q.spelled }
 
--- what stands for one value only
+-- what denotes one value only
 pub OneSpelling-image : {U V : Type 0} (f : U → V) (back : V → U) (A : U → List ℕ → Type 0) → ((u : U) → back (f u) ≡ u) → OneSpelling A → OneSpelling (IsImage f A)
 OneSpelling-image f back A inverse law = record {
   same = λ v a b p q.
@@ -115,7 +116,7 @@ there_same false A f None a b p q = p ∙ sym q
 pub OneSpelling-there : {V : Type 0} (here : Bool) (A : V → List ℕ → Type 0) → OneSpelling A → OneSpelling (IsThere here A)
 OneSpelling-there here A f = record { same = there_same here A f }
 
--- ---- the one is within the other
+-- ---- spellings in one style are spellings in the other
 
 pub IsWithin-itself : {V : Type 0} (A : V → List ℕ → Type 0) → IsWithin A A
 IsWithin-itself A = record { within = λ v a p. p }
@@ -158,6 +159,6 @@ there_within false A B f None a p = p
 pub IsWithin-there : {V : Type 0} (here : Bool) (A B : V → List ℕ → Type 0) → IsWithin A B → IsWithin (IsThere here A) (IsThere here B)
 IsWithin-there here A B f = record { within = there_within here A B f }
 
--- what is within spellings of which none begins another is so too
-pub OneFront-within : {V : Type 0} (A B : V → List ℕ → Type 0) → IsWithin A B → OneFront B → OneFront A
-OneFront-within A B f law = record { one = λ v w a b x y p q e. law.one v w a b x y (f.within v a p) (f.within w b q) e }
+-- spellings among prefix-free spellings are prefix-free
+pub PrefixFree-within : {V : Type 0} (A B : V → List ℕ → Type 0) → IsWithin A B → PrefixFree B → PrefixFree A
+PrefixFree-within A B f law = record { one = λ v w a b x y p q e. law.one v w a b x y (f.within v a p) (f.within w b q) e }

@@ -1,53 +1,54 @@
--- The laws of deltas: no spelling begins another; a g-delta has one spelling in the shortest style, which is one of its spellings.
+-- The laws of deltas: no spelling is a prefix of another; a g-delta has one spelling in the shortest style, which is one of
+-- its spellings.
 use Rattle.std.proofs.Common.{refl, ℤ, pos, negsuc, nat_abs, ◌<◌, ◌^◌, ◌≡◌, ℕ, ◌+◌, ◌*◌, ◌/◌, ◌%◌, List, Some, sym, ap, ◌∙◌, arith}
 use Rattle.oas_num.specs.declared.deltas.Delta1.{Delta1}
 use Rattle.oas_num.specs.declared.deltas.GDelta.{GDelta}
 use Rattle.oas_num.specs.Begun.{HasSome}
-use Rattle.oas_num.specs.Grammar.{OneFront, IsPair, IsThere}
-use Rattle.oas_num.specs.Laws.GrammarLaws.{OneFront-pair, OneFront-image, OneFront-there}
+use Rattle.oas_num.specs.Grammar.{PrefixFree, IsPair, IsThere}
+use Rattle.oas_num.specs.Laws.GrammarLaws.{PrefixFree-pair, PrefixFree-image, PrefixFree-there}
 use Rattle.oas_num.specs.Combinators.{OneSpelling, IsWithin}
 use Rattle.oas_num.specs.Laws.CombinatorLaws.{OneSpelling-pair}
 use Rattle.oas_num.specs.Integers.{IsUnsigned, signed_of}
-use Rattle.oas_num.specs.Laws.IntegerLaws.{OneFront-IsUnsigned, OneFront-IsSigned, HasSome-IsUnsigned, HasSome-IsSigned}
+use Rattle.oas_num.specs.Laws.IntegerLaws.{PrefixFree-IsUnsigned, PrefixFree-IsSigned, HasSome-IsUnsigned, HasSome-IsSigned}
 use Rattle.oas_num.specs.Laws.BegunLaws.{HasSome-image, HasSome-there, HasSome-within}
 use Rattle.oas_num.specs.Style.{Style, Any, Shortest, unsigned_in, code}
-use Rattle.oas_num.specs.Laws.StyleLaws.{OneFront-unsigned, OneSpelling-unsigned, code-signed_of, shortest-IsShortest}
+use Rattle.oas_num.specs.Laws.StyleLaws.{PrefixFree-unsigned, OneSpelling-unsigned, code-signed_of, shortest-IsShortest}
 use Rattle.oas_num.specs.Writing.{shortest, shortest_gdelta}
 use Rattle.oas_num.specs.Deltas.{SpellsDelta1, SpellsDelta2, SpellsDelta3, SpellsGDelta, delta2_of, delta3_of, has_second, gdelta_of, gdelta_from, IsNumbers, long_numbers, gdelta_in, step}
 
--- of no 1-delta does one spelling begin another
-pub Delta1-one_front : OneFront SpellsDelta1
+-- no spelling of a 1-delta is a prefix of another
+pub Delta1-one_front : PrefixFree SpellsDelta1
 Delta1-one_front = record {
   one = λ v w a b x y p q e.
-      let same = OneFront-IsSigned.one v.0 w.0 a b x y p q e in
+      let same = PrefixFree-IsSigned.one v.0 w.0 a b x y p q e in
       (same.0, ap (λ n. let d : Delta1 = record { 0 = n } in d) same.1);
 }
 
 -- nor of a 2-delta
-pub Delta2-one_front : OneFront SpellsDelta2
-Delta2-one_front = OneFront-image delta2_of IsUnsigned OneFront-IsUnsigned
+pub Delta2-one_front : PrefixFree SpellsDelta2
+Delta2-one_front = PrefixFree-image delta2_of IsUnsigned PrefixFree-IsUnsigned
 
 -- nor of a 3-delta
-pub Delta3-one_front : OneFront SpellsDelta3
-Delta3-one_front = OneFront-image delta3_of IsUnsigned OneFront-IsUnsigned
+pub Delta3-one_front : PrefixFree SpellsDelta3
+Delta3-one_front = PrefixFree-image delta3_of IsUnsigned PrefixFree-IsUnsigned
 
--- the second number, where it is there
-pub OneFront-second : (first : ℕ) → OneFront (IsThere (has_second first) IsUnsigned)
-OneFront-second first = OneFront-there (has_second first) IsUnsigned OneFront-IsUnsigned
+-- the second number, if there is one
+pub PrefixFree-second : (first : ℕ) → PrefixFree (IsThere (has_second first) IsUnsigned)
+PrefixFree-second first = PrefixFree-there (has_second first) IsUnsigned PrefixFree-IsUnsigned
 
-OneFront-numbers : OneFront IsNumbers
-OneFront-numbers = OneFront-pair IsUnsigned (λ first. IsThere (has_second first) IsUnsigned) OneFront-IsUnsigned OneFront-second
+PrefixFree-numbers : PrefixFree IsNumbers
+PrefixFree-numbers = PrefixFree-pair IsUnsigned (λ first. IsThere (has_second first) IsUnsigned) PrefixFree-IsUnsigned PrefixFree-second
 
 -- nor of a g-delta
-pub GDelta-one_front : OneFront SpellsGDelta
-GDelta-one_front = OneFront-image gdelta_of IsNumbers OneFront-numbers
+pub GDelta-one_front : PrefixFree SpellsGDelta
+GDelta-one_front = PrefixFree-image gdelta_of IsNumbers PrefixFree-numbers
 
--- the step that the numbers of form 2 stand for
+-- the step of the numbers of form 2
 pub long_numbers-step : (d : GDelta) → step (signed_of (code d.dx)) (signed_of (code d.dy)) ≡ d
 long_numbers-step d = (λ i. step (code-signed_of d.dx i) (code-signed_of d.dy i))
 
-OneFront-long : OneFront (IsPair (unsigned_in Shortest) (λ _. unsigned_in Shortest))
-OneFront-long = OneFront-pair (unsigned_in Shortest) (λ _. unsigned_in Shortest) (OneFront-unsigned Shortest) (λ _. OneFront-unsigned Shortest)
+PrefixFree-long : PrefixFree (IsPair (unsigned_in Shortest) (λ _. unsigned_in Shortest))
+PrefixFree-long = PrefixFree-pair (unsigned_in Shortest) (λ _. unsigned_in Shortest) (PrefixFree-unsigned Shortest) (λ _. PrefixFree-unsigned Shortest)
 
 same_codes : (d e : GDelta) → 2 * code d.dx + 1 ≡ 2 * code e.dx + 1 → code d.dy ≡ code e.dy → d ≡ e
 same_codes d e p q =
@@ -55,11 +56,11 @@ same_codes d e p q =
     sym (long_numbers-step d) ∙ (λ i. step (signed_of (x i)) (signed_of (q i))) ∙ long_numbers-step e
 
 -- in any style
-pub OneFront-gdelta : (style : Style) → OneFront (gdelta_in style)
-OneFront-gdelta Any = record { one = GDelta-one_front.one }
-OneFront-gdelta Shortest = record {
+pub PrefixFree-gdelta : (style : Style) → PrefixFree (gdelta_in style)
+PrefixFree-gdelta Any = record { one = GDelta-one_front.one }
+PrefixFree-gdelta Shortest = record {
   one = λ d e a b x y p q same.
-      let both = OneFront-long.one (long_numbers d) (long_numbers e) a b x y p q same in
+      let both = PrefixFree-long.one (long_numbers d) (long_numbers e) a b x y p q same in
       (both.0, same_codes d e (ap (λ n. n.0) both.1) (ap (λ n. n.1) both.1));
 }
 
@@ -78,7 +79,7 @@ long_is d = rw (long_first (code d.dx)).0 (long_numbers-step d)
 there : (c n : ℕ) (bytes : List ℕ) → IsUnsigned n bytes → IsThere (has_second (2 * c + 1)) IsUnsigned (Some n) bytes
 there c n bytes h = rw (long_first c).1 h
 
--- and it is one that the standard has
+-- and it is one that the standard allows
 pub IsWithin-gdelta : IsWithin (gdelta_in Shortest) (gdelta_in Any)
 IsWithin-gdelta = record {
   within = λ d a p. record {

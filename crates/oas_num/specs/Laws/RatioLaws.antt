@@ -1,4 +1,4 @@
--- What lowest terms are: they are there for each fraction with positive parts, and they are one.
+-- Lowest terms: each fraction with positive parts has them, and only one.
 use Rattle.std.proofs.Common.{◌≡◌, ℕ, ◌*◌, ◌/◌, zero, suc, ◌<◌, sym, ap, ◌∙◌, arith}
 use Rattle.std.specs.Int.{IsGcd}
 use Rattle.std.proofs.Math.Nat.{one-dvd, div-mul_cancel, dvd_of_mul-dvd-mul_right, mul-dvd-mul_right, pos_of_dvd_of_pos, eq_of_mul-eq-mul_right, one-mul}

@@ -3,29 +3,29 @@ use Rattle.std.proofs.Common.{◌≡◌, ℕ, ◌+◌, ◌<◌, ◌≤◌, List,
 use Rattle.std.specs.Prelude.{◌==◌, ◌%◌, if◌then◌else◌}
 use Rattle.oas_num.specs.declared.reals.Real.{Real}
 use Rattle.oas_num.specs.Begun.{HasSome}
-use Rattle.oas_num.specs.Grammar.{OneFront, IsPair, IsSuch, IsThere}
-use Rattle.oas_num.specs.Laws.GrammarLaws.{OneFront-pair, OneFront-such, OneFront-image, OneFront-there}
+use Rattle.oas_num.specs.Grammar.{PrefixFree, IsPair, IsSuch, IsThere}
+use Rattle.oas_num.specs.Laws.GrammarLaws.{PrefixFree-pair, PrefixFree-such, PrefixFree-image, PrefixFree-there}
 use Rattle.oas_num.specs.Combinators.{OneSpelling, IsWithin}
-use Rattle.oas_num.specs.Laws.CombinatorLaws.{OneSpelling-keyed, OneSpelling-pair, OneFront-within}
+use Rattle.oas_num.specs.Laws.CombinatorLaws.{OneSpelling-keyed, OneSpelling-pair, PrefixFree-within}
 use Rattle.oas_num.specs.Integers.{IsUnsigned}
-use Rattle.oas_num.specs.Laws.IntegerLaws.{OneFront-IsUnsigned, HasSome-IsUnsigned, zero_spelled}
+use Rattle.oas_num.specs.Laws.IntegerLaws.{PrefixFree-IsUnsigned, HasSome-IsUnsigned, zero_spelled}
 use Rattle.oas_num.specs.Style.{Style, Any, Shortest, IsShortest}
 use Rattle.oas_num.specs.Laws.StyleLaws.{OneSpelling-unsigned, shortest-IsShortest}
 use Rattle.oas_num.specs.Writing.{shortest}
 use Rattle.oas_num.specs.Laws.BegunLaws.{HasSome-such, HasSome-pair, HasSome-there, HasSome-within}
 use Rattle.oas_num.specs.Reals.{has_num, has_den, IsFraction, SpellsParts, SpellsReal, real_of, real_in, kind_of, IsPart, ShortestParts, part_of}
 
-pub OneFront-kind : OneFront (IsSuch IsFraction IsUnsigned)
-OneFront-kind = OneFront-such IsFraction IsUnsigned OneFront-IsUnsigned
+pub PrefixFree-kind : PrefixFree (IsSuch IsFraction IsUnsigned)
+PrefixFree-kind = PrefixFree-such IsFraction IsUnsigned PrefixFree-IsUnsigned
 
-pub OneFront-part : (here : Bool) → OneFront (IsThere here IsUnsigned)
-OneFront-part here = OneFront-there here IsUnsigned OneFront-IsUnsigned
+pub PrefixFree-part : (here : Bool) → PrefixFree (IsThere here IsUnsigned)
+PrefixFree-part here = PrefixFree-there here IsUnsigned PrefixFree-IsUnsigned
 
-pub OneFront-parts : (kind : ℕ) → OneFront (SpellsParts kind)
-OneFront-parts kind = OneFront-pair (IsThere (has_num kind) IsUnsigned) (λ _. IsThere (has_den kind) IsUnsigned) (OneFront-part (has_num kind)) (λ _. OneFront-part (has_den kind))
+pub PrefixFree-parts : (kind : ℕ) → PrefixFree (SpellsParts kind)
+PrefixFree-parts kind = PrefixFree-pair (IsThere (has_num kind) IsUnsigned) (λ _. IsThere (has_den kind) IsUnsigned) (PrefixFree-part (has_num kind)) (λ _. PrefixFree-part (has_den kind))
 
-pub OneFront-SpellsReal : OneFront SpellsReal
-OneFront-SpellsReal = OneFront-image real_of (IsPair (IsSuch IsFraction IsUnsigned) SpellsParts) (OneFront-pair (IsSuch IsFraction IsUnsigned) SpellsParts OneFront-kind OneFront-parts)
+pub PrefixFree-SpellsReal : PrefixFree SpellsReal
+PrefixFree-SpellsReal = PrefixFree-image real_of (IsPair (IsSuch IsFraction IsUnsigned) SpellsParts) (PrefixFree-pair (IsSuch IsFraction IsUnsigned) SpellsParts PrefixFree-kind PrefixFree-parts)
 
 -- ---- the shortest
 
@@ -39,7 +39,7 @@ OneSpelling-real = OneSpelling-keyed kind_of IsShortest ShortestParts OneSpellin
       (λ _. record { same = part_same (has_den kind) })).same (r.num, r.den) a b p q;
 })
 
--- the part as it is there
+-- a part where there is one
 abbrev given : Bool → ℕ → Option ℕ
 given true n = Some n
 given false n = None
@@ -87,9 +87,9 @@ real_within r a p =
 pub IsWithin-real : IsWithin (real_in Shortest) (real_in Any)
 IsWithin-real = record { within = real_within }
 
-pub OneFront-real : (style : Style) → OneFront (real_in style)
-OneFront-real Any = OneFront-SpellsReal
-OneFront-real Shortest = OneFront-within _ _ IsWithin-real OneFront-SpellsReal
+pub PrefixFree-real : (style : Style) → PrefixFree (real_in style)
+PrefixFree-real Any = PrefixFree-SpellsReal
+PrefixFree-real Shortest = PrefixFree-within _ _ IsWithin-real PrefixFree-SpellsReal
 
 -- ---- some are spelled
 

@@ -3,13 +3,13 @@ use Rattle.std.proofs.Common.{◌≡◌, ℕ, ℤ, pos, negsuc, zero, suc, ◌+�
 use Rattle.std.specs.Prelude.{neg_ℤ}
 use Rattle.std.proofs.lemmas.Bool.{cases_lt}
 use Rattle.oas_num.specs.Begun.{HasSome}
-use Rattle.oas_num.specs.Grammar.{OneFront}
+use Rattle.oas_num.specs.Grammar.{PrefixFree}
 use Rattle.oas_num.specs.Integers.{IsUnsigned, signed_of, value_of}
-use Rattle.oas_num.specs.Laws.IntegerLaws.{OneFront-IsUnsigned, OneFront-IsSigned}
+use Rattle.oas_num.specs.Laws.IntegerLaws.{PrefixFree-IsUnsigned, PrefixFree-IsSigned}
 use Rattle.oas_num.specs.Writing.{shortest}
 use Rattle.oas_num.specs.Laws.WritingLaws.{shortest_spells, shortest_least, shortest_only}
 use Rattle.oas_num.specs.Combinators.{OneSpelling, IsWithin}
-use Rattle.oas_num.specs.Laws.CombinatorLaws.{OneFront-within}
+use Rattle.oas_num.specs.Laws.CombinatorLaws.{PrefixFree-within}
 use Rattle.oas_num.specs.Style.{Style, Any, Shortest, IsShortest, IsShortestSigned, unsigned_in, signed_in, code}
 
 pub IsShortest-is : (n : ℕ) (a : List ℕ) → IsShortest n a → a ≡ shortest n
@@ -22,7 +22,7 @@ shortest-IsShortest n lt = record { spelled = shortest_spells n lt; least = λ o
 pub OneSpelling-unsigned : OneSpelling (unsigned_in Shortest)
 OneSpelling-unsigned = record { same = λ n a b p q. IsShortest-is n a p ∙ sym (IsShortest-is n b q) }
 
--- and it is one that the standard has
+-- and it is one that the standard allows
 pub IsWithin-unsigned : IsWithin (unsigned_in Shortest) (unsigned_in Any)
 IsWithin-unsigned = record { within = λ n a p. p.spelled }
 
@@ -70,14 +70,14 @@ one_byte n m (c ∷ a) x y lt h e =
       | inr s ↦ absurd (omega (arith, head, s.0))
     ]
 
--- no number's spelling begins another, in any style
-pub OneFront-unsigned : (style : Style) → OneFront (unsigned_in style)
-OneFront-unsigned Any = OneFront-IsUnsigned
-OneFront-unsigned Shortest = OneFront-within _ _ IsWithin-unsigned OneFront-IsUnsigned
+-- no number's spelling is a prefix of another, in any style
+pub PrefixFree-unsigned : (style : Style) → PrefixFree (unsigned_in style)
+PrefixFree-unsigned Any = PrefixFree-IsUnsigned
+PrefixFree-unsigned Shortest = PrefixFree-within _ _ IsWithin-unsigned PrefixFree-IsUnsigned
 
-pub OneFront-signed : (style : Style) → OneFront (signed_in style)
-OneFront-signed Any = OneFront-IsSigned
-OneFront-signed Shortest = OneFront-within _ _ IsWithin-signed OneFront-IsSigned
+pub PrefixFree-signed : (style : Style) → PrefixFree (signed_in style)
+PrefixFree-signed Any = PrefixFree-IsSigned
+PrefixFree-signed Shortest = PrefixFree-within _ _ IsWithin-signed PrefixFree-IsSigned
 
 -- each number has a spelling, in any style
 pub unsigned_spelled : (style : Style) (n : ℕ) → n < 2 ^ 64 → unsigned_in style n (shortest n)

@@ -3,22 +3,22 @@ use Rattle.std.proofs.Common.{ℕ, ◌<◌, List, [], ◌∷◌, ◌++◌, lengt
 use Rattle.oas_num.specs.declared.texts.TextClass.{TextClass}
 use Rattle.oas_num.specs.declared.texts.TextClass.TheVariants as classes
 use Rattle.oas_num.specs.Begun.{HasSome}
-use Rattle.oas_num.specs.Grammar.{OneFront, IsSuch, IsEach, IsCount, IsByte}
-use Rattle.oas_num.specs.Laws.GrammarLaws.{OneFront-such, OneFront-count, OneFront-image, OneFront-byte}
+use Rattle.oas_num.specs.Grammar.{PrefixFree, IsSuch, IsEach, IsCount, IsByte}
+use Rattle.oas_num.specs.Laws.GrammarLaws.{PrefixFree-such, PrefixFree-count, PrefixFree-image, PrefixFree-byte}
 use Rattle.oas_num.specs.Combinators.{OneSpelling, IsWithin}
-use Rattle.oas_num.specs.Laws.CombinatorLaws.{OneFront-keyed, OneSpelling-keyed, OneSpelling-such, OneSpelling-count, OneSpelling-byte, IsWithin-keyed, IsWithin-such, IsWithin-itself}
+use Rattle.oas_num.specs.Laws.CombinatorLaws.{PrefixFree-keyed, OneSpelling-keyed, OneSpelling-such, OneSpelling-count, OneSpelling-byte, IsWithin-keyed, IsWithin-such, IsWithin-itself}
 use Rattle.oas_num.specs.Style.{Style, Any, Shortest, unsigned_in}
-use Rattle.oas_num.specs.Laws.StyleLaws.{OneFront-unsigned, OneSpelling-unsigned, IsWithin-unsigned, shortest-IsShortest, unsigned_spelled}
+use Rattle.oas_num.specs.Laws.StyleLaws.{PrefixFree-unsigned, OneSpelling-unsigned, IsWithin-unsigned, shortest-IsShortest, unsigned_spelled}
 use Rattle.oas_num.specs.Laws.BegunLaws.{HasSome-byte, HasSome-count, HasSome-image, HasSome-keyed, HasSome-within}
 use Rattle.oas_num.specs.Writing.{shortest}
-use Rattle.oas_num.specs.Texts.{IsNameByte, IsLabelByte, IsIn, IsOf, IsName, IsLabel, IsText, IsPositive, IsPassed, SpellsPadding, padding_of, padding_length, name_in, label_in}
+use Rattle.oas_num.specs.Texts.{IsNameByte, IsLabelByte, IsIn, IsOf, IsName, IsLabel, IsText, IsPositive, IsSkipped, SpellsPadding, padding_of, padding_length, name_in, label_in}
 
 -- the bytes of a text
-pub OneFront-class : (class : ℕ → Type 0) → OneFront (IsSuch class IsByte)
-OneFront-class class = OneFront-such class IsByte OneFront-byte
+pub PrefixFree-class : (class : ℕ → Type 0) → PrefixFree (IsSuch class IsByte)
+PrefixFree-class class = PrefixFree-such class IsByte PrefixFree-byte
 
-pub OneFront-text : (class : ℕ → Type 0) (count : ℕ) → OneFront (IsText class count)
-OneFront-text class count = OneFront-count (IsSuch class IsByte) count (OneFront-class class)
+pub PrefixFree-text : (class : ℕ → Type 0) (count : ℕ) → PrefixFree (IsText class count)
+PrefixFree-text class count = PrefixFree-count (IsSuch class IsByte) count (PrefixFree-class class)
 
 pub OneSpelling-text : (class : ℕ → Type 0) (count : ℕ) → OneSpelling (IsText class count)
 OneSpelling-text class count = OneSpelling-count (IsSuch class IsByte) count (OneSpelling-such class IsByte OneSpelling-byte)
@@ -31,7 +31,7 @@ each_itself class small (b ∷ bytes) h = (b ∷ [], bytes, record { holds = h.0
 pub text_itself : (class : ℕ → Type 0) → ((b : ℕ) → class b → b < 256) → (bytes : List ℕ) → IsOf class bytes → IsText class (length bytes) bytes bytes
 text_itself class small bytes h = record { len = refl; each = each_itself class small bytes h }
 
--- and what is spelled as a text of a class is of it
+-- and what is spelled as a text of a class is of that class
 each_of : (class : ℕ → Type 0) (text bytes : List ℕ) → IsEach (IsSuch class IsByte) text bytes → IsOf class text
 each_of class [] bytes h = tt
 each_of class (b ∷ text) bytes h = (h.2.holds, each_of class text h.1 h.3)
@@ -40,11 +40,11 @@ pub text_of : {class : ℕ → Type 0} {count : ℕ} {text bytes : List ℕ} →
 text_of {class = class} {text = text} {bytes = bytes} h = each_of class text bytes h.each
 
 -- n-strings
-pub OneFront-positive : (style : Style) → OneFront (IsSuch IsPositive (unsigned_in style))
-OneFront-positive style = OneFront-such IsPositive (unsigned_in style) (OneFront-unsigned style)
+pub PrefixFree-positive : (style : Style) → PrefixFree (IsSuch IsPositive (unsigned_in style))
+PrefixFree-positive style = PrefixFree-such IsPositive (unsigned_in style) (PrefixFree-unsigned style)
 
-pub OneFront-name : (style : Style) → OneFront (name_in style)
-OneFront-name style = OneFront-keyed length (IsSuch IsPositive (unsigned_in style)) (λ count. IsText IsNameByte count) (OneFront-positive style) (OneFront-text IsNameByte)
+pub PrefixFree-name : (style : Style) → PrefixFree (name_in style)
+PrefixFree-name style = PrefixFree-keyed length (IsSuch IsPositive (unsigned_in style)) (λ count. IsText IsNameByte count) (PrefixFree-positive style) (PrefixFree-text IsNameByte)
 
 pub OneSpelling-name : OneSpelling (name_in Shortest)
 OneSpelling-name = OneSpelling-keyed length (IsSuch IsPositive (unsigned_in Shortest)) (λ count. IsText IsNameByte count)
@@ -56,8 +56,8 @@ IsWithin-name = IsWithin-keyed length (IsSuch IsPositive (unsigned_in Shortest))
     (IsWithin-such IsPositive (unsigned_in Shortest) (unsigned_in Any) IsWithin-unsigned) (λ count. IsWithin-itself (IsText IsNameByte count))
 
 -- a-strings
-pub OneFront-label : (style : Style) → OneFront (label_in style)
-OneFront-label style = OneFront-keyed length (unsigned_in style) (λ count. IsText IsLabelByte count) (OneFront-unsigned style) (OneFront-text IsLabelByte)
+pub PrefixFree-label : (style : Style) → PrefixFree (label_in style)
+PrefixFree-label style = PrefixFree-keyed length (unsigned_in style) (λ count. IsText IsLabelByte count) (PrefixFree-unsigned style) (PrefixFree-text IsLabelByte)
 
 pub OneSpelling-label : OneSpelling (label_in Shortest)
 OneSpelling-label = OneSpelling-keyed length (unsigned_in Shortest) (λ count. IsText IsLabelByte count) OneSpelling-unsigned (OneSpelling-text IsLabelByte)
@@ -85,16 +85,16 @@ label_spelled label h = record {
   joined = refl;
 }
 
--- passed bytes
-pub OneFront-passed : (count : ℕ) → OneFront (IsPassed count)
-OneFront-passed count = OneFront-image padding_of (IsCount IsByte count) (OneFront-count IsByte count OneFront-byte)
+-- skipped bytes
+pub PrefixFree-passed : (count : ℕ) → PrefixFree (IsSkipped count)
+PrefixFree-passed count = PrefixFree-image padding_of (IsCount IsByte count) (PrefixFree-count IsByte count PrefixFree-byte)
 
-pub OneFront-padding : OneFront SpellsPadding
-OneFront-padding = OneFront-keyed padding_length (unsigned_in Any) IsPassed (OneFront-unsigned Any) OneFront-passed
+pub PrefixFree-padding : PrefixFree SpellsPadding
+PrefixFree-padding = PrefixFree-keyed padding_length (unsigned_in Any) IsSkipped (PrefixFree-unsigned Any) PrefixFree-passed
 
 -- ---- some are spelled
 
--- an exclamation mark is of both classes
+-- an exclamation mark is in both classes
 mark : (class : TextClass) → IsIn class 33
 mark classes.Name = (omega arith, omega arith)
 mark classes.Label = (omega arith, omega arith)
@@ -126,9 +126,9 @@ pub HasSome-label : (style : Style) → HasSome (label_in style)
 HasSome-label Any = HasSome-within (label_in Shortest) (label_in Any) IsWithin-label no_label
 HasSome-label Shortest = no_label
 
-pub HasSome-passed : (count : ℕ) → HasSome (IsPassed count)
+pub HasSome-passed : (count : ℕ) → HasSome (IsSkipped count)
 HasSome-passed count = HasSome-image padding_of (IsCount IsByte count) (HasSome-count IsByte count HasSome-byte)
 
 pub HasSome-padding : HasSome SpellsPadding
-HasSome-padding = HasSome-keyed padding_length (unsigned_in Any) IsPassed (record { length = 0 }) (shortest 0) []
+HasSome-padding = HasSome-keyed padding_length (unsigned_in Any) IsSkipped (record { length = 0 }) (shortest 0) []
     (unsigned_spelled Any 0 (omega arith)) (record { from = []; is = refl; spelled = record { len = refl; each = refl } })

@@ -3,7 +3,7 @@ use Rattle.std.specs.Io.KnownBytes.{Appends}
 use Rattle.std.proofs.Common.{◌≡◌, ℕ, ◌^◌, ◌<◌, List, length, Option, length-append, refl, sym, ap, ◌∙◌, arith, MutBor}
 use Rattle.oas_num.specs.Outlet.{Outlet}
 use Rattle.oas_num.specs.declared.refusals.Why.TheVariants.{Write as NotWritten}
-use Rattle.oas_num.specs.Writing.{Puts, PutsFront}
+use Rattle.oas_num.specs.Writing.{Puts, PutsPrefix}
 use Rattle.oas_num.specs.Outlets.{failures_of, unsent, Opens, IsGiven, IsSent}
 use Rattle.oas_num.specs.OutletLaws.{given_since, takes_all, stays, writer_took}
 use Rattle.oas_num.specs.Written.{IsWritten, IsCutOff}
@@ -27,8 +27,8 @@ module _ {W : Type 0} (contents : W → Option (List ℕ)) {writer : MutBor W} {
       let all : length bytes ≡ length g.sent = omega (arith, ap length g.split, ap length h.none_unsent, none, length-append (unsent o) bytes, length-append g.sent g.kept) in
       record { count_is = omega (arith, counted, g.counted, h.none_taken, all, short); took = took_all h puts sent follows }
 
-  -- a fault was met, and the outlet has counted what the writer took
-  pub cut_off : {at : ℕ} → Opens writer o → PutsFront (IsGiven contents) failures_of o bytes p
+  -- a fault occurred, and the outlet has counted what the writer took
+  pub cut_off : {at : ℕ} → Opens writer o → PutsPrefix (IsGiven contents) failures_of o bytes p
       → (writer.ghost_name ≡ p.writer.ghost_name → last ≡ p.writer.now) → at ≡ p.taken → length bytes < 2 ^ 64
       → IsCutOff contents writer.now bytes last (record { at = at; why = NotWritten })
   cut_off h puts follows counted short =

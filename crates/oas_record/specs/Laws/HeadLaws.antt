@@ -1,18 +1,18 @@
--- The laws of the front of a file.
+-- The laws of the head of a file.
 use Rattle.std.proofs.Common.{◌≡◌, ℕ, Bool, false, List, [], ◌∷◌, ◌++◌, inl, refl, sym, subst, arith}
 use Rattle.std.specs.Prelude.{◌==◌}
 use Rattle.oas_num.specs.declared.reals.Real.{Real}
 use Rattle.oas_num.specs.Ratio.{Ratio, IsLowest, Reduces}
 use Rattle.oas_num.specs.Laws.RatioLaws.{one_lowest}
-use Rattle.oas_num.specs.Grammar.{OneFront, IsPair, IsSuch, IsEach}
-use Rattle.oas_num.specs.Laws.GrammarLaws.{OneFront-pair, OneFront-such, OneFront-image}
+use Rattle.oas_num.specs.Grammar.{PrefixFree, IsPair, IsSuch, IsEach}
+use Rattle.oas_num.specs.Laws.GrammarLaws.{PrefixFree-pair, PrefixFree-such, PrefixFree-image}
 use Rattle.oas_num.specs.Combinators.{OneSpelling, IsWithin}
-use Rattle.oas_num.specs.Laws.CombinatorLaws.{OneFront-exactly, OneFront-within, OneSpelling-pair, OneSpelling-such, OneSpelling-exactly, IsWithin-pair, IsWithin-such, IsWithin-image, IsWithin-itself}
+use Rattle.oas_num.specs.Laws.CombinatorLaws.{PrefixFree-exactly, PrefixFree-within, OneSpelling-pair, OneSpelling-such, OneSpelling-exactly, IsWithin-pair, IsWithin-such, IsWithin-image, IsWithin-itself}
 use Rattle.oas_num.specs.Integers.{IsUnsigned}
 use Rattle.oas_num.specs.Style.{Style, Any, Shortest, unsigned_in}
-use Rattle.oas_num.specs.Laws.StyleLaws.{OneFront-unsigned, OneSpelling-unsigned, IsWithin-unsigned}
-use Rattle.oas_num.specs.Laws.TextLaws.{OneFront-label, OneSpelling-label, IsWithin-label}
-use Rattle.oas_num.specs.Laws.RealLaws.{OneFront-real, OneSpelling-real, IsWithin-real}
+use Rattle.oas_num.specs.Laws.StyleLaws.{PrefixFree-unsigned, OneSpelling-unsigned, IsWithin-unsigned}
+use Rattle.oas_num.specs.Laws.TextLaws.{PrefixFree-label, OneSpelling-label, IsWithin-label}
+use Rattle.oas_num.specs.Laws.RealLaws.{PrefixFree-real, OneSpelling-real, IsWithin-real}
 use Rattle.oas_record.specs.declared.heads.Head.{Head}
 use Rattle.oas_record.specs.Ends.{IsNumber, IsOffsets, offsets_if, offsets_part}
 use Rattle.oas_record.specs.Trees.{OneSpelling-image_by}
@@ -20,8 +20,8 @@ use Rattle.oas_record.specs.Heads.{magic, IsMagic, version, version_in, SpellsUn
 
 -- ---- the version
 
-pub OneFront-version : (style : Style) → OneFront (version_in style)
-OneFront-version style = record { one = λ v w a b x y p q e. let one = (OneFront-label style).one version version a b x y p q e in (one.0, refl) }
+pub PrefixFree-version : (style : Style) → PrefixFree (version_in style)
+PrefixFree-version style = record { one = λ v w a b x y p q e. let one = (PrefixFree-label style).one version version a b x y p q e in (one.0, refl) }
 
 pub OneSpelling-version : OneSpelling (version_in Shortest)
 OneSpelling-version = record { same = λ v a b p q. OneSpelling-label.same version a b p q }
@@ -33,12 +33,12 @@ IsWithin-version = record { within = λ v a p. IsWithin-label.within version a p
 
 unit_one : (v w : Ratio) (a b x y : List ℕ) → SpellsUnit v a → SpellsUnit w b → a ++ x ≡ b ++ y → (a ≡ b) × (v ≡ w)
 unit_one v w a b x y p q e =
-    let one = (OneFront-real Any).one p.real q.real a b x y p.spelled q.spelled e in
+    let one = (PrefixFree-real Any).one p.real q.real a b x y p.spelled q.spelled e in
     let reduces : Reduces q.real.num q.real.den v = subst (λ (r : Real). Reduces r.num r.den v) one.1 p.is_unit.reduces in
     (one.0, one_lowest q.real.num q.real.den v w reduces q.is_unit.reduces)
 
-pub OneFront-SpellsUnit : OneFront SpellsUnit
-OneFront-SpellsUnit = record { one = unit_one }
+pub PrefixFree-SpellsUnit : PrefixFree SpellsUnit
+PrefixFree-SpellsUnit = record { one = unit_one }
 
 pub OneSpelling-unit : OneSpelling (unit_in Shortest)
 OneSpelling-unit = record { same = λ v a b p q. OneSpelling-real.same (record { negative = false; num = v.num; den = v.den }) a b p.spelled q.spelled }
@@ -55,15 +55,15 @@ IsWithin-unit = record {
   };
 }
 
-pub OneFront-unit : (style : Style) → OneFront (unit_in style)
-OneFront-unit Any = OneFront-SpellsUnit
-OneFront-unit Shortest = OneFront-within _ _ IsWithin-unit OneFront-SpellsUnit
+pub PrefixFree-unit : (style : Style) → PrefixFree (unit_in style)
+PrefixFree-unit Any = PrefixFree-SpellsUnit
+PrefixFree-unit Shortest = PrefixFree-within _ _ IsWithin-unit PrefixFree-SpellsUnit
 
 -- ---- flag and table-offsets
 
-pub OneFront-flag : (style : Style) → OneFront (flag_in style)
-OneFront-flag Any = OneFront-such IsFlag (unsigned_in Any) (OneFront-unsigned Any)
-OneFront-flag Shortest = OneFront-such (IsNumber 0) (unsigned_in Shortest) (OneFront-unsigned Shortest)
+pub PrefixFree-flag : (style : Style) → PrefixFree (flag_in style)
+PrefixFree-flag Any = PrefixFree-such IsFlag (unsigned_in Any) (PrefixFree-unsigned Any)
+PrefixFree-flag Shortest = PrefixFree-such (IsNumber 0) (unsigned_in Shortest) (PrefixFree-unsigned Shortest)
 
 flag_within : (n : ℕ) (a : List ℕ) → flag_in Shortest n a → flag_in Any n a
 flag_within n a p = record { holds = omega (arith, p.holds); spelled = p.spelled.spelled }
@@ -85,9 +85,9 @@ offsets_within v a p = record { from = twelve_zeros; is = refl; spelled = record
 abbrev with_flag : Style → ℕ × Unit {0} → List ℕ → Type 0
 with_flag style = IsPair (flag_in style) (λ flag. offsets_in style (flag == 0))
 
-OneFront-offsets_in : (style : Style) (there : Bool) → OneFront (offsets_in style there)
-OneFront-offsets_in Any there = (offsets_part there).found.one
-OneFront-offsets_in Shortest there = OneFront-exactly twelve_zeros
+PrefixFree-offsets_in : (style : Style) (there : Bool) → PrefixFree (offsets_in style there)
+PrefixFree-offsets_in Any there = (offsets_part there).found.one
+PrefixFree-offsets_in Shortest there = PrefixFree-exactly twelve_zeros
 
 flags_within : (v : ℕ × Unit {0}) (a : List ℕ) → with_flag Shortest v a → with_flag Any v a
 flags_within v a p =
@@ -106,18 +106,18 @@ with_unit style = IsPair (unit_in style) (λ _. with_flag style)
 abbrev with_version : Style → Unit {0} × (Ratio × (ℕ × Unit {0})) → List ℕ → Type 0
 with_version style = IsPair (version_in style) (λ _. with_unit style)
 
-pub OneFront-start_id : (style : Style) → OneFront (IsSuch (IsNumber 1) (unsigned_in style))
-OneFront-start_id style = OneFront-such (IsNumber 1) (unsigned_in style) (OneFront-unsigned style)
+pub PrefixFree-start_id : (style : Style) → PrefixFree (IsSuch (IsNumber 1) (unsigned_in style))
+PrefixFree-start_id style = PrefixFree-such (IsNumber 1) (unsigned_in style) (PrefixFree-unsigned style)
 
-OneFront-start_parts : (style : Style) → OneFront (start_parts style)
-OneFront-start_parts style =
-    OneFront-pair (IsSuch (IsNumber 1) (unsigned_in style)) (λ _. with_version style) (OneFront-start_id style) (λ _.
-    OneFront-pair (version_in style) (λ _. with_unit style) (OneFront-version style) (λ _.
-    OneFront-pair (unit_in style) (λ _. with_flag style) (OneFront-unit style) (λ _.
-    OneFront-pair (flag_in style) (λ flag. offsets_in style (flag == 0)) (OneFront-flag style) (λ flag. OneFront-offsets_in style (flag == 0)))))
+PrefixFree-start_parts : (style : Style) → PrefixFree (start_parts style)
+PrefixFree-start_parts style =
+    PrefixFree-pair (IsSuch (IsNumber 1) (unsigned_in style)) (λ _. with_version style) (PrefixFree-start_id style) (λ _.
+    PrefixFree-pair (version_in style) (λ _. with_unit style) (PrefixFree-version style) (λ _.
+    PrefixFree-pair (unit_in style) (λ _. with_flag style) (PrefixFree-unit style) (λ _.
+    PrefixFree-pair (flag_in style) (λ flag. offsets_in style (flag == 0)) (PrefixFree-flag style) (λ flag. PrefixFree-offsets_in style (flag == 0)))))
 
-pub OneFront-start : (style : Style) → OneFront (start_in style)
-OneFront-start style = OneFront-image head_of (start_parts style) (OneFront-start_parts style)
+pub PrefixFree-start : (style : Style) → PrefixFree (start_in style)
+PrefixFree-start style = PrefixFree-image head_of (start_parts style) (PrefixFree-start_parts style)
 
 OneSpelling-start_parts : OneSpelling (start_parts Shortest)
 OneSpelling-start_parts =
@@ -144,10 +144,10 @@ IsWithin-start =
     IsWithin-pair (version_in Shortest) (version_in Any) (λ _. with_unit Shortest) (λ _. with_unit Any) IsWithin-version (λ _.
     IsWithin-pair (unit_in Shortest) (unit_in Any) (λ _. with_flag Shortest) (λ _. with_flag Any) IsWithin-unit (λ _. record { within = flags_within }))))
 
--- ---- the front
+-- ---- the head
 
-pub OneFront-head : (style : Style) → OneFront (head_in style)
-OneFront-head style = OneFront-image head_after (IsPair IsMagic (λ _. start_in style)) (OneFront-pair IsMagic (λ _. start_in style) (OneFront-exactly magic) (λ _. OneFront-start style))
+pub PrefixFree-head : (style : Style) → PrefixFree (head_in style)
+PrefixFree-head style = PrefixFree-image head_after (IsPair IsMagic (λ _. start_in style)) (PrefixFree-pair IsMagic (λ _. start_in style) (PrefixFree-exactly magic) (λ _. PrefixFree-start style))
 
 abbrev head_back : Head → Unit {0} × Head
 head_back head = (tt, head)

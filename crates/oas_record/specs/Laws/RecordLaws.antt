@@ -1,12 +1,12 @@
 -- The laws of records, and of lists of them.
 use Rattle.std.proofs.Common.{◌≡◌, ℕ, Bool, List, [], refl, ap, ◌∙◌}
-use Rattle.oas_num.specs.Grammar.{OneFront, IsSuch, IsEach}
-use Rattle.oas_num.specs.Laws.GrammarLaws.{OneFront-such}
+use Rattle.oas_num.specs.Grammar.{PrefixFree, IsSuch, IsEach}
+use Rattle.oas_num.specs.Laws.GrammarLaws.{PrefixFree-such}
 use Rattle.oas_num.specs.Combinators.{IsApart, OneSpelling, IsWithin}
-use Rattle.oas_num.specs.Laws.CombinatorLaws.{OneFront-keyed, OneFront-until, OneFront-within, OneSpelling-keyed, OneSpelling-pair, OneSpelling-each, OneSpelling-such}
+use Rattle.oas_num.specs.Laws.CombinatorLaws.{PrefixFree-keyed, PrefixFree-until, PrefixFree-within, OneSpelling-keyed, OneSpelling-pair, OneSpelling-each, OneSpelling-such}
 use Rattle.oas_num.specs.Laws.CombinatorLaws.{IsWithin-keyed, IsWithin-pair, IsWithin-each, IsWithin-such}
 use Rattle.oas_num.specs.Style.{Style, Any, Shortest, unsigned_in}
-use Rattle.oas_num.specs.Laws.StyleLaws.{OneFront-unsigned, OneSpelling-unsigned, IsWithin-unsigned}
+use Rattle.oas_num.specs.Laws.StyleLaws.{PrefixFree-unsigned, OneSpelling-unsigned, IsWithin-unsigned}
 use Rattle.oas_record.specs.declared.records.Record.{Record}
 use Rattle.oas_record.specs.Records.{id_of, after, after_id, parts_in, record_in, IsInner, IsLast, records_in}
 
@@ -16,15 +16,15 @@ OneSpelling-after_id in_end id = (after in_end id).one
 IsWithin-after_id : (in_end : Bool) (id : ℕ) → IsWithin (after_id Shortest in_end id) (after_id Any in_end id)
 IsWithin-after_id in_end id = (after in_end id).within
 
-pub OneFront-after_id : (style : Style) (in_end : Bool) (id : ℕ) → OneFront (after_id style in_end id)
-OneFront-after_id Any in_end id = (after in_end id).found.one
-OneFront-after_id Shortest in_end id = OneFront-within (after_id Shortest in_end id) (after_id Any in_end id) (IsWithin-after_id in_end id) (after in_end id).found.one
+pub PrefixFree-after_id : (style : Style) (in_end : Bool) (id : ℕ) → PrefixFree (after_id style in_end id)
+PrefixFree-after_id Any in_end id = (after in_end id).found.one
+PrefixFree-after_id Shortest in_end id = PrefixFree-within (after_id Shortest in_end id) (after_id Any in_end id) (IsWithin-after_id in_end id) (after in_end id).found.one
 
-pub OneFront-parts : (style : Style) (in_end : Bool) → OneFront (parts_in style in_end)
-OneFront-parts style in_end = OneFront-keyed id_of (unsigned_in style) (after_id style in_end) (OneFront-unsigned style) (OneFront-after_id style in_end)
+pub PrefixFree-parts : (style : Style) (in_end : Bool) → PrefixFree (parts_in style in_end)
+PrefixFree-parts style in_end = PrefixFree-keyed id_of (unsigned_in style) (after_id style in_end) (PrefixFree-unsigned style) (PrefixFree-after_id style in_end)
 
-pub OneFront-record : (style : Style) (in_end : Bool) → OneFront (record_in style in_end)
-OneFront-record style in_end = record { one = λ v w a b x y p q e. (OneFront-parts style in_end).one v w a b x y p.parts q.parts e }
+pub PrefixFree-record : (style : Style) (in_end : Bool) → PrefixFree (record_in style in_end)
+PrefixFree-record style in_end = record { one = λ v w a b x y p q e. (PrefixFree-parts style in_end).one v w a b x y p.parts q.parts e }
 
 pub OneSpelling-record : (in_end : Bool) → OneSpelling (record_in Shortest in_end)
 OneSpelling-record in_end = record {
@@ -43,22 +43,22 @@ IsWithin-record in_end = record {
 
 -- ---- lists of records
 
-pub OneFront-inner : (style : Style) (in_end : Bool) → OneFront (IsSuch IsInner (record_in style in_end))
-OneFront-inner style in_end = OneFront-such IsInner (record_in style in_end) (OneFront-record style in_end)
+pub PrefixFree-inner : (style : Style) (in_end : Bool) → PrefixFree (IsSuch IsInner (record_in style in_end))
+PrefixFree-inner style in_end = PrefixFree-such IsInner (record_in style in_end) (PrefixFree-record style in_end)
 
-pub OneFront-last : (style : Style) (in_end : Bool) → OneFront (IsSuch IsLast (record_in style in_end))
-OneFront-last style in_end = OneFront-such IsLast (record_in style in_end) (OneFront-record style in_end)
+pub PrefixFree-last : (style : Style) (in_end : Bool) → PrefixFree (IsSuch IsLast (record_in style in_end))
+PrefixFree-last style in_end = PrefixFree-such IsLast (record_in style in_end) (PrefixFree-record style in_end)
 
 pub IsApart-last : (style : Style) (in_end : Bool) → IsApart (IsSuch IsInner (record_in style in_end)) (IsSuch IsLast (record_in style in_end))
 IsApart-last style in_end = record {
   apart = λ v w a b x y p q e.
-      let one = (OneFront-record style in_end).one v w a b x y p.spelled q.spelled e in
+      let one = (PrefixFree-record style in_end).one v w a b x y p.spelled q.spelled e in
       p.holds (one.1 ∙ q.holds);
 }
 
-pub OneFront-records : (style : Style) (in_end : Bool) → OneFront (records_in style in_end)
-OneFront-records style in_end = OneFront-until (IsSuch IsInner (record_in style in_end)) (IsSuch IsLast (record_in style in_end))
-    (OneFront-inner style in_end) (OneFront-last style in_end) (IsApart-last style in_end)
+pub PrefixFree-records : (style : Style) (in_end : Bool) → PrefixFree (records_in style in_end)
+PrefixFree-records style in_end = PrefixFree-until (IsSuch IsInner (record_in style in_end)) (IsSuch IsLast (record_in style in_end))
+    (PrefixFree-inner style in_end) (PrefixFree-last style in_end) (IsApart-last style in_end)
 
 pub OneSpelling-records : (in_end : Bool) → OneSpelling (records_in Shortest in_end)
 OneSpelling-records in_end = OneSpelling-pair (IsEach (IsSuch IsInner (record_in Shortest in_end))) (λ _. IsSuch IsLast (record_in Shortest in_end))
@@ -72,9 +72,9 @@ IsWithin-records in_end = IsWithin-pair (IsEach (IsSuch IsInner (record_in Short
     (IsWithin-such IsInner (record_in Shortest in_end) (record_in Any in_end) (IsWithin-record in_end)))
     (λ _. IsWithin-such IsLast (record_in Shortest in_end) (record_in Any in_end) (IsWithin-record in_end))
 
--- one byte list has at most one list of records
+-- a byte list has at most one list of records
 pub one_list : (style : Style) (in_end : Bool) (rs ss : List Record) (r s : Record) (bytes : List ℕ) → records_in style in_end (rs, r) bytes
     → records_in style in_end (ss, s) bytes → (rs ≡ ss) × (r ≡ s)
 one_list style in_end rs ss r s bytes p q =
-    let one = (OneFront-records style in_end).one (rs, r) (ss, s) bytes bytes [] [] p q refl in
+    let one = (PrefixFree-records style in_end).one (rs, r) (ss, s) bytes bytes [] [] p q refl in
     (ap (λ x. x.0) one.1, ap (λ x. x.1) one.1)

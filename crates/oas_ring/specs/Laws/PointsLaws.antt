@@ -1,4 +1,4 @@
--- The order on points and on lists of points is total, and alike is equal.
+-- The orders on points and on lists of points are total, and points or lists that compare as equal are equal.
 use Rattle.std.proofs.Common.{◌≡◌, ◌≢◌, ◌↔◌, ℤ, Bool, false, IsTrue, List, [], ◌∷◌, Ordering, refl, sym, ap, ◌∙◌}
 use Rattle.std.specs.Ordering.{int_cmp, ordering_then, ordering_reverse, is_eq, is_gt, eq_by_cmp}
 use Rattle.std.specs.declared.cmp.Ordering.TheVariants.{Less, Equal, Greater}
@@ -14,7 +14,7 @@ use Rattle.oas_ring.specs.Points.{point_cmp, list_cmp}
 pub points_total : IsTotalOrder point_cmp
 points_total = then_total (on_total (λ p. p.x) int_cmp_total) (on_total (λ p. p.y) int_cmp_total)
 
--- so are lists of points
+-- and so are lists of points
 pub point_lists_total : IsTotalOrder list_cmp
 point_lists_total = lists_total points_total
 
@@ -24,7 +24,7 @@ exact_points a b h =
     ap (λ (p : ℤ × ℤ). record { x = p.0; y = p.1 })
     (exact_pairs int_cmp int_cmp exact_signed exact_signed (a.x, a.y) (b.x, b.y) h)
 
--- where a comparison by two keys answers Equal, both do
+-- where a comparison by two keys returns Equal, both keys do
 both_equal : (r o : Ordering) → ordering_then r o ≡ Equal → (r ≡ Equal) × (o ≡ Equal)
 both_equal Less o h = (h, cc)
 both_equal Equal o h = (refl, h)
@@ -47,7 +47,7 @@ equal_points a b r answer = (
   λ e. answer ∙ ap (λ x. is_eq (list_cmp a x)) (sym e) ∙ ap is_eq (tied_itself point_lists_total a),
 )
 
--- the test of two lists holds exactly of equal ones
+-- the test of two lists holds exactly for equal ones
 pub equal_lists : (a b : List Point) → IsTrue (eq_by_cmp list_cmp a b) ↔ (a ≡ b)
 equal_lists a b = equal_points a b (eq_by_cmp list_cmp a b) refl
 
@@ -79,7 +79,7 @@ not_less o Greater e p h = cc
 pub not_below_itself : (a : List Point) → list_cmp a a ≢ Less
 not_below_itself a h = let e = tied_itself point_lists_total a in cc
 
--- of two lists at most one is below the other
+-- at most one of two lists is below the other
 pub below_one_way : (a b : List Point) → list_cmp a b ≡ Less → list_cmp b a ≢ Less
 below_one_way a b h g =
     let e = point_lists_total.antisymm a b in
@@ -92,7 +92,7 @@ not_below_twice a b c g h =
     let bc = not_greater (list_cmp b c) (list_cmp c b) (point_lists_total.antisymm b c) h in
     not_less (list_cmp a c) (list_cmp c a) (point_lists_total.antisymm a c) (upto point_lists_total c b a bc ab)
 
--- where a comparison of two lists doesn't answer that the first is above, the second is not below the first
+-- where a comparison of two lists doesn't return that the first is greater, the second is not below the first
 pub not_below_from_not_above : (a b : List Point) (o : Ordering) → o ≡ list_cmp a b → o ≢ Greater → list_cmp b a ≢ Less
 not_below_from_not_above a b o e h l = h (e ∙ point_lists_total.antisymm a b ∙ ap ordering_reverse l)
 

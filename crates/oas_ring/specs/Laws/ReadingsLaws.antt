@@ -1,5 +1,5 @@
--- The readings of a ring are the lists that are the same ring; one of them is the least, and rings are the same exactly
--- if their least readings are equal lists.
+-- The readings of a ring are the lists that are the same ring. One of them is the least, and rings are the same exactly if
+-- their least readings are equal lists.
 use Rattle.std.proofs.Common.{◌≡◌, ◌≢◌, ◌↔◌, ◌||◌, ℕ, ◌-◌, ◌<◌, ◌≤◌, Bool, true, false, true≢false, cond, IsTrue, List, [], ◌∷◌, ◌++◌, length, take, refl, sym, ap, ◌∙◌, subst, inl}
 use Rattle.std.proofs.Common.{inr, ⊎_elim, append_assoc, arith}
 use Rattle.std.specs.Prelude.{reverse}
@@ -41,7 +41,7 @@ pub record ReadFrom (p q : List Point) : Type 0 where
   pub within : reading.start < length p
   pub is : q ≡ reading_of p reading
 
--- a place within the list gives the same rotation as any
+-- a place within the list gives the same rotation as any other
 pub place_within : (k : ℕ) (p : List Point) → 0 < length p
     → (j : ℕ) × (j < length p) × (rotation k p ≡ rotation j p)
 place_within k p some = ⊎_elim (λ (h : k < length p). (k, h, refl))
@@ -81,13 +81,13 @@ same_exactly_if_least p q a b g h = (
 pub one_least_reading : (p a b : List Point) → IsLeastReadingOf p a → IsLeastReadingOf p b → a ≡ b
 one_least_reading p a b g h = let same = same_exactly_if_least p p a b g h in same.0 (same_ring_itself p)
 
--- what holds of the lists of both parts holds of all
+-- what holds for the lists of both parts holds for all
 all-append : (P : List Point → Type 0) (xs ys : List (List Point)) → AllByRecursion P xs → AllByRecursion P ys
     → AllByRecursion P (xs ++ ys)
 all-append P [] ys h k = k
 all-append P (x ∷ xs) ys h k = (h.0, all-append P xs ys h.1 k)
 
--- a weaker fact holds of all of them too
+-- a weaker fact holds for all of them too
 all-weaker : (P Q : List Point → Type 0) → ((q : List Point) → P q → Q q) → (xs : List (List Point))
     → AllByRecursion P xs → AllByRecursion Q xs
 all-weaker P Q f [] h = tt
@@ -114,7 +114,7 @@ readings_all p =
     (all-weaker _ _ (λ q r. inl r) _ (rotations_all [] p))
     (all-weaker _ _ (λ q r. inr r) _ (rotations_all [] (reverse p)))
 
--- or holds where its second part does
+-- it also holds where its second part does
 or_right : (a b : Bool) → b ≡ true → (a || b) ≡ true
 or_right true b e = refl
 or_right false b e = e
@@ -134,7 +134,7 @@ any-append q (x ∷ xs) ys =
       | false ↦ any-append q xs ys
     ]
 
--- what holds of each list holds of one that is found among them
+-- what holds for each list holds for one that is found among them
 found : (P : List Point → Type 0) (q : List Point) (xs : List (List Point)) → AllByRecursion P xs
     → is_among q xs ≡ true → P q
 found P q [] all e = absurd (true≢false (sym e))
@@ -144,7 +144,7 @@ found P q (x ∷ xs) all e =
       | false ↦ λ h f. found P q xs all.1 f
     ] refl e
 
--- an equal list is alike by the test
+-- an equal list passes the test
 itself : (p q : List Point) → p ≡ q → eq_by_cmp list_cmp p q ≡ true
 itself p q e = let same = equal_lists p q in same.1 e
 
@@ -175,11 +175,11 @@ readings_has p q h =
     (λ (b : IsRotation (reverse p) q). either ∙ or_right _ _ (rotation_has (reverse p) q b))
     h
 
--- the test is true exactly of the same ring
+-- the test is true exactly for the same ring
 pub is_same_ring-SameRing : (p q : List Point) → IsTrue (is_same_ring p q) ↔ SameRing p q
 is_same_ring-SameRing p q = (λ t. found (SameRing p) q (readings p) (readings_all p) t, λ h. readings_has p q h)
 
--- what holds of a list and of the others holds of the least of them
+-- what holds for a list and for the others holds for the least of them
 least-in : (P : List Point → Type 0) (p : List Point) (qs : List (List Point)) → P p → AllByRecursion P qs
     → P (least_among p qs)
 least-in P p [] h all = h

@@ -1,5 +1,5 @@
--- A ring goes round at most one rectangle, which lies between its first and its third point, and a ring that is the
--- same goes round the same one.
+-- A ring goes round at most one rectangle, which is between its first and its third point; a ring that is the same goes round
+-- the same one.
 use Rattle.std.proofs.Common.{◌≡◌, ℕ, zero, suc, ◌<◌, ℤ, ◌<ℤ◌, Bool, true, false, List, length, Option, None, Some, refl, sym, ap, ◌∙◌, subst, cond, T, arith}
 use Rattle.std.specs.Prelude.{int_lt, IfSome, IfNone}
 use Rattle.std.specs.Bool.{Decides}
@@ -75,7 +75,7 @@ int_lt-Decides a b = (λ e. record { lt = subst T (sym e) tt }, λ h. is_true (i
   is_true true h = refl
   is_true false h = absurd h
 
--- the test of boxes is true exactly of them
+-- the test of boxes is true exactly for them
 pub is_box-Decides : (p : List Point) (c : Corners) → Decides (is_box p c) (IsBox p c)
 is_box-Decides p c =
     let sides = Decides-and _ _ (int_lt-Decides c.low.y c.high.y) (is_same_ring-SameRing p (corners_of c)) in
@@ -88,7 +88,7 @@ box_of-is p c b =
     let e : corners_between (point_at p 0) (point_at p 2) ≡ c = corners_of_box p c b in
     ap (λ (d : Corners). cond (is_box p d) (Some d) None) e ∙ ap (λ t. cond t (Some c) None) ((is_box-Decides p c).1 b)
 
--- what is answered under a test
+-- what is returned under a test
 some_if : (t : Bool) (d c : Corners) → cond t (Some d) None ≡ Some c → (t ≡ true) × (d ≡ c)
 some_if true d c e = (refl, cc)
 some_if false d c e = absurd (let no : ⊥ = cc in no)
@@ -118,7 +118,7 @@ box_of-alike p q s = by (box_of p) refl where
   by None e = e ∙ sym (box_of-none q (λ c b. let f : box_of p ≡ Some c = box_of-is p c (turn_box q p c (same_ring_back p q s) b) in let no : ⊥ = cc in no))
   by (Some c) e = e ∙ sym (box_of-is q c (turn_box p q c s (box_of-box p c e)))
 
--- what is answered for the rectangle of a ring
+-- what is returned for the rectangle of a ring
 pub box_of-answer : (p : List Point) (o : Option Corners) → IfSome o (IsBox p) → IfNone o ((c : Corners) → IsBox p c → ⊥) → o ≡ box_of p
 box_of-answer p (Some c) some none = sym (box_of-is p c some)
 box_of-answer p None some none = sym (box_of-none p none)

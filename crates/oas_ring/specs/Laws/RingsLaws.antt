@@ -25,13 +25,13 @@ rotation_of_parts p q h =
     let at_front : take n p ≡ h.front = ap (take n) h.whole ∙ take_at h.front h.back n refl in
     (n, cc)
 
--- two splits of one list: the longer front is the shorter one and a part of its back
+-- two splits of one list: the longer prefix is the shorter one and a part of its rest
 pub record Between (xs ys zs ws : List Point) : Type 0 where
   pub middle : List Point
   pub front : zs ≡ xs ++ middle
   pub back : ys ≡ middle ++ ws
 
--- any two splits of one list are so
+-- any two splits of one list are like this
 pub between_splits : (xs ys zs ws : List Point) → xs ++ ys ≡ zs ++ ws → length xs ≤ length zs
     → Between xs ys zs ws
 between_splits xs ys zs ws e h =

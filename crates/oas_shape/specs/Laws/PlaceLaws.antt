@@ -1,4 +1,4 @@
--- The copies of a repetition stand on its places, as many on each.
+-- The copies of a repetition are on its places, equally many on each.
 use Rattle.std.proofs.Common.{◌≡◌, ℕ, zero, suc, pos, negsuc, ℤ, ◌+◌, ◌*◌, ◌/◌, ◌%◌, ◌<◌, Bool, true, false, map, length, refl, sym, ap, ◌∙◌, arith}
 use Rattle.std.specs.Prelude.{◌==◌, ◌&&◌, nat_abs, sum_by}
 use Rattle.std.proofs.lemmas.Bool.Decides.{nat_tests}
@@ -35,7 +35,7 @@ total_joined h m (suc n) =
     let e : m + suc n ≡ suc (m + n) = omega arith in
     ap (total h) e ∙ omega (arith, total_joined h m n)
 
--- as many as n of which each counts for c
+-- the sum of n copies that count for c each
 total_same : (h : ℕ → ℕ) (c n : ℕ) → ((i : ℕ) → i < n → h i ≡ c) → total h n ≡ n * c
 total_same h c zero e = omega arith
 total_same h c (suc n) e = omega (arith, total_same h c n (λ i lt. e i (omega arith)), e n (omega arith))
@@ -52,7 +52,7 @@ total_rows h a (suc b) e =
     let split : a * (total (λ j. h (j * a)) b + h (b * a)) ≡ a * total (λ j. h (j * a)) b + a * h (b * a) = omega arith in
     ap (total h) on ∙ omega (arith, total_joined h (b * a) a, total_rows h a b e, total_same (λ i. h (b * a + i)) (h (b * a)) a (e b), split)
 
--- rows of which each counts for as much as the first
+-- rows, each of which counts for as much as the first
 total_columns : (h : ℕ → ℕ) (a b : ℕ) → ((j c : ℕ) → c < a → h (j * a + c) ≡ h c) → total h (b * a) ≡ b * total h a
 total_columns h a zero e = let none : 0 * a ≡ 0 = omega arith in ap (total h) none ∙ omega arith
 total_columns h a (suc b) e =
@@ -76,7 +76,7 @@ module _ (f : ℕ → GDelta) (n : ℕ) where
     );
   }
 
-  -- all on one
+  -- all on one place
   together : 0 < n → ((i : ℕ) → f i ≡ f 0) → ArePlaces n f (places_one_way n true)
   together positive same = record {
     some = positive;

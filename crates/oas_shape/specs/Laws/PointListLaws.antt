@@ -1,15 +1,16 @@
--- The laws of point lists: no spelling begins another; in the shortest style each has one, which is one of its spellings.
+-- The laws of point lists: no spelling is a prefix of another; in the shortest style each has one, which is one of its
+-- spellings.
 use Rattle.std.proofs.Common.{◌≡◌, ℕ, true, false, List, [], ◌∷◌, length, inl, inr, refl, sym, ◌∙◌, arith}
 use Rattle.std.specs.Prelude.{◌==◌}
 use Rattle.oas_num.specs.declared.deltas.GDelta.{GDelta}
 use Rattle.oas_num.specs.Begun.{HasSome}
 use Rattle.oas_num.specs.Laws.BegunLaws.{HasSome-pair, HasSome-such, HasSome-image, HasSome-either, HasSome-count}
-use Rattle.oas_num.specs.Grammar.{OneFront, IsPair, IsSuch, IsImage, IsCount}
-use Rattle.oas_num.specs.Laws.GrammarLaws.{OneFront-pair, OneFront-image, OneFront-such, OneFront-count}
+use Rattle.oas_num.specs.Grammar.{PrefixFree, IsPair, IsSuch, IsImage, IsCount}
+use Rattle.oas_num.specs.Laws.GrammarLaws.{PrefixFree-pair, PrefixFree-image, PrefixFree-such, PrefixFree-count}
 use Rattle.oas_num.specs.Combinators.{OneSpelling, IsWithin}
-use Rattle.oas_num.specs.Laws.CombinatorLaws.{OneFront-either, OneFront-within, OneSpelling-pair, OneSpelling-count, IsWithin-count}
+use Rattle.oas_num.specs.Laws.CombinatorLaws.{PrefixFree-either, PrefixFree-within, OneSpelling-pair, OneSpelling-count, IsWithin-count}
 use Rattle.oas_num.specs.Integers.{IsUnsigned}
-use Rattle.oas_num.specs.Laws.IntegerLaws.{OneFront-IsUnsigned, zero_spelled}
+use Rattle.oas_num.specs.Laws.IntegerLaws.{PrefixFree-IsUnsigned, zero_spelled}
 use Rattle.oas_num.specs.Style.{Style, Any, Shortest, unsigned_in}
 use Rattle.oas_num.specs.Laws.StyleLaws.{OneSpelling-unsigned}
 use Rattle.oas_num.specs.Deltas.{SpellsDelta1, SpellsDelta2, SpellsDelta3, SpellsGDelta, gdelta_in}
@@ -21,30 +22,30 @@ use Rattle.oas_shape.specs.ListUses.{IsFitting}
 use Rattle.oas_shape.specs.PointLists.{IsListKind, alternating, step2, step3, stepg, deltas_in, polyline_of, after_kind, IsPointList, plain_line, IsShortestList, point_list_in}
 
 -- the type, below 6
-pub OneFront-kind : OneFront (IsSuch IsListKind IsUnsigned)
-OneFront-kind = OneFront-such IsListKind IsUnsigned OneFront-IsUnsigned
+pub PrefixFree-kind : PrefixFree (IsSuch IsListKind IsUnsigned)
+PrefixFree-kind = PrefixFree-such IsListKind IsUnsigned PrefixFree-IsUnsigned
 
 -- a count that fits
-pub OneFront-fitting : (purpose : ListUse) (kind : ℕ) → OneFront (IsSuch (IsFitting purpose kind) IsUnsigned)
-OneFront-fitting purpose kind = OneFront-such (IsFitting purpose kind) IsUnsigned OneFront-IsUnsigned
+pub PrefixFree-fitting : (purpose : ListUse) (kind : ℕ) → PrefixFree (IsSuch (IsFitting purpose kind) IsUnsigned)
+PrefixFree-fitting purpose kind = PrefixFree-such (IsFitting purpose kind) IsUnsigned PrefixFree-IsUnsigned
 
--- so many deltas of a type
-pub OneFront-deltas : (kind count : ℕ) → OneFront (deltas_in kind count)
-OneFront-deltas kind count =
-    OneFront-either (kind == 0) _ _ (OneFront-image (alternating true) _ (OneFront-count SpellsDelta1 count Delta1-one_front))
-    (OneFront-either (kind == 1) _ _ (OneFront-image (alternating false) _ (OneFront-count SpellsDelta1 count Delta1-one_front))
-    (OneFront-either (kind == 2) _ _ (OneFront-count (IsImage step2 SpellsDelta2) count (OneFront-image step2 SpellsDelta2 Delta2-one_front))
-    (OneFront-either (kind == 3) _ _ (OneFront-count (IsImage step3 SpellsDelta3) count (OneFront-image step3 SpellsDelta3 Delta3-one_front))
-    (OneFront-count (IsImage stepg SpellsGDelta) count (OneFront-image stepg SpellsGDelta GDelta-one_front)))))
+-- this many deltas of a type
+pub PrefixFree-deltas : (kind count : ℕ) → PrefixFree (deltas_in kind count)
+PrefixFree-deltas kind count =
+    PrefixFree-either (kind == 0) _ _ (PrefixFree-image (alternating true) _ (PrefixFree-count SpellsDelta1 count Delta1-one_front))
+    (PrefixFree-either (kind == 1) _ _ (PrefixFree-image (alternating false) _ (PrefixFree-count SpellsDelta1 count Delta1-one_front))
+    (PrefixFree-either (kind == 2) _ _ (PrefixFree-count (IsImage step2 SpellsDelta2) count (PrefixFree-image step2 SpellsDelta2 Delta2-one_front))
+    (PrefixFree-either (kind == 3) _ _ (PrefixFree-count (IsImage step3 SpellsDelta3) count (PrefixFree-image step3 SpellsDelta3 Delta3-one_front))
+    (PrefixFree-count (IsImage stepg SpellsGDelta) count (PrefixFree-image stepg SpellsGDelta GDelta-one_front)))))
 
 -- what follows the type
-pub OneFront-after_kind : (purpose : ListUse) (kind : ℕ) → OneFront (after_kind purpose kind)
-OneFront-after_kind purpose kind = OneFront-pair (IsSuch (IsFitting purpose kind) IsUnsigned) (deltas_in kind) (OneFront-fitting purpose kind) (OneFront-deltas kind)
+pub PrefixFree-after_kind : (purpose : ListUse) (kind : ℕ) → PrefixFree (after_kind purpose kind)
+PrefixFree-after_kind purpose kind = PrefixFree-pair (IsSuch (IsFitting purpose kind) IsUnsigned) (deltas_in kind) (PrefixFree-fitting purpose kind) (PrefixFree-deltas kind)
 
-OneFront-any : (purpose : ListUse) → OneFront (IsPointList purpose)
-OneFront-any purpose =
-    OneFront-image (polyline_of purpose) (IsPair (IsSuch IsListKind IsUnsigned) (after_kind purpose))
-    (OneFront-pair (IsSuch IsListKind IsUnsigned) (after_kind purpose) OneFront-kind (OneFront-after_kind purpose))
+PrefixFree-any : (purpose : ListUse) → PrefixFree (IsPointList purpose)
+PrefixFree-any purpose =
+    PrefixFree-image (polyline_of purpose) (IsPair (IsSuch IsListKind IsUnsigned) (after_kind purpose))
+    (PrefixFree-pair (IsSuch IsListKind IsUnsigned) (after_kind purpose) PrefixFree-kind (PrefixFree-after_kind purpose))
 
 OneSpelling-list : OneSpelling IsShortestList
 OneSpelling-list =
@@ -64,7 +65,7 @@ closing_plain Path deltas = refl
 IsWithin-step : IsWithin (gdelta_in Shortest) (IsImage stepg SpellsGDelta)
 IsWithin-step = record { within = λ d a p. record { from = d; is = refl; spelled = IsWithin-gdelta.within d a p } }
 
--- and it is one that the standard has
+-- and it is one that the standard allows
 pub IsWithin-point_list : (purpose : ListUse) → IsWithin (point_list_in Shortest purpose) (point_list_in Any purpose)
 IsWithin-point_list purpose = record {
   within = λ line a p.
@@ -89,14 +90,14 @@ IsWithin-point_list purpose = record {
       };
 }
 
--- in any style no spelling begins another
-pub OneFront-point_list : (style : Style) (purpose : ListUse) → OneFront (point_list_in style purpose)
-OneFront-point_list Any purpose = OneFront-any purpose
-OneFront-point_list Shortest purpose = OneFront-within (point_list_in Shortest purpose) (point_list_in Any purpose) (IsWithin-point_list purpose) (OneFront-any purpose)
+-- in any style no spelling is a prefix of another
+pub PrefixFree-point_list : (style : Style) (purpose : ListUse) → PrefixFree (point_list_in style purpose)
+PrefixFree-point_list Any purpose = PrefixFree-any purpose
+PrefixFree-point_list Shortest purpose = PrefixFree-within (point_list_in Shortest purpose) (point_list_in Any purpose) (IsWithin-point_list purpose) (PrefixFree-any purpose)
 
 -- ---- some are spelled
 
--- there is a type
+-- a type has a spelling
 pub HasSome-kind : HasSome (IsSuch IsListKind IsUnsigned)
 HasSome-kind = HasSome-such IsListKind IsUnsigned 0 (0 ∷ []) zero_spelled (omega arith)
 
@@ -111,7 +112,7 @@ two_fit Path kind = tt
 pub HasSome-fitting : (purpose : ListUse) (kind : ℕ) → HasSome (IsSuch (IsFitting purpose kind) IsUnsigned)
 HasSome-fitting purpose kind = HasSome-such (IsFitting purpose kind) IsUnsigned 2 (2 ∷ []) two_spelled (two_fit purpose kind)
 
--- there are so many deltas of each type
+-- this many deltas of each type have a spelling
 pub HasSome-deltas : (kind count : ℕ) → HasSome (deltas_in kind count)
 HasSome-deltas kind count =
     HasSome-either (kind == 0) _ _ (HasSome-image (alternating true) _ (HasSome-count SpellsDelta1 count Delta1-some))
@@ -120,12 +121,12 @@ HasSome-deltas kind count =
     (HasSome-either (kind == 3) _ _ (HasSome-count (IsImage step3 SpellsDelta3) count (HasSome-image step3 SpellsDelta3 Delta3-some))
     (HasSome-count (IsImage stepg SpellsGDelta) count (HasSome-image stepg SpellsGDelta GDelta-some)))))
 
--- each type can be ended
+-- what follows each type has a spelling
 pub HasSome-after_kind : (purpose : ListUse) (kind : ℕ) → HasSome (after_kind purpose kind)
 HasSome-after_kind purpose kind =
     HasSome-pair (IsSuch (IsFitting purpose kind) IsUnsigned) (deltas_in kind) (HasSome-fitting purpose kind) (HasSome-deltas kind (HasSome-fitting purpose kind).value)
 
--- there is a point list
+-- a point list has a spelling
 pub HasSome-point_list : (purpose : ListUse) → HasSome (point_list_in Any purpose)
 HasSome-point_list purpose =
     HasSome-image (polyline_of purpose) (IsPair (IsSuch IsListKind IsUnsigned) (after_kind purpose))

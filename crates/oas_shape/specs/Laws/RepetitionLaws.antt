@@ -1,4 +1,4 @@
--- The laws of repetition fields: no spelling begins another; the shortest style has none.
+-- The laws of repetition fields: no spelling is a prefix of another; the shortest style has none.
 use Rattle.std.proofs.Common.{◌≡◌, ℕ, zero, suc, pos, Bool, true, false, None, List, [], ◌∷◌, ◌++◌, length, map, ◌+◌, refl, sym, ap, subst, ◌∙◌, arith}
 use Rattle.std.specs.Prelude.{◌==◌, ◌*ℤ◌}
 use Rattle.std.proofs.lemmas.Int.{ints}
@@ -8,12 +8,12 @@ use Rattle.std.specs.List.{AllByRecursion}
 use Rattle.oas_num.specs.Begun.{HasSome}
 use Rattle.oas_num.specs.Laws.BegunLaws.{HasSome-exactly, HasSome-pair, HasSome-such, HasSome-image, HasSome-there, HasSome-either}
 use Rattle.oas_num.specs.declared.deltas.GDelta.{GDelta}
-use Rattle.oas_num.specs.Grammar.{OneFront, IsPair, IsSuch, IsImage, IsThere, IsEach, IsCount}
-use Rattle.oas_num.specs.Laws.GrammarLaws.{OneFront-pair, OneFront-image, OneFront-such, OneFront-there, OneFront-count}
+use Rattle.oas_num.specs.Grammar.{PrefixFree, IsPair, IsSuch, IsImage, IsThere, IsEach, IsCount}
+use Rattle.oas_num.specs.Laws.GrammarLaws.{PrefixFree-pair, PrefixFree-image, PrefixFree-such, PrefixFree-there, PrefixFree-count}
 use Rattle.oas_num.specs.Combinators.{OneSpelling, IsWithin, IsExactly}
-use Rattle.oas_num.specs.Laws.CombinatorLaws.{OneFront-either, OneFront-exactly, OneFront-never, OneSpelling-never}
+use Rattle.oas_num.specs.Laws.CombinatorLaws.{PrefixFree-either, PrefixFree-exactly, PrefixFree-never, OneSpelling-never}
 use Rattle.oas_num.specs.Integers.{IsUnsigned}
-use Rattle.oas_num.specs.Laws.IntegerLaws.{OneFront-IsUnsigned, zero_spelled, HasSome-IsUnsigned}
+use Rattle.oas_num.specs.Laws.IntegerLaws.{PrefixFree-IsUnsigned, zero_spelled, HasSome-IsUnsigned}
 use Rattle.oas_num.specs.Style.{Style, Any, Shortest}
 use Rattle.oas_num.specs.Deltas.{SpellsGDelta}
 use Rattle.oas_num.specs.Laws.DeltaLaws.{GDelta-one_front, GDelta-some}
@@ -28,87 +28,87 @@ use Rattle.oas_shape.specs.Repetitions.{IsRepetitionKind, AreTwo, matrix_of, IsM
 use Rattle.oas_shape.specs.Repetitions.{y_space, displacement_in, IsOffsets, grid_of, listed_of, after_dim, IsListed, repetition_by, again, field_by, field_of, rep_field_in}
 
 -- the type, below 12
-pub OneFront-kind : OneFront (IsSuch IsRepetitionKind IsUnsigned)
-OneFront-kind = OneFront-such IsRepetitionKind IsUnsigned OneFront-IsUnsigned
+pub PrefixFree-kind : PrefixFree (IsSuch IsRepetitionKind IsUnsigned)
+PrefixFree-kind = PrefixFree-such IsRepetitionKind IsUnsigned PrefixFree-IsUnsigned
 
 -- two numbers
-pub OneFront-two : OneFront AreTwo
-OneFront-two = OneFront-pair IsUnsigned (λ _. IsUnsigned) OneFront-IsUnsigned (λ _. OneFront-IsUnsigned)
+pub PrefixFree-two : PrefixFree AreTwo
+PrefixFree-two = PrefixFree-pair IsUnsigned (λ _. IsUnsigned) PrefixFree-IsUnsigned (λ _. PrefixFree-IsUnsigned)
 
-OneFront-matrix : OneFront IsMatrix
-OneFront-matrix = OneFront-image matrix_of (IsPair AreTwo (λ _. AreTwo)) (OneFront-pair AreTwo (λ _. AreTwo) OneFront-two (λ _. OneFront-two))
+PrefixFree-matrix : PrefixFree IsMatrix
+PrefixFree-matrix = PrefixFree-image matrix_of (IsPair AreTwo (λ _. AreTwo)) (PrefixFree-pair AreTwo (λ _. AreTwo) PrefixFree-two (λ _. PrefixFree-two))
 
-OneFront-columns : OneFront IsColumns
-OneFront-columns = OneFront-image columns_of AreTwo OneFront-two
+PrefixFree-columns : PrefixFree IsColumns
+PrefixFree-columns = PrefixFree-image columns_of AreTwo PrefixFree-two
 
-OneFront-rows : OneFront IsRows
-OneFront-rows = OneFront-image rows_of AreTwo OneFront-two
+PrefixFree-rows : PrefixFree IsRows
+PrefixFree-rows = PrefixFree-image rows_of AreTwo PrefixFree-two
 
-OneFront-lattice : OneFront IsLattice
-OneFront-lattice =
-    OneFront-image lattice_of (IsPair AreTwo (λ _. IsPair SpellsGDelta (λ _. SpellsGDelta)))
-    (OneFront-pair AreTwo (λ _. IsPair SpellsGDelta (λ _. SpellsGDelta)) OneFront-two (λ _. OneFront-pair SpellsGDelta (λ _. SpellsGDelta) GDelta-one_front (λ _. GDelta-one_front)))
+PrefixFree-lattice : PrefixFree IsLattice
+PrefixFree-lattice =
+    PrefixFree-image lattice_of (IsPair AreTwo (λ _. IsPair SpellsGDelta (λ _. SpellsGDelta)))
+    (PrefixFree-pair AreTwo (λ _. IsPair SpellsGDelta (λ _. SpellsGDelta)) PrefixFree-two (λ _. PrefixFree-pair SpellsGDelta (λ _. SpellsGDelta) GDelta-one_front (λ _. GDelta-one_front)))
 
-OneFront-line : OneFront IsLine
-OneFront-line = OneFront-image line_of (IsPair IsUnsigned (λ _. SpellsGDelta)) (OneFront-pair IsUnsigned (λ _. SpellsGDelta) OneFront-IsUnsigned (λ _. GDelta-one_front))
+PrefixFree-line : PrefixFree IsLine
+PrefixFree-line = PrefixFree-image line_of (IsPair IsUnsigned (λ _. SpellsGDelta)) (PrefixFree-pair IsUnsigned (λ _. SpellsGDelta) PrefixFree-IsUnsigned (λ _. GDelta-one_front))
 
 -- one displacement of a list
-pub OneFront-displacement : (along : Along) → OneFront (displacement_in along)
-OneFront-displacement X = OneFront-image x_space IsUnsigned OneFront-IsUnsigned
-OneFront-displacement Y = OneFront-image y_space IsUnsigned OneFront-IsUnsigned
-OneFront-displacement Free = GDelta-one_front
+pub PrefixFree-displacement : (along : Along) → PrefixFree (displacement_in along)
+PrefixFree-displacement X = PrefixFree-image x_space IsUnsigned PrefixFree-IsUnsigned
+PrefixFree-displacement Y = PrefixFree-image y_space IsUnsigned PrefixFree-IsUnsigned
+PrefixFree-displacement Free = GDelta-one_front
 
 -- the offsets of a list
-pub OneFront-offsets : (along : Along) (grid count : ℕ) → OneFront (IsOffsets along grid count)
-OneFront-offsets along grid count =
-    OneFront-such (AllByRecursion IsPartialSum) (IsImage (offsets_by grid) (IsCount (displacement_in along) count))
-    (OneFront-image (offsets_by grid) (IsCount (displacement_in along) count) (OneFront-count (displacement_in along) count (OneFront-displacement along)))
+pub PrefixFree-offsets : (along : Along) (grid count : ℕ) → PrefixFree (IsOffsets along grid count)
+PrefixFree-offsets along grid count =
+    PrefixFree-such (AllByRecursion IsPartialSum) (IsImage (offsets_by grid) (IsCount (displacement_in along) count))
+    (PrefixFree-image (offsets_by grid) (IsCount (displacement_in along) count) (PrefixFree-count (displacement_in along) count (PrefixFree-displacement along)))
 
--- the grid, where it is there
-pub OneFront-grid : (has_grid : Bool) → OneFront (IsThere has_grid IsUnsigned)
-OneFront-grid has_grid = OneFront-there has_grid IsUnsigned OneFront-IsUnsigned
+-- the optional grid
+pub PrefixFree-grid : (has_grid : Bool) → PrefixFree (IsThere has_grid IsUnsigned)
+PrefixFree-grid has_grid = PrefixFree-there has_grid IsUnsigned PrefixFree-IsUnsigned
 
-OneFront-listed : (along : Along) (has_grid : Bool) → OneFront (IsListed along has_grid)
-OneFront-listed along has_grid =
-    OneFront-image listed_of (IsPair IsUnsigned (after_dim along has_grid))
-    (OneFront-pair IsUnsigned (after_dim along has_grid) OneFront-IsUnsigned (λ dim.
-    OneFront-pair (IsThere has_grid IsUnsigned) (λ grid. IsOffsets along (grid_of grid) (dim + 1)) (OneFront-grid has_grid) (λ grid. OneFront-offsets along (grid_of grid) (dim + 1))))
+PrefixFree-listed : (along : Along) (has_grid : Bool) → PrefixFree (IsListed along has_grid)
+PrefixFree-listed along has_grid =
+    PrefixFree-image listed_of (IsPair IsUnsigned (after_dim along has_grid))
+    (PrefixFree-pair IsUnsigned (after_dim along has_grid) PrefixFree-IsUnsigned (λ dim.
+    PrefixFree-pair (IsThere has_grid IsUnsigned) (λ grid. IsOffsets along (grid_of grid) (dim + 1)) (PrefixFree-grid has_grid) (λ grid. PrefixFree-offsets along (grid_of grid) (dim + 1))))
 
 -- the fields of types 1 to 11
-pub OneFront-repetition : (kind : ℕ) → OneFront (repetition_by kind)
-OneFront-repetition kind =
-    OneFront-either (kind == 1) _ _ OneFront-matrix
-    (OneFront-either (kind == 2) _ _ OneFront-columns
-    (OneFront-either (kind == 3) _ _ OneFront-rows
-    (OneFront-either (kind == 4) _ _ (OneFront-listed X false)
-    (OneFront-either (kind == 5) _ _ (OneFront-listed X true)
-    (OneFront-either (kind == 6) _ _ (OneFront-listed Y false)
-    (OneFront-either (kind == 7) _ _ (OneFront-listed Y true)
-    (OneFront-either (kind == 8) _ _ OneFront-lattice
-    (OneFront-either (kind == 9) _ _ OneFront-line
-    (OneFront-either (kind == 10) _ _ (OneFront-listed Free false)
-    (OneFront-listed Free true))))))))))
+pub PrefixFree-repetition : (kind : ℕ) → PrefixFree (repetition_by kind)
+PrefixFree-repetition kind =
+    PrefixFree-either (kind == 1) _ _ PrefixFree-matrix
+    (PrefixFree-either (kind == 2) _ _ PrefixFree-columns
+    (PrefixFree-either (kind == 3) _ _ PrefixFree-rows
+    (PrefixFree-either (kind == 4) _ _ (PrefixFree-listed X false)
+    (PrefixFree-either (kind == 5) _ _ (PrefixFree-listed X true)
+    (PrefixFree-either (kind == 6) _ _ (PrefixFree-listed Y false)
+    (PrefixFree-either (kind == 7) _ _ (PrefixFree-listed Y true)
+    (PrefixFree-either (kind == 8) _ _ PrefixFree-lattice
+    (PrefixFree-either (kind == 9) _ _ PrefixFree-line
+    (PrefixFree-either (kind == 10) _ _ (PrefixFree-listed Free false)
+    (PrefixFree-listed Free true))))))))))
 
 -- what follows the type
-pub OneFront-field : (kind : ℕ) → OneFront (field_by kind)
-OneFront-field kind = OneFront-either (kind == 0) _ _ (OneFront-image again (IsExactly []) (OneFront-exactly [])) (OneFront-image New (repetition_by kind) (OneFront-repetition kind))
+pub PrefixFree-field : (kind : ℕ) → PrefixFree (field_by kind)
+PrefixFree-field kind = PrefixFree-either (kind == 0) _ _ (PrefixFree-image again (IsExactly []) (PrefixFree-exactly [])) (PrefixFree-image New (repetition_by kind) (PrefixFree-repetition kind))
 
--- in any style no spelling begins another
-pub OneFront-rep_field : (style : Style) → OneFront (rep_field_in style)
-OneFront-rep_field Any = OneFront-image field_of (IsPair (IsSuch IsRepetitionKind IsUnsigned) field_by) (OneFront-pair (IsSuch IsRepetitionKind IsUnsigned) field_by OneFront-kind OneFront-field)
-OneFront-rep_field Shortest = OneFront-never
+-- in any style no spelling is a prefix of another
+pub PrefixFree-rep_field : (style : Style) → PrefixFree (rep_field_in style)
+PrefixFree-rep_field Any = PrefixFree-image field_of (IsPair (IsSuch IsRepetitionKind IsUnsigned) field_by) (PrefixFree-pair (IsSuch IsRepetitionKind IsUnsigned) field_by PrefixFree-kind PrefixFree-field)
+PrefixFree-rep_field Shortest = PrefixFree-never
 
--- in the shortest style a repetition has no spelling, so one at most
+-- in the shortest style a repetition has no spelling, so at most one
 pub OneSpelling-rep_field : OneSpelling (rep_field_in Shortest)
 OneSpelling-rep_field = OneSpelling-never
 
--- and each is one that the standard has
+-- and each is one that the standard allows
 pub IsWithin-rep_field : IsWithin (rep_field_in Shortest) (rep_field_in Any)
 IsWithin-rep_field = record { within = λ v a p. absurd p }
 
 -- ---- some are spelled
 
--- there is a type
+-- a type has a spelling
 pub HasSome-kind : HasSome (IsSuch IsRepetitionKind IsUnsigned)
 HasSome-kind = HasSome-such IsRepetitionKind IsUnsigned 0 (0 ∷ []) zero_spelled (omega arith)
 
@@ -119,14 +119,14 @@ HasSome-two = HasSome-pair IsUnsigned (λ _. IsUnsigned) HasSome-IsUnsigned HasS
 times_still : (g : ℕ) → pos g *ℤ pos 0 ≡ pos 0
 times_still g = *ℤ-zero (pos g)
 
--- no step, so many times
+-- no step, this many times
 pub still_is : (grid : ℕ) → times grid still ≡ still
 still_is grid = (λ i. step (times_still grid i) (times_still grid i))
 
 pub still_near : IsPartialSum still
 still_near = record { x = (omega (arith, ints), omega (arith, ints)); y = (omega (arith, ints), omega (arith, ints)) }
 
--- so many displacements of which none goes anywhere
+-- this many displacements, none of which goes anywhere
 abbrev pub stays : ℕ → List GDelta
 stays zero = []
 stays (suc n) = still ∷ stays n
@@ -148,7 +148,7 @@ stays_near : (grid n : ℕ) → AllByRecursion IsPartialSum (map (times grid) (s
 stays_near grid zero = tt
 stays_near grid (suc n) = (subst IsPartialSum (sym (still_is grid)) still_near, stays_near grid n)
 
--- so many displacements, of which no sum is past the limit
+-- this many displacements, with no sum that exceeds the limit
 pub HasSome-offsets : (along : Along) (grid count : ℕ) → HasSome (IsOffsets along grid count)
 HasSome-offsets along grid count =
     let each = stays_each along count in
@@ -202,13 +202,13 @@ HasSome-repetition kind =
     (HasSome-either (kind == 10) _ _ (HasSome-listed Free false)
     (HasSome-listed Free true))))))))))
 
--- each type can be ended
+-- what follows each type has a spelling
 pub HasSome-field : (kind : ℕ) → HasSome (field_by kind)
 HasSome-field kind =
     HasSome-either (kind == 0) _ _ (HasSome-image again (IsExactly []) (HasSome-exactly []))
     (HasSome-image New (repetition_by kind) (HasSome-repetition kind))
 
--- there is a repetition field
+-- a repetition field has a spelling
 pub HasSome-rep_field : HasSome (rep_field_in Any)
 HasSome-rep_field =
     HasSome-image field_of (IsPair (IsSuch IsRepetitionKind IsUnsigned) field_by)
@@ -223,7 +223,7 @@ sums-length before (d ∷ ds) = ap suc (sums-length (added before d) ds)
 offsets-length : (grid : ℕ) (ds : List GDelta) → length (offsets_by grid ds) ≡ length ds + 1
 offsets-length grid ds = let e = length-map (sums_after still ds) (times grid) in let f = sums-length still ds in omega (arith, e, f)
 
--- one offset more than displacements
+-- one more offset than displacements
 pub offsets_len : (along : Along) (grid count : ℕ) (offsets : List GDelta) (bytes : List ℕ) → IsOffsets along grid count offsets bytes → length offsets ≡ count + 1
 offsets_len along grid count offsets bytes p =
     let s = p.spelled in

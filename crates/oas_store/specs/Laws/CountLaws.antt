@@ -23,7 +23,7 @@ module _ {K : Type 0} where
   over true n m ps qs t h = omega arith
   over false n m ps qs t h = h
 
-  -- at most so many more
+  -- at most this many more
   pub count_at-more : (R : K → K → Ordering) (es : List (K × ℕ)) (k : K) (n : ℕ) (q : K) → count_at R (put_more R es k n) q ≤ count_at R es q + n
   count_at-more R [] k n q = hit (is_eq (R q k)) n n [] (is_at (R q))
   count_at-more R (p ∷ ps) k n q =

@@ -1,4 +1,4 @@
--- What a list of keys and counts comes to is told by its sums alone.
+-- The tally of a list of keys and counts is determined by its sums alone.
 use Rattle.std.specs.Prelude.{◌≡◌, ℕ, ◌+◌, ◌*◌, ◌<◌, List, [], ◌∷◌, true, false, cond, Some, unwrap_or, refl}
 use Rattle.std.proofs.Common.{sym, ◌∙◌, ap, arith, subst}
 use Rattle.std.specs.Cmp.{IsTotalOrder, tied_itself}
@@ -59,7 +59,7 @@ module _ {K : Type 0} where
   flip : {R : K → K → Ordering} → IsTotalOrder R → (x y : K) → R x y ≡ Greater → R y x ≡ Less
   flip o x y g = o.antisymm y x ∙ ap ordering_reverse g
 
-  -- what was in order stays so
+  -- what was in order stays in order
   pub sorted-put_more : {R : K → K → Ordering} → IsTotalOrder R → (es : List (K × ℕ)) (k : K) (n : ℕ) → IsStrictlySortedBy R (keys_of es) → IsStrictlySortedBy R (keys_of (put_more R es k n))
   unfolding IsStrictlySortedBy
   sorted-put_more o [] k n s = (tt, tt)
@@ -126,13 +126,13 @@ module _ {K : Type 0} where
         cancel : (e f : K × ℕ) (x y : ℕ) (k : K) → e ≡ f → e.1 * cond (is_eq (R k e.0)) 1 0 + x ≡ f.1 * cond (is_eq (R k f.0)) 1 0 + y → x ≡ y
         cancel e f x y k same h = let w = ap (λ (p : K × ℕ). p.1 * cond (is_eq (R k p.0)) 1 0) same in omega (arith, w, h)
 
-  -- a run is what each list with its sums comes to
+  -- a run is the tally of each list with its sums
   pub run_is_tally : {R : K → K → Ordering} → IsTotalOrder R → CmpEqualImpliesEq R → (es ps : List (K × ℕ)) → IsRun R es → Positive ps → SameTotals es ps → es ≡ tally R ps
   run_is_tally {R} o exact es ps r p h =
       let t = IsRun-tally {R = R} o ps p in
       same_runs o exact es (tally R ps) r.positive t.positive r.ascending t.ascending (λ q. h _ ∙ sym (total-tally exact _ ps))
 
-  -- lists with the same sums come to the same
+  -- lists with the same sums have the same tally
   pub same_tally : {R : K → K → Ordering} → IsTotalOrder R → CmpEqualImpliesEq R → (ps qs : List (K × ℕ)) → Positive ps → Positive qs → SameTotals ps qs → tally R ps ≡ tally R qs
   same_tally {R} o exact ps qs p q h = run_is_tally o exact (tally R ps) qs (IsRun-tally o ps p) q (λ g. total-tally exact g ps ∙ h g)
 
@@ -153,6 +153,6 @@ module _ {K : Type 0} where
         later x y [] e h = tt
         later x y (p ∷ ps) e h = (o.congr x y p.0 e ∙ h.0, later x y ps e h.1)
 
-  -- how often a key is there, of a tally
+  -- how often a key is there, in a tally
   pub count_at-tally : {R : K → K → Ordering} → IsTotalOrder R → CmpEqualImpliesEq R → (q : K) (ps : List (K × ℕ)) → Positive ps → count_at R (tally R ps) q ≡ copies R q ps
   count_at-tally {R} o exact q ps p = sym (count_at-is o q (tally R ps) (IsRun-tally {R = R} o ps p).ascending) ∙ total-tally exact _ ps

@@ -3,6 +3,6 @@ use Rattle.std.proofs.Common.{[], append-nil}
 use Rattle.oascanon_c.specs.declared.filling.Filler.{Filler}
 use Rattle.oascanon_c.specs.Filling.{Fills}
 
--- what nothing was put to was given nothing
+-- if nothing was put, nothing was given
 pub Fills-none : (s : Filler) → Fills s [] s
 Fills-none s = record { same = λ i. s.room.ghost_name; puts = λ start before h. rw append-nil h }

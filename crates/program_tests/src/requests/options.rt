@@ -1,12 +1,12 @@
-//! Command lines with options: what they ask for.
+//! Command lines with options: what they request.
 
 use super::words::{asks, plain};
-use oas_difference::{Detail, Options};
 use oas_request::Task;
+use oas_request::oas_difference::{Detail, Options};
 use std::alloc::{AllocError, Global};
 use std::test::Fail;
 
-/// Whether the words of a line ask for `diff a b`, by these options, with these markers, or with which status they end.
+/// Whether the words of a line request `diff a b`, with these options and these markers, or with which status they end.
 fn asks_diff(
     alloc: Global,
     line: &str,
@@ -54,7 +54,7 @@ fn words_of_diff(rt: HostRuntime) -> Result<(), Fail> {
     Ok(())
 }
 
-/// Whether the words of a line ask for `show a` with these flags, or with which status they end.
+/// Whether the words of a line request `show a` with these flags, or with which status they end.
 fn asks_with(
     alloc: Global,
     line: &str,

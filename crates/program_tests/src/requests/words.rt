@@ -1,10 +1,10 @@
-//! Command lines: what they ask for, or with which status they end.
+//! Command lines: what they request, or with which status they end.
 
-use oas_request::{Inputs, Question, Request, Task, parse};
+use oas_request::{Ending, Inputs, Question, Request, Task, parse};
 use std::alloc::{AllocError, Global};
 use std::test::Fail;
 
-/// Whether these words ask for this, or with which status they end.
+/// Whether these words request this, or with which status they end.
 fn answer(alloc: Global, words: &[&str], wanted: &Request<'_>) -> Result<bool, i32> {
     match parse(alloc, words) {
         Ok(request) => Ok(request == *wanted),
@@ -12,7 +12,7 @@ fn answer(alloc: Global, words: &[&str], wanted: &Request<'_>) -> Result<bool, i
     }
 }
 
-/// Whether the words of a line ask for this, or with which status they end.
+/// Whether the words of a line request this, or with which status they end.
 pub fn asks(
     alloc: Global,
     line: &str,
@@ -38,32 +38,51 @@ pub fn plain<'a>(task: Task<'a>, is_large: bool) -> Request<'a> {
         is_large,
         explains: false,
         shows_progress: false,
+        insists: false,
     }
 }
 
-/// A question to one file.
+/// A question about one file.
 fn ask<'a>(question: Question, input: Option<&'a str>) -> Task<'a> {
     let inputs = Inputs::One(input);
     Task::Ask { question, inputs }
 }
 
-/// A question to the files of a list.
+/// A question about the files of a list.
 fn ask_listed<'a>(question: Question, list: Option<&'a str>) -> Task<'a> {
     let inputs = Inputs::Listed(list);
     Task::Ask { question, inputs }
 }
 
-/// The task of a row: its name, and its files, of which most have one.
+/// Whether the keys of a list are still valid.
+fn kept<'a>(list: Option<&'a str>, ending: Ending, is_quiet: bool) -> Task<'a> {
+    Task::CheckKeys {
+        list,
+        ending,
+        is_quiet,
+    }
+}
+
+/// The task of a row: its name, and its files; most have one.
 fn task_of<'a>(name: &str, file: Option<&'a str>, other: Option<&'a str>) -> Task<'a> {
     match name {
         "canon" => Task::Canon {
             input: file,
             output: other,
+            keeps_old: false,
         },
+        "canon to a free name" => Task::Canon {
+            input: file,
+            output: other,
+            keeps_old: true,
+        },
+        "kept keys" => kept(file, Ending::Newline, false),
+        "kept keys in silence" => kept(file, Ending::Newline, true),
+        "kept keys by zeros" => kept(file, Ending::Zero, true),
         "check" => ask(Question::Check, file),
-        "key" => ask(Question::Key, file),
+        "key" => ask(Question::Key(Ending::Newline), file),
         "listed check" => ask_listed(Question::Check, file),
-        "listed key" => ask_listed(Question::Key, file),
+        "listed key" => ask_listed(Question::Key(Ending::Newline), file),
         "show" => Task::Show { input: file },
         "keys" => Task::Keys { input: file },
         "info" => Task::Info {
@@ -86,7 +105,7 @@ fn task_of<'a>(name: &str, file: Option<&'a str>, other: Option<&'a str>) -> Tas
     }
 }
 
-/// Lines with no flag but `--large`: what each asks for, under which limits, and its files, of which most have one.
+/// Lines with no flag except `--large`: what each requests, under which limits, and its files; most have one.
 const PLAIN: &str = "\
 oascanon canon | canon | standard | - | -
 oascanon canon a | canon | standard | a | -
@@ -96,6 +115,11 @@ oascanon canon --large a | canon | large | a | -
 oascanon canon a b --large | canon | large | a | b
 oascanon canon - - | canon | standard | - | -
 oascanon canon ./- - | canon | standard | ./- | -
+oascanon canon --no-clobber a b | canon to a free name | standard | a | b
+oascanon key --check a | kept keys | standard | a | -
+oascanon key --check=- --large | kept keys | large | - | -
+oascanon key --quiet --check a | kept keys in silence | standard | a | -
+oascanon key -q -z --check a | kept keys by zeros | standard | a | -
 oascanon canon -- --large | canon | standard | --large | -
 oascanon check | check | standard | - | -
 oascanon check - | check | standard | - | -
@@ -115,9 +139,10 @@ oascanon rekey a b | rekey | standard | a | b
 oascanon rekey --large - - | rekey | large | - | -
 oascanon explain | explain | standard | - | -
 oascanon explain 23 | explain | standard | 23 | -
+oascanon explain Magic | explain | standard | Magic | -
 ";
 
-/// The parts of a row, of which there are five.
+/// The five parts of a row.
 fn parts_of(row: &str) -> Option<(&str, &str, &str, &str, &str)> {
     let (line, rest) = row.split_once(" | ")?;
     let (task, rest) = rest.split_once(" | ")?;
@@ -131,11 +156,14 @@ fn file_of(name: &str) -> Option<&str> {
     if name == "-" { None } else { Some(name) }
 }
 
-/// Whether the line of a row asks for what the row says, or with which status it ends.
+/// Whether the line of a row requests what the row says, or with which status it ends.
 fn asks_as_said(alloc: Global, row: &str) -> Result<Result<bool, i32>, Fail> {
     let (line, task, limits, file, other) = parts_of(row).ok_or("a row has five parts")?;
     let task = task_of(task, file_of(file), file_of(other));
-    Ok(asks(alloc, line, plain(task, limits == "large"))?)
+    let mut wanted = plain(task, limits == "large");
+    // Only where `-` is an output.
+    wanted.insists = line.ends_with("- -");
+    Ok(asks(alloc, line, wanted)?)
 }
 
 #[test]
@@ -146,7 +174,7 @@ fn words_of_each_command(rt: HostRuntime) -> Result<(), Fail> {
     Ok(())
 }
 
-/// Whether the words of a line ask for the keys of these files, with their names, or with which status they end.
+/// Whether the words of a line request the keys of these files, with their names, or with which status they end.
 fn asks_named(
     alloc: Global,
     line: &str,
@@ -154,7 +182,7 @@ fn asks_named(
 ) -> Result<Result<bool, i32>, AllocError> {
     let mut inputs = Vec::new(alloc);
     inputs.extend_from_slice(files)?;
-    let (question, inputs) = (Question::Key, Inputs::Named(inputs));
+    let (question, inputs) = (Question::Key(Ending::Newline), Inputs::Named(inputs));
     asks(alloc, line, plain(Task::Ask { question, inputs }, false))
 }
 
@@ -172,7 +200,7 @@ fn words_of_several_files(rt: HostRuntime) -> Result<(), Fail> {
     Ok(())
 }
 
-/// Lines that ask for nothing.
+/// Lines that request nothing.
 const REFUSED: &str = "\
 oascanon
 oascanon flatten
@@ -200,6 +228,11 @@ oascanon check --names - -
 oascanon key --files0-from a b
 oascanon key --files0-from a --files0-from b
 oascanon key --files0-from
+oascanon key --check a b
+oascanon key --check a --files0-from b
+oascanon key --check
+oascanon check --check a
+oascanon show --no-clobber a
 oascanon show --names a
 oascanon canon --small
 oascanon canon --large --large

@@ -1,7 +1,7 @@
 //! Differences in brief.
 
 use super::differ_by;
-use oas_difference::{Detail, Options};
+use oas_markers::oas_difference::{Detail, Options};
 use std::test::Fail;
 
 const BRIEF: Options = Options {

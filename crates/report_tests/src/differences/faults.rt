@@ -3,8 +3,8 @@
 use super::ALL;
 use super::layouts::{Sketch, layout};
 use crate::narrow::Narrow;
-use oas_difference::write_difference;
 use oas_layout::Layout;
+use oas_markers::oas_difference::write_difference;
 use oas_num::{Refusal, Why};
 use std::alloc::Global;
 use std::test::Fail;
@@ -23,8 +23,7 @@ const BEFORE: Sketch<'static> = (1000, "A", &[(0, 1, 2)]);
 
 const AFTER: Sketch<'static> = (500, "AB", &[(1, 1, 1)]);
 
-/// Whether the difference is refused where the writer's room ends, or at its own end, with what stands before that place
-/// written.
+/// Whether the difference fails where the writer's room ends, or at its own end, with what comes before that place written.
 fn is_cut_off(before: &Layout, after: &Layout, mut writer: Narrow) -> bool {
     if before.profile() != after.profile() {
         return false;
@@ -39,7 +38,7 @@ fn is_cut_off(before: &Layout, after: &Layout, mut writer: Narrow) -> bool {
         && CHANGED.as_bytes().starts_with(writer.took.as_slice())
 }
 
-/// The first room, if any, in which a writer of so many bytes a call isn't refused as it should be.
+/// The first room, if any, in which a writer of this many bytes a call doesn't fail as it should.
 fn first_wrong(alloc: Global, before: &Layout, after: &Layout, most: usize) -> Option<usize> {
     for room in 0..CHANGED.len() {
         if !is_cut_off(before, after, Narrow::new(alloc, most, room)) {
@@ -49,13 +48,13 @@ fn first_wrong(alloc: Global, before: &Layout, after: &Layout, most: usize) -> O
     None
 }
 
-/// As `first_wrong`, of writers that take one byte a call, seven, and all that they are given.
+/// Like `first_wrong`, for writers that take one byte a call, seven, and all that they are given.
 fn first_wrongs(alloc: Global) -> Result<[Option<usize>; 3], Fail> {
     let before = layout(alloc, BEFORE)?;
     first_wrongs_from(alloc, &before)
 }
 
-/// The same, of a first layout and the one of `AFTER`.
+/// The same, for a first layout and the one of `AFTER`.
 fn first_wrongs_from(alloc: Global, before: &Layout) -> Result<[Option<usize>; 3], Fail> {
     let after = layout(alloc, AFTER)?;
     Ok([
@@ -72,13 +71,13 @@ fn a_fault_comes_with_what_was_taken(rt: HostRuntime) -> Result<(), Fail> {
     Ok(())
 }
 
-/// Whether a writer that takes all, and whose flush fails, is refused at the end.
+/// Whether a writer that takes all, and whose flush fails, fails at the end.
 fn is_refused_at_the_end(alloc: Global) -> Result<bool, Fail> {
     let before = layout(alloc, BEFORE)?;
     is_refused_from(alloc, &before)
 }
 
-/// The same, of a first layout and the one of `AFTER`.
+/// The same, for a first layout and the one of `AFTER`.
 fn is_refused_from(alloc: Global, before: &Layout) -> Result<bool, Fail> {
     let after = layout(alloc, AFTER)?;
     let mut writer = Narrow::new(alloc, 100, usize::MAX);

@@ -1,22 +1,21 @@
 //! Layouts that differ.
 
 use crate::parts::{draft, put, sealed};
-use oas_layout::{Draft, Element, Layout, Profile};
+use oas_layout::{Draft, Element, Layer, Layout, Profile};
 use oas_num::Name;
+use oas_ring::Point;
 use std::alloc::Global;
 use std::test::Fail;
 
 /// A layout in short: how many grid steps a micron has, the names of the cells, of one letter each, and the rectangles: for
-/// each the place of its cell, a layer, and how often it is there.
+/// each the place of its cell, a layer, and its count.
 pub type Sketch<'a> = (u64, &'a str, &'a [(usize, u64, u64)]);
 
-/// Adds a cell of each letter that can be a name.
+/// Adds a cell of each letter.
 fn add_letters(draft: &mut Draft, alloc: Global, names: &str) -> Result<(), Fail> {
     for letter in names.as_bytes() {
         let name = [*letter];
-        if Name::is_name(&name) {
-            draft.add_cell(Name::of(alloc, &name)?)?;
-        }
+        draft.add_cell(Name::new(alloc, &name)?)?;
     }
     Ok(())
 }
@@ -27,7 +26,15 @@ fn add_rectangles(draft: &mut Draft, rectangles: &[(usize, u64, u64)]) -> Result
         put(
             draft,
             *cell,
-            Element::rectangle(*layer, 0, 10, 20, 0, 0),
+            Element::rectangle(
+                Layer {
+                    layer: *layer,
+                    datatype: 0,
+                },
+                10,
+                20,
+                Point { x: 0, y: 0 },
+            ),
             *times,
         )?;
     }

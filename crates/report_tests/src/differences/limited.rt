@@ -1,7 +1,7 @@
 //! The first lines of a difference.
 
 use super::differ_by;
-use oas_difference::{Detail, Options};
+use oas_markers::oas_difference::{Detail, Options};
 use std::test::Fail;
 
 /// How many lines there may be, and what is then written.
@@ -16,7 +16,7 @@ const ROWS: &[(u64, &str)] = &[
 /// All the lines.
 const ALL: &str = "@ cell A\n- 2 rectangle 1 0 10 20 0 0\n+ 3 rectangle 3 0 10 20 0 0\n";
 
-/// The first lines, so many, of the elements that differ.
+/// The first lines, this many, of the elements that differ.
 fn first(lines: u64) -> Options {
     Options {
         detail: Detail::Elements,
@@ -24,7 +24,7 @@ fn first(lines: u64) -> Options {
     }
 }
 
-/// Whether so many lines of the difference are this text.
+/// Whether this many lines of the difference are this text.
 fn begins(rt: &HostRuntime, lines: u64, text: &str) -> Result<bool, Fail> {
     let before = [(0, 1, 2), (0, 3, 1)];
     let after = [(0, 3, 4)];

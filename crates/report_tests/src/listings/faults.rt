@@ -9,8 +9,8 @@ use oas_num::{Refusal, Why};
 use std::alloc::Global;
 use std::test::Fail;
 
-/// Whether the listing of `kinds` is refused where the writer's room ends, or at its own end, with what stands before that
-/// place written.
+/// Whether the listing of `kinds` fails where the writer's room ends, or at its own end, with what comes before that place
+/// written.
 fn is_cut_off(layout: &Layout, writer: &mut Narrow) -> bool {
     let place = writer.room.min(KINDS.len());
     let refusal = Refusal {
@@ -22,12 +22,12 @@ fn is_cut_off(layout: &Layout, writer: &mut Narrow) -> bool {
         && KINDS.as_bytes().starts_with(writer.took.as_slice())
 }
 
-/// As `is_cut_off`, of a writer of this room that takes at most so many bytes a call.
+/// Like `is_cut_off`, for a writer of this room that takes at most this many bytes a call.
 fn is_cut_off_by(alloc: Global, layout: &Layout, most: usize, room: usize) -> bool {
     is_cut_off(layout, &mut Narrow::new(alloc, most, room))
 }
 
-/// The first room, if any, in which a writer of so many bytes a call isn't refused as it should be.
+/// The first room, if any, in which a writer of this many bytes a call doesn't fail as it should.
 fn first_wrong(alloc: Global, layout: &Layout, most: usize) -> Option<usize> {
     for room in 0..KINDS.len() {
         if !is_cut_off_by(alloc, layout, most, room) {
@@ -37,7 +37,7 @@ fn first_wrong(alloc: Global, layout: &Layout, most: usize) -> Option<usize> {
     None
 }
 
-/// As `first_wrong`, of writers that take one byte a call, seven, and all that they are given.
+/// Like `first_wrong`, for writers that take one byte a call, seven, and all that they are given.
 fn first_wrongs(alloc: Global) -> Result<[Option<usize>; 3], Fail> {
     let layout = kinds(alloc)?;
     Ok([
@@ -54,7 +54,7 @@ fn a_fault_comes_with_what_was_taken(rt: HostRuntime) -> Result<(), Fail> {
     Ok(())
 }
 
-/// Whether a writer that takes all, and whose flush fails, is refused at the end, and takes all where its flush succeeds.
+/// Whether a writer that takes all, and whose flush fails, fails at the end, and takes all where its flush succeeds.
 fn flushed_again(alloc: Global) -> Result<[bool; 2], Fail> {
     let layout = kinds(alloc)?;
     let mut writer = Narrow::new(alloc, 100, usize::MAX);

@@ -1,7 +1,8 @@
 //! Layouts to list.
 
 use crate::parts::{add_cell, draft, label, name, put, ring, sealed};
-use oas_layout::{Draft, Element, Layout, Profile, Turns};
+use oas_layout::{Draft, Element, Extensions, Layer, Layout, Profile, Turns};
+use oas_ring::Point;
 use std::alloc::Global;
 use std::test::Fail;
 
@@ -10,13 +11,26 @@ pub fn empty(alloc: Global) -> Result<Layout, Fail> {
     Ok(draft(alloc, 2000, 2, Profile::One)?.seal()?)
 }
 
-/// Adds a cell, A, with a rectangle so many times.
+/// Adds a cell, A, with a rectangle this many times.
 fn add_rectangles(draft: &mut Draft, alloc: Global, times: u64) -> Result<(), Fail> {
     add_cell(draft, alloc, "A")?;
-    put(draft, 0, Element::rectangle(1, 0, 10, 20, 0, 0), times)
+    put(
+        draft,
+        0,
+        Element::rectangle(
+            Layer {
+                layer: 1,
+                datatype: 0,
+            },
+            10,
+            20,
+            Point { x: 0, y: 0 },
+        ),
+        times,
+    )
 }
 
-/// Unit 1000 and a cell, A, with a rectangle so many times.
+/// Unit 1000 and a cell, A, with a rectangle this many times.
 pub fn rectangles(alloc: Global, times: u64) -> Result<Layout, Fail> {
     let mut draft = draft(alloc, 1000, 1, Profile::One)?;
     let filled = add_rectangles(&mut draft, alloc, times);
@@ -27,7 +41,18 @@ pub fn rectangles(alloc: Global, times: u64) -> Result<Layout, Fail> {
 fn add_backwards(draft: &mut Draft, alloc: Global) -> Result<(), Fail> {
     add_cell(draft, alloc, "A")?;
     let points = ring(alloc, &[(10, 20), (0, 20), (0, 0), (10, 0)])?;
-    put(draft, 0, Element::polygon(1, 0, points), 1)
+    put(
+        draft,
+        0,
+        Element::polygon(
+            Layer {
+                layer: 1,
+                datatype: 0,
+            },
+            points,
+        ),
+        1,
+    )
 }
 
 /// Unit 1000 and a cell, A, with that polygon.
@@ -40,34 +65,121 @@ pub fn backwards(alloc: Global, profile: Profile) -> Result<Layout, Fail> {
 /// Adds a text.
 fn put_text(draft: &mut Draft, alloc: Global, text: &str, (x, y): (i64, i64)) -> Result<(), Fail> {
     let string = label(alloc, text)?;
-    put(draft, 0, Element::text(string, 3, 4, x, y), 1)
+    put(
+        draft,
+        0,
+        Element::text(
+            string,
+            Layer {
+                layer: 3,
+                datatype: 4,
+            },
+            Point { x, y },
+        ),
+        1,
+    )
 }
 
 /// Adds placements and texts, the last of the listing first.
 fn add_named(draft: &mut Draft, alloc: Global) -> Result<(), Fail> {
     put_text(draft, alloc, "two words ", (5, 6))?;
     put_text(draft, alloc, "", (-1, -2))?;
-    let plain = Element::placement(name(alloc, "Z")?, 0, 0, Turns::T0, false);
+    let plain = Element::placement(name(alloc, "Z")?, Point { x: 0, y: 0 }, Turns::T0, false);
     put(draft, 0, plain, 1)?;
-    let flipped = Element::placement(name(alloc, "AB")?, -7, 12, Turns::T3, true);
+    let flipped = Element::placement(name(alloc, "AB")?, Point { x: -7, y: 12 }, Turns::T3, true);
     put(draft, 0, flipped, 1)
 }
 
 /// Adds rectangles and a circle, the last of the listing first.
 fn add_plain(draft: &mut Draft) -> Result<(), Fail> {
-    put(draft, 0, Element::circle(5, 6, 7, -8, 9), 1)?;
-    put(draft, 0, Element::rectangle(u64::MAX, 0, 0, 0, 0, 0), 1)?;
-    put(draft, 0, Element::rectangle(1, 0, 10, 20, -30, -40), 2)
+    put(
+        draft,
+        0,
+        Element::circle(
+            Layer {
+                layer: 5,
+                datatype: 6,
+            },
+            7,
+            Point { x: -8, y: 9 },
+        ),
+        1,
+    )?;
+    put(
+        draft,
+        0,
+        Element::rectangle(
+            Layer {
+                layer: u64::MAX,
+                datatype: 0,
+            },
+            0,
+            0,
+            Point { x: 0, y: 0 },
+        ),
+        1,
+    )?;
+    put(
+        draft,
+        0,
+        Element::rectangle(
+            Layer {
+                layer: 1,
+                datatype: 0,
+            },
+            10,
+            20,
+            Point { x: -30, y: -40 },
+        ),
+        2,
+    )
 }
 
 /// Adds paths and a polygon.
 fn add_points(draft: &mut Draft, alloc: Global) -> Result<(), Fail> {
     let far = ring(alloc, &[(1, -1), (1, -1), (-(1 << 60), 1 << 60)])?;
-    put(draft, 0, Element::path(6, 7, 8, 0, 0, far), 1)?;
+    put(
+        draft,
+        0,
+        Element::path(
+            Layer {
+                layer: 6,
+                datatype: 7,
+            },
+            8,
+            Extensions { start: 0, end: 0 },
+            far,
+        ),
+        1,
+    )?;
     let alone = ring(alloc, &[(1, -1)])?;
-    put(draft, 0, Element::path(6, 7, 8, -9, 10, alone), 1)?;
+    put(
+        draft,
+        0,
+        Element::path(
+            Layer {
+                layer: 6,
+                datatype: 7,
+            },
+            8,
+            Extensions { start: -9, end: 10 },
+            alone,
+        ),
+        1,
+    )?;
     let triangle = ring(alloc, &[(4, -1), (0, 9), (-5, 0)])?;
-    put(draft, 0, Element::polygon(1, 2, triangle), 1)
+    put(
+        draft,
+        0,
+        Element::polygon(
+            Layer {
+                layer: 1,
+                datatype: 2,
+            },
+            triangle,
+        ),
+        1,
+    )
 }
 
 /// Adds a cell with elements of each kind, and one with none.

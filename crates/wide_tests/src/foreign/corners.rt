@@ -1,6 +1,6 @@
 //! Trapezoids, and their corners from outside.
 
-/// A CTRAPEZOID of each kind behind a CELL, and the corners that KLayout shows for it, at (1, 2).
+/// A CTRAPEZOID of each kind after a CELL, and the corners that KLayout shows for it, at (1, 2).
 pub(super) const KINDS: &str = "\
 1a fb 01 02 00 64 1e 02 04=polygon 1 2 1 2 once: 1,2 1,32 71,32 101,2\n\
 1a fb 01 02 01 64 1e 02 04=polygon 1 2 1 2 once: 1,2 1,32 101,32 71,2\n\
@@ -29,7 +29,7 @@ pub(super) const KINDS: &str = "\
 1a fb 01 02 18 64 1e 02 04=rectangle 1 2 100 30 1 2 once\n\
 1a db 01 02 19 1e 02 04=rectangle 1 2 30 30 1 2 once";
 
-/// TRAPEZOIDs behind a CELL, and the corners that KLayout shows for them, at (1, 2).
+/// TRAPEZOIDs after a CELL, and the corners that KLayout shows for them, at (1, 2).
 pub(super) const TRAPEZOIDS: &str = "\
 17 7b 01 02 64 28 00 0e 02 04=polygon 1 2 1 2 once: 1,2 1,42 101,42 94,2\n\
 17 7b 01 02 64 28 00 0f 02 04=polygon 1 2 1 2 once: 1,2 1,42 94,42 101,2\n\

@@ -1,14 +1,14 @@
-//! Growths refused: a record is refused by want of memory, or stands for what it stands for.
+//! Allocations that fail: a record fails out of memory, or is translated correctly.
 //!
-//! The heap is filled up, and given back a small piece after each run, so that what keeps a polygon's points and what makes those
-//! of a trapezoid is refused before it succeeds. Where the heap cannot be filled, as under a checker of addresses, no call is
-//! refused, and the answers are the same.
+//! The heap is filled up, and given back a small piece after each run, so that what keeps a polygon's points and what makes
+//! those of a trapezoid fails before it succeeds. Where the heap cannot be filled, as under an address checker, no call
+//! fails, and the results are the same.
 
 use super::{discard, in_a_cell, next};
+use oas_block::oas_wide::WideWhy;
 use oas_foreign::{Resolved, Resolver};
 use oas_num::{SliceSource, Why};
 use oas_record::Record;
-use oas_wide::WideWhy;
 use scarce_memory::Hoard;
 use std::alloc::{AllocError, Global};
 use std::test::Fail;
@@ -27,7 +27,7 @@ fn is_polygon(answer: &Result<Resolved, WideWhy>) -> Result<bool, WideWhy> {
     }
 }
 
-/// Resolves the next record, and answers whether it is one polygon with points.
+/// Resolves the next record, and returns whether it is one polygon with points.
 fn resolves_next(
     alloc: Global,
     source: &mut SliceSource<'_>,
@@ -39,7 +39,7 @@ fn resolves_next(
     is_polygon
 }
 
-/// Resolves the records behind a CELL, and answers whether each is one polygon with points.
+/// Resolves the records after a CELL, and returns whether each is one polygon with points.
 fn resolves_all(alloc: Global) -> Result<bool, WideWhy> {
     let mut source = SliceSource::new(RECORDS, 100);
     let mut resolver = in_a_cell(alloc);
@@ -50,7 +50,7 @@ fn resolves_all(alloc: Global) -> Result<bool, WideWhy> {
     Ok(all)
 }
 
-/// Runs once. Whether all was `resolved`, or memory was `refused`; `wrong` where it was neither.
+/// Runs once. Whether all was `resolved`, or failed out of memory (`refused`); `wrong` where it was neither.
 fn run(alloc: Global) -> &'static str {
     match resolves_all(alloc) {
         Ok(true) => "resolved",
@@ -59,8 +59,7 @@ fn run(alloc: Global) -> &'static str {
     }
 }
 
-/// Runs until it isn't refused, and gives back a piece of memory after each refusal. How the last run ended, and how many were
-/// refused.
+/// Runs until it succeeds, and gives back a piece of memory after each failure. How the last run ended, and how many failed.
 fn insist(alloc: Global, hoard: &mut Hoard) -> (&'static str, u32) {
     for refused in 0..4000u32 {
         let end = run(alloc);
@@ -72,7 +71,7 @@ fn insist(alloc: Global, hoard: &mut Hoard) -> (&'static str, u32) {
     ("refused", 4000)
 }
 
-/// How the last run ended, and whether more than one was refused, where the heap could be filled.
+/// How the last run ended, and whether more than one failed, where the heap could be filled.
 fn ends(alloc: Global) -> Result<(&'static str, bool), AllocError> {
     let mut hoard = Hoard::new(alloc)?;
     let (end, refused) = insist(alloc, &mut hoard);

@@ -1,6 +1,6 @@
-//! What trapezoids and geometry of extensions do to the records behind them.
+//! What trapezoids and geometry of extensions do to the records after them.
 
-/// Records behind a CELL, and what is handed out for them, by the rules of the modal variables. `new 3` are three copies.
+/// Records after a CELL, and what is returned for them, by the rules of the modal variables. `new 3` are three copies.
 pub(super) const ROWS: &str = "\
 14 7b 01 02 09 05 02 04 10 14 00 15 00=rectangle 1 2 9 5 1 2 once; relative; rectangle - - - - - - once; polygon - - - - once:\n\
 1a db 01 02 16 09 02 04 14 18 06 08=polygon 1 2 1 2 once: 1,2 1,20 10,11; rectangle 1 2 9 18 3 4 once\n\

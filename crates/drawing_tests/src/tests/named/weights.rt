@@ -1,11 +1,11 @@
-//! What placements and texts at hand weigh, and each reason in its turn, where 2^24 elements may weigh 2^28.
+//! The weight of placements and texts at hand, and each reason in turn, where 2^24 elements may weigh 2^28.
 ghost use Rattle.std.specs.Prelude.{◌≤◌, ◌^◌};
 
 use super::{discard, label, name, place, placement, text, weighs, write};
-use oas_ahead::{Given, NamedOnce};
 use oas_drawing::ModalVariables;
 use oas_layout::Limits;
 use oas_num::Why;
+use oas_peek::{Given, NamedOnce};
 use oas_record::{CellRef, TextRef};
 use std::alloc::Global;
 use std::process::Abort;
@@ -32,7 +32,7 @@ fn written(string: Given<'_>) -> NamedOnce<'_> {
     }
 }
 
-/// What an element beyond the grid that weighs 3 weighs past each limit, and within them.
+/// The results for an element beyond the grid with weight 3: past each limit, and within them.
 fn beyond_the_grid(modal: &ModalVariables, next: &NamedOnce<'_>) -> [Result<u64, Why>; 3] {
     [
         weighs(modal, next, 1 << 24, 1 << 28),
@@ -48,7 +48,7 @@ const BEYOND_THE_GRID: [Result<u64, Why>; 3] = [
     Err(Why::CoordinateRange),
 ];
 
-/// What a placement of the modal cell weighs: before there is one, at the limits, and beyond the grid.
+/// The weight of a placement of the modal cell: before there is one, at the limits, and beyond the grid.
 fn placements_weighed(
     alloc: Global,
 ) -> Result<([Result<u64, Why>; 2], [Result<u64, Why>; 3]), Why> {
@@ -70,7 +70,7 @@ fn reasons_of_placements(rt: HostRuntime) {
     assert!(rt; placements_weighed(rt.alloc()) == Ok((first, BEYOND_THE_GRID)));
 }
 
-/// What a text of the modal string weighs: before there is a texttype, and beyond the grid.
+/// The weight of a text with the modal string: before there is a texttype, and beyond the grid.
 fn texts_weighed(alloc: Global) -> Result<(Result<u64, Why>, [Result<u64, Why>; 3]), Why> {
     let string = TextRef::Label(label(alloc)?);
     let mut modal = ModalVariables::new();
@@ -89,7 +89,7 @@ fn reasons_of_texts(rt: HostRuntime) {
     assert!(rt; texts_weighed(rt.alloc()) == Ok((first, BEYOND_THE_GRID)));
 }
 
-/// Why what gives a name of its own is refused beside so many elements of that weight, if it is.
+/// Why what gives a name of its own is refused after this many elements with that weight, if it is.
 fn checked(modal: &ModalVariables, next: &NamedOnce<'_>, count: u64, weight: u64) -> Option<Why>
     requires few { count ≤ 2 ^ 24 }
     requires light { weight ≤ 2 ^ 28 }
@@ -107,7 +107,7 @@ fn at_the_limit(modal: &ModalVariables, next: &NamedOnce<'_>) -> [Option<Why>; 2
     ]
 }
 
-/// A placement of ABC at the limit and past it, before there is a modal cell and behind another; one of a number at the limit,
+/// A placement of ABC at the limit and past it, before there is a modal cell and after another; one of a number at the limit,
 /// and a text of ABC without a texttype.
 fn names_checked(alloc: Global) -> Result<[[Option<Why>; 2]; 3], Why> {
     let cell = CellRef::Name(name(alloc)?);
@@ -124,7 +124,7 @@ fn names_checked(alloc: Global) -> Result<[[Option<Why>; 2]; 3], Why> {
     Ok([first, behind, others])
 }
 
-/// A name that is given weighs what it does before it is the modal one, whatever that is.
+/// A name that is given has its weight before it is the modal one, whatever that is.
 #[test]
 fn names_weighed_before_they_are_modal(rt: HostRuntime) {
     let heavy = [None, Some(Why::TooHeavy)];

@@ -1,5 +1,5 @@
 use Rattle.std.proofs.Common.{◌∙◌, ap, sym, Some}
-use Rattle.oas_form.specs.Alone.{cell_at}
+use Rattle.oas_judge.specs.oas_form.Alone.{cell_at}
 use Rattle.oas_canon.proofs.CellKeyLemmas.{name_at, named_is}
 use Rattle.oas_canon.proofs.cell_keys.put_line.Goals as goal
 

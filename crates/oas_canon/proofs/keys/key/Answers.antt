@@ -8,13 +8,8 @@ returns-in_err-layout-clause-exactly g c =
     let p = err_from_is_err_and c.from_residual.result c.from_residual.ensures.1 in
     rw (p.1, p.2) (exactly_refused (List ℕ) _ c.in_err-layout.ensures.0)
 
-pub digest-requires : goal.digest-requires
-digest-requires g c = (c.in_ok-layout.ensures.0, c.in_ok-layout.ensures.1)
-
 pub returns-clause-keyed : goal.returns-clause-keyed
-returns-clause-keyed g c =
-    let l = c.in_ok-layout.ensures in
-    keyed l.2 _ l.1.layout (c.digest.ensures l.0 l.1)
+returns-clause-keyed g c = let l = c.in_ok-layout.ensures in keyed l _ l.layout c.digest.ensures
 
 pub returns-clause-exactly : goal.returns-clause-exactly
-returns-clause-exactly g c = exactly_taken _ (taken c.in_ok-layout.ensures.2)
+returns-clause-exactly g c = exactly_taken _ (taken c.in_ok-layout.ensures)

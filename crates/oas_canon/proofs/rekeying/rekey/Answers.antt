@@ -20,31 +20,27 @@ returns-then-not-own-clause-again g c = stays _ _ _ _ _ NotProfile1 (other c.in_
 pub returns-then-not-own-clause-exactly : goal.returns-then-not-own-clause-exactly
 returns-then-not-own-clause-exactly g c = exactly_taken NotProfile1 (taken c.in_ok-layout.ensures.read.read)
 
-pub write_compact-requires : goal.write_compact-requires
-write_compact-requires g c = (c.in_ok-layout.ensures.read.layout, c.in_ok-layout.ensures.read.keyed)
-
 pub returns-in_err-count-clause-cut : goal.returns-in_err-count-clause-cut
 returns-in_err-count-clause-cut g c =
     let p = err_from_is_err_and c.from_residual-in_err-count.result c.from_residual-in_err-count.ensures.1 in
     let r = c.in_ok-layout.ensures.read in
-    rw (p.1, p.2) (λ _. in_part r c.if-not-own.false g.W.Write.contents _ _ _ (c.in_err-count.ensures.refused r.layout r.keyed))
+    rw (p.1, p.2) (λ _. in_part r c.if-not-own.false g.W.Write.contents _ _ _ c.in_err-count.ensures.refused)
 
 pub returns-in_err-count-clause-exactly : goal.returns-in_err-count-clause-exactly
 returns-in_err-count-clause-exactly g c =
     let p = err_from_is_err_and c.from_residual-in_err-count.result c.from_residual-in_err-count.ensures.1 in
-    let r = c.in_ok-layout.ensures.read in
-    let cut = c.in_err-count.ensures.refused r.layout r.keyed in
+    let cut = c.in_err-count.ensures.refused in
     rw (p.1, p.2) (exactly_unwritten Rekeyed c.args.limits (g.S.Source.script c.args.from.now) (g.S.Source.script c.read_judged.new.source) _ cut.reason)
 
 pub returns-clause-rekeyed : goal.returns-clause-rekeyed
 returns-clause-rekeyed g c =
     let r = c.in_ok-layout.ensures.read in
-    rekeyed r c.if-not-own.false g.W.Write.contents _ _ _ (c.in_ok-count.ensures.written r.layout r.keyed)
+    rekeyed r c.if-not-own.false g.W.Write.contents _ _ _ c.in_ok-count.ensures.written
 
 pub returns-clause-again : goal.returns-clause-again
 returns-clause-again g c =
     let r = c.in_ok-layout.ensures.read in
-    stays _ _ _ _ _ (Done _) (rekeyed r c.if-not-own.false g.W.Write.contents _ _ _ (c.in_ok-count.ensures.written r.layout r.keyed))
+    stays _ _ _ _ _ (Done _) (rekeyed r c.if-not-own.false g.W.Write.contents _ _ _ c.in_ok-count.ensures.written)
 
 pub returns-clause-exactly : goal.returns-clause-exactly
 returns-clause-exactly g c = exactly_taken (Done c.in_ok-count.count) (taken c.in_ok-layout.ensures.read.read)

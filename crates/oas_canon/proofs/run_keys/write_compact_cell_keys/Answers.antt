@@ -5,15 +5,12 @@ use Rattle.oas_canon.specs.CellKeys.{cell_key_lines}
 use Rattle.oas_canon.proofs.CellKeyLemmas.{lines_short}
 use Rattle.oas_canon.proofs.run_keys.write_compact_cell_keys.Goals as goal
 
-pub put_and_close-requires : goal.put_and_close-requires
-put_and_close-requires g c = c.requires
-
 pub returns-in-Ok-clause-written : goal.returns-in-Ok-clause-written
-returns-in-Ok-clause-written g c l h =
-    let short : length (cell_key_lines (meaning_of l)) < 2 ^ 64 = omega (arith, lines_short l h.layout) in
-    written g.W.Write.contents c.new-outlet.ensures (c.in-Ok.ensures.writes l h) c.in-Ok.ensures.all (λ name. search rules) c.taken.ensures short
+returns-in-Ok-clause-written g c =
+    let short : length (cell_key_lines (meaning_of c.args.layout.now)) < 2 ^ 64 = omega (arith, lines_short c.args.layout.now c.in-Ok.ensures.layout) in
+    written g.W.Write.contents c.new-outlet.ensures c.in-Ok.ensures.writes c.in-Ok.ensures.all (λ name. search rules) c.taken.ensures short
 
 pub returns-in-Err-clause-refused : goal.returns-in-Err-clause-refused
-returns-in-Err-clause-refused g c l h =
-    let short : length (cell_key_lines (meaning_of l)) < 2 ^ 64 = omega (arith, lines_short l h.layout) in
-    cut_off g.W.Write.contents c.new-outlet.ensures (c.in-Err.ensures.writes l h) (λ name. search rules) c.taken-in-Err.ensures short
+returns-in-Err-clause-refused g c =
+    let short : length (cell_key_lines (meaning_of c.args.layout.now)) < 2 ^ 64 = omega (arith, lines_short c.args.layout.now c.in-Err.ensures.layout) in
+    cut_off g.W.Write.contents c.new-outlet.ensures c.in-Err.ensures.writes (λ name. search rules) c.taken-in-Err.ensures short

@@ -12,7 +12,7 @@ pub returns-clause-compared : goal.returns-clause-compared
 returns-clause-compared g c =
     let one = c.in-Ok.ensures in
     let other = c.in-Ok-read_compact.ensures in
-    compared one.2 other.2 (c.same.ensures one.0 other.0 one.1 other.1 (one.2.by ∙ sym other.2.by))
+    compared one other (c.same.ensures (one.by ∙ sym other.by))
 
 pub returns-clause-exactly : goal.returns-clause-exactly
-returns-clause-exactly g c = (exactly_taken _ (taken c.in-Ok.ensures.2), exactly_taken _ (taken c.in-Ok-read_compact.ensures.2))
+returns-clause-exactly g c = (exactly_taken _ (taken c.in-Ok.ensures), exactly_taken _ (taken c.in-Ok-read_compact.ensures))

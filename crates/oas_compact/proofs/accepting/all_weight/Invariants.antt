@@ -1,5 +1,5 @@
 use Rattle.std.proofs.Common.{drop}
-use Rattle.oas_names.proofs.WeightLemmas.{Adding}
+use Rattle.oas_modal.proofs.oas_names_proofs.WeightLemmas.{Adding}
 use Rattle.oas_compact.specs.Weighing.{all_weight}
 use Rattle.oas_compact.proofs.accepting.all_weight.Given as goal
 

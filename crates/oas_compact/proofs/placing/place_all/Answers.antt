@@ -1,6 +1,6 @@
 use Rattle.std.proofs.Common.{ℕ, List, ◌++◌, ◌∙◌, ap}
 use Rattle.oas_entries.specs.Blocks.{joined}
-use Rattle.oas_drawing.specs.declared.drawn.Drawn.{Drawn}
+use Rattle.oas_modal.specs.oas_drawing.declared.drawn.Drawn.{Drawn}
 use Rattle.oas_compact.proofs.PlaceLemmas.{first_waits, then_waits, first_room, then_room, both_placed}
 use Rattle.oas_compact.proofs.placing.place_all.Goals as goal
 

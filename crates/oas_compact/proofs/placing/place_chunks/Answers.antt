@@ -1,7 +1,7 @@
 use Rattle.std.proofs.Common.{rules, ◌≡◌, ℕ, List, ◌∷◌, subst}
 use Rattle.std.specs.Vec.Iter.{into_iter_items}
 use Rattle.oas_entries.specs.Blocks.{joined}
-use Rattle.oas_drawing.specs.declared.drawn.Drawn.{Drawn}
+use Rattle.oas_modal.specs.oas_drawing.declared.drawn.Drawn.{Drawn}
 use Rattle.oas_compact.proofs.PlaceLemmas.{Placing, placing_chunk, room_next}
 use Rattle.oas_compact.proofs.WaitLemmas.{all_front}
 use Rattle.oas_compact.proofs.placing.place_chunks.Goals as goal

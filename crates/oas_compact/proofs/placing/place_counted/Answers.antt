@@ -1,5 +1,5 @@
 use Rattle.std.proofs.Common.{rules, ◌≡◌, ℕ, List, ◌∷◌, subst}
-use Rattle.oas_drawing.specs.declared.drawn.Drawn.{Drawn}
+use Rattle.oas_modal.specs.oas_drawing.declared.drawn.Drawn.{Drawn}
 use Rattle.oas_compact.proofs.PlaceLemmas.{Placing, placing_more}
 use Rattle.oas_compact.proofs.placing.place_counted.Goals as goal
 

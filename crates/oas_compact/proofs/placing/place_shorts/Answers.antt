@@ -1,8 +1,8 @@
 use Rattle.std.proofs.Common.{rules, ◌≡◌, List, ◌∷◌, ◌∙◌, ap, sym, subst, arith}
 use Rattle.std.specs.Vec.Iter.{into_iter_items}
-use Rattle.oas_drawing.specs.declared.drawn.Drawn.{Drawn}
+use Rattle.oas_modal.specs.oas_drawing.declared.drawn.Drawn.{Drawn}
 use Rattle.oas_modal.specs.Finish.{IsFit}
-use Rattle.oas_names.specs.Meaning.{element_by}
+use Rattle.oas_modal.specs.oas_names.Meaning.{element_by}
 use Rattle.oas_compact.specs.declared.short.Short.{Short}
 use Rattle.oas_compact.specs.Short.{drawn_of, drawn_once}
 use Rattle.oas_compact.specs.Placing.{with_placed}

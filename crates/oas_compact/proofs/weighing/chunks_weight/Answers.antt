@@ -1,6 +1,6 @@
 use Rattle.std.proofs.Common.{rules, ◌≡◌, ℕ, List, ◌∙◌, ap}
-use Rattle.oas_drawing.specs.declared.drawn.Drawn.{Drawn}
-use Rattle.oas_names.specs.Weights.{joined}
+use Rattle.oas_modal.specs.oas_drawing.declared.drawn.Drawn.{Drawn}
+use Rattle.oas_modal.specs.oas_names.Weights.{joined}
 use Rattle.oas_compact.specs.Weighing.{waiting_weight, full_weight}
 use Rattle.oas_compact.proofs.WeighLemmas.{row_weights}
 use Rattle.oas_compact.proofs.weighing.chunks_weight.Goals as goal

@@ -1,4 +1,4 @@
-use Rattle.oas_names.proofs.WeightLemmas.{Adding}
+use Rattle.oas_modal.proofs.oas_names_proofs.WeightLemmas.{Adding}
 use Rattle.oas_compact.specs.Weighing.{waiting_weight}
 use Rattle.oas_compact.proofs.weighing.counted_weight.Given as goal
 

@@ -1,5 +1,5 @@
 use Rattle.std.proofs.Common.{drop}
-use Rattle.oas_names.proofs.WeightLemmas.{Adding}
+use Rattle.oas_modal.proofs.oas_names_proofs.WeightLemmas.{Adding}
 use Rattle.oas_compact.specs.Weighing.{full_weight}
 use Rattle.oas_compact.proofs.weighing.full_weight.Given as goal
 

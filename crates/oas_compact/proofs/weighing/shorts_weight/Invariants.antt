@@ -1,5 +1,5 @@
 use Rattle.std.proofs.Common.{drop}
-use Rattle.oas_names.proofs.WeightLemmas.{Adding}
+use Rattle.oas_modal.proofs.oas_names_proofs.WeightLemmas.{Adding}
 use Rattle.oas_compact.specs.Short.{drawn_once}
 use Rattle.oas_compact.specs.Weighing.{waiting_weight}
 use Rattle.oas_compact.proofs.weighing.shorts_weight.Given as goal

@@ -1,15 +1,15 @@
 use Rattle.std.proofs.Common.{◌≡◌, ℕ, ◌+◌, ◌<◌, take, drop, arith, rules, get_or}
 use Rattle.std.specs.Fmt.{decimal}
-use Rattle.oas_explain.specs.declared.reasons.Reason.{Reason}
+use Rattle.oas_num.specs.declared.sentences.Reason.{Reason}
 use Rattle.oas_explain.proofs.FindLemmas.{parts, one_more}
 use Rattle.oas_explain.proofs.explain.find.Goals as goal
 
-pub returns-then-has_number-clause-found : goal.returns-then-has_number-clause-found
-returns-then-has_number-clause-found c = record {
+pub returns-then-is_called-clause-found : goal.returns-then-is_called-clause-found
+returns-then-is_called-clause-found c = record {
   before = take c.loop-reason.reason-index c.args.reasons.now;
   behind = drop (c.loop-reason.reason-index + 1) c.args.reasons.now;
   one_of = parts c.args.reasons.now c.loop-reason.reason-index _ c.loop-reason-test.true;
-  number = search rules;
+  called = search rules;
 }
 
 pub returns-clause-none : goal.returns-clause-none

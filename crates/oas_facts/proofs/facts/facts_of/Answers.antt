@@ -9,7 +9,7 @@ length-expanded (c ∷ cs) = ap suc (length-expanded cs)
 pub returns : goal.returns
 returns c = record {
   unit = c.unit.ensures;
-  cells = c.cells.ensures.count ∙ sym (length-expanded c.args.layout.now.cells);
+  cells = c.cell_count.ensures.count ∙ sym (length-expanded c.args.layout.now.cells);
   elements = c.count.ensures.count;
   weight = c.weight.ensures.weight;
   groups = c.in_ok-groups.ensures;

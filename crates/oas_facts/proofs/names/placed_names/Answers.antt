@@ -9,5 +9,5 @@ loop-cell-preserved c =
 
 pub returns : goal.returns
 returns c =
-    let all : length c.args.layout.now.cells ≤ c.loop-cell.cell = omega (arith, c.cells-cells.ensures.count, c.loop-cell-test.false) in
+    let all : length c.args.layout.now.cells ≤ c.loop-cell.cell = omega (arith, c.cell_count-cells.ensures.count, c.loop-cell-test.false) in
     placed_done c.args.layout.now c.loop-cell.cell c.loop-cell.names.keys all c.loop-cell.invariant

@@ -1,7 +1,7 @@
 use Rattle.std.proofs.Common.{Err}
 use Rattle.std.proofs.lemmas.Result.{err_from_is_err_and, on_ok_weaker, IfErr-weaker}
-use Rattle.oas_num.proofs.ReadLemmas.{Takes-none}
-use Rattle.oas_file.proofs.Ending.{accepted}
+use Rattle.oas_num.proofs.ReadLemmas.{Consumed-none}
+use Rattle.oas_runs.proofs.oas_file_proofs.Ending.{accepted}
 use Rattle.oas_judge.proofs.RecordSteps.{as_kept}
 use Rattle.oas_judge.proofs.FileLemmas.{has_begun, kept_within, all_seen, judged}
 use Rattle.oas_judge.proofs.checking.accept_behind.Goals as goal
@@ -15,7 +15,7 @@ pub returns-clause-judged : goal.returns-clause-judged
 returns-clause-judged g c = λ origin begun.
     let b = has_begun begun c.new-reader.ensures.stands in
     let all = c.in_ok-end.ensures.judged c.args.profile b in
-    on_ok_weaker c.finish_counting.result (λ none yes says. judged b all c.new-reader.ensures.limits none (Takes-none _) c.in_ok-end.ensures.ended yes says)
+    on_ok_weaker c.finish_counting.result (λ none yes says. judged b all c.new-reader.ensures.limits none (Consumed-none _) c.in_ok-end.ensures.ended yes says)
     (c.finish_counting.ensures.accepted _ all.taken.stands)
 
 pub returns-clause-refused : goal.returns-clause-refused
@@ -23,5 +23,5 @@ returns-clause-refused g c = λ origin begun.
     let b = has_begun begun c.new-reader.ensures.stands in
     let all = c.in_ok-end.ensures.judged c.args.profile b in
     IfErr-weaker c.finish_counting.result _ _
-    (λ refusal h. as_kept (accepted (all_seen b all) (Takes-none _) c.in_ok-end.ensures.ended (Err refusal) c.new-reader.ensures.limits tt h))
+    (λ refusal h. as_kept (accepted (all_seen b all) (Consumed-none _) c.in_ok-end.ensures.ended (Err refusal) c.new-reader.ensures.limits tt h))
     (c.finish_counting.ensures.refused _ all.taken.stands)

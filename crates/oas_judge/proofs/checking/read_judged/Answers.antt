@@ -8,3 +8,6 @@ returns-in_err-layout-clause-refused g c =
 
 pub returns-clause-read : goal.returns-clause-read
 returns-clause-read g c = c.in_ok-layout.ensures.read c.args.judged_by _ c.in_ok-head.ensures.begun c.is_done.result c.is_done.ensures
+
+pub read_behind-requires : goal.read_behind-requires
+read_behind-requires g c = (c.args.judged_by, _, c.in_ok-head.ensures.begun)

@@ -1,3 +1,4 @@
+use Rattle.std.proofs.Common.{◌∙◌}
 use Rattle.std.proofs.lemmas.Result.{err_from_is_err_and}
 use Rattle.oas_judge.proofs.RecordSteps.{one_fails, one_wants, one_refused, one_seen, one_ends, next_grows}
 use Rattle.oas_judge.proofs.records.judge_read.Goals as goal
@@ -16,7 +17,7 @@ pub returns-in_err-candidate : goal.returns-in_err-candidate
 returns-in_err-candidate g c =
     let p = err_from_is_err_and c.from_residual-in_err-candidate.result c.from_residual-in_err-candidate.ensures.1 in
     let next = rw c.in-Some.is at c.in_ok-record.ensures.taken in
-    rw (p.1, p.2) (one_wants c.in_ok-record.ensures.same next _ c.in_err-candidate.ensures.err.1)
+    rw (p.1, p.2) (one_wants c.in_ok-record.ensures.same next _ c.in_err-candidate.ensures.err.1 (c.in_err-candidate.ensures.err.0 ∙ c.requires))
 
 pub returns-in_err-take : goal.returns-in_err-take
 returns-in_err-take g c =

@@ -1,6 +1,6 @@
 use Rattle.std.proofs.lemmas.Result.{err_from_is_err_and}
-use Rattle.oas_file.proofs.Taking.{named_inner}
-use Rattle.oas_judge.proofs.RecordSteps.{ahead_refused, ahead_seen, ahead_grows}
+use Rattle.oas_runs.proofs.oas_file_proofs.Taking.{named_inner}
+use Rattle.oas_judge.proofs.RecordSteps.{peeked_refused, peeked_seen, peeked_grows}
 use Rattle.oas_judge.proofs.records.next_named.Goals as goal
 
 pub returns-in_err-taken : goal.returns-in_err-taken
@@ -8,13 +8,13 @@ returns-in_err-taken g c =
     let p = err_from_is_err_and c.from_residual.result c.from_residual.ensures.1 in
     let element = c.in-Some.found.element in
     let is = rw c.ahead.ensures at c.in-Some.ensures in
-    rw (p.1, p.2) (ahead_refused (named_inner element) is.spelled c.skip.ensures c.args.at _ c.requires c.in_err-taken.ensures.refused)
+    rw (p.1, p.2) (peeked_refused (named_inner element) is.spelled c.skip.ensures c.args.at _ c.requires c.in_err-taken.ensures.refused)
 
 pub returns : goal.returns
 returns g c =
     let element = c.in-Some.found.element in
     let is = rw c.ahead.ensures at c.in-Some.ensures in (
-      ahead_grows (named_inner element) is.spelled c.skip.ensures,
-      ahead_seen (named_inner element) is.spelled c.skip.ensures c.in_ok-taken.ensures.taken c.in_ok-taken.ensures.unit c.in_ok-taken.ensures.limits c.in_ok-taken.ensures.profile
+      peeked_grows (named_inner element) is.spelled c.skip.ensures,
+      peeked_seen (named_inner element) is.spelled c.skip.ensures c.in_ok-taken.ensures.taken c.in_ok-taken.ensures.unit c.in_ok-taken.ensures.limits c.in_ok-taken.ensures.profile
           (c.judge_named.ensures.yes c.if-not-judge_named.false _ is),
     )

@@ -10,6 +10,6 @@ returns-clause-reads g c = record {
   reads = λ in_end.
       let f = rw (← c.requires.starts, c.requires.first) at c.read_after-outcome.new.source.shortened in
       let law = tame_after in_end c.args.id c.requires.inner c.requires.turned in
-      let r = rw (c.new-shortened.ensures.now, c.new-shortened.ensures.place, c.new-shortened.ensures.none_kept, c.new-shortened.ensures.open, c.first_of.ensures) at c.read_after-outcome.ensures in_end in
+      let r = rw (c.new-shortened.ensures.now, c.new-shortened.ensures.place, c.new-shortened.ensures.none_kept, c.new-shortened.ensures.open, c.first_of.ensures, ← c.requires.starts, c.requires.first) at c.read_after-outcome.ensures in_end in
       judged_read (after_id Any in_end c.args.id) (AfterTook in_end c.args.id) f law.cut _ _ c.judged.ensures r;
 }

@@ -1,8 +1,8 @@
 use Rattle.std.proofs.Common.{◌≡◌, ℕ, ◌+◌, ◌*◌, ◌<◌, None, ap, subst, ◌∙◌, arith}
 use Rattle.std.proofs.lemmas.Result.{err_from_is_err_and}
 use Rattle.oas_shape.specs.Steps.{still}
-use Rattle.oas_drawing.specs.Drawing.{drawn_by, number_if}
-use Rattle.oas_drawing.specs.Reasons.{weight_if, fault_of}
+use Rattle.oas_names.specs.oas_drawing.Drawing.{drawn_by, number_if}
+use Rattle.oas_names.specs.oas_drawing.Reasons.{weight_if, fault_of}
 use Rattle.oas_modal.specs.Stores.{Draws}
 use Rattle.oas_modal.specs.Copying.{place_offset, first_stacks}
 use Rattle.oas_modal.proofs.CopyLemmas.{here, draws_next, draws_all, room_next, fit_next, fit_all, fault_at, weight_next, weight_all, weight_room}

@@ -1,7 +1,7 @@
 use Rattle.std.proofs.Common.{◌≡◌, ℕ, ◌*◌, ◌<◌, None}
 use Rattle.oas_shape.specs.Steps.{still}
-use Rattle.oas_drawing.specs.Drawing.{drawn_by}
-use Rattle.oas_drawing.specs.Reasons.{weight_if, fault_of}
+use Rattle.oas_names.specs.oas_drawing.Drawing.{drawn_by}
+use Rattle.oas_names.specs.oas_drawing.Reasons.{weight_if, fault_of}
 use Rattle.oas_modal.specs.Stores.{Draws}
 use Rattle.oas_modal.specs.Copying.{place_offset, first_stacks}
 use Rattle.oas_modal.proofs.copying.hold_copies.Given as goal

@@ -11,7 +11,7 @@ use Rattle.oas_layout.specs.Meaning.{cells_weight, SameLayout}
 use Rattle.oas_layout.specs.Contents.{Contents, expanded, nothing, meaning_of}
 use Rattle.oas_modal.specs.Held.{Held}
 use Rattle.oas_names.specs.Meaning.{cell_lacks, has_twice, end_reason}
-use Rattle.oas_modal.specs.Finish.{drawn_cells, names_held, held_meant, with_all}
+use Rattle.oas_modal.specs.Finish.{drawn_cells, names_held, held_by_name, with_all}
 use Rattle.oas_modal.proofs.MeaningLemmas.{told, end_unknown, end_twice, end_heavy, end_none, cells-expanded}
 use Rattle.oas_modal.proofs.Twice.{bare_names}
 use Rattle.oas_modal.proofs.FillLemmas.{all_given, sealed-same}
@@ -20,7 +20,7 @@ use Rattle.oas_modal.proofs.finishing.finish.Goals as goal
 -- what is refused while an empty draft is filled
 refused : (names strings : List (ℕ × List ℕ)) (unit : Ratio) (limits : Limits) (profile : Profile) (hs : List Held) (d : Contents) (why : Why) → d
     ≡ nothing unit limits profile → list_any (λ h. cell_lacks names strings (h.0, items h.1)) hs ≡ false → has_twice (names_held names hs) ≡ false →
-    (why ≡ Memory) ⊎ ((why ≡ TooHeavy) × (d.limits.weight < d.spelled + cells_weight (expanded (held_meant names strings hs)))) → (why ≡ Memory)
+    (why ≡ Memory) ⊎ ((why ≡ TooHeavy) × (d.limits.weight < d.spelled + cells_weight (expanded (held_by_name names strings hs)))) → (why ≡ Memory)
     ⊎ (end_reason names strings limits (drawn_cells hs) ≡ Some why)
 refused names strings unit limits profile hs d why is lacks twice (inl m) = inl m
 refused names strings unit limits profile hs d why is lacks twice (inr h) =
@@ -56,9 +56,9 @@ returns-clause-ok c =
     c.lacks_name.result false c.lacks_name.ensures c.deref.ensures.value c.if-lacks_name.false in
     let twice = told (λ hs. has_twice (names_held c.args.names.now.named hs)) c.deref-2.result.now c.args.cells.items c.in_ok-names_twice.field-0 false
     (c.in_ok-names_twice.ensures.twice ∙ ap has_twice (bare_names c.args.names.now.named c.deref-2.result.now)) c.deref-2.ensures.value c.if-branch.false in
-    let given = all_given c.args.unit c.args.limits c.args.profile (held_meant c.args.names.now.named c.args.strings.now.named c.args.cells.items)
+    let given = all_given c.args.unit c.args.limits c.args.profile (held_by_name c.args.names.now.named c.args.strings.now.named c.args.cells.items)
     c.put_all.new.draft (c.in_default-put_all.ensures.ok
-    ∙ ap (λ (v : Contents). with_all v (held_meant c.args.names.now.named c.args.strings.now.named c.args.cells.items)) c.in-Ok.ensures) in
+    ∙ ap (λ (v : Contents). with_all v (held_by_name c.args.names.now.named c.args.strings.now.named c.args.cells.items)) c.in-Ok.ensures) in
     let heaviest = ap (λ (v : Contents). v.limits.weight) c.in-Ok.ensures in
     end_none c.args.names.now.named c.args.strings.now.named c.args.limits c.args.cells.items lacks twice (omega (arith, given.2, heaviest, c.in_default-put_all.ensures.light))
 
@@ -66,21 +66,21 @@ pub returns-clause-means : goal.returns-clause-means
 returns-clause-means c =
     subst (λ (cs : List (List ℕ × List Element)). SameLayout c.args.profile (meaning_of c.in-Ok-seal.layout) (record { unit = c.args.unit; cells = cs }))
     (sym (cells-expanded c.args.names.now.named c.args.strings.now.named c.args.cells.items))
-    (sealed-same c.args.unit c.args.limits c.args.profile (held_meant c.args.names.now.named c.args.strings.now.named c.args.cells.items) c.put_all.new.draft
+    (sealed-same c.args.unit c.args.limits c.args.profile (held_by_name c.args.names.now.named c.args.strings.now.named c.args.cells.items) c.put_all.new.draft
     c.in-Ok-seal.layout (c.in_default-put_all.ensures.ok
-    ∙ ap (λ (v : Contents). with_all v (held_meant c.args.names.now.named c.args.strings.now.named c.args.cells.items)) c.in-Ok.ensures) c.in-Ok-seal.ensures)
+    ∙ ap (λ (v : Contents). with_all v (held_by_name c.args.names.now.named c.args.strings.now.named c.args.cells.items)) c.in-Ok.ensures) c.in-Ok-seal.ensures)
 
 pub returns-clause-limits : goal.returns-clause-limits
 returns-clause-limits c =
     c.in-Ok-seal.ensures.limits ∙ (all_given c.args.unit c.args.limits c.args.profile
-    (held_meant c.args.names.now.named c.args.strings.now.named c.args.cells.items) c.put_all.new.draft
-    (c.in_default-put_all.ensures.ok ∙ ap (λ (v : Contents). with_all v (held_meant c.args.names.now.named c.args.strings.now.named c.args.cells.items)) c.in-Ok.ensures)).0
+    (held_by_name c.args.names.now.named c.args.strings.now.named c.args.cells.items) c.put_all.new.draft
+    (c.in_default-put_all.ensures.ok ∙ ap (λ (v : Contents). with_all v (held_by_name c.args.names.now.named c.args.strings.now.named c.args.cells.items)) c.in-Ok.ensures)).0
 
 pub returns-clause-profile : goal.returns-clause-profile
 returns-clause-profile c =
     c.in-Ok-seal.ensures.profile ∙ (all_given c.args.unit c.args.limits c.args.profile
-    (held_meant c.args.names.now.named c.args.strings.now.named c.args.cells.items) c.put_all.new.draft
-    (c.in_default-put_all.ensures.ok ∙ ap (λ (v : Contents). with_all v (held_meant c.args.names.now.named c.args.strings.now.named c.args.cells.items)) c.in-Ok.ensures)).1
+    (held_by_name c.args.names.now.named c.args.strings.now.named c.args.cells.items) c.put_all.new.draft
+    (c.in_default-put_all.ensures.ok ∙ ap (λ (v : Contents). with_all v (held_by_name c.args.names.now.named c.args.strings.now.named c.args.cells.items)) c.in-Ok.ensures)).1
 
 pub put_all-requires-clause-apart : goal.put_all-requires-clause-apart
 put_all-requires-clause-apart c =

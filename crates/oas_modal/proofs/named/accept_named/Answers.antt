@@ -1,9 +1,9 @@
 use Rattle.std.proofs.Common.{◌≡◌, false, rules, refl, sym, subst, arith, inl}
 use Rattle.std.specs.Prelude.{None}
-use Rattle.oas_ahead.specs.Named.{named_record}
-use Rattle.oas_drawing.specs.Modal.{ModalState}
-use Rattle.oas_drawing.specs.Reasons.{kind_reason}
-use Rattle.oas_drawing.specs.Named.{named_by, named_kind, drawn_once}
+use Rattle.oas_peek.specs.Named.{named_record}
+use Rattle.oas_names.specs.oas_drawing.Modal.{ModalState}
+use Rattle.oas_names.specs.oas_drawing.Reasons.{kind_reason}
+use Rattle.oas_names.specs.oas_drawing.Named.{named_by, named_kind, drawn_once}
 use Rattle.oas_modal.proofs.JudgedDraws.{held_room}
 use Rattle.oas_modal.proofs.OnceLemmas.{named_in_cell, named_allowed, weighs_so_far, took_once, sound_once}
 use Rattle.oas_modal.proofs.named.accept_named.Goals as goal

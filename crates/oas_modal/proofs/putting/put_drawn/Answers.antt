@@ -1,5 +1,5 @@
 use Rattle.std.proofs.Common.{rules, ◌≡◌, ℕ, List, ◌∷◌, subst}
-use Rattle.oas_drawing.specs.declared.drawn.Drawn.{Drawn}
+use Rattle.oas_names.specs.oas_drawing.declared.drawn.Drawn.{Drawn}
 use Rattle.oas_modal.proofs.Filling.{Filling, filling_more}
 use Rattle.oas_modal.proofs.putting.put_drawn.Goals as goal
 

@@ -1,7 +1,7 @@
 use Rattle.std.proofs.Common.{arith, refl, sym, ap}
 use Rattle.std.specs.Prelude.{is_some}
 use Rattle.oas_record.specs.declared.records.Record.TheVariants as record_of
-use Rattle.oas_drawing.specs.declared.kinds.Kind.TheVariants.{Rectangle}
+use Rattle.oas_names.specs.oas_drawing.declared.kinds.Kind.TheVariants.{Rectangle}
 use Rattle.oas_modal.proofs.JudgedDraws.{held_room}
 use Rattle.oas_modal.proofs.OnceLemmas.{one_weighs, took_once, sound_once}
 use Rattle.oas_modal.proofs.taking.accept_rectangle.Goals as goal

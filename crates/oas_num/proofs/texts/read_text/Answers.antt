@@ -1,7 +1,7 @@
 use Rattle.std.proofs.Common.{◌+◌, ◌∙◌, ap, arith}
 use Rattle.std.proofs.lemmas.Result.{err_from_is_err_and}
 use Rattle.std.proofs.lemmas.List.{length_push}
-use Rattle.oas_num.specs.Laws.TextLaws.{OneFront-class}
+use Rattle.oas_num.specs.Laws.TextLaws.{PrefixFree-class}
 use Rattle.oas_num.proofs.TextLemmas.{TextMay-class, inside}
 use Rattle.oas_num.proofs.GrammarLemmas.{listed_more}
 use Rattle.oas_num.proofs.PieceLemmas.{item_fails, item_unkept}
@@ -10,7 +10,7 @@ use Rattle.oas_num.proofs.texts.read_text.Goals as goal
 pub returns-in_err-byte : goal.returns-in_err-byte
 returns-in_err-byte g c =
     let p = err_from_is_err_and c.from_residual.result c.from_residual.ensures.1 in
-    rw (p.1, p.2) (item_fails (OneFront-class _) (TextMay-class _ _) (omega arith) c.loop.invariant.listed c.in_err-byte.ensures)
+    rw (p.1, p.2) (item_fails (PrefixFree-class _) (TextMay-class _ _) (omega arith) c.loop.invariant.listed c.in_err-byte.ensures)
 
 pub returns-in_err-push : goal.returns-in_err-push
 returns-in_err-push g c =

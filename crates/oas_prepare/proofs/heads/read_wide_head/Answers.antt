@@ -19,4 +19,4 @@ returns-in-Some g c = started (magic_taken c.in_default.ensures) c.in-Ok.ensures
 pub returns-in-None : goal.returns-in-None
 returns-in-None g c = λ limits dropping.
     subst (λ (e : Rejection). Stops limits dropping (g.S.Source.script c.args.source.now) e (g.S.Source.script c.read.new.source)) (sym c.rejected-in-None.ensures)
-    (unit_stops (magic_taken c.in_default.ensures) c.in-Ok.ensures (c.in-None.ensures.none refl) _ refl)
+    (unit_stops (magic_taken c.in_default.ensures) c.in-Ok.ensures (c.in-None.ensures.none refl))

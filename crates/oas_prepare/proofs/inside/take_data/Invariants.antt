@@ -1,5 +1,5 @@
 use Rattle.std.proofs.Common.{◌-◌, ◌^◌, List}
-use Rattle.oas_wide.specs.declared.records.WideRecord.{WideRecord}
+use Rattle.oas_narrow.specs.oas_wide.declared.records.WideRecord.{WideRecord}
 use Rattle.oas_narrow.specs.Preparable.{AllPrepared}
 use Rattle.oas_prepare.specs.Taking.{Stands}
 use Rattle.oas_prepare.proofs.Inner.{HasSome}

@@ -1,6 +1,6 @@
 use Rattle.std.proofs.Common.{ap}
 use Rattle.std.proofs.lemmas.Result.{err_from_is_err_and}
-use Rattle.oas_wide.specs.declared.reasons.WideWhy.TheVariants.{Profile}
+use Rattle.oas_narrow.specs.oas_wide.declared.reasons.WideWhy.TheVariants.{Profile}
 use Rattle.oas_prepare.proofs.Whole.{done, cut, exactly_done, exactly_stopped, exactly_unwritten}
 use Rattle.oas_prepare.proofs.preparing.prepare.Goals as goal
 

@@ -1,9 +1,9 @@
 use Rattle.std.proofs.Common.{refl}
 use Rattle.std.proofs.lemmas.Result.{err_from_is_err_and}
 use Rattle.oas_num.specs.Style.{Any}
-use Rattle.oas_num.specs.Laws.IntegerLaws.{OneFront-IsUnsigned}
+use Rattle.oas_num.specs.Laws.IntegerLaws.{PrefixFree-IsUnsigned}
 use Rattle.oas_record.specs.Heads.{StartTook}
-use Rattle.oas_record.specs.Laws.HeadLaws.{OneFront-version, OneFront-unit}
+use Rattle.oas_record.specs.Laws.HeadLaws.{PrefixFree-version, PrefixFree-unit}
 use Rattle.oas_num.proofs.HalfwayLemmas.{◌▸◌, at_image, fails_at, fails_last, is_read, such_took, such_refused}
 use Rattle.oas_record.proofs.HeadLemmas.{id_field, flag_field, other_flag}
 use Rattle.oas_record.proofs.heads.read_start.Goals as goal
@@ -14,7 +14,7 @@ returns-in_err-id g c =
     rw (p.1, p.2) (fails_at (at_image _) (such_took c.in_err-id.ensures))
 
 pub returns-then-id-ne1 : goal.returns-then-id-ne1
-returns-then-id-ne1 g c = fails_at (at_image _) (such_refused OneFront-IsUnsigned refl c.if-id-ne1.true (refl, c.if-id-ne1.true) c.in_ok-id.ensures)
+returns-then-id-ne1 g c = fails_at (at_image _) (such_refused PrefixFree-IsUnsigned refl c.if-id-ne1.true (refl, c.if-id-ne1.true) c.in_ok-id.ensures)
 
 pub returns-in_err-read_version : goal.returns-in_err-read_version
 returns-in_err-read_version g c =
@@ -24,26 +24,26 @@ returns-in_err-read_version g c =
 pub returns-in_err-unit : goal.returns-in_err-unit
 returns-in_err-unit g c =
     let p = err_from_is_err_and c.from_residual-in_err-unit.result c.from_residual-in_err-unit.ensures.1 in
-    rw (p.1, p.2) (fails_at (at_image _ ▸ id_field c.if-id-ne1.false c.in_ok-id.ensures ▸ (OneFront-version Any, c.in_ok-read_version.ensures)) c.in_err-unit.ensures)
+    rw (p.1, p.2) (fails_at (at_image _ ▸ id_field c.if-id-ne1.false c.in_ok-id.ensures ▸ (PrefixFree-version Any, c.in_ok-read_version.ensures)) c.in_err-unit.ensures)
 
 pub returns-in_err-flag : goal.returns-in_err-flag
 returns-in_err-flag g c =
     let p = err_from_is_err_and c.from_residual-in_err-flag.result c.from_residual-in_err-flag.ensures.1 in
-    rw (p.1, p.2) (fails_at (at_image _ ▸ id_field c.if-id-ne1.false c.in_ok-id.ensures ▸ (OneFront-version Any, c.in_ok-read_version.ensures) ▸
-    (OneFront-unit Any, c.in_ok-unit.ensures)) (such_took c.in_err-flag.ensures))
+    rw (p.1, p.2) (fails_at (at_image _ ▸ id_field c.if-id-ne1.false c.in_ok-id.ensures ▸ (PrefixFree-version Any, c.in_ok-read_version.ensures) ▸
+    (PrefixFree-unit Any, c.in_ok-unit.ensures)) (such_took c.in_err-flag.ensures))
 
 pub returns-then-flag-gt1 : goal.returns-then-flag-gt1
 returns-then-flag-gt1 g c = fails_at (at_image _ ▸ id_field c.if-id-ne1.false c.in_ok-id.ensures ▸
-    (OneFront-version Any, c.in_ok-read_version.ensures) ▸ (OneFront-unit Any, c.in_ok-unit.ensures))
-    (such_refused OneFront-IsUnsigned refl (other_flag c.if-flag-gt1.true) (refl, other_flag c.if-flag-gt1.true) c.in_ok-flag.ensures)
+    (PrefixFree-version Any, c.in_ok-read_version.ensures) ▸ (PrefixFree-unit Any, c.in_ok-unit.ensures))
+    (such_refused PrefixFree-IsUnsigned refl (other_flag c.if-flag-gt1.true) (refl, other_flag c.if-flag-gt1.true) c.in_ok-flag.ensures)
 
 pub returns-in_err-pass_offsets_if : goal.returns-in_err-pass_offsets_if
 returns-in_err-pass_offsets_if g c =
     let p = err_from_is_err_and c.from_residual-in_err-pass_offsets_if.result c.from_residual-in_err-pass_offsets_if.ensures.1 in
-    rw (p.1, p.2) (fails_last (at_image _ ▸ id_field c.if-id-ne1.false c.in_ok-id.ensures ▸ (OneFront-version Any, c.in_ok-read_version.ensures) ▸
-    (OneFront-unit Any, c.in_ok-unit.ensures) ▸ flag_field c.if-flag-gt1.false c.in_ok-flag.ensures) c.in_err-pass_offsets_if.ensures)
+    rw (p.1, p.2) (fails_last (at_image _ ▸ id_field c.if-id-ne1.false c.in_ok-id.ensures ▸ (PrefixFree-version Any, c.in_ok-read_version.ensures) ▸
+    (PrefixFree-unit Any, c.in_ok-unit.ensures) ▸ flag_field c.if-flag-gt1.false c.in_ok-flag.ensures) c.in_err-pass_offsets_if.ensures)
 
 pub returns : goal.returns
 returns g c = is_read (at_image {took = StartTook} _ ▸ id_field c.if-id-ne1.false c.in_ok-id.ensures ▸
-    (OneFront-version Any, c.in_ok-read_version.ensures) ▸ (OneFront-unit Any, c.in_ok-unit.ensures) ▸ flag_field c.if-flag-gt1.false
+    (PrefixFree-version Any, c.in_ok-read_version.ensures) ▸ (PrefixFree-unit Any, c.in_ok-unit.ensures) ▸ flag_field c.if-flag-gt1.false
     c.in_ok-flag.ensures) c.in_ok-pass_offsets_if.ensures

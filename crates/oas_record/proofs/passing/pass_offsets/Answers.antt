@@ -1,7 +1,7 @@
 use Rattle.std.proofs.Common.{arith}
 use Rattle.std.proofs.lemmas.Result.{err_from_is_err_and}
 use Rattle.oas_num.specs.Integers.{IsUnsigned}
-use Rattle.oas_num.specs.Laws.IntegerLaws.{OneFront-IsUnsigned}
+use Rattle.oas_num.specs.Laws.IntegerLaws.{PrefixFree-IsUnsigned}
 use Rattle.oas_record.proofs.PassLemmas.{passed_none, passed_more, passed_fails, passed_all}
 use Rattle.oas_record.proofs.passing.pass_offsets.Goals as goal
 
@@ -11,7 +11,7 @@ loop-init g c = passed_none _ _
 pub returns-in_err-read_unsigned : goal.returns-in_err-read_unsigned
 returns-in_err-read_unsigned g c =
     let p = err_from_is_err_and c.from_residual.result c.from_residual.ensures.1 in
-    rw (p.1, p.2) (passed_fails IsUnsigned OneFront-IsUnsigned c.loop-test.true c.loop.invariant c.in_err-read_unsigned.ensures)
+    rw (p.1, p.2) (passed_fails IsUnsigned PrefixFree-IsUnsigned c.loop-test.true c.loop.invariant c.in_err-read_unsigned.ensures)
 
 pub loop-preserved : goal.loop-preserved
 loop-preserved g c = passed_more _ _ _ _ _ _ c.loop.invariant c.in_ok-read_unsigned.ensures

@@ -1,9 +1,5 @@
-use Rattle.std.proofs.Common.{length}
 use Rattle.oas_run_form.proofs.PointLemmas.{StepsLeft}
 use Rattle.oas_run_form.proofs.points.put_steps.Given as goal
 
 abbrev pub invariant-loop-point : goal.invariant-loop-point
-invariant-loop-point g l = StepsLeft g.K.Sink.given g.K.Sink.failures l.fn.first l.fn.points l.before l.points l.fn.sink l.sink l.count
-
-abbrev pub decreases-loop-point : goal.decreases-loop-point
-decreases-loop-point g l = length l.points.left
+invariant-loop-point g l = StepsLeft g.K.Sink.given g.K.Sink.failures l.fn.first l.fn.points l.point-iterator l.before l.fn.sink l.sink l.count

@@ -6,22 +6,22 @@ use Rattle.oas_num.proofs.PuttingLemmas.{begins, item_put, item_fails, items_put
 use Rattle.oas_run_listing.proofs.cells.put_copies.Goals as goal
 
 pub loop-init : goal.loop-init
-loop-init g c = λ e h. begins _ _
+loop-init g c = begins _ _
 
-pub returns-in_err-put_keyed : goal.returns-in_err-put_keyed
-returns-in_err-put_keyed g c e h =
+pub returns-in_err-put_element : goal.returns-in_err-put_element
+returns-in_err-put_element g c =
     let p = err_from_is_err_and c.from_residual.result c.from_residual.ensures.1 in
-    let lt : c.loop.counter < length (replicate c.args.times e) = omega (arith, length-replicate c.args.times e, c.loop-test.true) in
-    let same : get_or (replicate c.args.times e) c.loop.counter e ≡ e = get_or-replicate c.args.times c.loop.counter e e (omega (arith, c.loop-test.true)) in
-    rw p.1 (item_fails element_line (replicate c.args.times e) c.loop.counter e lt (c.loop.invariant e h) (rw same (c.in_err-put_keyed.ensures e h)))
+    let lt : c.loop.counter < length (replicate c.args.times c.args.element.now) = omega (arith, length-replicate c.args.times c.args.element.now, c.loop-test.true) in
+    let same : get_or (replicate c.args.times c.args.element.now) c.loop.counter c.args.element.now ≡ c.args.element.now = get_or-replicate c.args.times c.loop.counter c.args.element.now c.args.element.now (omega (arith, c.loop-test.true)) in
+    rw p.1 (item_fails element_line (replicate c.args.times c.args.element.now) c.loop.counter c.args.element.now lt c.loop.invariant (rw same c.in_err-put_element.ensures))
 
 pub loop-preserved : goal.loop-preserved
-loop-preserved g c = λ e h.
-    let lt : c.loop.counter < length (replicate c.args.times e) = omega (arith, length-replicate c.args.times e, c.loop-test.true) in
-    let same : get_or (replicate c.args.times e) c.loop.counter e ≡ e = get_or-replicate c.args.times c.loop.counter e e (omega (arith, c.loop-test.true)) in
-    item_put element_line (replicate c.args.times e) c.loop.counter e lt (c.loop.invariant e h) (rw same (c.in_ok-put_keyed.ensures e h))
+loop-preserved g c =
+    let lt : c.loop.counter < length (replicate c.args.times c.args.element.now) = omega (arith, length-replicate c.args.times c.args.element.now, c.loop-test.true) in
+    let same : get_or (replicate c.args.times c.args.element.now) c.loop.counter c.args.element.now ≡ c.args.element.now = get_or-replicate c.args.times c.loop.counter c.args.element.now c.args.element.now (omega (arith, c.loop-test.true)) in
+    item_put element_line (replicate c.args.times c.args.element.now) c.loop.counter c.args.element.now lt c.loop.invariant (rw same c.in_ok-put_element.ensures)
 
 pub returns : goal.returns
-returns g c e h =
-    let all : length (replicate c.args.times e) ≤ c.loop.counter = omega (arith, length-replicate c.args.times e, c.loop-test.false) in
-    items_put element_line (replicate c.args.times e) c.loop.counter all (c.loop.invariant e h)
+returns g c =
+    let all : length (replicate c.args.times c.args.element.now) ≤ c.loop.counter = omega (arith, length-replicate c.args.times c.args.element.now, c.loop-test.false) in
+    items_put element_line (replicate c.args.times c.args.element.now) c.loop.counter all c.loop.invariant

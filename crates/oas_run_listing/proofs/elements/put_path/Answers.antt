@@ -8,12 +8,12 @@ use Rattle.oas_listing.proofs.FieldLemmas.{point_fields}
 use Rattle.oas_run_listing.proofs.elements.put_path.Goals as goal
 
 pub returns-in_err-put_start : goal.returns-in_err-put_start
-returns-in_err-put_start g c ps h =
+returns-in_err-put_start g c =
     let p = err_from_is_err_and c.from_residual.result c.from_residual.ensures.1 in
-    rw (p.1, point_fields (codes "path") (decimal c.args.layer ∷ decimal c.args.datatype ∷ decimal c.args.half_width ∷ signed_decimal c.args.start ∷ signed_decimal c.args.end ∷ []) ps)
+    rw (p.1, point_fields (codes "path") (decimal c.args.layer ∷ decimal c.args.datatype ∷ decimal c.args.half_width ∷ signed_decimal c.args.start ∷ signed_decimal c.args.end ∷ []) c.args.points)
     (fails_at _ (begins _ _) (simp (to_z-of_z w64 c.args.start (search rules), to_z-of_z w64 c.args.end (search rules)) at c.in_err-put_start.ensures))
 
 pub returns : goal.returns
-returns g c ps h =
-    rw (point_fields (codes "path") (decimal c.args.layer ∷ decimal c.args.datatype ∷ decimal c.args.half_width ∷ signed_decimal c.args.start ∷ signed_decimal c.args.end ∷ []) ps)
-    (ends _ _ (first _ (simp (to_z-of_z w64 c.args.start (search rules), to_z-of_z w64 c.args.end (search rules)) at c.in_ok-put_start.ensures)) (c.put_points.ensures ps h))
+returns g c =
+    rw (point_fields (codes "path") (decimal c.args.layer ∷ decimal c.args.datatype ∷ decimal c.args.half_width ∷ signed_decimal c.args.start ∷ signed_decimal c.args.end ∷ []) c.args.points)
+    (ends _ _ (first _ (simp (to_z-of_z w64 c.args.start (search rules), to_z-of_z w64 c.args.end (search rules)) at c.in_ok-put_start.ensures)) c.put_points.ensures)

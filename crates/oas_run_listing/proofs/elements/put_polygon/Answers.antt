@@ -6,10 +6,10 @@ use Rattle.oas_listing.proofs.FieldLemmas.{point_fields}
 use Rattle.oas_run_listing.proofs.elements.put_polygon.Goals as goal
 
 pub returns-in_err-put_start : goal.returns-in_err-put_start
-returns-in_err-put_start g c ps h =
+returns-in_err-put_start g c =
     let p = err_from_is_err_and c.from_residual.result c.from_residual.ensures.1 in
-    rw (p.1, point_fields (codes "polygon") (decimal c.args.layer ∷ decimal c.args.datatype ∷ []) ps) (fails_at _ (begins _ _) c.in_err-put_start.ensures)
+    rw (p.1, point_fields (codes "polygon") (decimal c.args.layer ∷ decimal c.args.datatype ∷ []) c.args.points) (fails_at _ (begins _ _) c.in_err-put_start.ensures)
 
 pub returns : goal.returns
-returns g c ps h =
-    rw (point_fields (codes "polygon") (decimal c.args.layer ∷ decimal c.args.datatype ∷ []) ps) (ends _ _ (first _ c.in_ok-put_start.ensures) (c.put_points.ensures ps h))
+returns g c =
+    rw (point_fields (codes "polygon") (decimal c.args.layer ∷ decimal c.args.datatype ∷ []) c.args.points) (ends _ _ (first _ c.in_ok-put_start.ensures) c.put_points.ensures)

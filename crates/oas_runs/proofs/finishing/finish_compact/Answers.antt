@@ -9,7 +9,7 @@ returns-in-Ok-clause-accepted g c = λ rs h.
 
 pub returns-in-Ok-clause-ordered : goal.returns-in-Ok-clause-ordered
 returns-in-Ok-clause-ordered g c = λ rs h sound.
-    ordered g.P.KeptBy.profile c.args.reader c.in_ok-taken.taken c.in_ok-taken.ensures.ok rs h c.in-Ok.layout c.in-Ok.ensures.unit c.in-Ok.ensures.runs sound
+    ordered g.P.KeptBy.profile c.args.reader c.in_ok-taken.taken c.in_ok-taken.ensures.ok rs h c.in-Ok.runs c.in-Ok.ensures.unit c.in-Ok.ensures.runs sound
 
 pub returns-in-Err-clause-refused : goal.returns-in-Err-clause-refused
 returns-in-Err-clause-refused g c = λ rs h.

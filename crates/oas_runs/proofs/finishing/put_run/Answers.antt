@@ -1,6 +1,6 @@
 use Rattle.std.proofs.Common.{Some, sym, ap, ◌∙◌}
 use Rattle.std.specs.Option.{option_copied}
-use Rattle.oas_names.specs.References.{cell_by}
+use Rattle.oas_form.specs.oas_names.References.{cell_by}
 use Rattle.oas_runs.proofs.RunLemmas.{nameless, named}
 use Rattle.oas_runs.proofs.finishing.put_run.Goals as goal
 

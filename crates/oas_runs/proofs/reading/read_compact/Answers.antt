@@ -1,8 +1,8 @@
 use Rattle.std.proofs.Common.{◌∙◌}
 use Rattle.std.proofs.lemmas.Result.{err_from_is_err_and}
-use Rattle.oas_file.proofs.Ending.{begun, refuses_within, not_ended}
-use Rattle.oas_file.proofs.Refusing.{head_refuses}
-use Rattle.oas_runs.proofs.ReadLemmas.{read}
+use Rattle.oas_form.proofs.oas_file_proofs.Ending.{begun, refuses_within, not_ended}
+use Rattle.oas_form.proofs.oas_file_proofs.Refusing.{head_refuses}
+use Rattle.oas_runs.proofs.ReadLemmas.{refused, held, layout, read}
 use Rattle.oas_runs.proofs.reading.read_compact.Goals as goal
 
 pub returns-in_err-head : goal.returns-in_err-head
@@ -21,11 +21,37 @@ returns-in_err-find_end_of_input g c =
     let all = c.in_ok-end.ensures (begun c.in_ok-head.ensures c.new-reader.ensures.stands) in
     rw (p.1, p.2) (refuses_within c.new-reader.ensures.limits (not_ended all _ c.in_err-find_end_of_input.ensures))
 
+pub returns-in_err-runs : goal.returns-in_err-runs
+returns-in_err-runs g c =
+    let p = err_from_is_err_and c.from_residual-in_err-runs.result c.from_residual-in_err-runs.ensures.1 in
+    let all = c.in_ok-end.ensures (begun c.in_ok-head.ensures c.new-reader.ensures.stands) in
+    let ends = c.in_ok-find_end_of_input.ensures in
+    rw (p.1, p.2) (refused all ends.0 ends.1 c.new-reader.ensures.unit c.new-reader.ensures.limits (c.new-reader.ensures.profile ∙ c.profile.ensures) _
+    (c.in_err-runs.ensures.refused all.records all.taken.stands))
+
+pub of-requires-clause-held : goal.of-requires-clause-held
+of-requires-clause-held g c =
+    let all = c.in_ok-end.ensures (begun c.in_ok-head.ensures c.new-reader.ensures.stands) in
+    let ends = c.in_ok-find_end_of_input.ensures in
+    let f = c.in_ok-runs.ensures in
+    let stands = all.taken.stands in
+    held all ends.0 ends.1 c.new-reader.ensures.unit c.new-reader.ensures.limits (c.new-reader.ensures.profile ∙ c.profile.ensures) (f.accepted all.records stands) c.in_ok-runs.runs
+    (f.ordered all.records stands) c.profile-2.ensures
+
+pub of-requires-clause-layout : goal.of-requires-clause-layout
+of-requires-clause-layout g c =
+    let all = c.in_ok-end.ensures (begun c.in_ok-head.ensures c.new-reader.ensures.stands) in
+    let ends = c.in_ok-find_end_of_input.ensures in
+    let f = c.in_ok-runs.ensures in
+    let stands = all.taken.stands in
+    layout all ends.0 ends.1 c.new-reader.ensures.unit c.new-reader.ensures.limits (c.new-reader.ensures.profile ∙ c.profile.ensures) (f.accepted all.records stands) c.in_ok-runs.runs
+    (f.ordered all.records stands) c.profile-2.ensures
+
 pub returns : goal.returns
 returns g c =
     let all = c.in_ok-end.ensures (begun c.in_ok-head.ensures c.new-reader.ensures.stands) in
     let ends = c.in_ok-find_end_of_input.ensures in
-    let f = c.finish_compact.ensures in
+    let f = c.in_ok-runs.ensures in
     let stands = all.taken.stands in
-    read all ends.0 ends.1 c.new-reader.ensures.unit c.new-reader.ensures.limits (c.new-reader.ensures.profile ∙ c.profile.ensures)
-    c.finish_compact.result (f.accepted all.records stands) (f.refused all.records stands) (f.ordered all.records stands)
+    read all ends.0 ends.1 c.new-reader.ensures.unit c.new-reader.ensures.limits (c.new-reader.ensures.profile ∙ c.profile.ensures) (f.accepted all.records stands) c.in_ok-runs.runs
+    (f.ordered all.records stands) c.profile-2.ensures _ c.of.ensures

@@ -1,7 +1,7 @@
 use Rattle.std.proofs.Common.{◌+◌, ◌∙◌, ap, arith, inl, inr, refl}
 use Rattle.std.proofs.lemmas.Result.{err_from_is_err_and}
 use Rattle.std.proofs.lemmas.List.{length_push}
-use Rattle.oas_num.specs.Laws.GrammarLaws.{OneFront-image}
+use Rattle.oas_num.specs.Laws.GrammarLaws.{PrefixFree-image}
 use Rattle.oas_num.proofs.GrammarLemmas.{listed_more}
 use Rattle.oas_num.proofs.PieceLemmas.{item_fails, item_unkept}
 use Rattle.oas_num.proofs.HalfwayLemmas.{image_took}
@@ -11,7 +11,7 @@ use Rattle.oas_shape.proofs.steps.read_steps.Goals as goal
 pub returns-in_err-delta : goal.returns-in_err-delta
 returns-in_err-delta g c =
     let p = err_from_is_err_and c.from_residual.result c.from_residual.ensures.1 in
-    rw (p.1, p.2) (item_fails (OneFront-image _ _ g.met.D.Spelled.one_front) (λ _ h. inl h) (omega arith) c.loop.invariant.listed (image_took c.in_err-delta.ensures))
+    rw (p.1, p.2) (item_fails (PrefixFree-image _ _ g.met.D.Spelled.one_front) (λ _ h. inl h) (omega arith) c.loop.invariant.listed (image_took c.in_err-delta.ensures))
 
 pub returns-in_err-keep : goal.returns-in_err-keep
 returns-in_err-keep g c =

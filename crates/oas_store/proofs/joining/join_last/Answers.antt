@@ -50,7 +50,7 @@ returns-else-whole-clause-same c =
     (sym c.reserve.ensures.items ∙ c.in-Some-Some.ensures.items) c.in-Some-Some.ensures'.items c.push_reserved.ensures.items
     c.push_reserved-in-Some-Some.ensures.items c.push_reserved-in-Some-Some-2.ensures.items c.into_run.ensures c.merge_all-whole.ensures.merging
 
--- room is there where no error was told
+-- there is room where no error was returned
 ok_then : {T E P : Type 0} (r : Result T E) → is_err r ≡ false → OnOk r P → P
 ok_then (Ok x) e h = h
 ok_then (Err x) e h = absurd cc

@@ -1,6 +1,6 @@
 use Rattle.std.proofs.lemmas.Result.{err_from_is_err_and}
 use Rattle.oas_num.proofs.HalfwayLemmas.{◌▸◌, at_image, fails_at, fails_last, is_read}
-use Rattle.oas_wide.specs.Long.{OneFront-long, long_padding}
+use Rattle.oas_wide.specs.Long.{PrefixFree-long, long_padding}
 use Rattle.oas_wide.proofs.long.read_long_padding.Goals as goal
 
 pub returns-in_err-length : goal.returns-in_err-length
@@ -11,7 +11,7 @@ returns-in_err-length g c =
 pub returns-in_err-padding : goal.returns-in_err-padding
 returns-in_err-padding g c =
     let p = err_from_is_err_and c.from_residual-in_err-padding.result c.from_residual-in_err-padding.ensures.1 in
-    rw (p.1, p.2) (fails_last (at_image {took = long_padding.took} _ ▸ (OneFront-long, c.in_ok-length.ensures)) c.in_err-padding.ensures)
+    rw (p.1, p.2) (fails_last (at_image {took = long_padding.took} _ ▸ (PrefixFree-long, c.in_ok-length.ensures)) c.in_err-padding.ensures)
 
 pub returns : goal.returns
-returns g c = is_read (at_image {took = long_padding.took} _ ▸ (OneFront-long, c.in_ok-length.ensures)) c.in_ok-padding.ensures
+returns g c = is_read (at_image {took = long_padding.took} _ ▸ (PrefixFree-long, c.in_ok-length.ensures)) c.in_ok-padding.ensures

@@ -1,8 +1,8 @@
-use Rattle.std.proofs.Common.{Ok, Err, sym, ◌∙◌, arith}
+use Rattle.std.proofs.Common.{Ok, Err, rules, sym, ◌∙◌, arith}
 use Rattle.std.proofs.lemmas.Result.{err_from_is_err_and}
 use Rattle.oas_wide.proofs.AnyLengthLemmas.{record_read, record_fails}
 use Rattle.oas_wide.proofs.ForeignLemmas.{foreign_done}
-use Rattle.oas_wide.proofs.WideLemmas.{id_fails, refused_by_id, fields_fail, inner_read, end_fails, end_refused, end_read}
+use Rattle.oas_wide.proofs.WideLemmas.{profile_known, id_fails, refused_by_id, fields_fail, inner_read, end_fails, end_refused, end_read}
 use Rattle.oas_wide.proofs.records.read_whole.Goals as goal
 
 pub returns-in_err-id : goal.returns-in_err-id
@@ -36,3 +36,6 @@ returns-in-Ok-read_foreign g c = inner_read _ c.if-id-eq2.false c.in_ok-id.ensur
 
 pub returns-in-Err-read_foreign : goal.returns-in-Err-read_foreign
 returns-in-Err-read_foreign g c = rw c.named-in-Err-read_foreign.ensures (fields_fail _ c.in_ok-id.ensures (foreign_done c.args.in_end c.in_ok-id.id _ _ (Err _) (sym c.is_profile_id.ensures.is ∙ c.if-is_profile_id.false) (c.in-Err-read_foreign.ensures c.args.in_end)))
+
+pub read_after-requires-clause-known : goal.read_after-requires-clause-known
+read_after-requires-clause-known g c = profile_known c.in_ok-id.id (search rules) (sym c.is_profile_id.ensures.is ∙ c.if-is_profile_id.true)

@@ -1,7 +1,7 @@
 use Rattle.std.proofs.lemmas.Result.{err_from_is_err_and}
 use Rattle.oas_wide.specs.Strings.{AttributedTook}
 use Rattle.oas_num.proofs.HalfwayLemmas.{◌▸◌, at_start, fails_at, fails_last, is_read}
-use Rattle.oas_wide.specs.Long.{OneFront-long}
+use Rattle.oas_wide.specs.Long.{PrefixFree-long}
 use Rattle.oas_wide.proofs.strings.read_attributed.Goals as goal
 
 pub returns-in_err-attribute : goal.returns-in_err-attribute
@@ -12,7 +12,7 @@ returns-in_err-attribute g c =
 pub returns-in_err-string : goal.returns-in_err-string
 returns-in_err-string g c =
     let p = err_from_is_err_and c.from_residual-in_err-string.result c.from_residual-in_err-string.ensures.1 in
-    rw (p.1, p.2) (fails_last (at_start {took = AttributedTook c.args.numbered} _ ▸ (OneFront-long, c.in_ok-attribute.ensures)) c.in_err-string.ensures)
+    rw (p.1, p.2) (fails_last (at_start {took = AttributedTook c.args.numbered} _ ▸ (PrefixFree-long, c.in_ok-attribute.ensures)) c.in_err-string.ensures)
 
 pub returns : goal.returns
-returns g c = is_read (at_start {took = AttributedTook c.args.numbered} _ ▸ (OneFront-long, c.in_ok-attribute.ensures)) c.in_ok-string.ensures
+returns g c = is_read (at_start {took = AttributedTook c.args.numbered} _ ▸ (PrefixFree-long, c.in_ok-attribute.ensures)) c.in_ok-string.ensures

@@ -1,5 +1,5 @@
 use Rattle.std.proofs.lemmas.Result.{err_from_is_err_and}
-use Rattle.oas_record.proofs.FieldLemmas.{OneFront-signed_if}
+use Rattle.oas_record.proofs.FieldLemmas.{PrefixFree-signed_if}
 use Rattle.oas_wide.specs.Trapezoids.{deltas}
 use Rattle.oas_num.proofs.HalfwayLemmas.{◌▸◌, at_start, fails_at, fails_last, is_read, signed_took}
 use Rattle.oas_wide.proofs.trapezoids.read_deltas.Goals as goal
@@ -12,7 +12,7 @@ returns-in_err-first g c =
 pub returns-in_err-second : goal.returns-in_err-second
 returns-in_err-second g c =
     let p = err_from_is_err_and c.from_residual-in_err-second.result c.from_residual-in_err-second.ensures.1 in
-    rw (p.1, p.2) (fails_last (at_start {took = (deltas c.args.a c.args.b).took} _ ▸ (OneFront-signed_if _, c.in_ok-first.ensures)) (signed_took _ c.in_err-second.ensures))
+    rw (p.1, p.2) (fails_last (at_start {took = (deltas c.args.a c.args.b).took} _ ▸ (PrefixFree-signed_if _, c.in_ok-first.ensures)) (signed_took _ c.in_err-second.ensures))
 
 pub returns : goal.returns
-returns g c = is_read (at_start {took = (deltas c.args.a c.args.b).took} _ ▸ (OneFront-signed_if _, c.in_ok-first.ensures)) c.in_ok-second.ensures
+returns g c = is_read (at_start {took = (deltas c.args.a c.args.b).took} _ ▸ (PrefixFree-signed_if _, c.in_ok-first.ensures)) c.in_ok-second.ensures

@@ -1,7 +1,7 @@
 use Rattle.std.proofs.Common.{refl, arith}
 use Rattle.std.proofs.lemmas.Result.{err_from_is_err_and}
 use Rattle.oas_num.specs.Integers.{IsUnsigned}
-use Rattle.oas_num.specs.Laws.IntegerLaws.{OneFront-IsUnsigned}
+use Rattle.oas_num.specs.Laws.IntegerLaws.{PrefixFree-IsUnsigned}
 use Rattle.oas_num.proofs.GrammarLemmas.{such_read}
 use Rattle.oas_num.proofs.HalfwayLemmas.{such_took, such_refused}
 use Rattle.oas_wide.specs.Trapezoids.{IsShapeKind}
@@ -13,7 +13,7 @@ returns-in_err-kind g c =
     rw (p.1, p.2) (such_took c.in_err-kind.ensures)
 
 pub returns-then-kind-ge26 : goal.returns-then-kind-ge26
-returns-then-kind-ge26 g c = such_refused OneFront-IsUnsigned refl (λ lt. omega (arith, lt, c.if-kind-ge26.true)) (refl, λ lt. omega (arith, lt, c.if-kind-ge26.true)) c.in_ok-kind.ensures
+returns-then-kind-ge26 g c = such_refused PrefixFree-IsUnsigned refl (λ lt. omega (arith, lt, c.if-kind-ge26.true)) (refl, λ lt. omega (arith, lt, c.if-kind-ge26.true)) c.in_ok-kind.ensures
 
 pub returns : goal.returns
 returns g c = such_read IsShapeKind IsUnsigned _ _ _ (omega (arith, c.if-kind-ge26.false)) c.in_ok-kind.ensures

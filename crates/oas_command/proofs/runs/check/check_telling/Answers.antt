@@ -1,6 +1,6 @@
 use Rattle.std.proofs.Common.{Ok}
 use Rattle.oas_command.specs.Lines.{check_line}
-use Rattle.oas_command.proofs.RunLemmas.{answer_after, judged, delivers, tells}
+use Rattle.oas_command.proofs.RunLemmas.{result_after, judged, delivers, tells}
 use Rattle.oas_command.proofs.runs.check.check_telling.Goals as goal
 
 pub returns-in-Ok : goal.returns-in-Ok
@@ -9,7 +9,7 @@ returns-in-Ok g c =
     let written = c.write_line-written.result in
     let wrote = c.write_line-written.ensures in (
       Ok c.in-Ok.yes,
-      answer_after c.in-Ok.yes written,
+      result_after c.in-Ok.yes written,
       judged c.in-Ok.yes written _ _ c.status_of_verdict.ensures c.conclude.ensures.answers,
       record { judged = found.judged; refused = found.refused; placed = found.placed; decided = found.decided; exactly = found.exactly },
       delivers c.in-Ok.yes g.W.Write.contents check_line written c.args.out.now c.write_line-written.new.writer (rw c.verdict.ensures at wrote.written) (rw c.verdict.ensures at wrote.refused),

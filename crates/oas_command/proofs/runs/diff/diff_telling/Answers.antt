@@ -2,10 +2,10 @@ use Rattle.std.specs.Prelude.{IfOk, IfErr}
 use Rattle.std.proofs.Common.{◌≡◌, List, ℕ, Ok, ap, subst}
 use Rattle.oas_num.specs.Written.{IsWritten, IsCutOff}
 use Rattle.oas_layout.specs.Contents.{Contents, meaning_of}
-use Rattle.oas_difference.specs.Options.{difference_by}
+use Rattle.oas_markers.specs.oas_difference.Options.{difference_by}
 use Rattle.oas_command.specs.Diff.{diff_text}
 use Rattle.oas_command.proofs.DiffLemmas.{differs}
-use Rattle.oas_command.proofs.RunLemmas.{answer_after, delivers, tells}
+use Rattle.oas_command.proofs.RunLemmas.{result_after, delivers, tells}
 use Rattle.oas_command.proofs.runs.diff.diff_telling.Goals as goal
 
 pub returns-in-Ok : goal.returns-in-Ok
@@ -22,7 +22,7 @@ returns-in-Ok g c =
     let whole = subst (λ (t : List ℕ). IfOk written (IsWritten g.W.Write.contents out t after)) text c.write_difference-written.ensures.written in
     let cut = subst (λ (t : List ℕ). IfErr written (IsCutOff g.W.Write.contents out t after)) text c.write_difference-written.ensures.refused in (
       Ok found,
-      answer_after {T = Contents × Contents} found written,
+      result_after {T = Contents × Contents} found written,
       differs options g.W.Write.contents out after found written _ _ whole c.status_of_length.ensures c.conclude.ensures.answers,
       both,
       delivers {T = Contents × Contents} found g.W.Write.contents (diff_text options) written out after whole cut,

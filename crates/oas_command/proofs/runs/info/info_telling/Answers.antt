@@ -4,13 +4,13 @@ use Rattle.oas_num.specs.Written.{IsWritten, IsCutOff}
 use Rattle.oas_info.specs.declared.info.Info.{Info}
 use Rattle.oas_command.specs.Info.{info_lines}
 use Rattle.oas_command.specs.Lines.{line_of}
-use Rattle.oas_command.proofs.RunLemmas.{answer_after, done, delivers, tells}
+use Rattle.oas_command.proofs.RunLemmas.{result_after, done, delivers, tells}
 use Rattle.oas_command.proofs.runs.info.info_telling.Goals as goal
 
 pub returns-in-Ok : goal.returns-in-Ok
 returns-in-Ok g c =
     let refusal = c.no_memory.result in
-    (Ok c.in-Ok.layout, Err refusal, Err refusal, c.refuse.ensures.status, c.in-Ok.ensures, c.no_memory.ensures, (refl, refl), c.refuse.ensures.tells)
+    (Ok c.in-Ok.layout, Err refusal, Err refusal, c.refuse.ensures.status, c.in-Ok.ensures, (c.no_memory.ensures.why, c.no_memory.ensures.place ∙ c.at.ensures), (refl, refl), c.refuse.ensures.tells)
 
 pub returns-in-Ok-facts_and_text : goal.returns-in-Ok-facts_and_text
 returns-in-Ok-facts_and_text g c =
@@ -24,7 +24,7 @@ returns-in-Ok-facts_and_text g c =
     let cut = subst (λ (t : List ℕ). IfErr written (IsCutOff g.W.Write.contents out t after)) lines wrote.refused in (
       Ok c.in-Ok.layout,
       Ok info,
-      answer_after {T = Info} info written,
+      result_after {T = Info} info written,
       done {T = Info} info written _ c.conclude.ensures.answers,
       c.in-Ok.ensures,
       c.in-Ok-facts_and_text.ensures.facts,

@@ -1,6 +1,6 @@
 use Rattle.std.proofs.Common.{Ok}
 use Rattle.oas_command.specs.Lines.{named_key_line}
-use Rattle.oas_command.proofs.RunLemmas.{answer_after, done, delivers, tells}
+use Rattle.oas_command.proofs.RunLemmas.{result_after, done, delivers, tells}
 use Rattle.oas_command.proofs.runs.key.named_key_telling.Goals as goal
 
 pub returns-in-Ok : goal.returns-in-Ok
@@ -9,9 +9,9 @@ returns-in-Ok g c =
     let written = c.write_named-written.result in
     let wrote = c.write_named-written.ensures in (
       Ok c.in-Ok.digest,
-      answer_after c.in-Ok.digest written,
+      result_after c.in-Ok.digest written,
       done c.in-Ok.digest written _ c.conclude.ensures.answers,
       record { keyed = found.keyed; refused = found.refused; placed = found.placed; decided = found.decided; exactly = found.exactly },
-      delivers c.in-Ok.digest g.W.Write.contents (named_key_line c.args.is_escaped c.args.name.now) written c.args.out.now c.write_named-written.new.out wrote.written wrote.refused,
+      delivers c.in-Ok.digest g.W.Write.contents (named_key_line c.args.label) written c.args.out.now c.write_named-written.new.out wrote.written wrote.refused,
       tells c.in-Ok.digest g.K.Sink.given g.K.Sink.failures c.args.name.now c.args.told.now written c.conclude.new.told c.conclude.ensures.ends,
     )

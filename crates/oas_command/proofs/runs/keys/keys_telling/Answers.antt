@@ -1,24 +1,20 @@
 use Rattle.std.proofs.Common.{Ok, Err, refl}
 use Rattle.oas_layout.specs.Contents.{Contents, meaning_of}
 use Rattle.oas_canon.specs.CellKeys.{cell_key_lines}
-use Rattle.oas_command.proofs.RunLemmas.{answer_after, done, delivers, tells}
+use Rattle.oas_command.proofs.RunLemmas.{result_after, done, delivers, tells}
 use Rattle.oas_command.proofs.runs.keys.keys_telling.Goals as goal
-
-pub write_compact_cell_keys-written-requires : goal.write_compact_cell_keys-written-requires
-write_compact_cell_keys-written-requires g c = (c.in-Ok.ensures.0, c.in-Ok.ensures.1)
 
 pub returns-in-Ok : goal.returns-in-Ok
 returns-in-Ok g c =
-    let found = c.in-Ok.ensures in
-    let layout = found.0 in
+    let layout = c.in-Ok.layout in
     let written = c.write_compact_cell_keys-written.result in
     let wrote = c.write_compact_cell_keys-written.ensures in (
       Ok layout,
-      answer_after {T = Contents} layout written,
+      result_after {T = Contents} layout written,
       done {T = Contents} layout written _ c.conclude.ensures.answers,
-      found.2,
+      c.in-Ok.ensures,
       delivers {T = Contents} layout g.W.Write.contents (λ (l : Contents). cell_key_lines (meaning_of l)) written c.args.out.now
-          c.write_compact_cell_keys-written.new.writer (wrote.written layout found.1) (wrote.refused layout found.1),
+          c.write_compact_cell_keys-written.new.writer wrote.written wrote.refused,
       tells {T = Contents} layout g.K.Sink.given g.K.Sink.failures c.args.name.now c.args.told.now written c.conclude.new.told c.conclude.ensures.ends,
     )
 

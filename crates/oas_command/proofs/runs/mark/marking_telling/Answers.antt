@@ -3,13 +3,13 @@ use Rattle.std.proofs.Common.{◌≡◌, List, ℕ, Result, Ok, Err, ap, subst, 
 use Rattle.oas_num.specs.declared.refusals.Refusal.{Refusal}
 use Rattle.oas_num.specs.Written.{IsWritten, IsCutOff}
 use Rattle.oas_layout.specs.Contents.{Contents, meaning_of}
-use Rattle.oas_difference.specs.Options.{difference_by}
+use Rattle.oas_markers.specs.oas_difference.Options.{difference_by}
 use Rattle.oas_markers.specs.Markers.{markers}
 use Rattle.oas_markers.specs.Written.{IsMarked, IsMarkedUpTo}
 use Rattle.oas_command.specs.Diff.{diff_text}
 use Rattle.oas_command.specs.Marking.{marks}
 use Rattle.oas_command.proofs.MarkLemmas.{marks_differ, marks_follow}
-use Rattle.oas_command.proofs.RunLemmas.{answer_after, tells}
+use Rattle.oas_command.proofs.RunLemmas.{result_after, tells}
 use Rattle.oas_command.proofs.runs.mark.marking_telling.Goals as goal
 
 pub returns-in-Ok-write_difference : goal.returns-in-Ok-write_difference
@@ -32,7 +32,7 @@ returns-in-Ok-write_difference g c =
     let cut = subst (λ (t : List ℕ). IfErr marked (IsMarkedUpTo g.M.Write.contents old t new)) same c.write_markers-marked.ensures.refused in (
       Ok found,
       Ok found,
-      answer_after {T = Contents × Contents} found marked,
+      result_after {T = Contents × Contents} found marked,
       marks_differ found options g.W.Write.contents out after count marked _ _ whole c.status_of_length.ensures c.conclude.ensures.answers,
       both,
       (refl, whole.took),

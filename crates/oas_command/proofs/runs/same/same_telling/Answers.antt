@@ -1,6 +1,6 @@
 use Rattle.std.proofs.Common.{Ok, rules}
 use Rattle.oas_command.specs.Lines.{same_line}
-use Rattle.oas_command.proofs.RunLemmas.{answer_after, judged, delivers, tells}
+use Rattle.oas_command.proofs.RunLemmas.{result_after, judged, delivers, tells}
 use Rattle.oas_command.proofs.runs.same.same_telling.Goals as goal
 
 pub returns-in-Ok : goal.returns-in-Ok
@@ -9,7 +9,7 @@ returns-in-Ok g c =
     let written = c.write_line-written.result in
     let wrote = c.write_line-written.ensures in (
       Ok c.in-Ok.same,
-      answer_after c.in-Ok.same written,
+      result_after c.in-Ok.same written,
       judged c.in-Ok.same written _ _ c.status_of_verdict.ensures c.conclude.ensures.answers,
       record { compared = found.compared; first = found.first; second = found.second; exactly = found.exactly },
       delivers c.in-Ok.same g.W.Write.contents same_line written c.args.out.now c.write_line-written.new.writer (rw c.sameness.ensures at wrote.written) (rw c.sameness.ensures at wrote.refused),

@@ -6,8 +6,8 @@ use Rattle.oas_layout.specs.declared.element.Element.TheVariants.{Placement}
 use Rattle.oas_layout.specs.Laws.BagLaws.{total}
 use Rattle.oas_layout.specs.Weight.{weight_of}
 use Rattle.oas_keys.specs.Keys.{key_of}
-use Rattle.oas_names.specs.Weights.{capped}
-use Rattle.oas_names.proofs.WeightLemmas.{capped_once}
+use Rattle.oas_modal.specs.oas_names.Weights.{capped}
+use Rattle.oas_modal.proofs.oas_names_proofs.WeightLemmas.{capped_once}
 use Rattle.oas_compact.proofs.DrawLemmas.{few_is, kept_up}
 use Rattle.oas_compact.proofs.cells.CompactCell.draw_placement.Goals as goal
 

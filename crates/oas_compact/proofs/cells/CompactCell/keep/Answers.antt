@@ -5,7 +5,7 @@ use Rattle.oas_layout.specs.Bag.{put_more}
 use Rattle.oas_layout.specs.Laws.BagLaws.{total}
 use Rattle.oas_layout.specs.Same.{normal}
 use Rattle.oas_keys.specs.Keys.{key_of}
-use Rattle.oas_names.specs.Weights.{capped}
+use Rattle.oas_modal.specs.oas_names.Weights.{capped}
 use Rattle.oas_compact.proofs.DrawLemmas.{few_is, kept_up}
 use Rattle.oas_compact.proofs.cells.CompactCell.keep.Goals as goal
 

@@ -1,5 +1,5 @@
 use Rattle.std.proofs.Common.{List, [], ◌∷◌, ◌++◌, ◌∙◌, ap, ℕ}
-use Rattle.oas_drawing.specs.declared.drawn.Drawn.{Drawn}
+use Rattle.oas_modal.specs.oas_drawing.declared.drawn.Drawn.{Drawn}
 use Rattle.oas_compact.specs.Short.{drawn_of, drawn_once}
 use Rattle.oas_compact.proofs.WaitLemmas.{once_more}
 use Rattle.oas_compact.proofs.chunks.Chunk.push.Goals as goal

@@ -1,8 +1,8 @@
 use Rattle.std.proofs.Common.{◌+◌, ap, unwrap_or, arith}
 use Rattle.std.specs.BTreeMap.{get, is_at}
 use Rattle.oas_layout.specs.Laws.BagLaws.{total}
-use Rattle.oas_drawing.specs.Drawn.{drawn_cmp}
-use Rattle.oas_drawing.specs.Laws.DrawnLaws.{derived_cmp}
+use Rattle.oas_modal.specs.oas_drawing.Drawn.{drawn_cmp}
+use Rattle.oas_modal.specs.oas_drawing.Laws.DrawnLaws.{derived_cmp}
 use Rattle.oas_compact.specs.Short.{drawn_of}
 use Rattle.oas_modal.proofs.HeldLemmas.{times_drawn-derived, with_drawn-inserted, IsHeld-insert_entry}
 use Rattle.oas_compact.proofs.DrawLemmas.{one_few}

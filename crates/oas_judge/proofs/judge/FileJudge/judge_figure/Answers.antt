@@ -1,13 +1,13 @@
 use Rattle.std.proofs.Common.{◌≡◌, IsTrue, false, sym, ◌∙◌}
 use Rattle.oas_judge.specs.FileJudges.{holds}
-use Rattle.oas_judge.proofs.JudgeSteps.{ahead_failed}
+use Rattle.oas_judge.proofs.JudgeSteps.{peeked_failed}
 use Rattle.oas_judge.proofs.FigureSteps.{figure_drawn}
 use Rattle.oas_judge.proofs.judge.FileJudge.judge_figure.Goals as goal
 
 pub returns-then-not-holds-clause-yes : goal.returns-then-not-holds-clause-yes
 returns-then-not-holds-clause-yes c done all is =
     let failed : holds c.args.self.now ≡ false = sym c.holds.ensures ∙ c.if-not-holds.true in
-    ahead_failed _ c.args.self.now _ failed
+    peeked_failed _ c.args.self.now _ failed
 
 pub returns-clause-yes : goal.returns-clause-yes
 returns-clause-yes c done all is =

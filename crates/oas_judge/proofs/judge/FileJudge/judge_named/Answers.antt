@@ -1,12 +1,12 @@
 use Rattle.std.proofs.Common.{◌≡◌, IsTrue, false, sym, ◌∙◌}
 use Rattle.oas_judge.specs.FileJudges.{holds}
-use Rattle.oas_judge.proofs.JudgeSteps.{ahead_failed, named_drawn}
+use Rattle.oas_judge.proofs.JudgeSteps.{peeked_failed, named_drawn}
 use Rattle.oas_judge.proofs.judge.FileJudge.judge_named.Goals as goal
 
 pub returns-then-not-holds-clause-yes : goal.returns-then-not-holds-clause-yes
 returns-then-not-holds-clause-yes c done all is =
     let failed : holds c.args.self.now ≡ false = sym c.holds.ensures ∙ c.if-not-holds.true in
-    ahead_failed _ c.args.self.now _ failed
+    peeked_failed _ c.args.self.now _ failed
 
 pub returns-then-ahead-clause-yes : goal.returns-then-ahead-clause-yes
 returns-then-ahead-clause-yes c done all is =

@@ -1,4 +1,4 @@
-use Rattle.std.proofs.Common.{◌≡◌, ◌∷◌, ◌++◌, [], ℕ, ◌-ℤ◌, List, length, get_or, sym, ap, ◌∙◌, arith}
+use Rattle.std.proofs.Common.{◌≡◌, ◌∷◌, ◌++◌, ℕ, ◌-ℤ◌, List, length, get_or, sym, ap, ◌∙◌, arith}
 use Rattle.oas_ring.specs.declared.point.Point.{Point}
 use Rattle.oas_keys.specs.Numbers.{signed_key}
 use Rattle.oas_keys.specs.Keys.{points_key}
@@ -13,17 +13,12 @@ bounds-left-0 c =
     let e : length c.left.result.now ≡ length (s.0 ∷ s.1) = ap length (c.left.ensures ∙ s.2) in
     omega arith
 
-pub byte-end-requires : goal.byte-end-requires
-byte-end-requires c none =
-    let r = c.requires.stands in
-    let s = some_byte c.args.before r.0 c.args.self.now r.1 c.requires.from r.2 r.3 in
-    let both : [] ≡ s.0 ∷ s.1 = sym none ∙ s.2 in
-    cc
-
 pub returns-then-left-eq0-clause-next : goal.returns-then-left-eq0-clause-next
 returns-then-left-eq0-clause-next c ps rest within is =
-    at_end c.args.before ps c.args.self.now rest c.byte-end.new.self c.byte-end.result c.requires.from within is c.byte-end.ensures
-    (sym (ap (λ (xs : List ℕ). get_or xs 0 0) (c.left.ensures ∙ c.byte-end.ensures)) ∙ c.if-left-eq0.true)
+    let s = some_byte c.args.before ps c.args.self.now rest c.requires.from within is in
+    let zero : s.0 ≡ 0 = sym (ap (λ (xs : List ℕ). get_or xs 0 0) (c.left.ensures ∙ s.2)) ∙ c.if-left-eq0.true in
+    let e = at_end c.args.before ps c.args.self.now rest s.1 s.0 c.requires.from within is s.2 zero in
+    (e.0, s.2 ∙ (λ i. zero i ∷ e.1 i))
 
 pub signed-dx-requires : goal.signed-dx-requires
 signed-dx-requires c =

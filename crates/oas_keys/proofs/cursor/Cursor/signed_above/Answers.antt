@@ -3,62 +3,62 @@ use Rattle.std.proofs.lemmas.Int.{ints}
 use Rattle.oas_keys.specs.Numbers.{place}
 use Rattle.oas_keys.proofs.FirstLemmas.{first_above_two, first_above_three, first_above_four}
 use Rattle.oas_keys.proofs.KindLemmas.{step_is}
-use Rattle.oas_keys.proofs.SignedLemmas.{placed, by_place, signed_behind, at_least}
+use Rattle.oas_keys.proofs.SignedLemmas.{placed, by_place, signed_rest, at_least}
 use Rattle.oas_keys.proofs.cursor.Cursor.signed_above.Goals as goal
 
-pub signed_behind-requires-clause-number : goal.signed_behind-requires-clause-number
-signed_behind-requires-clause-number c =
+pub signed_rest-requires-clause-number : goal.signed_rest-requires-clause-number
+signed_rest-requires-clause-number c =
     let r = c.requires.stands in
-    let h = signed_behind r.0 c.args.first _ _ r.1 c.args.self.now r.2 r.3 (first_above_two c.args.first c.requires.above c.if-first-lt-ABOVE_THREE_BYTE.true) in
+    let h = signed_rest r.0 c.args.first _ _ r.1 c.args.self.now r.2 r.3 (first_above_two c.args.first c.requires.above c.if-first-lt-ABOVE_THREE_BYTE.true) in
     (r.0, r.2, at_least r.0 _ _ _ r.2 h.number (omega (arith, ints, c.requires.above, c.if-first-lt-ABOVE_THREE_BYTE.true)))
 
-pub signed_behind-requires-clause-more : goal.signed_behind-requires-clause-more
-signed_behind-requires-clause-more c =
+pub signed_rest-requires-clause-more : goal.signed_rest-requires-clause-more
+signed_rest-requires-clause-more c =
     let r = c.requires.stands in
-    let h = signed_behind r.0 c.args.first _ _ r.1 c.args.self.now r.2 r.3 (first_above_two c.args.first c.requires.above c.if-first-lt-ABOVE_THREE_BYTE.true) in
+    let h = signed_rest r.0 c.args.first _ _ r.1 c.args.self.now r.2 r.3 (first_above_two c.args.first c.requires.above c.if-first-lt-ABOVE_THREE_BYTE.true) in
     (h.some.0, h.some.1)
 
 pub returns-then-first-lt-ABOVE_THREE_BYTE : goal.returns-then-first-lt-ABOVE_THREE_BYTE
 returns-then-first-lt-ABOVE_THREE_BYTE c x rest step is =
-    let h = signed_behind x c.args.first _ _ rest c.args.self.now step is (first_above_two c.args.first c.requires.above c.if-first-lt-ABOVE_THREE_BYTE.true) in
+    let h = signed_rest x c.args.first _ _ rest c.args.self.now step is (first_above_two c.args.first c.requires.above c.if-first-lt-ABOVE_THREE_BYTE.true) in
     let e = at_least x _ _ _ step h.number (omega (arith, ints, c.requires.above, c.if-first-lt-ABOVE_THREE_BYTE.true)) in
-    (step_is _ x step (c.signed_behind.ensures.number ∙ e), c.signed_behind.ensures.rest ∙ h.rest_is)
+    (step_is _ x step (c.signed_rest.ensures.number ∙ e), c.signed_rest.ensures.rest ∙ h.rest_is)
 
-pub signed_behind-requires-then-first-lt-ABOVE_FOUR_BYTE-clause-number : goal.signed_behind-requires-then-first-lt-ABOVE_FOUR_BYTE-clause-number
-signed_behind-requires-then-first-lt-ABOVE_FOUR_BYTE-clause-number c =
+pub signed_rest-requires-then-first-lt-ABOVE_FOUR_BYTE-clause-number : goal.signed_rest-requires-then-first-lt-ABOVE_FOUR_BYTE-clause-number
+signed_rest-requires-then-first-lt-ABOVE_FOUR_BYTE-clause-number c =
     let r = c.requires.stands in
-    let h = signed_behind r.0 c.args.first _ _ r.1 c.args.self.now r.2 r.3 (first_above_three c.args.first c.if-first-lt-ABOVE_THREE_BYTE.false c.if-first-lt-ABOVE_FOUR_BYTE.true) in
+    let h = signed_rest r.0 c.args.first _ _ r.1 c.args.self.now r.2 r.3 (first_above_three c.args.first c.if-first-lt-ABOVE_THREE_BYTE.false c.if-first-lt-ABOVE_FOUR_BYTE.true) in
     (r.0, r.2, at_least r.0 _ _ _ r.2 h.number (omega (arith, ints, c.if-first-lt-ABOVE_THREE_BYTE.false, c.if-first-lt-ABOVE_FOUR_BYTE.true)))
 
-pub signed_behind-requires-then-first-lt-ABOVE_FOUR_BYTE-clause-more : goal.signed_behind-requires-then-first-lt-ABOVE_FOUR_BYTE-clause-more
-signed_behind-requires-then-first-lt-ABOVE_FOUR_BYTE-clause-more c =
+pub signed_rest-requires-then-first-lt-ABOVE_FOUR_BYTE-clause-more : goal.signed_rest-requires-then-first-lt-ABOVE_FOUR_BYTE-clause-more
+signed_rest-requires-then-first-lt-ABOVE_FOUR_BYTE-clause-more c =
     let r = c.requires.stands in
-    let h = signed_behind r.0 c.args.first _ _ r.1 c.args.self.now r.2 r.3 (first_above_three c.args.first c.if-first-lt-ABOVE_THREE_BYTE.false c.if-first-lt-ABOVE_FOUR_BYTE.true) in
+    let h = signed_rest r.0 c.args.first _ _ r.1 c.args.self.now r.2 r.3 (first_above_three c.args.first c.if-first-lt-ABOVE_THREE_BYTE.false c.if-first-lt-ABOVE_FOUR_BYTE.true) in
     (h.some.0, h.some.1)
 
 pub returns-then-first-lt-ABOVE_FOUR_BYTE : goal.returns-then-first-lt-ABOVE_FOUR_BYTE
 returns-then-first-lt-ABOVE_FOUR_BYTE c x rest step is =
-    let h = signed_behind x c.args.first _ _ rest c.args.self.now step is (first_above_three c.args.first c.if-first-lt-ABOVE_THREE_BYTE.false c.if-first-lt-ABOVE_FOUR_BYTE.true) in
+    let h = signed_rest x c.args.first _ _ rest c.args.self.now step is (first_above_three c.args.first c.if-first-lt-ABOVE_THREE_BYTE.false c.if-first-lt-ABOVE_FOUR_BYTE.true) in
     let e = at_least x _ _ _ step h.number (omega (arith, ints, c.if-first-lt-ABOVE_THREE_BYTE.false, c.if-first-lt-ABOVE_FOUR_BYTE.true)) in
-    (step_is _ x step (c.signed_behind-then-first-lt-ABOVE_FOUR_BYTE.ensures.number ∙ e), c.signed_behind-then-first-lt-ABOVE_FOUR_BYTE.ensures.rest ∙ h.rest_is)
+    (step_is _ x step (c.signed_rest-then-first-lt-ABOVE_FOUR_BYTE.ensures.number ∙ e), c.signed_rest-then-first-lt-ABOVE_FOUR_BYTE.ensures.rest ∙ h.rest_is)
 
-pub signed_behind-requires-then-first-lt-ABOVE_FIVE_BYTE-clause-number : goal.signed_behind-requires-then-first-lt-ABOVE_FIVE_BYTE-clause-number
-signed_behind-requires-then-first-lt-ABOVE_FIVE_BYTE-clause-number c =
+pub signed_rest-requires-then-first-lt-ABOVE_FIVE_BYTE-clause-number : goal.signed_rest-requires-then-first-lt-ABOVE_FIVE_BYTE-clause-number
+signed_rest-requires-then-first-lt-ABOVE_FIVE_BYTE-clause-number c =
     let r = c.requires.stands in
-    let h = signed_behind r.0 c.args.first _ _ r.1 c.args.self.now r.2 r.3 (first_above_four c.args.first c.if-first-lt-ABOVE_FOUR_BYTE.false c.if-first-lt-ABOVE_FIVE_BYTE.true) in
+    let h = signed_rest r.0 c.args.first _ _ r.1 c.args.self.now r.2 r.3 (first_above_four c.args.first c.if-first-lt-ABOVE_FOUR_BYTE.false c.if-first-lt-ABOVE_FIVE_BYTE.true) in
     (r.0, r.2, at_least r.0 _ _ _ r.2 h.number (omega (arith, ints, c.if-first-lt-ABOVE_FOUR_BYTE.false, c.if-first-lt-ABOVE_FIVE_BYTE.true)))
 
-pub signed_behind-requires-then-first-lt-ABOVE_FIVE_BYTE-clause-more : goal.signed_behind-requires-then-first-lt-ABOVE_FIVE_BYTE-clause-more
-signed_behind-requires-then-first-lt-ABOVE_FIVE_BYTE-clause-more c =
+pub signed_rest-requires-then-first-lt-ABOVE_FIVE_BYTE-clause-more : goal.signed_rest-requires-then-first-lt-ABOVE_FIVE_BYTE-clause-more
+signed_rest-requires-then-first-lt-ABOVE_FIVE_BYTE-clause-more c =
     let r = c.requires.stands in
-    let h = signed_behind r.0 c.args.first _ _ r.1 c.args.self.now r.2 r.3 (first_above_four c.args.first c.if-first-lt-ABOVE_FOUR_BYTE.false c.if-first-lt-ABOVE_FIVE_BYTE.true) in
+    let h = signed_rest r.0 c.args.first _ _ r.1 c.args.self.now r.2 r.3 (first_above_four c.args.first c.if-first-lt-ABOVE_FOUR_BYTE.false c.if-first-lt-ABOVE_FIVE_BYTE.true) in
     (h.some.0, h.some.1)
 
 pub returns-then-first-lt-ABOVE_FIVE_BYTE : goal.returns-then-first-lt-ABOVE_FIVE_BYTE
 returns-then-first-lt-ABOVE_FIVE_BYTE c x rest step is =
-    let h = signed_behind x c.args.first _ _ rest c.args.self.now step is (first_above_four c.args.first c.if-first-lt-ABOVE_FOUR_BYTE.false c.if-first-lt-ABOVE_FIVE_BYTE.true) in
+    let h = signed_rest x c.args.first _ _ rest c.args.self.now step is (first_above_four c.args.first c.if-first-lt-ABOVE_FOUR_BYTE.false c.if-first-lt-ABOVE_FIVE_BYTE.true) in
     let e = at_least x _ _ _ step h.number (omega (arith, ints, c.if-first-lt-ABOVE_FOUR_BYTE.false, c.if-first-lt-ABOVE_FIVE_BYTE.true)) in
-    (step_is _ x step (c.signed_behind-then-first-lt-ABOVE_FIVE_BYTE.ensures.number ∙ e), c.signed_behind-then-first-lt-ABOVE_FIVE_BYTE.ensures.rest ∙ h.rest_is)
+    (step_is _ x step (c.signed_rest-then-first-lt-ABOVE_FIVE_BYTE.ensures.number ∙ e), c.signed_rest-then-first-lt-ABOVE_FIVE_BYTE.ensures.rest ∙ h.rest_is)
 
 pub number-requires-clause-stands : goal.number-requires-clause-stands
 number-requires-clause-stands c =

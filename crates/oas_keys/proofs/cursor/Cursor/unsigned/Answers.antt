@@ -5,7 +5,7 @@ use Rattle.oas_keys.proofs.ReadingLemmas.{reads, never_empty}
 use Rattle.oas_keys.proofs.FirstLemmas.{behind, begun, first_one, first_two, first_three, first_four}
 use Rattle.oas_keys.proofs.cursor.Cursor.unsigned.Goals as goal
 
--- what is there, of the classes
+-- what is there, for the classes
 there : (n first byte : ℕ) (bytes after rest : List ℕ) → bytes ≡ byte ∷ after → first ≡ byte → bytes ≡ unsigned_key n ++ rest
     → first ∷ after ≡ number_in unsigned_classes 1 n ++ rest
 there n first byte bytes after rest was same is = begun bytes _ after first byte was same (is ∙ ap (λ (t : List ℕ). t ++ rest) (unsigned_is n))

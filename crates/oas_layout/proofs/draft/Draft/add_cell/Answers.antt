@@ -1,7 +1,7 @@
 use Rattle.std.proofs.Common.{arith, [], ◌∷◌, ◌++◌, ◌≡◌, ◌∙◌, sym, ap, length, None}
 use Rattle.indexmap.proofs.CallerLemmas.{insert_entry-new}
 use Rattle.oas_layout.specs.Contents.{Contents, cell_refusal}
-use Rattle.oas_layout.proofs.Cells.{none_there, pushed_empty, IsCounted-push, pushed_is, cell_refusal-none}
+use Rattle.oas_layout.proofs.CellLemmas.{none_there, pushed_empty, IsCounted-push, pushed_is, cell_refusal-none}
 use Rattle.oas_layout.proofs.draft.Draft.add_cell.Goals as goal
 
 pushed : (c : goal.After-self-2-1) → c.insert.new.self.entries ≡ c.self.inside.cells.entries ++ (c.args.name, []) ∷ []
@@ -20,6 +20,6 @@ returns-clause-ok c =
     let name = ap length c.as_bytes.ensures.bytes in
     let none : cell_refusal d c.args.name ≡ None = cell_refusal-none d c.args.name c.if-contains_key.ensures (omega (arith, c.if-weight-self.false, c.weight.ensures, name)) in (
       ap (λ (v : Contents). cell_refusal v c.args.name) (sym c.self.view_is) ∙ none,
-      c.cells-before.ensures,
+      c.cell_count-before.ensures,
       pushed_is c.args.self.now c.self.inside.unit c.self.inside.limits c.self.inside.profile c.self.inside.cells.entries _ c.self.inside.spelled _ c.args.name c.self.view_is (pushed c) name,
     )

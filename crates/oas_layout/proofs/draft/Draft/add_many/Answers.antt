@@ -1,6 +1,7 @@
-use Rattle.std.proofs.Common.{rules, ◌≡◌, sym, ◌∙◌, ap, unwrap_or}
+use Rattle.std.proofs.Common.{rules, ◌≡◌, sym, ◌∙◌, ap, length, unwrap_or}
 use Rattle.oas_layout.specs.Same.{normal}
 use Rattle.oas_layout.specs.Contents.{Contents}
+use Rattle.oas_layout.proofs.CellLemmas.{length-with_more}
 use Rattle.oas_layout.proofs.KeptForms.{kept_normal, kept_points, kept_inside, kept_lighter, kept_as_spelled}
 use Rattle.oas_layout.proofs.draft.Draft.add_many.Goals as goal
 
@@ -31,3 +32,11 @@ hold-requires-2-clause-as_spelled c =
 
 pub returns-then-not-fits_grid-clause-why : goal.returns-then-not-fits_grid-clause-why
 returns-then-not-fits_grid-clause-why c = search rules
+
+pub returns-in_default-kept-clause-cells : goal.returns-in_default-kept-clause-cells
+returns-in_default-kept-clause-cells c =
+    ap (λ (v : Contents). length v.cells) c.in_default-hold.ensures.ok ∙ length-with_more c.args.self.now.cells c.args.cell c.args.element c.args.times
+
+pub returns-clause-cells : goal.returns-clause-cells
+returns-clause-cells c =
+    ap (λ (v : Contents). length v.cells) c.in_default-hold-2.ensures.ok ∙ length-with_more c.args.self.now.cells c.args.cell c.in-Some-kept.kept c.args.times

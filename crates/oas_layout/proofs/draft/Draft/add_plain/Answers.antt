@@ -3,7 +3,7 @@ use Rattle.indexmap.proofs.CallerLemmas.{insert_entry-new}
 use Rattle.oas_layout.specs.declared.element.Element.{Element}
 use Rattle.oas_layout.specs.Contents.{Contents}
 use Rattle.oas_layout.specs.Plain.{plain_refusal, with_plain}
-use Rattle.oas_layout.proofs.Cells.{none_there}
+use Rattle.oas_layout.proofs.CellLemmas.{none_there}
 use Rattle.oas_layout.proofs.PlainLemmas.{IsCounted-plain, plain_is, plain_refusal-none}
 use Rattle.oas_layout.proofs.draft.Draft.add_plain.Goals as goal
 
@@ -41,7 +41,7 @@ returns-clause-ok c =
     (omega (arith, c.if-count-elements.false, c.self.invariant.few, c.self.invariant.count_is, c.elements.invariant.count_is)) (omega (arith, light, own, c.elements.invariant.weight_is)) in (
       ap (λ (es : List (Element × ℕ)). plain_refusal c.args.self.now c.args.name es) (sym c.elements.view_is)
           ∙ (ap (λ (v : Contents). plain_refusal v c.args.name c.elements.inside.bag) (sym c.self.view_is) ∙ none),
-      c.cells-before.ensures,
+      c.cell_count-before.ensures,
       plain_is c.args.self.now c.self.inside.unit c.self.inside.limits c.self.inside.profile c.self.inside.cells.entries _ c.self.inside.spelled c.args.name c.elements.inside.bag
           c.elements.inside.weight _ c.self.view_is (c.in_default.ensures.entries ∙ new) own c.elements.invariant.weight_is
           ∙ ap (λ (es : List (Element × ℕ)). with_plain c.args.self.now c.args.name es) c.elements.view_is,

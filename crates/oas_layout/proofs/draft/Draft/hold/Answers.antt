@@ -3,7 +3,7 @@ use Rattle.oas_layout.specs.Same.{IsNormal}
 use Rattle.oas_layout.specs.Weight.{weight_of}
 use Rattle.oas_layout.specs.Meaning.{element_count}
 use Rattle.oas_layout.specs.Contents.{Contents, expanded}
-use Rattle.oas_layout.proofs.Cells.{count_at-le-length, length-items-le, IsCounted-with_more, IsCounted-same, holding_is, unchanged_is}
+use Rattle.oas_layout.proofs.CellLemmas.{count_at-le-length, length-items-le, IsCounted-with_more, IsCounted-same, holding_is, unchanged_is}
 use Rattle.oas_layout.proofs.draft.Draft.hold.Goals as goal
 
 pub add-requires-clause-room : goal.add-requires-clause-room

@@ -1,5 +1,5 @@
 use Rattle.std.proofs.Common.{rules, ◌≡◌, Some, slice_get}
-use Rattle.oas_layout.proofs.Cells.{cell_bag}
+use Rattle.oas_layout.proofs.CellLemmas.{cell_bag}
 use Rattle.oas_layout.proofs.layout.Layout.cell.Goals as goal
 
 pub returns-clause-bag : goal.returns-clause-bag

@@ -3,10 +3,10 @@ use Rattle.oas_layout.specs.Contents.{Cell, Contents}
 use Rattle.oas_layout.proofs.SameLemmas.{differ, same_at, same_reads, same_from_cells, unlike_itself}
 use Rattle.oas_layout.proofs.layout.Layout.same.Goals as goal
 
-pub returns-then-count-cells : goal.returns-then-count-cells
-returns-then-count-cells c =
+pub returns-then-count-cell_count : goal.returns-then-count-cell_count
+returns-then-count-cell_count c =
     differ _ _ c.args.self.now c.args.other.now c.self.view_is c.other.view_is c.requires c.self.invariant.layout c.other.invariant.layout
-    (λ _ e. c.if-count-cells.true (c.cells-count.ensures.count ∙ ap length e ∙ sym c.cells.ensures.count))
+    (λ _ e. c.if-count-cell_count.true (c.cell_count-count.ensures.count ∙ ap length e ∙ sym c.cell_count.ensures.count))
 
 pub returns-then-ne-2 : goal.returns-then-ne-2
 returns-then-ne-2 c =
@@ -24,7 +24,7 @@ returns c =
     let unit : c.self.inside.unit ≡ c.other.inside.unit = search rules in
     let units : c.args.self.now.unit ≡ c.args.other.now.unit = sym (ap (λ (v : Contents). v.unit) c.self.view_is) ∙ unit ∙ ap (λ (v : Contents). v.unit) c.other.view_is in (
       λ _. same_from_cells c.args.self.now.profile c.args.self.now c.args.other.now units
-          (same_reads c.args.self.now.cells c.args.other.now.cells (omega (arith, c.cells-count.ensures.count, c.cells.ensures.count, c.if-count-cells.false))
-          (λ k below. c.loop-i.invariant k (omega (arith, below, c.cells-count.ensures.count, c.loop-i-test.false)))),
+          (same_reads c.args.self.now.cells c.args.other.now.cells (omega (arith, c.cell_count-count.ensures.count, c.cell_count.ensures.count, c.if-count-cell_count.false))
+          (λ k below. c.loop-i.invariant k (omega (arith, below, c.cell_count-count.ensures.count, c.loop-i-test.false)))),
       λ _. refl,
     )

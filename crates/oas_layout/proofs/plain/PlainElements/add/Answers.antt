@@ -1,7 +1,7 @@
 use Rattle.std.proofs.Common.{ℕ, ◌*◌, List, length, ◌∙◌, ap, arith}
 use Rattle.oas_layout.specs.declared.element.Element.{Element}
 use Rattle.oas_layout.specs.Bag.{items}
-use Rattle.oas_layout.proofs.Cells.{count_at-le-length}
+use Rattle.oas_layout.proofs.CellLemmas.{count_at-le-length}
 use Rattle.oas_layout.proofs.PlainLemmas.{ArePlain-more}
 use Rattle.oas_layout.proofs.plain.PlainElements.add.Goals as goal
 

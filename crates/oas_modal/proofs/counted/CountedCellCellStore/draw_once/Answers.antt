@@ -1,6 +1,6 @@
 use Rattle.std.proofs.Common.{◌∙◌, ap, ℕ, ◌+◌, arith}
-use Rattle.oas_drawing.specs.Drawn.{weight_so_far}
-use Rattle.oas_drawing.specs.Named.{drawn_once}
+use Rattle.oas_names.specs.oas_drawing.Drawn.{weight_so_far}
+use Rattle.oas_names.specs.oas_drawing.Named.{drawn_once}
 use Rattle.oas_names.specs.Weights.{capped}
 use Rattle.oas_names.proofs.WeightLemmas.{capped_once}
 use Rattle.oas_modal.proofs.CountLemmas.{counted_up}

@@ -1,5 +1,5 @@
 use Rattle.std.proofs.Common.{arith, refl}
-use Rattle.oas_drawing.specs.declared.drawn.Drawn.TheVariants.{Named}
+use Rattle.oas_names.specs.oas_drawing.declared.drawn.Drawn.TheVariants.{Named}
 use Rattle.oas_modal.proofs.EarlyLemmas.{early_plain, fit_early, count_before, more_early, split_early}
 use Rattle.oas_modal.proofs.held.HeldCell.add_early.Goals as goal
 

@@ -1,6 +1,6 @@
 use Rattle.std.proofs.Common.{◌+◌, unwrap_or, arith}
 use Rattle.std.specs.BTreeMap.{get}
-use Rattle.oas_drawing.specs.Laws.DrawnLaws.{derived_cmp}
+use Rattle.oas_names.specs.oas_drawing.Laws.DrawnLaws.{derived_cmp}
 use Rattle.oas_modal.proofs.HeldLemmas.{times_drawn-derived, times_few, with_drawn-inserted, IsHeld-insert_entry}
 use Rattle.oas_modal.proofs.EarlyLemmas.{count_before, more_late, split_late}
 use Rattle.oas_modal.proofs.held.HeldCell.add_other.Goals as goal

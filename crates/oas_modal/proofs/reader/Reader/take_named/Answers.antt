@@ -1,4 +1,4 @@
-use Rattle.oas_ahead.specs.Named.{named_record}
+use Rattle.oas_peek.specs.Named.{named_record}
 use Rattle.oas_modal.proofs.ReaderLemmas.{take_ok, take_err}
 use Rattle.oas_modal.proofs.reader.Reader.take_named.Goals as goal
 

@@ -1,5 +1,5 @@
 use Rattle.std.proofs.lemmas.Result.{err_from_is_err_and}
-use Rattle.oas_num.specs.Laws.IntegerLaws.{OneFront-IsUnsigned}
+use Rattle.oas_num.specs.Laws.IntegerLaws.{PrefixFree-IsUnsigned}
 use Rattle.oas_num.specs.Laws.DeltaLaws.{HasSome-second}
 use Rattle.oas_num.proofs.GrammarLemmas.{◌▹◌, is_read}
 use Rattle.oas_num.proofs.DeltaLemmas.{starts_gdelta, first_number_fails, second_number_fails}
@@ -19,5 +19,5 @@ returns-in_err-second g c =
 
 pub returns : goal.returns
 returns g c =
-    let read = is_read (starts_gdelta _ ▹ (OneFront-IsUnsigned, HasSome-second _, c.in_ok-first.ensures)) c.in_ok-second.ensures in
+    let read = is_read (starts_gdelta _ ▹ (PrefixFree-IsUnsigned, HasSome-second _, c.in_ok-first.ensures)) c.in_ok-second.ensures in
     rw c.from_numbers.ensures read

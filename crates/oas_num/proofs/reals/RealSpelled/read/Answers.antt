@@ -1,5 +1,5 @@
 use Rattle.std.proofs.lemmas.Result.{err_from_is_err_and}
-use Rattle.oas_num.specs.Laws.RealLaws.{OneFront-part}
+use Rattle.oas_num.specs.Laws.RealLaws.{PrefixFree-part}
 use Rattle.oas_num.proofs.GrammarLemmas.{◌▸◌, is_read}
 use Rattle.oas_num.proofs.RealLemmas.{with_kind, kind_fails, unknown, float, num_fails, den_fails}
 use Rattle.oas_num.proofs.reals.RealSpelled.read.Goals as goal
@@ -34,5 +34,5 @@ returns-in_err-den g c =
 
 pub returns : goal.returns
 returns g c =
-    let read = is_read (with_kind _ _ _ c.if-kind-ge6.false c.in_ok-kind.ensures ▸ (OneFront-part _, c.in_ok-num.ensures)) c.in_ok-den.ensures in
+    let read = is_read (with_kind _ _ _ c.if-kind-ge6.false c.in_ok-kind.ensures ▸ (PrefixFree-part _, c.in_ok-num.ensures)) c.in_ok-den.ensures in
     rw (c.part_or_one.ensures, c.part_or_one-2.ensures) read

@@ -1,5 +1,5 @@
 use Rattle.std.proofs.Common.{rules}
-use Rattle.oas_prepare.proofs.Takes.{resolved_taken}
+use Rattle.oas_prepare.proofs.Consumed.{resolved_taken}
 use Rattle.oas_prepare.proofs.taking.Preparation.take.Goals as goal
 
 pub returns-in_ok-take_resolved-in-Ok-clause-taken : goal.returns-in_ok-take_resolved-in-Ok-clause-taken

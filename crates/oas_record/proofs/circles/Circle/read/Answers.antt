@@ -1,8 +1,8 @@
 use Rattle.std.proofs.lemmas.Result.{err_from_is_err_and}
 use Rattle.oas_num.specs.Style.{Any}
 use Rattle.oas_record.specs.Circles.{circle_parts}
-use Rattle.oas_record.proofs.FieldLemmas.{OneFront-layers}
-use Rattle.oas_record.proofs.ElementLemmas.{allowed_by, refused_by, OneFront-number_if}
+use Rattle.oas_record.proofs.FieldLemmas.{PrefixFree-layers}
+use Rattle.oas_record.proofs.ElementLemmas.{allowed_by, refused_by, PrefixFree-number_if}
 use Rattle.oas_num.proofs.HalfwayLemmas.{◌▸◌, fails_at, fails_last, is_read, number_took}
 use Rattle.oas_record.proofs.InfoLemmas.{info_took, info_refused, info_read}
 use Rattle.oas_record.proofs.circles.Circle.read.Goals as goal
@@ -24,14 +24,14 @@ pub returns-in_err-radius : goal.returns-in_err-radius
 returns-in_err-radius g c =
     let p = err_from_is_err_and c.from_residual-in_err-radius.result c.from_residual-in_err-radius.ensures.1 in
     rw (p.1, p.2) (fails_at (info_read (allowed_by c.is_circle_info.ensures c.if-not-is_circle_info.false) c.in_ok-info.ensures ▸
-    (OneFront-layers Any _, c.in_ok-layers.ensures)) (number_took _ c.in_err-radius.ensures))
+    (PrefixFree-layers Any _, c.in_ok-layers.ensures)) (number_took _ c.in_err-radius.ensures))
 
 pub returns-in_err-spot : goal.returns-in_err-spot
 returns-in_err-spot g c =
     let p = err_from_is_err_and c.from_residual-in_err-spot.result c.from_residual-in_err-spot.ensures.1 in
     rw (p.1, p.2) (fails_last (info_read (allowed_by c.is_circle_info.ensures c.if-not-is_circle_info.false) c.in_ok-info.ensures ▸
-    (OneFront-layers Any _, c.in_ok-layers.ensures) ▸ (OneFront-number_if _, c.in_ok-radius.ensures)) c.in_err-spot.ensures)
+    (PrefixFree-layers Any _, c.in_ok-layers.ensures) ▸ (PrefixFree-number_if _, c.in_ok-radius.ensures)) c.in_err-spot.ensures)
 
 pub returns : goal.returns
 returns g c = is_read (info_read {took = λ info. (circle_parts info).took} (allowed_by c.is_circle_info.ensures c.if-not-is_circle_info.false)
-    c.in_ok-info.ensures ▸ (OneFront-layers Any _, c.in_ok-layers.ensures) ▸ (OneFront-number_if _, c.in_ok-radius.ensures)) c.in_ok-spot.ensures
+    c.in_ok-info.ensures ▸ (PrefixFree-layers Any _, c.in_ok-layers.ensures) ▸ (PrefixFree-number_if _, c.in_ok-radius.ensures)) c.in_ok-spot.ensures

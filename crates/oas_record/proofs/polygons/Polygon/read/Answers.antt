@@ -3,7 +3,7 @@ use Rattle.oas_num.specs.Style.{Any}
 use Rattle.oas_shape.specs.declared.list_use.ListUse.TheVariants as uses
 use Rattle.oas_record.specs.Polygons.{polygon_parts}
 use Rattle.oas_record.proofs.ElementLemmas.{allowed_by, refused_by}
-use Rattle.oas_record.proofs.FieldLemmas.{OneFront-layers, OneFront-points_if}
+use Rattle.oas_record.proofs.FieldLemmas.{PrefixFree-layers, PrefixFree-points_if}
 use Rattle.oas_num.proofs.HalfwayLemmas.{◌▸◌, fails_at, fails_last, is_read}
 use Rattle.oas_record.proofs.InfoLemmas.{info_took, info_refused, info_read}
 use Rattle.oas_record.proofs.polygons.Polygon.read.Goals as goal
@@ -25,15 +25,15 @@ pub returns-in_err-points : goal.returns-in_err-points
 returns-in_err-points g c =
     let p = err_from_is_err_and c.from_residual-in_err-points.result c.from_residual-in_err-points.ensures.1 in
     rw (p.1, p.2) (fails_at (info_read (allowed_by c.is_polygon_info.ensures c.if-not-is_polygon_info.false) c.in_ok-info.ensures ▸
-    (OneFront-layers Any _, c.in_ok-layers.ensures)) c.in_err-points.ensures)
+    (PrefixFree-layers Any _, c.in_ok-layers.ensures)) c.in_err-points.ensures)
 
 pub returns-in_err-spot : goal.returns-in_err-spot
 returns-in_err-spot g c =
     let p = err_from_is_err_and c.from_residual-in_err-spot.result c.from_residual-in_err-spot.ensures.1 in
     rw (p.1, p.2) (fails_last (info_read (allowed_by c.is_polygon_info.ensures c.if-not-is_polygon_info.false) c.in_ok-info.ensures ▸
-    (OneFront-layers Any _, c.in_ok-layers.ensures) ▸ (OneFront-points_if _ uses.Polygon, c.in_ok-points.ensures)) c.in_err-spot.ensures)
+    (PrefixFree-layers Any _, c.in_ok-layers.ensures) ▸ (PrefixFree-points_if _ uses.Polygon, c.in_ok-points.ensures)) c.in_err-spot.ensures)
 
 pub returns : goal.returns
 returns g c = is_read (info_read {took = λ info. (polygon_parts info).took} (allowed_by c.is_polygon_info.ensures c.if-not-is_polygon_info.false)
-    c.in_ok-info.ensures ▸ (OneFront-layers Any _, c.in_ok-layers.ensures) ▸ (OneFront-points_if _ uses.Polygon, c.in_ok-points.ensures))
+    c.in_ok-info.ensures ▸ (PrefixFree-layers Any _, c.in_ok-layers.ensures) ▸ (PrefixFree-points_if _ uses.Polygon, c.in_ok-points.ensures))
     c.in_ok-spot.ensures

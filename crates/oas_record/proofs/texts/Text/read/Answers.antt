@@ -2,7 +2,7 @@ use Rattle.std.proofs.lemmas.Result.{err_from_is_err_and}
 use Rattle.oas_num.specs.Style.{Any}
 use Rattle.oas_record.specs.Texts.{text_parts}
 use Rattle.oas_record.proofs.ElementLemmas.{allowed_by, refused_by}
-use Rattle.oas_record.proofs.FieldLemmas.{OneFront-layers, OneFront-text_if}
+use Rattle.oas_record.proofs.FieldLemmas.{PrefixFree-layers, PrefixFree-text_if}
 use Rattle.oas_num.proofs.HalfwayLemmas.{◌▸◌, fails_at, fails_last, is_read}
 use Rattle.oas_record.proofs.InfoLemmas.{info_took, info_refused, info_read}
 use Rattle.oas_record.proofs.texts.Text.read.Goals as goal
@@ -23,14 +23,14 @@ returns-in_err-string g c =
 pub returns-in_err-layers : goal.returns-in_err-layers
 returns-in_err-layers g c =
     let p = err_from_is_err_and c.from_residual-in_err-layers.result c.from_residual-in_err-layers.ensures.1 in
-    rw (p.1, p.2) (fails_at (info_read (allowed_by c.is_text_info.ensures c.if-not-is_text_info.false) c.in_ok-info.ensures ▸ (OneFront-text_if _ _, c.in_ok-string.ensures)) c.in_err-layers.ensures)
+    rw (p.1, p.2) (fails_at (info_read (allowed_by c.is_text_info.ensures c.if-not-is_text_info.false) c.in_ok-info.ensures ▸ (PrefixFree-text_if _ _, c.in_ok-string.ensures)) c.in_err-layers.ensures)
 
 pub returns-in_err-spot : goal.returns-in_err-spot
 returns-in_err-spot g c =
     let p = err_from_is_err_and c.from_residual-in_err-spot.result c.from_residual-in_err-spot.ensures.1 in
     rw (p.1, p.2) (fails_last (info_read (allowed_by c.is_text_info.ensures c.if-not-is_text_info.false) c.in_ok-info.ensures ▸
-    (OneFront-text_if _ _, c.in_ok-string.ensures) ▸ (OneFront-layers Any _, c.in_ok-layers.ensures)) c.in_err-spot.ensures)
+    (PrefixFree-text_if _ _, c.in_ok-string.ensures) ▸ (PrefixFree-layers Any _, c.in_ok-layers.ensures)) c.in_err-spot.ensures)
 
 pub returns : goal.returns
 returns g c = is_read (info_read {took = λ info. (text_parts info).took} (allowed_by c.is_text_info.ensures c.if-not-is_text_info.false)
-    c.in_ok-info.ensures ▸ (OneFront-text_if _ _, c.in_ok-string.ensures) ▸ (OneFront-layers Any _, c.in_ok-layers.ensures)) c.in_ok-spot.ensures
+    c.in_ok-info.ensures ▸ (PrefixFree-text_if _ _, c.in_ok-string.ensures) ▸ (PrefixFree-layers Any _, c.in_ok-layers.ensures)) c.in_ok-spot.ensures

@@ -1,12 +1,18 @@
-use Rattle.std.proofs.Common.{◌≡◌, rules}
+use Rattle.std.proofs.Common.{◌≡◌, ap, sym, subst, ◌∙◌, rules}
 use Rattle.std.specs.Cmp.Lexicographic.{bytes_decides}
 use Rattle.std.proofs.lemmas.Map.Lookups.{btree_map_eq-Decides}
+use Rattle.oas_layout.specs.Contents.{Contents, IsLayout}
 use Rattle.oas_entries.specs.Comparing.{same_entries_decide}
+use Rattle.oas_runs.specs.Keyed.{keyed_cells}
+use Rattle.oas_runs.specs.Laws.HeldLaws.{cells_keys}
 use Rattle.oas_runs.proofs.SamenessLemmas.{runs_decide}
 use Rattle.oas_runs.proofs.layout.CompactLayout.same.Goals as goal
 
 pub returns : goal.returns
-returns c l k p q alike =
-    let unit : c.args.self.now.unit ≡ c.args.other.now.unit = search rules in
-    runs_decide c.args.self.now c.args.other.now l k p q alike c.eq.result unit
-    (btree_map_eq-Decides bytes_decides same_entries_decide c.args.self.now.cells c.args.other.now.cells c.eq.result c.eq.ensures)
+returns c alike =
+    let unit : c.self.inside.unit ≡ c.other.inside.unit = search rules in
+    let units : c.args.self.now.unit ≡ c.args.other.now.unit = sym (ap (λ (v : Contents). v.unit) c.self.view_is) ∙ unit ∙ ap (λ (v : Contents). v.unit) c.other.view_is in
+    runs_decide c.args.self.now c.args.other.now (subst IsLayout c.self.view_is c.self.invariant) (subst IsLayout c.other.view_is c.other.invariant) alike
+    c.self.inside.cells.entries c.other.inside.cells.entries c.eq.result
+    (cells_keys c.self.inside.held ∙ ap (λ (v : Contents). keyed_cells v.cells) c.self.view_is) (cells_keys c.other.inside.held ∙ ap (λ (v : Contents). keyed_cells v.cells) c.other.view_is)
+    units (btree_map_eq-Decides bytes_decides same_entries_decide c.self.inside.cells c.other.inside.cells c.eq.result c.eq.ensures)

@@ -1,6 +1,6 @@
 use Rattle.std.proofs.Common.{IsTrue, false, refl, rules, arith}
 use Rattle.std.proofs.lemmas.Result.{err_from_is_err_and}
-use Rattle.oas_num.specs.Laws.IntegerLaws.{OneFront-IsUnsigned}
+use Rattle.oas_num.specs.Laws.IntegerLaws.{PrefixFree-IsUnsigned}
 use Rattle.oas_num.proofs.HalfwayLemmas.{fails_at, fails_last, is_read, such_took, such_refused}
 use Rattle.oas_shape.specs.ListUses.{IsFitting}
 use Rattle.oas_shape.specs.PointLists.{IsListKind}
@@ -15,7 +15,7 @@ returns-in_err-kind g c =
 pub returns-then-kind-gt-LAST_KIND : goal.returns-then-kind-gt-LAST_KIND
 returns-then-kind-gt-LAST_KIND g c =
     let isnt : ¬ IsListKind c.in_ok-kind.kind = λ is. omega (arith, c.if-kind-gt-LAST_KIND.true) in
-    fails_at (starts _ _) (such_refused OneFront-IsUnsigned refl isnt (refl, isnt) c.in_ok-kind.ensures)
+    fails_at (starts _ _) (such_refused PrefixFree-IsUnsigned refl isnt (refl, isnt) c.in_ok-kind.ensures)
 
 pub returns-in_err-count : goal.returns-in_err-count
 returns-in_err-count g c =
@@ -25,7 +25,7 @@ returns-in_err-count g c =
 pub returns-then-not-fits : goal.returns-then-not-fits
 returns-then-not-fits g c =
     let isnt : ¬ IsFitting c.args.list_use c.in_ok-kind.kind c.in_ok-count.count = λ fits. let e : IsTrue false = c.if-not-fits.ensures.1 fits in absurd cc in
-    fails_at (with_kind _ c.if-kind-gt-LAST_KIND.false c.in_ok-kind.ensures) (such_refused OneFront-IsUnsigned refl isnt (refl, isnt) c.in_ok-count.ensures)
+    fails_at (with_kind _ c.if-kind-gt-LAST_KIND.false c.in_ok-kind.ensures) (such_refused PrefixFree-IsUnsigned refl isnt (refl, isnt) c.in_ok-count.ensures)
 
 pub returns-in_err-deltas : goal.returns-in_err-deltas
 returns-in_err-deltas g c =

@@ -1,6 +1,6 @@
 use Rattle.std.proofs.lemmas.Result.{err_from_is_err_and}
 use Rattle.std.proofs.Common.{refl, arith}
-use Rattle.oas_num.specs.Laws.IntegerLaws.{OneFront-IsUnsigned}
+use Rattle.oas_num.specs.Laws.IntegerLaws.{PrefixFree-IsUnsigned}
 use Rattle.oas_num.proofs.HalfwayLemmas.{fails_at, fails_last, is_read, such_took, such_refused}
 use Rattle.oas_shape.specs.Repetitions.{IsRepetitionKind}
 use Rattle.oas_shape.proofs.RepetitionLemmas.{starts, with_kind, again_read, new_read, new_fails}
@@ -14,7 +14,7 @@ returns-in_err-kind g c =
 pub returns-then-kind-gt-LAST_KIND : goal.returns-then-kind-gt-LAST_KIND
 returns-then-kind-gt-LAST_KIND g c =
     let isnt : ¬ IsRepetitionKind c.in_ok-kind.kind = λ is. omega (arith, c.if-kind-gt-LAST_KIND.true) in
-    fails_at (starts _) (such_refused OneFront-IsUnsigned refl isnt (refl, isnt) c.in_ok-kind.ensures)
+    fails_at (starts _) (such_refused PrefixFree-IsUnsigned refl isnt (refl, isnt) c.in_ok-kind.ensures)
 
 pub returns-then-kind-eq0 : goal.returns-then-kind-eq0
 returns-then-kind-eq0 g c = is_read (with_kind c.if-kind-gt-LAST_KIND.false c.in_ok-kind.ensures) (again_read _ _ c.if-kind-eq0.true)

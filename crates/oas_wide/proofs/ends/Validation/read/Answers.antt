@@ -3,7 +3,7 @@ use Rattle.std.proofs.lemmas.Result.{err_from_is_err_and}
 use Rattle.oas_num.proofs.GrammarLemmas.{such_read}
 use Rattle.oas_num.proofs.HalfwayLemmas.{◌▸◌, at_image, fails_at, fails_last, is_read, such_took, such_refused}
 use Rattle.oas_wide.specs.Ends.{IsScheme, scheme, ValidationTook}
-use Rattle.oas_wide.specs.Long.{IsLong, OneFront-long}
+use Rattle.oas_wide.specs.Long.{IsLong, PrefixFree-long}
 use Rattle.oas_wide.proofs.ends.Validation.read.Goals as goal
 
 pub returns-in_err-scheme : goal.returns-in_err-scheme
@@ -13,7 +13,7 @@ returns-in_err-scheme g c =
 
 pub returns-then-scheme-gt2 : goal.returns-then-scheme-gt2
 returns-then-scheme-gt2 g c = fails_at (at_image {took = ValidationTook} _)
-    (such_refused OneFront-long refl (λ lt. omega (arith, lt, c.if-scheme-gt2.true)) (refl, λ lt. omega (arith, lt, c.if-scheme-gt2.true)) c.in_ok-scheme.ensures)
+    (such_refused PrefixFree-long refl (λ lt. omega (arith, lt, c.if-scheme-gt2.true)) (refl, λ lt. omega (arith, lt, c.if-scheme-gt2.true)) c.in_ok-scheme.ensures)
 
 pub returns-in_err-signature : goal.returns-in_err-signature
 returns-in_err-signature g c =

@@ -1,12 +1,12 @@
 use Rattle.std.proofs.Common.{arith}
 use Rattle.std.proofs.lemmas.Result.{err_from_is_err_and}
 use Rattle.oas_num.specs.Style.{Any}
-use Rattle.oas_num.specs.Laws.TextLaws.{OneFront-padding}
+use Rattle.oas_num.specs.Laws.TextLaws.{PrefixFree-padding}
 use Rattle.oas_num.proofs.HalfwayLemmas.{◌▸◌, fails_at, fails_last, is_read}
-use Rattle.oas_record.proofs.FieldLemmas.{OneFront-layers}
+use Rattle.oas_record.proofs.FieldLemmas.{PrefixFree-layers}
 use Rattle.oas_record.proofs.InfoLemmas.{info_took, info_refused, info_read}
 use Rattle.oas_wide.specs.Extensions.{geometry_parts}
-use Rattle.oas_wide.specs.Long.{OneFront-long}
+use Rattle.oas_wide.specs.Long.{PrefixFree-long}
 use Rattle.oas_wide.proofs.extensions.ExtensionGeometry.read.Goals as goal
 
 pub returns-in_err-info : goal.returns-in_err-info
@@ -26,20 +26,20 @@ pub returns-in_err-layers : goal.returns-in_err-layers
 returns-in_err-layers g c =
     let p = err_from_is_err_and c.from_residual-in_err-layers.result c.from_residual-in_err-layers.ensures.1 in
     rw (p.1, p.2) (fails_at (info_read {took = λ info. (geometry_parts info).took} (omega (arith, c.if-info-ge32.false)) c.in_ok-info.ensures ▸
-    (OneFront-long, c.in_ok-attribute.ensures)) c.in_err-layers.ensures)
+    (PrefixFree-long, c.in_ok-attribute.ensures)) c.in_err-layers.ensures)
 
 pub returns-in_err-string : goal.returns-in_err-string
 returns-in_err-string g c =
     let p = err_from_is_err_and c.from_residual-in_err-string.result c.from_residual-in_err-string.ensures.1 in
     rw (p.1, p.2) (fails_at (info_read {took = λ info. (geometry_parts info).took} (omega (arith, c.if-info-ge32.false)) c.in_ok-info.ensures ▸
-    (OneFront-long, c.in_ok-attribute.ensures) ▸ (OneFront-layers Any _, c.in_ok-layers.ensures)) c.in_err-string.ensures)
+    (PrefixFree-long, c.in_ok-attribute.ensures) ▸ (PrefixFree-layers Any _, c.in_ok-layers.ensures)) c.in_err-string.ensures)
 
 pub returns-in_err-spot : goal.returns-in_err-spot
 returns-in_err-spot g c =
     let p = err_from_is_err_and c.from_residual-in_err-spot.result c.from_residual-in_err-spot.ensures.1 in
     rw (p.1, p.2) (fails_last (info_read {took = λ info. (geometry_parts info).took} (omega (arith, c.if-info-ge32.false)) c.in_ok-info.ensures ▸
-    (OneFront-long, c.in_ok-attribute.ensures) ▸ (OneFront-layers Any _, c.in_ok-layers.ensures) ▸ (OneFront-padding, c.in_ok-string.ensures)) c.in_err-spot.ensures)
+    (PrefixFree-long, c.in_ok-attribute.ensures) ▸ (PrefixFree-layers Any _, c.in_ok-layers.ensures) ▸ (PrefixFree-padding, c.in_ok-string.ensures)) c.in_err-spot.ensures)
 
 pub returns : goal.returns
 returns g c = is_read (info_read {took = λ info. (geometry_parts info).took} (omega (arith, c.if-info-ge32.false)) c.in_ok-info.ensures ▸
-    (OneFront-long, c.in_ok-attribute.ensures) ▸ (OneFront-layers Any _, c.in_ok-layers.ensures) ▸ (OneFront-padding, c.in_ok-string.ensures)) c.in_ok-spot.ensures
+    (PrefixFree-long, c.in_ok-attribute.ensures) ▸ (PrefixFree-layers Any _, c.in_ok-layers.ensures) ▸ (PrefixFree-padding, c.in_ok-string.ensures)) c.in_ok-spot.ensures

@@ -5,7 +5,7 @@ use Rattle.oas_num.proofs.HalfwayLemmas.{◌▸◌, at_image, fails_at, fails_la
 use Rattle.oas_record.specs.Ends.{IsNumber}
 use Rattle.oas_record.specs.Heads.{IsFlag}
 use Rattle.oas_wide.specs.Heads.{start_id, unit_kind, flag_kind, WideStartTook}
-use Rattle.oas_wide.specs.Long.{IsLong, OneFront-long}
+use Rattle.oas_wide.specs.Long.{IsLong, PrefixFree-long}
 use Rattle.oas_wide.specs.Versions.{long_version}
 use Rattle.oas_wide.proofs.heads.WideStart.read.Goals as goal
 
@@ -15,7 +15,7 @@ returns-in_err-id g c =
     rw (p.1, p.2) (fails_at (at_image {took = WideStartTook} _) (such_took c.in_err-id.ensures))
 
 pub returns-then-id-ne1 : goal.returns-then-id-ne1
-returns-then-id-ne1 g c = fails_at (at_image {took = WideStartTook} _) (such_refused OneFront-long refl c.if-id-ne1.true (refl, c.if-id-ne1.true) c.in_ok-id.ensures)
+returns-then-id-ne1 g c = fails_at (at_image {took = WideStartTook} _) (such_refused PrefixFree-long refl c.if-id-ne1.true (refl, c.if-id-ne1.true) c.in_ok-id.ensures)
 
 pub returns-in_err-read_version : goal.returns-in_err-read_version
 returns-in_err-read_version g c =
@@ -40,7 +40,7 @@ pub returns-then-flag-gt1 : goal.returns-then-flag-gt1
 returns-then-flag-gt1 g c = fails_at (at_image {took = WideStartTook} _ ▸
     (start_id.found.one, such_read (IsNumber 1) IsLong _ _ _ c.if-id-ne1.false c.in_ok-id.ensures) ▸ (long_version.found.one, c.in_ok-read_version.ensures)
     ▸ (unit_kind.found.one, c.in_ok-unit.ensures))
-    (such_refused OneFront-long refl (λ lt. omega (arith, lt, c.if-flag-gt1.true)) (refl, λ lt. omega (arith, lt, c.if-flag-gt1.true)) c.in_ok-flag.ensures)
+    (such_refused PrefixFree-long refl (λ lt. omega (arith, lt, c.if-flag-gt1.true)) (refl, λ lt. omega (arith, lt, c.if-flag-gt1.true)) c.in_ok-flag.ensures)
 
 pub returns-in_err-pass_offsets_if : goal.returns-in_err-pass_offsets_if
 returns-in_err-pass_offsets_if g c =

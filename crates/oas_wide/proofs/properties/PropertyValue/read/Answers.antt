@@ -1,7 +1,7 @@
 use Rattle.std.proofs.Common.{refl, arith}
 use Rattle.std.proofs.lemmas.Result.{err_from_is_err_and}
 use Rattle.oas_num.specs.Integers.{IsUnsigned}
-use Rattle.oas_num.specs.Laws.IntegerLaws.{OneFront-IsUnsigned}
+use Rattle.oas_num.specs.Laws.IntegerLaws.{PrefixFree-IsUnsigned}
 use Rattle.oas_num.proofs.GrammarLemmas.{such_read}
 use Rattle.oas_num.proofs.HalfwayLemmas.{◌▸◌, at_image, fails_at, fails_last, is_read, such_took, such_refused}
 use Rattle.oas_wide.specs.Properties.{IsValueType, value_type, ValueTook}
@@ -14,7 +14,7 @@ returns-in_err-kind g c =
 
 pub returns-then-kind-ge16 : goal.returns-then-kind-ge16
 returns-then-kind-ge16 g c = fails_at (at_image {took = ValueTook} _)
-    (such_refused OneFront-IsUnsigned refl (λ lt. omega (arith, lt, c.if-kind-ge16.true)) (refl, λ lt. omega (arith, lt, c.if-kind-ge16.true)) c.in_ok-kind.ensures)
+    (such_refused PrefixFree-IsUnsigned refl (λ lt. omega (arith, lt, c.if-kind-ge16.true)) (refl, λ lt. omega (arith, lt, c.if-kind-ge16.true)) c.in_ok-kind.ensures)
 
 pub returns-in_err-value : goal.returns-in_err-value
 returns-in_err-value g c =

@@ -2,7 +2,7 @@ use Rattle.std.proofs.Common.{refl, arith}
 use Rattle.std.proofs.lemmas.Result.{err_from_is_err_and}
 use Rattle.oas_num.proofs.GrammarLemmas.{such_read}
 use Rattle.oas_num.proofs.HalfwayLemmas.{◌▸◌, at_image, fails_at, fails_last, is_read, such_took, such_refused}
-use Rattle.oas_wide.specs.Long.{IsLong, OneFront-long}
+use Rattle.oas_wide.specs.Long.{IsLong, PrefixFree-long}
 use Rattle.oas_wide.specs.Reals.{IsRealType, real_type, WideRealTook}
 use Rattle.oas_wide.proofs.reals.WideRealSpelled.read.Goals as goal
 
@@ -13,7 +13,7 @@ returns-in_err-kind g c =
 
 pub returns-then-kind-ge8 : goal.returns-then-kind-ge8
 returns-then-kind-ge8 g c = fails_at (at_image {took = WideRealTook} _)
-    (such_refused OneFront-long refl (λ lt. omega (arith, lt, c.if-kind-ge8.true)) (refl, λ lt. omega (arith, lt, c.if-kind-ge8.true)) c.in_ok-kind.ensures)
+    (such_refused PrefixFree-long refl (λ lt. omega (arith, lt, c.if-kind-ge8.true)) (refl, λ lt. omega (arith, lt, c.if-kind-ge8.true)) c.in_ok-kind.ensures)
 
 pub returns-in_err-real : goal.returns-in_err-real
 returns-in_err-real g c =

@@ -1,5 +1,0 @@
-use Rattle.oas_num.proofs.ReadLemmas.{Takes-nothing}
-use Rattle.oas_block.proofs.fronts.FrontSourceSource.skip.Goals as goal
-
-pub returns : goal.returns
-returns g c = Takes-nothing _ _ c.requires

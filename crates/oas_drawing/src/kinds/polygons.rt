@@ -1,0 +1,62 @@
+//! Polygons: what one sets, weighs and draws.
+ghost use Rattle.std.specs.Prelude.{◌≡◌, ◌≤◌, ◌^◌, ◌⊎◌, Some, IfOk, IfErr, IfSome};
+ghost use Rattle.std.specs.Option.{option_map};
+ghost use Rattle.oas_num.specs.declared.refusals.Why.TheVariants.{Memory};
+ghost use Rattle.oas_num.specs.Deltas.{step};
+ghost use Rattle.oas_ring.specs.declared.point.Point.{Point as OnePoint};
+ghost use Rattle.oas_record.specs.declared.records.Record.{Record as OneRecord};
+ghost use Rattle.oas_drawing.specs.Positions.{IsNear};
+ghost use Rattle.oas_drawing.specs.Modal.{stepped};
+ghost use Rattle.oas_drawing.specs.Drawn.{weight_so_far};
+ghost use Rattle.oas_drawing.specs.Drawing.{polygon_at, point_from};
+ghost use Rattle.oas_drawing.specs.Reasons.{fault_of, MayRunOut};
+
+use crate::drawn::Drawn;
+use crate::modal::drawing::{points_by, points_weight};
+use crate::modal::{ModalVariables, take_given};
+use oas_layout::Element;
+use oas_num::Why;
+use oas_record::Polygon;
+use std::alloc::Global;
+
+impl ModalVariables {
+    /// What a polygon sets. Its points, where it gives any, and a repetition are moved out of it.
+    pub fn draw_polygon(&mut self, drawn: &mut Polygon)
+        requires { IsNear self.old.geometry }
+        ensures { self.new ≡ stepped self.old (OneRecord.Polygon drawn.old) }
+    {
+        self.draw(drawn.layer, drawn.datatype, &mut drawn.spot);
+        take_given(&mut self.polygon_points, &mut drawn.points);
+    }
+
+    /// The weight of a polygon.
+    pub(crate) fn polygon_weight(&self) -> Option<u128>
+        ensures weight { (at : OnePoint) → option_map weight_so_far (polygon_at self.now.layer self.now.datatype self.now.polygon_points at) ≡ result }
+        ensures near { IfSome result (λ weight. weight ≤ 2 ^ 64) }
+    {
+        match (self.layer, self.datatype, &self.polygon_points) {
+            (Some(_), Some(_), Some(points)) => Some(points_weight(points)),
+            _ => None,
+        }
+    }
+
+    /// A polygon, moved by an offset.
+    pub(crate) fn polygon_by(&self, alloc: Global, by: (i128, i128)) -> Result<Drawn, Why>
+        ensures ok { IfOk result (λ d. polygon_at self.now.layer self.now.datatype self.now.polygon_points (point_from self.now.geometry (step by.0 by.1)) ≡ Some d) }
+        ensures err { IfErr result (λ why. ((why ≡ Memory) × MayRunOut (polygon_at self.now.layer self.now.datatype self.now.polygon_points (point_from self.now.geometry (step by.0 by.1)))) ⊎ (fault_of (polygon_at self.now.layer self.now.datatype self.now.polygon_points (point_from self.now.geometry (step by.0 by.1))) ≡ Some why)) }
+    {
+        let (Some(layer), Some(datatype), Some(points)) = (
+            self.layer,
+            self.datatype,
+            &self.polygon_points,
+        ) else {
+            return Err(Why::ModalUndefined);
+        };
+        let points = points_by(alloc, points, self.geometry, by)?;
+        Ok(Drawn::Named(Element::Polygon {
+            layer,
+            datatype,
+            points,
+        }))
+    }
+}

@@ -1,7 +1,0 @@
-use Rattle.std.proofs.Common.{◌≡◌, drop}
-use Rattle.oas_explain.specs.declared.hearing.Place.TheVariants as place
-use Rattle.oas_explain.proofs.HearingLemmas.{hears_all}
-use Rattle.oas_explain.proofs.hearing.number_heard.Given as goal
-
-abbrev pub invariant-loop-byte : goal.invariant-loop-byte
-invariant-loop-byte l = hears_all l.place (drop l.byte-index l.line) ≡ hears_all place.Elsewhere l.line

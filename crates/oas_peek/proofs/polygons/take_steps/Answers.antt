@@ -1,0 +1,16 @@
+use Rattle.std.proofs.Common.{rules, ◌≡◌, ◌++◌, ◌∷◌, [], arith}
+use Rattle.oas_peek.proofs.PolygonLemmas.{no_steps, one_more, all_taken}
+use Rattle.oas_peek.proofs.polygons.take_steps.Goals as goal
+
+pub loop-init : goal.loop-init
+loop-init c =
+    let e : c.in_ok-steps.steps.items ≡ [] = search rules in
+    rw e (no_steps _)
+
+pub loop-preserved : goal.loop-preserved
+loop-preserved c =
+    let e : c.push.new.self.items ≡ c.loop.steps.items ++ c.in_ok-take_step.field-0 ∷ [] = search rules in
+    rw e (one_more _ _ _ c.loop.invariant c.in_ok-take_step.ensures)
+
+pub returns : goal.returns
+returns c = all_taken _ _ (omega (arith, c.loop-test.false, c.loop.auto.counter-end)) _ c.loop.invariant

@@ -1,0 +1,6 @@
+pub mod Fronts
+pub mod Peeked
+pub mod Named
+pub mod Polygons
+pub mod Paths
+pub mod Figures

@@ -1,8 +1,0 @@
-use Rattle.std.proofs.Common.{ℕ, List}
-use Rattle.oas_layout.specs.declared.element.Element.{Element}
-use Rattle.oas_run_form.specs.Putting.{AreEntries}
-use Rattle.oas_run_form.proofs.CellLemmas.{EntriesAfter}
-use Rattle.oas_run_form.proofs.cells.put_entries.Given as goal
-
-abbrev pub invariant-loop-key : goal.invariant-loop-key
-invariant-loop-key g l = (es : List (Element × ℕ)) → AreEntries l.name l.fn.entries es → EntriesAfter g.K.Sink.given g.K.Sink.failures es l.key-iterator l.fn.sink l.sink l.count

@@ -1,0 +1,11 @@
+use Rattle.std.proofs.Common.{◌≡◌, length, ap, ◌∙◌, rules}
+use Rattle.oas_layout.specs.Contents.{Contents}
+use Rattle.oas_runs.specs.Held.{cells_held}
+use Rattle.oas_runs.specs.Laws.HeldLaws.{cells_keys}
+use Rattle.oas_runs.proofs.HeldLemmas.{length-keyed_cells}
+use Rattle.oas_runs.proofs.layout.CompactLayout.cell_count.Goals as goal
+
+pub returns : goal.returns
+returns c =
+    let count : c.len.result ≡ length c.self.inside.cells.entries = search rules in
+    count ∙ ap length (cells_keys c.self.inside.held) ∙ length-keyed_cells (cells_held c.self.inside.held) ∙ ap (λ (v : Contents). length v.cells) c.self.view_is

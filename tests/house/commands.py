@@ -1,0 +1,68 @@
+"""The gate's own script, tests/run, over a stub of `rt` and of each part: what fails is named, and all is counted. And what the
+first build, scripts/prove, says where there is no kit, or another one."""
+import os, pathlib, re, shutil, stat, subprocess, sys, tempfile
+
+TESTS = pathlib.Path(__file__).resolve().parents[1]
+sys.path.insert(0, str(TESTS))
+from parts import parts_of
+
+GREEN = 'echo "1 passed, 0 failed"'
+# What a part or `rt ci` does in place of what it is for, and then: whether the run passes, and what is named as failed.
+CASES = [
+    ("all pass", {}, True, None),
+    ("a part fails", {"tests/command/run": 'echo "2 passed, 1 failed"; exit 1'}, False, "command"),
+    ("a part ends badly", {"tests/docs/run": f"{GREEN}; exit 3"}, False, "docs"),
+    ("a part has no counts", {"tests/inflate": "echo done"}, False, "inflate"),
+    ("a part isn't there", {"tests/large": None}, False, "large"),
+    ("a part can't run", {"tests/dist/run": 'echo "not run: no right to mount"'}, True, None),
+    ("rt ci fails", {"bin/rt": 'echo "7 passed, 1 failed"; exit 1'}, False, "rt ci"),
+    ("rt ci is killed", {"bin/rt": f"{GREEN}; kill -9 $$"}, False, "rt ci"),
+    ("there is no rt", {"bin/rt": None}, False, "rt ci"),
+]
+
+
+def script(path, text):
+    path.parent.mkdir(parents=True, exist_ok=True)
+    path.write_text(f"#!/bin/sh\n{text}\n")
+    path.chmod(path.stat().st_mode | stat.S_IXUSR)
+
+
+def run(folder, changed):
+    """Runs the gate in this folder: its status, the parts that it names as failed, and the counts of each line and of the last."""
+    for name in ("run", "parts.py"):
+        (folder / "tests").mkdir(exist_ok=True)
+        shutil.copy(TESTS / name, folder / "tests" / name)
+    # Where a package isn't there, no stub has an apt-get that could install it.
+    stubs = dict.fromkeys(["bin/rt", *(part.words[0] for part in parts_of(TESTS.parent, after_ci=True))], GREEN) | changed
+    for name, text in stubs.items():
+        if text is not None:
+            script(folder / name, text)
+    ran = subprocess.run([sys.executable, folder / "tests/run"], env={**os.environ, "PATH": str(folder / "bin")},
+                         stdin=subprocess.DEVNULL, stdout=subprocess.PIPE, stderr=subprocess.STDOUT, text=True, check=False)
+    lines = ran.stdout.rstrip("\n").split("\n== all\n")[-1].splitlines()
+    failed = next((line.removeprefix("FAILED: ") for line in lines if line.startswith("FAILED: ")), None)
+    counts = [tuple(map(int, found)) for found in re.findall(r"(\d+) passed, (\d+) failed$", "\n".join(lines), re.M)]
+    return ran.returncode, failed, counts[:-1], counts[-1] if re.fullmatch(r"\d+ passed, \d+ failed", lines[-1]) else None
+
+
+def told_of_a_kit(version):
+    """What the first build prints where `rt version` says this, or where there is no rt."""
+    with tempfile.TemporaryDirectory() as folder:
+        if version:
+            script(pathlib.Path(folder, "rt"), f"echo {version}")
+        words = [sys.executable, TESTS.parent / "scripts/prove", "oascanon"]
+        ran = subprocess.run(words, env={**os.environ, "PATH": folder}, stdout=subprocess.PIPE, stderr=subprocess.STDOUT, text=True, check=False)
+    return ran.returncode, ran.stdout
+
+
+def checks():
+    """Whether each case ends as it must, and what is to be told where it doesn't."""
+    for version in (None, "rattle-kit-1a logic 0"):
+        status, told = told_of_a_kit(version)
+        is_clear = told.count("\n") == 1 and (version or "no rt") in told
+        yield status == 1 and is_clear, f"the first build, where rt is of {version}: {status}, {told}"
+    for name, changed, passes, named in CASES:
+        with tempfile.TemporaryDirectory() as folder:
+            status, failed, each, last = run(pathlib.Path(folder), changed)
+        total = tuple(map(sum, zip(*each)))
+        yield (status == 0, failed, last) == (passes, named, total), f"the gate, where {name}: {status}, {failed}, {last} for {total}"

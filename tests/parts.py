@@ -1,0 +1,140 @@
+"""The parts of the gate that come after `rt ci`: what each runs, what it needs, and what came of it."""
+
+import os
+import pathlib
+import re
+import shutil
+import signal
+import subprocess
+import threading
+import time
+from dataclasses import dataclass, field
+
+COUNTS = re.compile(r"(\d+) passed, (\d+) failed")
+NOT_RUN = "not run: "
+# Each takes a few minutes at most, on a slow machine too.
+SECONDS = 40 * 60
+
+
+@dataclass
+class Part:
+    """A name, the words of the command, which runs at the top, and packages of Debian's with the file that tells whether they are there."""
+
+    name: str
+    words: list
+    package: tuple = None
+
+
+@dataclass
+class Result:
+    """A part's counts, and the lines that say what wasn't run or how it broke off."""
+
+    name: str
+    passed: int
+    failed: int
+    told: list = field(default_factory=list)
+
+
+KLAYOUT = ("klayout", "/usr/lib/klayout/strm2oas")
+SLURM = ("slurm-wlm munge parallel", "/usr/sbin/slurmctld")
+
+
+def parts_of(top, after_ci):
+    """The parts, the longest first. A folder of tests/ that isn't named here is a part by its `run`, which is given the program."""
+    named = [
+        Part("c", ["tests/c/build", *(["--after-ci"] if after_ci else [])]),
+        Part("readings", ["tests/reference/readings"]),
+        Part("reference", ["tests/reference/compare", "./oascanon", "2000"]),
+        Part("command", ["tests/command/run", "./oascanon"]),
+        Part("workflows", ["tests/workflows/run", "./oascanon"], ("parallel", "/usr/bin/parallel")),
+        Part("vault", ["tests/workflows/vault", "./oascanon"]),
+        Part("pre-commit", ["tests/workflows/pre-commit", "./oascanon"], ("pre-commit", "/usr/bin/pre-commit")),
+        Part("large", ["tests/large", "./oascanon"]),
+        Part("klayout", ["tests/klayout/run", "./oascanon"], KLAYOUT),
+        Part("klayout-package", ["tests/klayout/package", "./oascanon"], KLAYOUT),
+        Part("klayout-prepared", ["tests/klayout/prepared", "."], KLAYOUT),
+        Part("inflate", ["tests/inflate", "crates/oas_bench/out/oas_bench"]),
+        Part("cluster", ["tests/cluster/run", "./oascanon"], SLURM),
+        Part("dist", ["tests/dist/run"], ("lintian", "/usr/bin/lintian")),
+    ]
+    folders = {pathlib.Path(part.words[0]).parent.name for part in named}
+    others = [path for path in sorted((top / "tests").glob("*/run")) if path.parent.name not in folders]
+    return named + [Part(path.parent.name, [str(path.relative_to(top)), "./oascanon"]) for path in others]
+
+
+APT = threading.Lock()
+UPDATED = []
+
+
+def apt_get(*words):
+    """Returns the last line of what apt-get said where it failed, or None."""
+    whole = ["apt-get", "-q", "-o", "DPkg::Lock::Timeout=300", *words]
+    ran = subprocess.run(whole, stdin=subprocess.DEVNULL, stdout=subprocess.PIPE, stderr=subprocess.STDOUT, errors="replace",
+                         env={**os.environ, "DEBIAN_FRONTEND": "noninteractive"}, check=False)
+    return (ran.stdout.strip().splitlines() or ["it failed"])[-1] if ran.returncode else None
+
+
+def lacking(package):
+    """Installs the packages where they aren't there. Returns why they aren't there then, or None."""
+    if package is None or os.path.exists(package[1]):
+        return None
+    if os.geteuid() or not shutil.which("apt-get"):
+        return f"there is no {package[1]}, and Debian's {package[0]} can't be installed here"
+    with APT:
+        if not UPDATED:
+            UPDATED.append(apt_get("update"))
+        why = apt_get("install", "-y", "--no-install-recommends", *package[0].split())
+    return None if os.path.exists(package[1]) else f"Debian's {package[0]} can't be installed: {why}"
+
+
+def result_of(name, last, status):
+    """What a command's last line and its status say. A status other than 0 is a failure, whatever the line says."""
+    counts = COUNTS.fullmatch(last)
+    if counts:
+        passed, failed = map(int, counts.groups())
+        told = [f"its status is {status}"] if status and not failed else []
+        return Result(name, passed, max(failed, int(status != 0)), told)
+    if status == 0 and last.startswith(NOT_RUN):
+        return Result(name, 0, 0)
+    return Result(name, 0, 1, [f"it ended with status {status} and no counts: {last[:200]}"])
+
+
+# What runs now: each command leads a group of its own, with all that it starts.
+RUNNING = set()
+
+
+def stop_all():
+    """Ends all that runs."""
+    for process in list(RUNNING):
+        os.killpg(process.pid, signal.SIGKILL)
+
+
+def outcome(words):
+    """Runs a command; returns its status and what it printed. When its time is over it ends, with all that it started."""
+    how = {"stdin": subprocess.DEVNULL, "stdout": subprocess.PIPE, "stderr": subprocess.STDOUT, "errors": "replace"}
+    process = subprocess.Popen(words, start_new_session=True, **how)
+    RUNNING.add(process)
+    try:
+        output, _ = process.communicate(timeout=SECONDS)
+        return process.returncode, output
+    except subprocess.TimeoutExpired:
+        os.killpg(process.pid, signal.SIGKILL)
+        return -signal.SIGKILL, process.communicate()[0] + f"it had not ended after {SECONDS} seconds\n"
+    finally:
+        RUNNING.discard(process)
+
+
+def run_part(part):
+    """Runs a part; returns its result, what it printed, and how many seconds it took."""
+    start = time.monotonic()
+    why = lacking(part.package)
+    try:
+        status, output = (0, f"{NOT_RUN}{why}\n") if why else outcome(part.words)
+    except OSError as error:
+        status, output = error.errno, f"{part.words[0]} cannot be run: {error.strerror}\n"
+    lines = output.rstrip("\n").split("\n")
+    result = result_of(part.name, lines[-1], status)
+    result.told += [line for line in lines if line.startswith(NOT_RUN)]
+    if output and not output.endswith("\n"):
+        output += "\n"
+    return result, output, time.monotonic() - start
