@@ -5,7 +5,7 @@ PREFIX ?= /usr/local
 JOBS ?=
 PROVE = scripts/prove $(if $(JOBS),--jobs $(JOBS))
 
-.PHONY: all lib install install-built install-lib dist test test-built test-house test-c test-large test-rows test-reference test-readings test-reading test-inflate test-command test-workflows test-cluster test-klayout test-klayout-prepared bench bench-klayout clean
+.PHONY: all lib install install-built install-lib dist test test-built test-house test-c test-large test-rows test-reference test-readings test-reading test-inflate test-command test-completion test-workflows test-cluster test-klayout test-klayout-prepared bench bench-klayout clean
 
 # The programs: proves every crate that they stand on and no other, and leaves them as ./oascanon and ./oasprep. It tells how far it
 # is, and goes on where it was stopped.
@@ -93,9 +93,13 @@ dist: all
 test-command: all
 	tests/command/run ./oascanon
 
-# The recipes of docs/WORKFLOWS.md as they are printed there. They want GNU parallel and pre-commit: Debian's packages, where they aren't there.
+# What zsh and fish complete: Debian's packages, where they aren't there.
+test-completion: all
+	tests/run --built completion
+
+# The recipes of docs/WORKFLOWS.md as they are printed there, also over a vault of 20,000 files. They want GNU parallel and pre-commit: Debian's packages, where they aren't there.
 test-workflows: all
-	tests/run --built workflows pre-commit
+	tests/run --built workflows vault pre-commit
 
 # The recipes for many machines, by Slurm on this one and by GNU parallel: Debian's packages, where they aren't there.
 test-cluster: all

@@ -36,6 +36,7 @@ class Result:
 
 
 KLAYOUT = ("klayout", "/usr/lib/klayout/strm2oas")
+SHELLS = ("zsh fish", "/usr/bin/fish")
 SLURM = ("slurm-wlm munge parallel", "/usr/sbin/slurmctld")
 
 
@@ -56,6 +57,7 @@ def parts_of(top, after_ci):
         Part("inflate", ["tests/inflate", "crates/oas_bench/out/oas_bench"]),
         Part("cluster", ["tests/cluster/run", "./oascanon"], SLURM),
         Part("dist", ["tests/dist/run"], ("lintian", "/usr/bin/lintian")),
+        Part("completion", ["tests/completion/run"], SHELLS),
     ]
     folders = {pathlib.Path(part.words[0]).parent.name for part in named}
     others = [path for path in sorted((top / "tests").glob("*/run")) if path.parent.name not in folders]

@@ -32,8 +32,8 @@ def test_the_first_thing_that_everyone_meets(program, folder):
 def test_what_is_to_be_tried_serves(program, folder):
     key = subprocess.run([program, "key"], input=SMALL, capture_output=True, text=False).stdout
     environment = {**os.environ, "PATH": f"{pathlib.Path(program).parent}:{os.environ['PATH']}"}
-    for name in ("chip.oas", "-x.oas", "two words.oas", "it's.oas", "$HOME;x.oas"):
-        (folder / name).write_bytes(DRESSED)
+    for name in ("chip.oas", "-x.oas", "two words.oas", "it's.oas", "$HOME;x.oas", "chip.oas.gz", "-it's $x.oas.gz"):
+        (folder / name).write_bytes(gzip.compress(SMALL) if name.endswith(".gz") else DRESSED)
         shown = on_terminal(folder, program, "key", "--", name)[2]
         command = shown.splitlines()[-1].removeprefix("  = try: ")
         done = subprocess.run(["bash", "-c", command], cwd=folder, env=environment, capture_output=True)

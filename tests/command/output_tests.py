@@ -1,9 +1,10 @@
 """Outputs by name: they are written whole or not at all, and overwrite nothing that should stay."""
-import fcntl, os, resource, signal, stat, subprocess
+import fcntl, os, pathlib, resource, signal, stat, subprocess
 from unittest import SkipTest
 
 from layouts import RESPELLED, SMALL, large
 
+MANUAL = pathlib.Path(__file__).resolve().parents[2] / "man"
 # Large enough that a signal finds the program while it writes.
 COUNT = 40_000
 CANONICAL = large(COUNT)
@@ -208,6 +209,25 @@ def test_owner_group_and_mode(program, folder):
     found = (folder / "f").stat()
     assert (found.st_uid, found.st_gid, stat.S_IMODE(found.st_mode)) == (12345, 23456, 0o6750)
     assert (folder / "f").read_bytes() == SMALL
+
+
+def test_what_a_replaced_file_does_not_keep(program, folder):
+    """What the manual page says: attributes, times and other names."""
+    before = 1_000_000_000
+    (folder / "f").write_bytes(RESPELLED)
+    os.link(folder / "f", folder / "second")
+    os.utime(folder / "f", (before, before))
+    try:
+        os.setxattr(folder / "f", "user.note", b"old")
+    except OSError:
+        pass
+    assert run(program, "canon", folder / "f", folder / "f").returncode == 0
+    assert (folder / "f").read_bytes() == SMALL and (folder / "second").read_bytes() == RESPELLED
+    assert (folder / "f").stat().st_mtime > before and "user.note" not in os.listxattr(folder / "f")
+    page = (MANUAL / "oascanon.1").read_text()
+    kinds = ("Extended attributes and access control lists aren't kept", "times are those of the new file", "hard links keep")
+    assert all(words in page for words in kinds)
+    assert "Files that are written" in page and "Files that are written" in (MANUAL / "oasprep.1").read_text()
 
 
 def test_of_another_owner(program, folder):

@@ -16,7 +16,7 @@ SAID = "left out 2 properties, 1 property name, 1 layer name, 1 extension, 1 ext
 
 def prep(program, *words, **more):
     beside = pathlib.Path(program).with_name("oasprep")
-    return subprocess.run([str(word) for word in (beside, *words)], capture_output=True, **more)
+    return subprocess.run([beside, *words], capture_output=True, **more)
 
 
 def test_pipe(program, folder):
@@ -81,6 +81,16 @@ def test_refused_creates_nothing(program, folder):
 def test_no_such_file(program, folder):
     done = prep(program, folder / "none")
     assert (done.returncode, done.stderr) == (1, f"{folder}/none: cannot be opened\n".encode())
+
+
+def test_a_name_that_is_no_text(program, folder):
+    """It is refused under its name."""
+    (folder / "in").write_bytes(SMALL)
+    done = prep(program, "--drop", ALL, b"odd\xff.oas", cwd=folder)
+    assert (done.returncode, done.stdout, done.stderr) == (1, b"", b"odd\\xff.oas: cannot be opened\n")
+    done = prep(program, "in", b"new\xff", cwd=folder)
+    assert (done.returncode, done.stdout, done.stderr) == (1, b"", b"in: refused 33 at 0\n")
+    assert [path.name for path in folder.iterdir()] == ["in"]
 
 
 def test_full_device(program, folder):

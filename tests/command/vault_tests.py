@@ -1,5 +1,5 @@
 """Very many files: names of any bytes, outputs that fail, and saved keys."""
-import hashlib, os, subprocess, time
+import hashlib, os, pathlib, subprocess, time
 
 from layouts import RESPELLED, SMALL, large
 
@@ -56,6 +56,44 @@ def test_a_reader_that_goes_away(program, folder):
         assert errors == "" and out in ("0\n", "1\n", "3\n"), (words, out, errors)
         assert words != "show big" or out == "1\n", out
         assert time.monotonic() - began < 60
+
+
+def without_a_reader(folder, *words, **more):
+    """Runs with a pipe as standard output whose reader went away; returns the status and the error output."""
+    reader, writer = os.pipe()
+    os.close(reader)
+    with os.fdopen(writer, "wb") as pipe:
+        done = subprocess.run(list(words), cwd=folder, stdout=pipe, stderr=subprocess.PIPE, timeout=20, **more)
+    return done.returncode, done.stderr.decode()
+
+
+def test_an_output_without_a_reader_has_no_line(program, folder):
+    make(folder)
+    keep(folder, program, "a", "b")
+    (folder / "list").write_bytes(b"a\0b\0")
+    for words in ("canon a", "check a", "check a b", "key a", "key --files0-from=list", "key --check keys", "same a b",
+                  "diff a c", "diff --markers m a c", "show a", "keys a", "info a", "rekey a -", "canon --explain a", "explain",
+                  "--help", "--version", "key --help"):
+        assert without_a_reader(folder, program, *words.split()) == (1, ""), words
+    for words in (("a",), ("--explain", "a"), ("--help",)):
+        assert without_a_reader(folder, pathlib.Path(program).with_name("oasprep"), *words) == (1, ""), words
+
+
+# What reads many files, each of which prints a line.
+LISTS = ("key a pipe", "check a pipe", "key --files0-from=list", "check --files0-from=list", "key --check keys")
+
+
+def test_no_file_is_opened_after_the_output_failed(program, folder):
+    """The next file is a pipe that nobody writes to, at which the run would wait."""
+    make(folder)
+    os.mkfifo(folder / "pipe")
+    (folder / "list").write_bytes(b"a\0pipe\0")
+    (folder / "keys").write_text(f"{KEY}  a\n{KEY}  pipe\n")
+    for words in map(str.split, LISTS):
+        assert without_a_reader(folder, program, *words) == (1, ""), words
+        with open("/dev/full", "wb") as full:
+            done = subprocess.run([program, *words], cwd=folder, stdout=full, stderr=subprocess.PIPE, timeout=20)
+        assert (done.returncode, done.stderr) == (1, b"a: refused 33 at 0\n"), (words, done.stderr)
 
 
 def test_an_output_that_fails_ends_the_run(program, folder):

@@ -1,5 +1,5 @@
-"""The gate's own script, tests/run, over a stub of `rt` and of each part: what fails is named, and all is counted. And what the
-first build, scripts/prove, says where there is no kit, or another one."""
+"""The gate's own script, tests/run, and what a merge calls, .ci/run, over a stub of `rt` and of each part: what fails is named,
+and all is counted. And what the first build, scripts/prove, says where there is no kit, or another one."""
 import os, pathlib, re, shutil, stat, subprocess, sys, tempfile
 
 TESTS = pathlib.Path(__file__).resolve().parents[1]
@@ -7,6 +7,7 @@ sys.path.insert(0, str(TESTS))
 from parts import parts_of
 
 GREEN = 'echo "1 passed, 0 failed"'
+NOT_RUN = "not run: no right to mount"
 # What a part or `rt ci` does in place of what it is for, and then: whether the run passes, and what is named as failed.
 CASES = [
     ("all pass", {}, True, None),
@@ -14,7 +15,7 @@ CASES = [
     ("a part ends badly", {"tests/docs/run": f"{GREEN}; exit 3"}, False, "docs"),
     ("a part has no counts", {"tests/inflate": "echo done"}, False, "inflate"),
     ("a part isn't there", {"tests/large": None}, False, "large"),
-    ("a part can't run", {"tests/dist/run": 'echo "not run: no right to mount"'}, True, None),
+    ("a part can't run", {"tests/large": f'echo "{NOT_RUN}"'}, True, None),
     ("rt ci fails", {"bin/rt": 'echo "7 passed, 1 failed"; exit 1'}, False, "rt ci"),
     ("rt ci is killed", {"bin/rt": f"{GREEN}; kill -9 $$"}, False, "rt ci"),
     ("there is no rt", {"bin/rt": None}, False, "rt ci"),
@@ -27,22 +28,29 @@ def script(path, text):
     path.chmod(path.stat().st_mode | stat.S_IXUSR)
 
 
-def run(folder, changed):
-    """Runs the gate in this folder: its status, the parts that it names as failed, and the counts of each line and of the last."""
-    for name in ("run", "parts.py"):
-        (folder / "tests").mkdir(exist_ok=True)
-        shutil.copy(TESTS / name, folder / "tests" / name)
-    # Where a package isn't there, no stub has an apt-get that could install it.
-    stubs = dict.fromkeys(["bin/rt", *(part.words[0] for part in parts_of(TESTS.parent, after_ci=True))], GREEN) | changed
-    for name, text in stubs.items():
+def run(folder, changed, is_merge):
+    """Runs the gate in this folder, or what a merge calls: its status, the parts that it names as failed, the counts of each line
+    and of the last, and what it says of the part `large`."""
+    for name in ("tests/run", "tests/parts.py", "Makefile", ".ci/run"):
+        (folder / name).parent.mkdir(exist_ok=True)
+        shutil.copy(TESTS.parent / name, folder / name)
+    # Where a package isn't there, it can't be installed.
+    stubs = dict.fromkeys(["bin/rt", *(part.words[0] for part in parts_of(TESTS.parent, after_ci=True))], GREEN)
+    for name, text in (stubs | {"bin/apt-get": "exit 1"} | changed).items():
         if text is not None:
             script(folder / name, text)
-    ran = subprocess.run([sys.executable, folder / "tests/run"], env={**os.environ, "PATH": str(folder / "bin")},
-                         stdin=subprocess.DEVNULL, stdout=subprocess.PIPE, stderr=subprocess.STDOUT, text=True, check=False)
+    words, path = [sys.executable, folder / "tests/run"], str(folder / "bin")
+    if is_merge:
+        words, path = [folder / ".ci/run"], f"{path}:{os.environ['PATH']}"
+    # As a merge has it, also where make runs this.
+    environment = {name: value for name, value in os.environ.items() if not name.startswith("MAKE")} | {"PATH": path}
+    ran = subprocess.run(words, env=environment, stdin=subprocess.DEVNULL, stdout=subprocess.PIPE,
+                         stderr=subprocess.STDOUT, text=True, check=False)
     lines = ran.stdout.rstrip("\n").split("\n== all\n")[-1].splitlines()
     failed = next((line.removeprefix("FAILED: ") for line in lines if line.startswith("FAILED: ")), None)
     counts = [tuple(map(int, found)) for found in re.findall(r"(\d+) passed, (\d+) failed$", "\n".join(lines), re.M)]
-    return ran.returncode, failed, counts[:-1], counts[-1] if re.fullmatch(r"\d+ passed, \d+ failed", lines[-1]) else None
+    last = counts[-1] if re.fullmatch(r"\d+ passed, \d+ failed", lines[-1]) else None
+    return ran.returncode, failed, counts[:-1], last, [line for line in lines if line.startswith("large: ")]
 
 
 def told_of_a_kit(version):
@@ -61,8 +69,16 @@ def checks():
         status, told = told_of_a_kit(version)
         is_clear = told.count("\n") == 1 and (version or "no rt") in told
         yield status == 1 and is_clear, f"the first build, where rt is of {version}: {status}, {told}"
-    for name, changed, passes, named in CASES:
+    # make finds a real rt in the search path, where there is one.
+    runs = [(case, False) for case in CASES] + [(case, True) for case in CASES if "bin/rt" not in case[1]]
+    for (name, changed, passes, named), is_merge in runs:
         with tempfile.TemporaryDirectory() as folder:
-            status, failed, each, last = run(pathlib.Path(folder), changed)
-        total = tuple(map(sum, zip(*each)))
-        yield (status == 0, failed, last) == (passes, named, total), f"the gate, where {name}: {status}, {failed}, {last} for {total}"
+            status, failed, each, last, large = run(pathlib.Path(folder), changed, is_merge)
+        total, gate = tuple(map(sum, zip(*each))), ".ci/run" if is_merge else "the gate"
+        is_right = (status == 0, failed, last) == (passes, named, total)
+        yield is_right, f"{gate}, where {name}: {status}, {failed}, {last} for {total}"
+        if NOT_RUN in str(changed):
+            yield large == [f"large: {NOT_RUN}"], f"{gate}, where {name}: {large}"
+    page = (TESTS.parent / "CONTRIBUTING.md").read_text()
+    for part in parts_of(TESTS.parent, after_ci=True):
+        yield f"`{part.name}`" in page, f"CONTRIBUTING.md doesn't say what the part {part.name} runs"

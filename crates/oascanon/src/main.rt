@@ -52,12 +52,12 @@ use guards::{keep_inputs, keep_old};
 use keeping::Kept;
 use many::ask;
 use oas_explain::oas_command::{Form, Options, limits_of};
-use oas_explain::{all_reasons, run_explain};
+use oas_explain::{Asked, Onward, all_reasons, run_explain};
 use oas_request::oas_files::{Existing, mark_output};
 use oas_request::{Ending, Request, Task, parse};
 use outcome::ended;
 use runs::{OfOne, OfTwo, mark};
-use session::Session;
+use session::{STANDARD_OUTPUT, Session};
 use std::io::IsTerminal;
 use std::process::ExitCode;
 
@@ -134,7 +134,7 @@ fn run<'a>(session: &Session<'a>, task: &Task<'a>) -> Result<u8, u8> {
             OfOne::Info(form).run(session, *input, None)
         }
         Task::Rekey { old, new } => OfOne::Rekey.run(session, *old, *new),
-        Task::Explain { number } => Ok(explain(session, *number)),
+        Task::Explain { number } => explain(session, *number),
     }
 }
 
@@ -185,7 +185,14 @@ fn diff<'a>(
 }
 
 /// Prints what a reason means, and returns the status.
-fn explain(session: &Session<'_>, number: Option<&str>) -> u8 {
-    let mut out = session.rt.stdout();
-    run_explain(&all_reasons(), number, &mut out, &mut session.rt.stderr())
+fn explain(session: &Session<'_>, number: Option<&str>) -> Result<u8, u8> {
+    let mut said = session.room(STANDARD_OUTPUT, STANDARD_OUTPUT.len())?;
+    let mut out = session.output(None, Existing::Replaced);
+    let status = run_explain(&all_reasons(), number, &mut out, &mut said);
+    let asked = Asked {
+        path: None,
+        onward: Onward::Shown,
+    };
+    session.tell(&said, None, out.fault(), asked);
+    Ok(status)
 }

@@ -17,7 +17,7 @@ pub type Incoming<'a> = ReaderSource<Reading<'a, Input, Stderr>>;
 pub type Outgoing<'a> = Recorded<Writing<'a, Output<'a>, Stderr>>;
 
 /// The name of standard output in messages.
-const STANDARD_OUTPUT: &str = "standard output";
+pub const STANDARD_OUTPUT: &str = "standard output";
 
 /// How the line of an input without bytes ends.
 const NOTHING_CAME: &[u8] = b": refused 2 at 0\n";

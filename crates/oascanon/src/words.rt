@@ -65,15 +65,22 @@ pub fn misused(rt: &HostRuntime, what: &str) -> u8 {
 }
 
 /// Prints the text for words that request no run, and returns the exit status: 0 for help and the version, or 1 where
-/// standard output failed; 2 for words that aren't understood.
+/// standard output failed; 2 for words that aren't understood. Nothing is said of an output whose reader went away.
 pub fn end(rt: &HostRuntime, error: &Error) -> u8 {
     let printed = error.print(rt);
     let status = error.exit_code() as u8;
     match printed {
         Err(fault) if status == DONE => {
-            let _ = eprintln!(rt; "error: standard output: {fault}");
+            if !is_unread(fault.kind()) {
+                let _ = eprintln!(rt; "error: standard output: {fault}");
+            }
             FAILED
         }
         _ => status,
     }
+}
+
+/// Whether a fault of this kind says that the output's reader went away.
+fn is_unread(kind: ErrorKind) -> bool {
+    kind == ErrorKind::BrokenPipe
 }

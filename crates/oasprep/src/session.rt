@@ -8,7 +8,7 @@ use oas_preparing::oas_explain::oas_progress::{Meter, Reading, Style, Writing};
 use oas_preparing::oas_explain::{Asked, Onward, Recorded, Voice, advise};
 use oas_preparing::run_prepare;
 use std::io;
-use std::io::{IsTerminal, Stderr};
+use std::io::{ErrorKind, IsTerminal, Stderr};
 
 /// The input of the run.
 type Incoming<'a> = ReaderSource<Reading<'a, Input, Stderr>>;
@@ -135,8 +135,12 @@ impl<'a> Session<'a> {
     }
 
     /// Prints what the run said. Where refusals are explained, why its output failed comes after it, and what to try below.
-    /// Nothing is printed for an input that is empty because the program before refused its own.
+    /// Nothing is printed for an output whose reader went away, and for an input that is empty because the program before
+    /// refused its own.
     fn tell(&self, said: &[u8], fault: Option<io::Error>) {
+        if fault.is_some_and(|error| error.kind() == ErrorKind::BrokenPipe) {
+            return;
+        }
         if self.request.input.is_none()
             && said.ends_with(NOTHING_CAME)
             && is_input_marked(self.rt)
