@@ -5,7 +5,7 @@ PREFIX ?= /usr/local
 JOBS ?=
 PROVE = scripts/prove $(if $(JOBS),--jobs $(JOBS))
 
-.PHONY: all lib install install-built install-lib dist test test-built test-house test-c test-large test-rows test-reference test-readings test-reading test-inflate test-command test-completion test-workflows test-cluster test-klayout test-klayout-prepared bench bench-klayout clean
+.PHONY: all lib install install-built install-lib dist test test-built test-house test-c test-large test-rows test-reference test-readings test-reading test-inflate test-command test-completion test-words test-workflows test-cluster test-klayout test-klayout-prepared bench bench-klayout clean
 
 # The programs: proves every crate that they stand on and no other, and leaves them as ./oascanon and ./oasprep. It tells how far it
 # is, and goes on where it was stopped.
@@ -92,6 +92,10 @@ dist: all
 # What a user sees of the built programs, by real files, pipes and limits.
 test-command: all
 	tests/command/run ./oascanon
+
+# Which run each command line requests, over all words of each command in each order.
+test-words: all
+	tests/words/run ./oascanon
 
 # What zsh and fish complete: Debian's packages, where they aren't there.
 test-completion: all

@@ -67,10 +67,10 @@ static oascanon_outcome gather(block *b, const oascanon_limits *limits, uint32_t
     while (b->count <= limits->input) {
         ptrdiff_t got;
         if (!grow(b))
-            return told(OASCANON_MEMORY, file, b->count);
+            return told(OASCANON_REASON_MEMORY, file, b->count);
         got = b->callbacks->read(b->callbacks->context, b->bytes + b->count, PIECE);
         if (got < 0 || got > PIECE)
-            return told(OASCANON_READ, file, b->count);
+            return told(OASCANON_REASON_READ, file, b->count);
         if (got == 0)
             break;
         b->count += (size_t)got;
@@ -89,7 +89,7 @@ static oascanon_outcome give(const block *b, size_t length) {
     while (at < length) {
         ptrdiff_t took = b->callbacks->write(b->callbacks->context, b->bytes + at, length - at);
         if (took <= 0 || (size_t)took > length - at)
-            return told(OASCANON_WRITE, 1, at);
+            return told(OASCANON_REASON_WRITE, 1, at);
         at += (size_t)took;
     }
     oascanon_outcome outcome = {OASCANON_DONE, 0, 0, length};
@@ -101,13 +101,13 @@ static oascanon_outcome fill(const block *in, const oascanon_limits *limits, fil
     block out = {in->callbacks, NULL, 0, 0};
     oascanon_outcome outcome;
     if (!resize(&out, in->count + 512))
-        return told(OASCANON_MEMORY, 1, 0);
+        return told(OASCANON_REASON_MEMORY, 1, 0);
     outcome = call(in->bytes, in->count, limits, out.bytes, out.size);
     if (outcome.status == OASCANON_TOO_SMALL) {
         if (resize(&out, outcome.length)) {
             outcome = call(in->bytes, in->count, limits, out.bytes, out.size);
         } else {
-            outcome = told(OASCANON_MEMORY, 1, 0);
+            outcome = told(OASCANON_REASON_MEMORY, 1, 0);
         }
     }
     if (outcome.status == OASCANON_DONE)
@@ -134,6 +134,14 @@ oascanon_outcome oascanon_canonicalize_callbacks(const oascanon_callbacks *callb
 
 oascanon_outcome oascanon_list_callbacks(const oascanon_callbacks *callbacks, const oascanon_limits *limits) {
     return put(callbacks, limits, oascanon_list);
+}
+
+oascanon_outcome oascanon_keys_callbacks(const oascanon_callbacks *callbacks, const oascanon_limits *limits) {
+    return put(callbacks, limits, oascanon_keys);
+}
+
+oascanon_outcome oascanon_info_callbacks(const oascanon_callbacks *callbacks, const oascanon_limits *limits) {
+    return put(callbacks, limits, oascanon_info);
 }
 
 oascanon_outcome oascanon_key_callbacks(const oascanon_callbacks *callbacks, const oascanon_limits *limits, uint8_t digest[32]) {

@@ -1,25 +1,23 @@
-/* The names of the statuses. */
+/* The names of the statuses, and the version. */
 #include "oascanon.h"
 
-/* The reasons stand at their numbers: scripts/library makes reasons.h of their definition in crates/oas_num. */
-static const char *const reasons[] = {
-    [0] = "Done",
+/* Each name at its number: scripts/library makes reasons.h of the definitions in crates/oas_num and crates/oas_wide. */
+static const char *const names[] = {
+    [OASCANON_DONE] = "Done",
+    [OASCANON_NO] = "No",
+    [OASCANON_TOO_SMALL] = "TooSmall",
+    [OASCANON_NOT_LIMITS] = "NotLimits",
+    [OASCANON_NULL] = "Null",
+    [OASCANON_UNKNOWN_DROP] = "UnknownDrop",
 #include "reasons.h"
 };
 
 const char *oascanon_status_name(uint32_t status) {
-    if (status < sizeof reasons / sizeof reasons[0])
-        return reasons[status];
-    switch (status) {
-    case OASCANON_NO:
-        return "No";
-    case OASCANON_TOO_SMALL:
-        return "TooSmall";
-    case OASCANON_NOT_LIMITS:
-        return "NotLimits";
-    case OASCANON_NULL:
-        return "Null";
-    default:
-        return "Unknown";
-    }
+    if (status < sizeof names / sizeof names[0] && names[status] != NULL)
+        return names[status];
+    return "Unknown";
+}
+
+const char *oascanon_version(void) {
+    return OASCANON_VERSION;
 }

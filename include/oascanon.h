@@ -1,5 +1,6 @@
 /*
- * oascanon: the canonical form of OASIS (SEMI P39) files, for C.
+ * oascanon: the canonical form of OASIS (SEMI P39) files, for C. Every call answers by profile two (docs/PROFILE.md), as the
+ * command of the same version does.
  *
  * There is no state but the caller's: each call may be made from any thread at any time. Memory comes from the program's
  * malloc and is freed before a call returns, but where oascanon_callbacks hand in a `resize` of their own (see there).
@@ -17,17 +18,69 @@
 extern "C" {
 #endif
 
-/* Statuses. From 1 to 34 it is the number of a refusal's reason. */
-#define OASCANON_DONE 0       /* done; or the answer is yes */
-#define OASCANON_NO 64        /* the answer is no */
-#define OASCANON_TOO_SMALL 65 /* the room is smaller than the output */
-#define OASCANON_NOT_LIMITS 66 /* the three numbers are no limits: nothing was read */
-#define OASCANON_NULL 67      /* a pointer is NULL that may not be: nothing was read */
+/* The version of this header, as `oascanon --version` prints it after the program's name; and that of the library that is
+   linked, ended by a zero byte. */
+#define OASCANON_VERSION "0.3.0-dev"
+const char *oascanon_version(void);
 
-/* The reasons that a device gives, or the memory. */
-#define OASCANON_READ 32
-#define OASCANON_WRITE 33
-#define OASCANON_MEMORY 34
+/* Statuses. From 1 to 34, and from 101 to 113, it is the number of a refusal's reason. */
+#define OASCANON_DONE 0          /* done; or the answer is yes */
+#define OASCANON_NO 64           /* the answer is no */
+#define OASCANON_TOO_SMALL 65    /* the room is smaller than the output */
+#define OASCANON_NOT_LIMITS 66   /* the three numbers are no limits: nothing was read */
+#define OASCANON_NULL 67         /* a pointer is NULL that may not be: nothing was read */
+#define OASCANON_UNKNOWN_DROP 68 /* a bit of `drop` names no kind of record: nothing was read */
+
+/* The reasons of docs/REFUSALS.md, and from 101 on those of docs/PREPARING.md, which oascanon_prepare alone gives. */
+enum {
+    OASCANON_REASON_MAGIC = 1,
+    OASCANON_REASON_TRUNCATED = 2,
+    OASCANON_REASON_INTEGER_RANGE = 3,
+    OASCANON_REASON_STRING_BYTE = 4,
+    OASCANON_REASON_EMPTY_NAME = 5,
+    OASCANON_REASON_FLOAT_REAL = 6,
+    OASCANON_REASON_REAL_TYPE = 7,
+    OASCANON_REASON_UNIT = 8,
+    OASCANON_REASON_VERSION = 9,
+    OASCANON_REASON_OFFSET_FLAG = 10,
+    OASCANON_REASON_RECORD_LEFT_OUT = 11,
+    OASCANON_REASON_UNKNOWN_RECORD = 12,
+    OASCANON_REASON_OUT_OF_PLACE = 13,
+    OASCANON_REASON_INFO_BYTE = 14,
+    OASCANON_REASON_LIST_KIND = 15,
+    OASCANON_REASON_POINT_COUNT = 16,
+    OASCANON_REASON_REPETITION_KIND = 17,
+    OASCANON_REASON_MODAL_UNDEFINED = 18,
+    OASCANON_REASON_MAGNIFICATION = 19,
+    OASCANON_REASON_ANGLE = 20,
+    OASCANON_REASON_MIXED_NUMBERING = 21,
+    OASCANON_REASON_NUMBER_TWICE = 22,
+    OASCANON_REASON_COORDINATE_RANGE = 23,
+    OASCANON_REASON_TOO_MANY_ELEMENTS = 24,
+    OASCANON_REASON_TOO_HEAVY = 25,
+    OASCANON_REASON_UNKNOWN_REFERENCE = 26,
+    OASCANON_REASON_DUPLICATE_CELL = 27,
+    OASCANON_REASON_END_LENGTH = 28,
+    OASCANON_REASON_VALIDATION_SCHEME = 29,
+    OASCANON_REASON_TRAILING_BYTES = 30,
+    OASCANON_REASON_INPUT_TOO_LONG = 31,
+    OASCANON_REASON_READ = 32,
+    OASCANON_REASON_WRITE = 33,
+    OASCANON_REASON_MEMORY = 34,
+    OASCANON_REASON_PROPERTIES = 101,
+    OASCANON_REASON_LAYER_NAMES = 102,
+    OASCANON_REASON_EXTENSIONS = 103,
+    OASCANON_REASON_CBLOCK_TYPE = 104,
+    OASCANON_REASON_CBLOCK_NESTED = 105,
+    OASCANON_REASON_CBLOCK_LENGTH = 106,
+    OASCANON_REASON_CBLOCK_BORDER = 107,
+    OASCANON_REASON_DEFLATE = 108,
+    OASCANON_REASON_TRAPEZOID = 109,
+    OASCANON_REASON_CTRAPEZOID_TYPE = 110,
+    OASCANON_REASON_VALUE_TYPE = 111,
+    OASCANON_REASON_INTERVAL_TYPE = 112,
+    OASCANON_REASON_CHECKSUM = 113
+};
 
 typedef struct {
     uint32_t status; /* see above */
@@ -57,8 +110,17 @@ typedef struct {
    it was. */
 oascanon_outcome oascanon_canonicalize(const uint8_t *bytes, size_t count, const oascanon_limits *limits, uint8_t *room, size_t size);
 
-/* The same of the listing, the text that the command `show` prints (docs/LISTING.md). It isn't ended by a zero byte. */
+/* The same of three texts, each with the end of its last line and no zero byte behind it. The listing, which `oascanon show`
+   prints (docs/LISTING.md): the line of the unit, and then one for each cell and for each of its elements. */
 oascanon_outcome oascanon_list(const uint8_t *bytes, size_t count, const oascanon_limits *limits, uint8_t *room, size_t size);
+
+/* The keys of the cells, which `oascanon keys` prints: for each cell, by ascending names, a line of 64 lower-case hex digits,
+   two spaces and the cell's name. They are the SHA-256 of the canonical file that has the unit and that cell alone. */
+oascanon_outcome oascanon_keys(const uint8_t *bytes, size_t count, const oascanon_limits *limits, uint8_t *room, size_t size);
+
+/* The facts of the layout, which `oascanon info --json` prints (docs/INFO.md): one line with a JSON object, whose members are
+   cells, elements, kinds, layers, size, textlayers, undefined, unit, unplaced and weight. */
+oascanon_outcome oascanon_info(const uint8_t *bytes, size_t count, const oascanon_limits *limits, uint8_t *room, size_t size);
 
 /* Puts the SHA-256 of the canonical file. After any status but OASCANON_DONE the digest is as it was. */
 oascanon_outcome oascanon_key(const uint8_t *bytes, size_t count, const oascanon_limits *limits, uint8_t digest[32]);
@@ -68,6 +130,33 @@ oascanon_outcome oascanon_check(const uint8_t *bytes, size_t count, const oascan
 
 /* Whether two files mean the same layout: OASCANON_DONE or OASCANON_NO. The first is judged before the second. */
 oascanon_outcome oascanon_same(const uint8_t *bytes, size_t count, const uint8_t *others, size_t other_count, const oascanon_limits *limits);
+
+/* Puts what differs between two layouts, the lines that `oascanon diff` prints (docs/LISTING.md): `-` and `+` with a count and
+   a line of the listing for what the first or the second has more often, and `@ cell NAME` above the elements of a cell that
+   both have. OASCANON_DONE where they are the same, and then the room is as it was; OASCANON_NO where they are not, and all
+   lines stand in the room, `length` bytes; OASCANON_TOO_SMALL where they are not, and the lines don't fit. */
+oascanon_outcome oascanon_diff(const uint8_t *bytes, size_t count, const uint8_t *others, size_t other_count, const oascanon_limits *limits, uint8_t *room, size_t size);
+
+/* What oascanon_prepare leaves out where it is told to, bits of `drop`. */
+#define OASCANON_DROP_PROPERTIES 1u  /* properties, and the names and strings for them */
+#define OASCANON_DROP_LAYER_NAMES 2u /* names of layers */
+#define OASCANON_DROP_EXTENSIONS 4u  /* extensions among the elements, and the names for them */
+
+/* What was left out of a file, in records; and where a compressed block was refused. */
+typedef struct {
+    uint64_t properties;
+    uint64_t property_names;
+    uint64_t layer_names;
+    uint64_t extensions;
+    uint64_t extension_names;
+    uint64_t in_block; /* 1 where the refused record is in the compressed block at `at`, else 0 */
+    uint64_t within;   /* then its offset in what the block inflates to, else 0 */
+} oascanon_preparation;
+
+/* Puts the canonical file of a file of the standard, without the kinds of records that are named, as `oasprep --drop` does
+   (docs/PREPARING.md). It is put as by oascanon_canonicalize. The preparation is set whole after any status but
+   OASCANON_NULL: the counts are those of the file where it is prepared, whether or not the room is too small, else 0. */
+oascanon_outcome oascanon_prepare(const uint8_t *bytes, size_t count, uint32_t drop, const oascanon_limits *limits, uint8_t *room, size_t size, oascanon_preparation *preparation);
 
 /*
  * Over callbacks. All that `read` gives is gathered before it is judged, and all of an output before it is written, so these
@@ -85,15 +174,18 @@ typedef struct {
     void *context; /* what each of them is handed */
 } oascanon_callbacks;
 
-/* Where `read` fails the status is OASCANON_READ and `at` is how many bytes it gave. Where `write` fails the status is
-   OASCANON_WRITE and `at` is how many bytes it took, the first of the output; before any other refusal nothing is written. */
+/* Where `read` fails the status is OASCANON_REASON_READ and `at` is how many bytes it gave. Where `write` fails the status is
+   OASCANON_REASON_WRITE and `at` is how many bytes it took, the first of the output; before any other refusal nothing is
+   written. */
 oascanon_outcome oascanon_canonicalize_callbacks(const oascanon_callbacks *callbacks, const oascanon_limits *limits);
 oascanon_outcome oascanon_list_callbacks(const oascanon_callbacks *callbacks, const oascanon_limits *limits);
+oascanon_outcome oascanon_keys_callbacks(const oascanon_callbacks *callbacks, const oascanon_limits *limits);
+oascanon_outcome oascanon_info_callbacks(const oascanon_callbacks *callbacks, const oascanon_limits *limits);
 oascanon_outcome oascanon_key_callbacks(const oascanon_callbacks *callbacks, const oascanon_limits *limits, uint8_t digest[32]);
 oascanon_outcome oascanon_check_callbacks(const oascanon_callbacks *callbacks, const oascanon_limits *limits);
 oascanon_outcome oascanon_same_callbacks(const oascanon_callbacks *one, const oascanon_callbacks *other, const oascanon_limits *limits);
 
-/* The name of a status, as in docs/REFUSALS.md; of a number that is none "Unknown". Never NULL. */
+/* The name of a status, as in docs/REFUSALS.md and docs/PREPARING.md; of a number that is none "Unknown". Never NULL. */
 const char *oascanon_status_name(uint32_t status);
 
 #ifdef __cplusplus

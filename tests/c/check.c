@@ -3,108 +3,10 @@
  * that is refused, NULL, nothing. Rows come on standard input, one a line: a name, the file in hex, and its canonical file in
  * hex or its refusal as NUMBER@OFFSET; `-` is no byte. The last line is 'N passed, M failed'.
  */
-#include <stdio.h>
-#include <stdlib.h>
-#include <string.h>
-
-#include "oascanon.h"
-
-#define MOST (1 << 20)
-
-static const oascanon_limits standard = OASCANON_STANDARD;
-static unsigned passed, failed;
-
-static void expect(int holds, const char *name, const char *what) {
-    if (holds) {
-        passed++;
-    } else {
-        failed++;
-        printf("%s: %s\n", name, what);
-    }
-}
-
-/* A caller's reader, writer and memory. Each fails once `left` of it is 0; below 0 it never does. */
-typedef struct {
-    const uint8_t *bytes;
-    size_t count, at, piece;
-    long reads_left, writes_left, blocks_left;
-    uint8_t *out;
-    size_t put;
-    long blocks;
-} device;
-
-static ptrdiff_t device_read(void *context, uint8_t *buffer, size_t size) {
-    device *d = context;
-    size_t n = d->count - d->at;
-    if (d->reads_left == 0)
-        return -1;
-    d->reads_left--;
-    n = n < size ? n : size;
-    n = n < d->piece ? n : d->piece;
-    if (n > 0)
-        memcpy(buffer, d->bytes + d->at, n);
-    d->at += n;
-    return (ptrdiff_t)n;
-}
-
-static ptrdiff_t device_write(void *context, const uint8_t *bytes, size_t size) {
-    device *d = context;
-    size_t n = size < d->piece ? size : d->piece;
-    if (d->writes_left == 0)
-        return -1;
-    d->writes_left--;
-    memcpy(d->out + d->put, bytes, n);
-    d->put += n;
-    return (ptrdiff_t)n;
-}
-
-static void *device_resize(void *context, void *block, size_t old_size, size_t new_size) {
-    device *d = context;
-    if (new_size == 0) {
-        if (block != NULL)
-            d->blocks--;
-        free(block);
-        return NULL;
-    }
-    if (d->blocks_left == 0)
-        return NULL;
-    d->blocks_left--;
-    if (block == NULL)
-        d->blocks++;
-    (void)old_size;
-    return realloc(block, new_size);
-}
-
-static device device_over(const uint8_t *bytes, size_t count, uint8_t *out) {
-    device d = {bytes, count, 0, 7, -1, -1, -1, out, 0, 0};
-    return d;
-}
-
-static oascanon_callbacks callbacks_of(device *d) {
-    oascanon_callbacks c = {device_read, device_write, device_resize, d};
-    return c;
-}
-
-static size_t unhex(const char *text, uint8_t *bytes) {
-    size_t n = 0;
-    if (text[0] == '-')
-        return 0;
-    for (; text[0] != '\0' && text[1] != '\0'; text += 2) {
-        char two[3] = {text[0], text[1], '\0'};
-        bytes[n++] = (uint8_t)strtoul(two, NULL, 16);
-    }
-    return n;
-}
+#include "checks.h"
 
 static int is_refusal(oascanon_outcome o, unsigned number, unsigned long at) {
     return o.status == number && o.at == at && o.file == 1 && o.length == 0;
-}
-
-static int is_filled(const uint8_t *bytes, size_t count, uint8_t with) {
-    size_t i;
-    for (i = 0; i < count && bytes[i] == with; i++)
-        ;
-    return i == count;
 }
 
 static void refused_row(const char *name, const uint8_t *in, size_t count, unsigned number, unsigned long at) {
@@ -192,11 +94,6 @@ static void no_limits(const oascanon_limits *limits) {
     expect(d.at == 0 && d.blocks == 0, "no limits", "nothing was read");
 }
 
-/* One cell with one rectangle. */
-static size_t rectangle(uint8_t *file) {
-    return unhex("2553454D492D4F415349530D0A0103312E3000E80700000000000000000000000000" "0E0141147B01000A14000002FC01", file) + 253;
-}
-
 static void edges(void) {
     static uint8_t file[512], out[4096], digest[32];
     size_t count = rectangle(file);
@@ -239,7 +136,7 @@ static void edges(void) {
         c = callbacks_of(&d);
         d.reads_left = i;
         o = oascanon_canonicalize_callbacks(&c, &standard);
-        expect(is_refusal(o, OASCANON_READ, (unsigned long)(7 * i)), "edges", "a failing read");
+        expect(is_refusal(o, OASCANON_REASON_READ, (unsigned long)(7 * i)), "edges", "a failing read");
         expect(d.put == 0 && d.blocks == 0, "edges", "nothing was written");
     }
     /* Each write fails in turn, after the first bytes of the canonical file. */
@@ -248,7 +145,7 @@ static void edges(void) {
         c = callbacks_of(&d);
         d.writes_left = i;
         o = oascanon_canonicalize_callbacks(&c, &standard);
-        expect(is_refusal(o, OASCANON_WRITE, (unsigned long)(7 * i)), "edges", "a failing write");
+        expect(is_refusal(o, OASCANON_REASON_WRITE, (unsigned long)(7 * i)), "edges", "a failing write");
         expect(d.put == (size_t)(7 * i) && memcmp(out, file, d.put) == 0 && d.blocks == 0, "edges", "a front was written");
     }
     /* Each block is refused in turn. */
@@ -257,7 +154,7 @@ static void edges(void) {
         c = callbacks_of(&d);
         d.blocks_left = i;
         o = oascanon_canonicalize_callbacks(&c, &standard);
-        expect(o.status == OASCANON_MEMORY && d.put == 0 && d.blocks == 0, "edges", "a block is refused");
+        expect(o.status == OASCANON_REASON_MEMORY && d.put == 0 && d.blocks == 0, "edges", "a block is refused");
     }
     d = device_over(file, count, out);
     c = callbacks_of(&d);

@@ -47,8 +47,8 @@ fn put_line<K: Sink>(sink: &mut K, layout: &Layout, cell: usize) -> Result<(), S
     put_named_key(sink, &key, layout.cell_name(cell).as_bytes())
 }
 
-/// Puts the line of each cell's key.
-fn put_lines<K: Sink>(layout: &Layout, sink: &mut K) -> Result<(), SinkFault>
+/// Puts a line `HEX  CELL` for each cell of a layout into a sink, as [`write_cell_keys`] writes it.
+pub fn put_cell_keys<K: Sink>(layout: &Layout, sink: &mut K) -> Result<(), SinkFault>
     ensures writes { Writes K.given K.failures sink.old (cell_key_lines (meaning_of layout.now)) result sink.new }
     ensures short { length (cell_key_lines (meaning_of layout.now)) ≤ 67 * 2 ^ 30 }
 {
@@ -65,7 +65,7 @@ fn put_and_close<W: Write>(layout: &Layout, outlet: &mut Outlet<'_, W>) -> Resul
     ensures all { OnOk result (IsSent outlet.new) }
     ensures short { length (cell_key_lines (meaning_of layout.now)) ≤ 67 * 2 ^ 30 }
 {
-    put_lines(layout, outlet)?;
+    put_cell_keys(layout, outlet)?;
     outlet.close()
 }
 

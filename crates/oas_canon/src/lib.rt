@@ -11,7 +11,8 @@
 //!   of an accepted file's canonical form (`IsKeyed`).
 //! - [`layout_key`] returns the key of a layout. [`write_cell_keys`] writes the key of each of its cells, with the cell's
 //!   name: the SHA-256 of the canonical file that has the layout's unit and that cell alone (`cell_key_lines`,
-//!   specs/CellKeys.antt). [`write_compact_cell_keys`] writes the same for a layout that is held as keys of elements.
+//!   specs/CellKeys.antt). [`put_cell_keys`] puts the same into a sink. [`write_compact_cell_keys`] writes the same for a
+//!   layout that is held as keys of elements.
 //! - [`rekey`] writes the canonical file by profile two of a file that is canonical by profile one (`IsRekeyed`,
 //!   specs/Rekeying.antt). For an accepted file that isn't, it returns [`Rekeyed::NotProfile1`] and leaves the writer
 //!   unchanged (`IsOther`).
@@ -88,7 +89,7 @@ mod sameness;
 
 // The crates below, for those above.
 pub use canonical::canonicalize;
-pub use cell_keys::{cell_key, layout_key, write_cell_keys};
+pub use cell_keys::{cell_key, layout_key, put_cell_keys, write_cell_keys};
 pub use checking::is_canonical;
 pub use keys::key;
 pub use oas_judge::oas_file::read_layout;

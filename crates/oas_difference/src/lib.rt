@@ -16,7 +16,7 @@
 //! What this crate promises to the crates above it: a writer takes exactly the bytes of `difference` (specs/Difference.antt)
 //! of the layouts' meanings, and [`write_difference`] returns how many they are (`IsWritten`, oas_num's specs/Written.antt).
 //! Or it fails with [`oas_num::Why::Write`], and then the writer took as many of the first bytes as the refusal's place says
-//! (`IsCutOff`). It allocates nothing. There is no line exactly if the layouts are the same ([`laws`]).
+//! (`IsCutOff`). [`put_difference`] puts all lines into a sink. They allocate nothing. There is no line exactly if the layouts are the same ([`laws`]).
 //!
 //! For other texts of a difference [`next_cell`] goes over the cells of two layouts, and [`next_change`] over the elements
 //! that are not as often in both.
@@ -62,4 +62,4 @@ pub use cells::{CellPair, Cells, next_cell};
 pub use changes::{Change, next_change};
 pub use elements::Side;
 pub use options::{Detail, Options};
-pub use writing::write_difference;
+pub use writing::{put_difference, write_difference};

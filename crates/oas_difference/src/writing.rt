@@ -30,12 +30,12 @@ fn put_units<K: Sink>(sink: &mut K, before: Fraction, after: Fraction) -> Result
     put_unit(sink, after)
 }
 
-/// Puts the difference of two layouts, in that detail.
-fn put_difference<'a, K: Sink>(
-    sink: &mut K,
+/// Puts the difference of two layouts of one profile into a sink, in that detail and with all its lines.
+pub fn put_difference<'a, K: Sink>(
     before: &'a Layout,
     after: &'a Layout,
     detail: Detail,
+    sink: &mut K,
 ) -> Result<(), SinkFault>
     requires { before.now.profile ≡ after.now.profile }
     ensures writes { Writes K.given K.failures sink.old (detailed detail before.now.profile (meaning_of before.now) (meaning_of after.now)) result sink.new }
@@ -62,7 +62,7 @@ fn put_and_close<W: Write>(
     ensures all { OnOk result (IsSent lines.new.sink) }
     ensures short { length (difference_by options before.now.profile (meaning_of before.now) (meaning_of after.now)) < 2 ^ 64 }
 {
-    put_difference(lines, before, after, options.detail)?;
+    put_difference(before, after, options.detail, lines)?;
     if lines.has_failed() {
         return Err(SinkFault::Device);
     }

@@ -6,6 +6,8 @@
 //!   with what is named to be left out. Then a writer took the canonical form of the meaning of the profile's records that
 //!   its records are translated to, and the result has how many records of each kind were left out (`IsDone`,
 //!   specs/Run.antt). Otherwise nothing was written, or the writer failed after a prefix of it.
+//! - [`read_prepared`] returns that meaning as a layout in place of writing it, and the same counts (`IsReadPrepared`,
+//!   specs/Finishing.antt).
 //! - The clauses cover both outcomes. A rejection with a reason of the bytes says that no file that can be prepared begins
 //!   with what was taken. Where the source had given nothing before, it also says that its place is one at which every file
 //!   that continues these bytes stops. A place in a block is in one that is there: in its data, or in bytes that encode none.
@@ -51,4 +53,4 @@ mod units;
 // The crates below, for those above.
 pub use oas_narrow;
 pub use oas_narrow::oas_wide;
-pub use preparing::prepare;
+pub use preparing::{prepare, read_prepared};

@@ -40,8 +40,10 @@ fn finish(gathered: Gathered, sums: &Sums) -> Result<(Layout, Report), Rejection
     Ok((layout, report))
 }
 
-/// All that a source gives, as a layout, and what was left out.
-fn read_prepared<S: Source>(
+/// The layout that the profile's records mean to which the records of a file of the standard are translated, and what was left
+/// out of it. Only what is named is left out. It stops exactly where [`prepare`] does before it writes, at the same place and
+/// for the same reason.
+pub fn read_prepared<S: Source>(
     alloc: Global,
     from: &mut S,
     limits: Limits,

@@ -1,2 +1,4 @@
 mod FillingLemmas
 mod ReadingLemmas
+mod ReportLemmas
+mod PreparingLemmas

@@ -12,9 +12,8 @@ use Rattle.oas_layout.specs.declared.profile.Profile.{Profile}
 use Rattle.oas_layout.specs.declared.profile.Profile.TheVariants.{Two}
 use Rattle.oas_layout.specs.Contents.{Contents, meaning_of}
 use Rattle.oas_layout.specs.Limits.{AreLimits}
-use Rattle.oas_layout.specs.Meaning.{SameLayout}
+use Rattle.oas_layout.specs.Meaning.{Meaning, SameLayout}
 use Rattle.oas_layout.proofs.LawProofs.{symmetric, transitive}
-use Rattle.oas_listing.specs.Listing.{listing}
 use Rattle.oas_canon.specs.oas_file.Acceptance.{Accepted, Means}
 use Rattle.oas_canon.specs.oas_file.Deciding.{IsReasoned}
 use Rattle.oas_canon.specs.oas_file.Reading.{IsRead, IsRefused, IsPlaced, ReadsLayout}
@@ -28,10 +27,10 @@ use Rattle.oascanon_c.specs.declared.answers.Answer.{Answer}
 use Rattle.oascanon_c.specs.declared.answers.Answer.TheVariants.{Done, No, TooSmall, NotLimits, Refused}
 use Rattle.oascanon_c.specs.declared.bounds.Bounds.{Bounds}
 use Rattle.oascanon_c.specs.Rooms.{Puts}
-use Rattle.oascanon_c.specs.Buffers.{over, IsTaken, IsReadFrom, IsRefusedFor, Canonicalizes, Lists, Judges, Compares, AreRead, answered}
+use Rattle.oascanon_c.specs.Buffers.{over, IsTaken, IsReadFrom, IsRefusedFor, Canonicalizes, PutsText, Judges, Compares, AreRead, answered}
 
 -- all that the source is to give
-abbrev whole : Limits → List ℕ → Rest
+abbrev pub whole : Limits → List ℕ → Rest
 whole limits bytes = record { bytes = drop 0 (take limits.input bytes); goes_on = nat_lt limits.input (length bytes) }
 
 -- where the bytes end, none stands after the limit
@@ -40,7 +39,7 @@ goes_off bytes rest None g n = absurd g
 goes_off bytes rest (Some r) g n = sym g.1 ∙ n.1
 
 -- what was taken to the end is all of them
-all_taken : (limits : Limits) (bytes taken : List ℕ) (new : Script) → Consumed (over limits bytes) taken new → IsAtEnd new → (taken ≡ bytes) × (length bytes ≤ limits.input)
+pub all_taken : (limits : Limits) (bytes taken : List ℕ) (new : Script) → Consumed (over limits bytes) taken new → IsAtEnd new → (taken ≡ bytes) × (length bytes ≤ limits.input)
 all_taken limits bytes taken new t e =
     let off : nat_lt limits.input (length bytes) ≡ false = goes_off taken (whole limits bytes) new.rest t.rest e.none in
     let fits : length bytes ≤ limits.input = ltb-false limits.input (length bytes) off in
@@ -116,20 +115,20 @@ module _ (b : Bounds) {limits : Limits} (are : AreLimits limits b.elements b.wei
   pub form_told : (old new : List ℕ) (a : Answer) → Puts (canonical_bytes (meaning_of l)) old a new → Canonicalizes b bytes old a new
   form_told old new (Done n) p = (limits, are, (read.taken, (canonical_bytes (meaning_of l), is_form read, p)))
   form_told old new (TooSmall n) p = (limits, are, (read.taken, (canonical_bytes (meaning_of l), is_form read, p)))
-  form_told old new No p = absurd p
+  form_told old new (No n) p = absurd p
   form_told old new NotLimits p = absurd p
   form_told old new (Refused which refusal) p = absurd p
 
-  pub lines_told : (old new : List ℕ) (a : Answer) → Puts (listing (meaning_of l)) old a new → Lists b bytes old a new
-  lines_told old new (Done n) p = (limits, are, (read.taken, (l, read, p)))
-  lines_told old new (TooSmall n) p = (limits, are, (read.taken, (l, read, p)))
-  lines_told old new No p = absurd p
-  lines_told old new NotLimits p = absurd p
-  lines_told old new (Refused which refusal) p = absurd p
+  pub text_told : (text : Meaning → List ℕ) (old new : List ℕ) (a : Answer) → Puts (text (meaning_of l)) old a new → PutsText text b bytes old a new
+  text_told text old new (Done n) p = (limits, are, (read.taken, (l, read, p)))
+  text_told text old new (TooSmall n) p = (limits, are, (read.taken, (l, read, p)))
+  text_told text old new (No n) p = absurd p
+  text_told text old new NotLimits p = absurd p
+  text_told text old new (Refused which refusal) p = absurd p
 
   pub judged : (says : Bool) → (IsTrue says ↔ (canonical_bytes (meaning_of l) ≡ bytes)) → Judges b bytes (answered says)
   judged true h = (limits, are, (read.taken, ((spelled read true h).0 refl, refl)))
-  judged false h = (limits, are, (read.taken, λ f. let no = (spelled read false h).1 f in cc))
+  judged false h = (limits, are, (read.taken, (λ f. let no = (spelled read false h).1 f in cc, refl)))
 
 -- ---- two files
 
@@ -159,4 +158,4 @@ module _ {limits : Limits} {one other : List ℕ} {l k : Contents} (first : IsRe
 
   pub compares : (b : Bounds) → AreLimits limits b.elements b.weight b.input → (says : Bool) → (IsTrue says ↔ SameLayout l.profile (meaning_of l) (meaning_of k)) → Compares b one other (answered says)
   compares b are true h = ((limits, are, (are_read, (compared true h).0 refl)), refl)
-  compares b are false h = (limits, are, (are_read, λ s. let no = (compared false h).1 s in cc))
+  compares b are false h = ((limits, are, (are_read, λ s. let no = (compared false h).1 s in cc)), refl)

@@ -10,6 +10,7 @@ use Rattle.oas_layout.specs.Limits.{IsLimits, AreLimits}
 use Rattle.oas_layout.specs.Contents.{Contents, IsLayout, meaning_of}
 use Rattle.oas_layout.specs.Meaning.{Meaning, SameLayout}
 use Rattle.oas_listing.specs.Listing.{listing}
+use Rattle.oas_canon.specs.CellKeys.{cell_key_lines}
 use Rattle.oas_canon.specs.oas_file.Acceptance.{Accepted, Means}
 use Rattle.oas_canon.specs.oas_file.Deciding.{IsReasoned}
 use Rattle.oas_canon.specs.oas_file.Reading.{IsRefused, IsPlaced}
@@ -55,7 +56,7 @@ Within b P = (limits : Limits) × AreLimits limits b.elements b.weight b.input �
 -- of one file: no limits, a refusal, or an answer about a file that is taken; without an answer the output is as it was
 abbrev pub Tells : Bounds → List ℕ → Type 0 → (Limits → Answer → Type 0) → Answer → Type 0
 Tells b bytes same answers (Done n) = Within b (λ limits. IsTaken limits bytes × answers limits (Done n))
-Tells b bytes same answers No = Within b (λ limits. IsTaken limits bytes × answers limits No)
+Tells b bytes same answers (No n) = Within b (λ limits. IsTaken limits bytes × answers limits (No n))
 Tells b bytes same answers (TooSmall n) = Within b (λ limits. IsTaken limits bytes × answers limits (TooSmall n))
 Tells b bytes same answers NotLimits = (IsLimits b.elements b.weight b.input → ⊥) × same
 Tells b bytes same answers (Refused First refusal) = Within b (λ limits. IsRefusedFor limits bytes refusal) × same
@@ -64,20 +65,28 @@ Tells b bytes same answers (Refused Second refusal) = ⊥
 -- what is told of a question's answer
 abbrev pub answered : Bool → Answer
 answered true = Done 0
-answered false = No
+answered false = No 0
 
 abbrev pub YesOrNo : Type 0 → Answer → Type 0
 YesOrNo P (Done n) = P × (n ≡ 0)
-YesOrNo P No = P → ⊥
+YesOrNo P (No n) = (P → ⊥) × (n ≡ 0)
 YesOrNo P _ = ⊥
 
 -- the canonical form of the bytes is put
 abbrev pub Canonicalizes : Bounds → List ℕ → List ℕ → Answer → List ℕ → Type 0
 Canonicalizes b bytes old answer new = Tells b bytes (new ≡ old) (λ limits a. (canonical : List ℕ) × IsCanonicalOf limits Two bytes canonical × Puts canonical old a new) answer
 
--- the listing of the layout that is read of the bytes is put
+-- a text of the layout that is read of the bytes is put
+abbrev pub PutsText : (Meaning → List ℕ) → Bounds → List ℕ → List ℕ → Answer → List ℕ → Type 0
+PutsText text b bytes old answer new = Tells b bytes (new ≡ old) (λ limits a. (l : Contents) × IsReadFrom limits bytes l × Puts (text (meaning_of l)) old a new) answer
+
+-- its listing
 abbrev pub Lists : Bounds → List ℕ → List ℕ → Answer → List ℕ → Type 0
-Lists b bytes old answer new = Tells b bytes (new ≡ old) (λ limits a. (l : Contents) × IsReadFrom limits bytes l × Puts (listing (meaning_of l)) old a new) answer
+Lists b bytes old answer new = PutsText listing b bytes old answer new
+
+-- the keys of its cells
+abbrev pub ListsKeys : Bounds → List ℕ → List ℕ → Answer → List ℕ → Type 0
+ListsKeys b bytes old answer new = PutsText cell_key_lines b bytes old answer new
 
 -- whether the bytes are a canonical form
 abbrev pub Judges : Bounds → List ℕ → Answer → Type 0
@@ -99,7 +108,7 @@ pub record AreRead (limits : Limits) (one other : List ℕ) : Type 0 where
 -- whether the bytes mean one layout; a refusal is that of the file that it names, and of the second where the first is taken
 abbrev pub Compares : Bounds → List ℕ → List ℕ → Answer → Type 0
 Compares b one other (Done n) = Within b (λ limits. (r : AreRead limits one other) × SameLayout Two r.first r.second) × (n ≡ 0)
-Compares b one other No = Within b (λ limits. (r : AreRead limits one other) × (SameLayout Two r.first r.second → ⊥))
+Compares b one other (No n) = Within b (λ limits. (r : AreRead limits one other) × (SameLayout Two r.first r.second → ⊥)) × (n ≡ 0)
 Compares b one other (TooSmall n) = ⊥
 Compares b one other NotLimits = IsLimits b.elements b.weight b.input → ⊥
 Compares b one other (Refused First refusal) = Within b (λ limits. IsRefusedFor limits one refusal)

@@ -1,6 +1,6 @@
 //! What a call answers, and how C is told.
 ghost use Rattle.std.specs.Prelude.{◌≡◌};
-ghost use Rattle.oascanon_c.specs.Outcomes.{outcome_of};
+ghost use Rattle.oascanon_c.specs.Outcomes.{answer_by_lines, outcome_of};
 
 use oas_canon::{Refusal, Which};
 
@@ -14,15 +14,15 @@ const NO: u32 = 64;
 const TOO_SMALL: u32 = 65;
 
 /// The status of three numbers that are no limits.
-const NOT_LIMITS: u32 = 66;
+pub(crate) const NOT_LIMITS: u32 = 66;
 
 /// What a call answers.
 #[derive(Clone, Copy, Debug, PartialEq, Eq)]
 pub enum Answer {
     /// It is done, and its output has so many bytes; or the answer is yes, and there is no output.
     Done(u64),
-    /// The answer is no, and nothing was put.
-    No,
+    /// The answer is no, and what is said of it has so many bytes: none, but where it is what differs.
+    No(u64),
     /// The output has so many bytes, and the room for it fewer.
     TooSmall(u64),
     /// The three numbers are no limits, and nothing was read.
@@ -46,13 +46,24 @@ pub struct Outcome {
 }
 
 impl Answer {
+    /// What is said of lines of what differs that are put: yes where there are none, and no where there are.
+    pub(crate) fn by_lines(self) -> Answer
+        ensures { result ≡ answer_by_lines self }
+    {
+        match self {
+            Answer::Done(0) => Answer::Done(0),
+            Answer::Done(length) => Answer::No(length),
+            other => other,
+        }
+    }
+
     /// How C is told.
     pub fn outcome(self) -> Outcome
         ensures { result ≡ outcome_of self }
     {
         let (status, file, at, length) = match self {
             Answer::Done(length) => (DONE, 0, 0, length),
-            Answer::No => (NO, 0, 0, 0),
+            Answer::No(length) => (NO, 0, 0, length),
             Answer::TooSmall(length) => (TOO_SMALL, 0, 0, length),
             Answer::NotLimits => (NOT_LIMITS, 0, 0, 0),
             Answer::Refused(Which::First, refusal) => {

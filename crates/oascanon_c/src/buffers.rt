@@ -1,9 +1,8 @@
-//! The calls, over bytes and room.
+//! The calls about the canonical file, over bytes and room.
 ghost use Rattle.std.specs.Prelude.{◌≡◌, IfOk, IfErr};
-ghost use Rattle.oas_layout.specs.Contents.{meaning_of};
-ghost use Rattle.oas_listing.specs.Listing.{listing};
+ghost use Rattle.oas_layout.specs.Contents.{IsLayout, meaning_of};
 ghost use Rattle.oas_canon.specs.oas_form.Bytes.{canonical_bytes};
-ghost use Rattle.oascanon_c.specs.Buffers.{answered, Canonicalizes, Compares, IsReadFrom, IsRefusedFor, Judges, Keys, Lists};
+ghost use Rattle.oascanon_c.specs.Buffers.{answered, Canonicalizes, Compares, IsReadFrom, IsRefusedFor, Judges, Keys};
 ghost use Rattle.oascanon_c.specs.Rooms.{Puts};
 
 use crate::answers::Answer;
@@ -11,11 +10,10 @@ use crate::bounds::Bounds;
 use crate::filling::Filler;
 use oas_canon::oas_form::has_canonical_bytes;
 use oas_canon::{Layout, Limits, PROFILE, Refusal, SliceSource, Which, put_canonical, read_layout};
-use oas_listing::put_listing;
 use std::alloc::Global;
 
 /// The layout that bytes mean.
-fn read(alloc: Global, bytes: &[u8], limits: Limits) -> Result<Layout, Refusal>
+pub(crate) fn read(alloc: Global, bytes: &[u8], limits: Limits) -> Result<Layout, Refusal>
     ensures read { IfOk result (IsReadFrom limits bytes.now) }
     ensures refused { IfErr result (IsRefusedFor limits bytes.now) }
 {
@@ -27,24 +25,16 @@ fn read(alloc: Global, bytes: &[u8], limits: Limits) -> Result<Layout, Refusal>
 fn yes_or_no(yes: bool) -> Answer
     ensures { result ≡ answered yes }
 {
-    if yes { Answer::Done(0) } else { Answer::No }
+    if yes { Answer::Done(0) } else { Answer::No(0) }
 }
 
 /// Puts the canonical file of a layout into the room, as far as it fits.
-fn put_form(layout: &Layout, room: &mut [u8]) -> Answer
-    ensures { Puts (canonical_bytes (meaning_of layout.now)) room.old result room.new }
+pub(crate) fn put_form(layout: &Layout, room: &mut [u8]) -> Answer
+    ensures puts { Puts (canonical_bytes (meaning_of layout.now)) room.old result room.new }
+    ensures layout { IsLayout layout.now }
 {
     let mut filler = Filler::new(room);
     let _ = put_canonical(layout, &mut filler);
-    filler.answer()
-}
-
-/// Puts the listing of a layout into the room, as far as it fits.
-fn put_lines(layout: &Layout, room: &mut [u8]) -> Answer
-    ensures { Puts (listing (meaning_of layout.now)) room.old result room.new }
-{
-    let mut filler = Filler::new(room);
-    let _ = put_listing(layout, &mut filler);
     filler.answer()
 }
 
@@ -57,19 +47,6 @@ pub(crate) fn canonicalize(alloc: Global, bytes: &[u8], bounds: &Bounds, room: &
     };
     match read(alloc, bytes, limits) {
         Ok(layout) => put_form(&layout, room),
-        Err(refusal) => Answer::Refused(Which::First, refusal),
-    }
-}
-
-/// Puts the listing of what bytes mean into the room.
-pub(crate) fn list(alloc: Global, bytes: &[u8], bounds: &Bounds, room: &mut [u8]) -> Answer
-    ensures { Lists bounds.now bytes.now room.old result room.new }
-{
-    let Some(limits) = bounds.limits() else {
-        return Answer::NotLimits;
-    };
-    match read(alloc, bytes, limits) {
-        Ok(layout) => put_lines(&layout, room),
         Err(refusal) => Answer::Refused(Which::First, refusal),
     }
 }

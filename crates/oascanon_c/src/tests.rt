@@ -66,6 +66,54 @@ fn a_listing(rt: HostRuntime) -> Result<(), Fail> {
 }
 
 #[test]
+fn reports(rt: HostRuntime) -> Result<(), Fail> {
+    let alloc = rt.alloc();
+    let file = file();
+    let mut taller = file;
+    taller[42] = 25;
+    let mut room = room_of(alloc, 400)?;
+    let keys = oascanon_c_keys(alloc, &file, &STANDARD, &mut room[..]);
+    assert_eq!(rt; (keys.status, keys.length), (0, 68));
+    assert!(rt;
+        room.starts_with(b"faa9cb7d21110cae5bde5660c1b56c7b0b00a54880eacf1bfeba45a6cc348d77  A\n")
+    );
+    let info = oascanon_c_info(alloc, &file, &STANDARD, &mut room[..]);
+    assert_eq!(rt; info.status, 0);
+    assert!(rt; room.starts_with(b"{\"cells\":1,\"elements\":1,\"kinds\":{\"circles\":0,"));
+    let same = oascanon_c_diff(alloc, &file, &file, &STANDARD, &mut room[..]);
+    assert_eq!(rt; (same.status, same.length), (0, 0));
+    let differs = oascanon_c_diff(alloc, &file, &taller, &STANDARD, &mut room[..]);
+    assert_eq!(rt; (differs.status, differs.length), (64, 65));
+    assert!(rt;
+        room.starts_with(b"@ cell A\n- 1 rectangle 1 0 10 20 0 0\n+ 1 rectangle 1 0 10 25 0 0\n")
+    );
+    Ok(())
+}
+
+#[test]
+fn a_name_of_layers(rt: HostRuntime) -> Result<(), Fail> {
+    let alloc = rt.alloc();
+    let file = file();
+    let mut named = [0; 306];
+    named[..34].copy_from_slice(&file[..34]);
+    named[34..39].copy_from_slice(&[0x0B, 0x01, 0x4C, 0x00, 0x00]);
+    named[39..].copy_from_slice(&file[34..]);
+    let mut room = room_of(alloc, 400)?;
+    let mut said = WideAnswer::NotLimits.preparation();
+    let stops = oascanon_c_prepare(alloc, &named, 5, &STANDARD, &mut room[..], &mut said);
+    assert_eq!(rt; (stops.status, stops.at, said.layer_names), (102, 34, 0));
+    let prepared = oascanon_c_prepare(alloc, &named, 2, &STANDARD, &mut room[..], &mut said);
+    assert_eq!(rt;
+        (prepared.status, prepared.length, said.layer_names),
+        (0, 301, 1)
+    );
+    assert!(rt; room.starts_with(&file));
+    let unknown = oascanon_c_prepare(alloc, &named, 8, &STANDARD, &mut room[..], &mut said);
+    assert_eq!(rt; (unknown.status, said.layer_names), (68, 0));
+    Ok(())
+}
+
+#[test]
 fn refusals(rt: HostRuntime) -> Result<(), Fail> {
     let alloc = rt.alloc();
     let file = file();

@@ -2,7 +2,7 @@ use Rattle.std.proofs.Common.{drop, flat_map}
 use Rattle.oas_layout.specs.Contents.{expanded, meaning_of}
 use Rattle.oas_num.proofs.PuttingLemmas.{PutSoFar}
 use Rattle.oas_canon.specs.CellKeys.{cell_key_line, cell_key_lines}
-use Rattle.oas_canon.proofs.cell_keys.put_lines.Given as goal
+use Rattle.oas_canon.proofs.cell_keys.put_cell_keys.Given as goal
 
 abbrev pub invariant-loop-cell : goal.invariant-loop-cell
 invariant-loop-cell g l =

@@ -1,7 +1,7 @@
 use Rattle.std.proofs.Common.{◌<◌, ◌≤◌, length, arith}
 use Rattle.std.proofs.lemmas.Result.{err_from_is_err_and}
 use Rattle.oas_canon.proofs.CellKeyLemmas.{line_put, line_fails, lines_put, lines_short}
-use Rattle.oas_canon.proofs.cell_keys.put_lines.Goals as goal
+use Rattle.oas_canon.proofs.cell_keys.put_cell_keys.Goals as goal
 
 pub returns-in_err-put_line-clause-writes : goal.returns-in_err-put_line-clause-writes
 returns-in_err-put_line-clause-writes g c =

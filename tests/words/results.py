@@ -1,0 +1,249 @@
+"""What a run has to give in a scene: by the plain program of tests/reference, the tables of reasons, and the manual page."""
+
+import functools
+import os
+import re
+from collections import namedtuple
+from xml.etree import ElementTree
+
+from commands import answer
+from difference import difference
+from explain_tests import preparing_reasons, reasons
+from layout import LARGE, STANDARD, read
+from table import COMMANDS, FILES, KEYS, NAMES, Version
+
+# Status, output, error output without commands to try and lines of progress, the names in these lines, and the files that are
+# written. The markers of `diff` are listed in place of a file's bytes.
+Result = namedtuple("Result", "status out err shown files")
+STANDARD_INPUT = "standard input"
+MISSING = "  = No such file or directory (os error 2)\n"
+PROGRESS = re.compile(r"(.*): \d+( of \d+)? bytes read(, \d+ %)?(, sorting)?\n")
+TO_TRY = re.compile("  = try: .*\n")
+REFUSED = re.compile(r"refused (\d+) at \d+\n$")
+FLAGS = re.compile(r"--[a-z0-9-]+")
+KEPT = re.compile(rb"([0-9a-f]{64})  (.+)", re.DOTALL)
+
+
+@functools.lru_cache(None)
+def answered(command, files, is_large):
+    """Status, output and error output of the plain program."""
+    return answer(command, files, 2, LARGE if is_large else STANDARD)
+
+
+@functools.lru_cache(None)
+def reason(number):
+    """The lines below a refusal: the meaning of its reason, and what to do about it. A command to try may follow."""
+    name, meaning, remedy = next(row[1:] for row in (*reasons(), *preparing_reasons()) if row[0] == number)
+    return f"  = {name}: {meaning}\n  = {remedy}\n"
+
+
+def shown(name):
+    """A name in a message: in one line, and bytes that are no text as numbers."""
+    text = name.decode("utf-8", "surrogateescape")
+    if not re.search("[\n\r\udc80-\udcff]", text):
+        return text
+    text = text.replace("\\", "\\\\").replace("\n", "\\n").replace("\r", "\\r")
+    return re.sub("[\udc80-\udcff]", lambda found: f"\\x{ord(found[0]) - 0xdc00:02x}", text)
+
+
+def items_of(before, after, is_large):
+    """The markers of a difference: what is removed or added, in which cell, and how often."""
+    items, name = [], None
+    limits = LARGE if is_large else STANDARD
+    for line in difference(read(before, 2, limits), read(after, 2, limits)):
+        sign, second, third = line.split()[:3]
+        if sign == "@":
+            name = third
+        else:
+            items.append((f"{'removed' if sign == '-' else 'added'}.{third}", name, int(second)))
+    return tuple(items)
+
+
+def items_in(text):
+    """The same of a report database, or its bytes where it is none."""
+    try:
+        items = ElementTree.fromstring(text).find("items")
+        return tuple((item.findtext("category"), item.findtext("cell"), int(item.findtext("multiplicity"))) for item in items)
+    except (ElementTree.ParseError, TypeError, ValueError):
+        return text
+
+
+class Run:
+    """A run of a request in a scene, and what it has given so far."""
+
+    def __init__(self, request, scene, kind):
+        self.request, self.scene, self.given = request, scene, scene.stdin[kind]
+        self.is_large, self.explains = "large" in request.flags, "explain" in request.flags
+        self.status, self.out, self.err, self.shown, self.files = 0, b"", "", [], {}
+
+    def result(self):
+        names = tuple(self.shown) if "progress" in self.request.flags else ()
+        return Result(self.status, self.out, self.err, names, tuple(sorted(self.files.items())))
+
+    def ends(self, status):
+        """Of many files one that is refused decides, then one that differs."""
+        self.status = 1 if 1 in (self.status, status) else max(self.status, status)
+
+    def writes(self, name, data):
+        if self.scene.files.get(name) != data:
+            self.files[name] = data
+
+    def says(self, line, explained=""):
+        self.err += line + (explained if self.explains else "")
+
+    def content(self, name):
+        """What a file or standard input gives, or None where it can't be opened, which is said."""
+        data = self.given if name is None else self.scene.files.get(os.path.normpath(name))
+        if data is None:
+            self.says(f"{shown(os.fsencode(name))}: cannot be opened\n", MISSING)
+            self.ends(1)
+        return data
+
+    def layout(self, name):
+        """A file's name in messages and its bytes, or None; what is opened is shown."""
+        data = self.content(name)
+        if data is None:
+            return None
+        in_messages = STANDARD_INPUT if name is None else shown(os.fsencode(name))
+        if in_messages not in self.shown:
+            self.shown.append(in_messages)
+        return in_messages, data
+
+    def took(self, status, out, err):
+        """The output of the plain program, or None where it refuses. What it says is said."""
+        refused = REFUSED.search(err.decode())
+        self.says(err.decode(), reason(refused[1]) if refused else "")
+        self.ends(status)
+        return None if err and status else out
+
+    def answer(self, command, *files):
+        """The same of a command of `oascanon`."""
+        return self.took(*answered(command, files, self.is_large))
+
+
+def of_one(run):
+    """`canon`, `show`, `keys`, `info` or `rekey`."""
+    request, output = run.request, run.request.output and os.path.normpath(run.request.output)
+    if "no-clobber" in request.flags and output in run.scene.files:
+        run.says(f"{request.output}: exists, and is not replaced\n")
+        run.ends(1)
+        return
+    file = run.layout(request.inputs[0])
+    out = run.answer("info --json" if "json" in request.flags else request.command, file) if file else None
+    if out is not None and output is not None:
+        run.writes(output, out)
+    else:
+        run.out += out or b""
+
+
+def of_two(run):
+    """`same` or `diff`."""
+    request = run.request
+    files = []
+    for name in request.inputs:
+        files.append(run.layout(name))
+        if files[-1] is None:
+            return
+    limited = "" if request.limit is None else f" --limit {request.limit}"
+    out = run.answer(request.command + " --brief" * ("brief" in request.flags) + limited, *files)
+    if out is not None and request.markers is not None:
+        run.files[os.path.normpath(request.markers)] = items_of(files[0][1], files[1][1], run.is_large)
+    run.out += out or b""
+
+
+def of_many(run, names):
+    """`check` or `key` of files by name."""
+    flags, command = run.request.flags, run.request.command
+    has_names = "names" in flags or run.request.reads == NAMES
+    end = b"\0" if "zero" in flags else b"\n"
+    for name in names:
+        file = run.layout(name)
+        out = run.answer(command, file) if file else None
+        if out is not None:
+            label = b"-" if name is None else os.fsencode(name)
+            line = (label + b": " + out[:-1] if command == "check" else out[:-1] + b"  " + label) if has_names else out[:-1]
+            run.out += line + end
+
+
+def items_of_list(data, end):
+    """The items of a list, each of which has this end, except perhaps the last."""
+    items = data.split(end)
+    return items if items[-1] else items[:-1]
+
+
+def of_names(run):
+    """`check` or `key` of the files that a list names."""
+    data = run.content(run.request.inputs[0])
+    if data is not None:
+        of_many(run, map(os.fsdecode, items_of_list(data, b"\0")))
+
+
+def of_keys(run):
+    """Whether saved keys are those of their files."""
+    name, = run.request.inputs
+    data, end = run.content(name), b"\0" if "zero" in run.request.flags else b"\n"
+    for number, line in enumerate(items_of_list(data or b"", end), 1):
+        kept = KEPT.fullmatch(line)
+        if kept is None:
+            run.says(f"{name or STANDARD_INPUT}: line {number} is no key and name\n")
+            run.ends(1)
+        elif file := run.layout(os.fsdecode(kept[2])):
+            of_key(run, kept, file, end)
+
+
+def of_key(run, kept, file, end):
+    """Whether a saved key is that of its file."""
+    out = run.answer("key", file)
+    if out is None:
+        return
+    is_kept = out[:-1] == kept[1]
+    run.ends(0 if is_kept else 3)
+    if not is_kept or "quiet" not in run.request.flags:
+        run.out += kept[2] + (b": OK" if is_kept else b": changed") + end
+
+
+@functools.lru_cache(None)
+def explanation(number):
+    """What `explain` prints: the rows of the pages, each in three lines."""
+    rows = [row for row in (*reasons(), *preparing_reasons()) if number is None or number in row[:2]]
+    return "".join(f"{number} {name}\n  {meaning}\n  {remedy}\n" for number, name, meaning, remedy in rows).encode()
+
+
+def of_reasons(run):
+    run.out = explanation(run.request.number)
+
+
+@functools.lru_cache(None)
+def result_of(request, scene, kind):
+    """What a request has to give in a scene, where standard input is of this kind."""
+    run = Run(request, scene, kind)
+    if request.command == "explain":
+        of_reasons(run)
+    elif request.command in ("same", "diff"):
+        of_two(run)
+    elif request.command not in ("check", "key"):
+        of_one(run)
+    elif request.reads == FILES:
+        of_many(run, request.inputs)
+    else:
+        {NAMES: of_names, KEYS: of_keys}[request.reads](run)
+    return run.result()
+
+
+def is_help(text, usage, command):
+    """Whether a text is the help with this usage, and names the flags and options of the command and no others."""
+    told = {f"--{name}" for name in (*command.flags, *command.options, *command.tells)}
+    return f"Usage: {usage} " in text and set(FLAGS.findall(text.split("Example")[0])) == told
+
+
+def is_version(text, name):
+    return text.startswith(f"{name} ") and text.count("\n") == 1
+
+
+def is_text_of(wanted, text):
+    """Whether this is the help of a command or of the program, or the version."""
+    if isinstance(wanted, Version):
+        return is_version(text, "oascanon")
+    if wanted.command:
+        return is_help(text, f"oascanon {wanted.command}", COMMANDS[wanted.command])
+    return "Usage: oascanon <" in text and all(f"\n  {name} " in text for name in COMMANDS)
