@@ -14,7 +14,7 @@ _oascanon() {
       check) flags+=' --names --files0-from' ;;
       key) flags+=' --names --files0-from --check --quiet --zero' ;;
       info) flags+=' --json' ;;
-      diff) flags+=' --brief --limit --markers' ;;
+      diff) flags+=' --cell --layer --brief --limit --markers --markers-limit' ;;
       explain) flags='--help' ;;
     esac
     mapfile -t COMPREPLY < <(compgen -W "$flags" -- "$word")
@@ -22,7 +22,7 @@ _oascanon() {
     mapfile -t COMPREPLY < <(compgen -W "$commands" -- "$word")
   elif [ "${COMP_WORDS[1]}" = explain ]; then
     mapfile -t COMPREPLY < <(compgen -W "$(seq 34; seq 101 113)" -- "$word")
-  elif [[ ${COMP_WORDS[1]} == diff && $before == --limit ]]; then
+  elif [[ ${COMP_WORDS[1]} == diff && $before == --*limit ]]; then
     mapfile -t COMPREPLY < <(compgen -W '10 100 1000 10000' -- "$word")
   else
     mapfile -t COMPREPLY < <(compgen -f -- "$word")

@@ -112,6 +112,44 @@ def test_limit_of_many(program, folder):
     assert answer(program, folder, large(200_000), file_of(cell(b"A")), "--brief") == (3, "@ cell A - 200000 + 0\n")
 
 
+KINDS = file_of(cell(b"A") + rectangle(1, 0, 10, 20, 0, 0) + rectangle(1, 5, 10, 20, 0, 0) + rectangle(2, 5, 10, 20, 0, 0)
+                + bytes.fromhex("11b001420000" "135b017301050000"))
+
+
+def test_cells(program, folder):
+    whole = answer(program, folder, BEFORE, AFTER)[1].splitlines(keepends=True)
+    assert answer(program, folder, BEFORE, AFTER, "--cell", "A") == (3, "".join(whole[:3]))
+    assert answer(program, folder, BEFORE, AFTER, "--cell", "C", "--cell=B") == (3, "".join(whole[3:]))
+    assert answer(program, folder, BEFORE, AFTER, "--cell", "a") == (0, "")
+    assert answer(program, folder, BEFORE, AFTER, "--brief", "--cell", "C") == (3, "+ cell C - 0 + 1\n")
+    assert answer(program, folder, BEFORE, AFTER, "--cell", "A", "--limit", "2") == (3, "".join(whole[:2]) + "...\n")
+
+
+def test_layers(program, folder):
+    assert answer(program, folder, BEFORE, AFTER, "--layer", "3") == (0, "")
+    assert answer(program, folder, BEFORE, AFTER, "--layer", "2") == (3, "@ cell C\n+ 1 rectangle 2 0 5 5 0 0\n")
+    assert answer(program, folder, AFTER, BEFORE, "--layer", "2", "--brief") == (3, "@ cell C - 1 + 0\n")
+    assert answer(program, folder, BEFORE, AFTER, "--layer", "4") == (3, "@ cell A\n+ 1 rectangle 4 0 1 1 7 8\n")
+    assert answer(program, folder, BEFORE, AFTER, "--layer", "4", "--cell", "C") == (0, "")
+    assert answer(program, folder, BEFORE, AFTER, "--layer", "4/1") == (0, "")
+    assert answer(program, folder, BEFORE, AFTER, "--layer", "4/0", "--layer=1/0", "--brief") == (3, "@ cell A - 2 + 1\n")
+
+
+def test_layers_of_each_kind(program, folder):
+    text, one, five, other = "- 1 text 1 5 0 0 s\n", "- 1 rectangle 1 0 10 20 0 0\n", "- 1 rectangle 1 5 10 20 0 0\n", "- 1 rectangle 2 5 10 20 0 0\n"
+    for layers, lines in ((["1"], text + one + five), (["1/5"], text + five), (["2", "1/0"], one + other), (["5"], ""), (["0"], "")):
+        words = [word for layer in layers for word in ("--layer", layer)]
+        assert answer(program, folder, KINDS, file_of(cell(b"A")), *words) == ((3, "@ cell A\n" + lines) if lines else (0, "")), layers
+
+
+def test_a_layer_that_is_none(program, folder):
+    for layer in ("x", "1/", "/1", "1/2/3", "-1", "", "18446744073709551616"):
+        done = diff(program, folder, SMALL, SMALL, f"--layer={layer}")
+        assert (done.returncode, done.stdout) == (2, b"") and b"a layer is a number" in done.stderr, layer
+    assert diff(program, folder, SMALL, SMALL, "--layer").returncode == 2
+    assert diff(program, folder, SMALL, SMALL, "--cell").returncode == 2
+
+
 def items(path):
     """The items of a report database: category, cell, multiplicity and values of each."""
     root = ElementTree.parse(path).getroot()
@@ -132,11 +170,60 @@ def test_markers(program, folder):
     ]
 
 
-def test_markers_have_the_whole(program, folder):
+def test_markers_whatever_the_lines(program, folder):
     assert answer(program, folder, BEFORE, AFTER, "--markers", folder / "m", "--brief", "--limit=0") == (3, "...\n")
     assert len(items(folder / "m")) == 5
     assert answer(program, folder, SMALL, RESPELLED, "--markers", folder / "m") == (0, "")
     assert items(folder / "m") == []
+
+
+def test_markers_of_cells_and_layers(program, folder):
+    assert answer(program, folder, BEFORE, AFTER, "--markers", folder / "m", "--cell", "A", "--layer", "4") == (3, "@ cell A\n+ 1 rectangle 4 0 1 1 7 8\n")
+    assert items(folder / "m") == [("added.rectangle", "A", 1, ["box: (0.007,0.008;0.008,0.009)", "text: 'layer 4/0'"])]
+    assert [name.text for name in ElementTree.parse(folder / "m").getroot().iterfind("cells/cell/name")] == ["A"]
+    assert answer(program, folder, BEFORE, AFTER, "--markers", folder / "m", "--layer", "2")[0] == 3
+    assert items(folder / "m") == [("added.rectangle", "C", 1, ["box: (0,0;0.005,0.005)", "text: 'layer 2/0'"])]
+
+
+def described(path):
+    """The description of a report database."""
+    return ElementTree.parse(path).getroot().findtext("description")
+
+
+def test_markers_limit(program, folder):
+    assert answer(program, folder, BEFORE, AFTER, "--markers", folder / "m") == answer(program, folder, BEFORE, AFTER)
+    whole = items(folder / "m")
+    for most in range(len(whole) + 2):
+        lines = answer(program, folder, BEFORE, AFTER, "--markers", folder / "m", "--markers-limit", str(most))
+        assert lines == answer(program, folder, BEFORE, AFTER)
+        assert items(folder / "m") == whole[:most]
+        more = f" (the first {most} of {len(whole)} markers)" if most < len(whole) else ""
+        assert described(folder / "m") == "The difference of A and B" + more
+    assert answer(program, folder, SMALL, RESPELLED, "--markers", folder / "m", "--markers-limit=0") == (0, "")
+    assert described(folder / "m") == "The difference of A and B"
+
+
+def test_markers_limit_of_other_units(program, folder):
+    other = SMALL.replace(b"\x00\xe8\x07", b"\x00\xd0\x0f", 1).replace(b"\x0e\x01A", b"\x0e\x01B")
+    assert answer(program, folder, SMALL, other, "--markers", folder / "m", "--markers-limit=3")[0] == 3
+    assert described(folder / "m").endswith(" the unit of its own layout (the first 3 of 4 markers)")
+
+
+def test_markers_limit_that_holds_by_itself(program, folder):
+    many = file_of(cell(b"A") + b"".join(rectangle(1, 0, 10, 20, i, 0) for i in range(100_001)))
+    code, text = answer(program, folder, many, file_of(cell(b"A")), "--markers", folder / "m", "--brief")
+    assert (code, text) == (3, "@ cell A - 100001 + 0\n")
+    assert described(folder / "m") == "The difference of A and B (the first 100000 of 100001 markers)"
+    assert len(items(folder / "m")) == 100_000
+    assert answer(program, folder, many, file_of(cell(b"A")), "--markers", folder / "m", "--limit=0", "--markers-limit", str(2**32)) == (3, "...\n")
+    assert len(items(folder / "m")) == 100_001 and described(folder / "m") == "The difference of A and B"
+
+
+def test_markers_limit_that_is_none(program, folder):
+    for words in (["--markers", folder / "m", "--markers-limit", "x"], ["--markers", folder / "m", "--markers-limit=-1"],
+                  ["--markers", folder / "m", "--markers-limit"], ["--markers-limit", "1"]):
+        assert diff(program, folder, BEFORE, AFTER, *words).returncode == 2, words
+    assert not (folder / "m").exists()
 
 
 def test_markers_of_a_refused_file(program, folder):

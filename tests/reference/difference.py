@@ -26,7 +26,7 @@ def of_elements(one, other):
 
 def of_cell(name, one, other, is_brief):
     """The lines of a cell, of which a layout that lacks it has none."""
-    empty = type(one or other)()
+    empty = type(other if one is None else one)()
     lines = of_elements(one or empty, other or empty)
     sign = "-" if other is None else "+" if one is None else "@"
     if sign == "@" and not lines:
@@ -45,9 +45,45 @@ def difference(one, other, is_brief=False):
     return lines
 
 
+def layer_of(made):
+    """The layer and the datatype of an element; a placement has none."""
+    if made[0] == 0:
+        return ()
+    return made[2:4] if made[0] == 1 else made[1:3]
+
+
+def is_on(made, layers):
+    """Whether an element is on one of the layers, each `L` or `L/D`."""
+    return any(layer_of(made)[: len(layer)] == layer for layer in layers)
+
+
+def chosen(layout, cells, layers):
+    """The layout without cells that aren't named, and without elements that are on none of the layers, where there are any."""
+    left = {}
+    for name, counted in layout[1].items():
+        if not cells or name in cells:
+            left[name] = type(counted)({made: times for made, times in counted.items() if not layers or is_on(made, layers)})
+    return layout[0], left
+
+
+def with_empty(layout, other):
+    """The layout with a cell without elements for each that only the other has."""
+    return layout[0], {name: layout[1].get(name, type(counted)()) for name, counted in {**other[1], **layout[1]}.items()}
+
+
+def given(options, name):
+    """The values of an option, in order."""
+    return [options[place + 1] for place, word in enumerate(options) if word == name]
+
+
 def diff(layouts, options):
     """Status and output of `diff` with these options."""
-    lines = difference(*layouts, "--brief" in options)
+    cells = [name.encode() for name in given(options, "--cell")]
+    layers = [tuple(map(int, layer.split("/"))) for layer in given(options, "--layer")]
+    one, other = (chosen(layout, cells, layers) for layout in layouts)
+    if layers:
+        one, other = with_empty(one, other), with_empty(other, one)
+    lines = difference(one, other, "--brief" in options)
     status = 3 if lines else 0
     if "--limit" in options:
         most = int(options[options.index("--limit") + 1])

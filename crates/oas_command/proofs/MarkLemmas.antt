@@ -20,8 +20,8 @@ module _ (found : Contents × Contents) where
   marks_differ options contents before after n (Err refusal) status r whole says ends = ends
 
   -- what the markers' writer took
-  pub marks_follow : {W : Type 0} (contents : W → Option (List ℕ)) (marked : Result ℕ Refusal) (before after : W)
-      → IfOk marked (IsMarked contents before (marks found) after)
-      → IfErr marked (IsMarkedUpTo contents before (marks found) after) → Marks contents before (Ok found) (result_after found marked) after
-  marks_follow contents (Ok count) before after whole cut = (refl, whole.took)
-  marks_follow contents (Err refusal) before after whole cut = cut
+  pub marks_follow : (options : Options) (most : ℕ) {W : Type 0} (contents : W → Option (List ℕ)) (marked : Result ℕ Refusal) (before after : W)
+      → IfOk marked (IsMarked contents before (marks options most found) after)
+      → IfErr marked (IsMarkedUpTo contents before (marks options most found) after) → Marks options most contents before (Ok found) (result_after found marked) after
+  marks_follow options most contents (Ok count) before after whole cut = (refl, whole.took)
+  marks_follow options most contents (Err refusal) before after whole cut = cut

@@ -5,20 +5,22 @@ use Rattle.oas_num.specs.declared.refusals.Refusal.{Refusal}
 use Rattle.oas_layout.specs.Contents.{Contents, meaning_of}
 use Rattle.oas_canon.specs.declared.profile.TheConstants.{PROFILE}
 use Rattle.oas_canon.specs.declared.sameness.Which.{Which}
+use Rattle.oas_markers.specs.oas_difference.Choice.{chosen}
+use Rattle.oas_markers.specs.oas_difference.declared.options.Options.{Options}
 use Rattle.oas_markers.specs.Markers.{markers}
 use Rattle.oas_markers.specs.Written.{IsMarkedUpTo}
 use Rattle.oas_command.specs.Runs.{blamed}
 
--- the markers of two layouts
-abbrev pub marks : Contents × Contents → List ℕ
-marks found = markers PROFILE (meaning_of found.0) (meaning_of found.1)
+-- the markers of what the options compare of two layouts, at most this many
+abbrev pub marks : Options → ℕ → Contents × Contents → List ℕ
+marks options most found = markers most options.choice.layers PROFILE (chosen options.choice (meaning_of found.0)) (chosen options.choice (meaning_of found.1))
 
 -- After the lines the markers were written, and that is the last result; or the writer failed and took a prefix of them, as
 -- long as the place of the last result's refusal says, capped to 64 bits. Without the lines no marker was written.
-abbrev pub Marks : {W : Type 0} → (W → Option (List ℕ)) → W → Result (Contents × Contents) Refusal → Result (Contents × Contents) Refusal → W → Type 0
-Marks contents before (Ok found) (Ok last) after = (last ≡ found) × Appends (contents before) (contents after) (marks found)
-Marks contents before (Ok found) (Err refusal) after = IsMarkedUpTo contents before (marks found) after refusal
-Marks contents before (Err refusal) last after = (last ≡ Err refusal) × (after ≡ before)
+abbrev pub Marks : {W : Type 0} → Options → ℕ → (W → Option (List ℕ)) → W → Result (Contents × Contents) Refusal → Result (Contents × Contents) Refusal → W → Type 0
+Marks options most contents before (Ok found) (Ok last) after = (last ≡ found) × Appends (contents before) (contents after) (marks options most found)
+Marks options most contents before (Ok found) (Err refusal) after = IsMarkedUpTo contents before (marks options most found) after refusal
+Marks options most contents before (Err refusal) last after = (last ≡ Err refusal) × (after ≡ before)
 
 -- the name of what failed: the markers' own after the lines, and before that as without markers
 abbrev pub blamed_marking : List ℕ → List ℕ → List ℕ → Result (Contents × Contents) (Which × Refusal) → Result (Contents × Contents) Refusal → List ℕ

@@ -15,8 +15,9 @@
 //!   specs/CellKeys.antt).
 //! - [`run_info`] finds the facts of the layout that was read, or out of memory for them or their text (`Informs`,
 //!   specs/Info.antt), and delivers that text, in the requested format. The status and the error output are as above.
-//! - [`run_marking`] reads two files and delivers their difference, and after that another writer takes its markers, or a
-//!   prefix of them where it failed (`Marks`, specs/Marking.antt). The refusal of that writer is under the markers' own name.
+//! - [`run_marking`] reads two files and delivers their difference, and after that another writer takes its markers, at most
+//!   as many as are asked for, or a prefix of them where it failed (`Marks`, specs/Marking.antt). The refusal of that writer is
+//!   under the markers' own name.
 //! - [`run_rekey`] returns status 0 where `oas_canon::rekey` re-keyed, 3 where it returned that the file isn't canonical by
 //!   profile one, and 1 where it refused, and promises all that the contract of that call says (`RekeysFile`). What the error
 //!   output took is a prefix of the line of that result (`rekey_said`, specs/Rekeying.antt).
@@ -72,7 +73,7 @@ pub use messages::put_refusal;
 pub use oas_canon;
 pub use oas_info::Form;
 pub use oas_markers::oas_difference;
-pub use oas_markers::oas_difference::{Detail, Options};
+pub use oas_markers::oas_difference::{Choice, ChosenLayer, Detail, Options};
 pub use runs::{
     canon_telling, check_telling, diff_telling, info_telling, kept_telling, key_telling,
     keys_telling, marking_telling, named_check_telling, named_key_telling, rekey_telling,

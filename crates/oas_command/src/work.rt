@@ -32,9 +32,9 @@ pub enum Work<'a> {
 
 /// What is asked of two files.
 #[derive(Clone, Copy)]
-pub enum PairWork {
+pub enum PairWork<'a> {
     Same,
-    Diff(Options),
+    Diff(Options<'a>),
 }
 
 /// Does the work on all that `from` gives, and returns the status of the command. What it has to say is told under this
@@ -69,7 +69,7 @@ pub fn work_telling<S: Source, W: Write, K: Sink>(
 /// the name of the file of which it is said.
 pub fn pair_work_telling<S: Source, T: Source, W: Write, K: Sink>(
     alloc: Global,
-    work: PairWork,
+    work: PairWork<'_>,
     name_a: &str,
     a: &mut S,
     name_b: &str,
@@ -78,7 +78,7 @@ pub fn pair_work_telling<S: Source, T: Source, W: Write, K: Sink>(
     told: &mut K,
     limits: Limits,
 ) -> u8
-    ensures { DoesPairWork W.contents K.given K.failures limits T.script name_a.now name_b.now (S.script a.old) b.old out.old told.old work result (S.script a.new) b.new out.new told.new }
+    ensures { DoesPairWork W.contents K.given K.failures limits T.script name_a.now name_b.now (S.script a.old) b.old out.old told.old work.entry result (S.script a.new) b.new out.new told.new }
 {
     match work {
         PairWork::Same => same_telling(alloc, name_a, a, name_b, b, out, told, limits),

@@ -2,6 +2,7 @@
 use Rattle.std.proofs.Common.{◌≡◌, ℕ, ◌+◌, ◌<◌, ◌≤◌, ◌^◌, List, [], ◌∷◌, ◌++◌, length, flat_map, sum_by, Bool, true, false, cond, Option, None, Some, is_some, unwrap_or, refl, sym}
 use Rattle.std.proofs.Common.{◌∙◌, ap, subst, arith}
 use Rattle.std.specs.Prelude.{◌-◌, ◌==◌, ◌==◌, option_map, IfSome, if◌then◌else◌}
+use Rattle.std.specs.Borrow.{Bor}
 use Rattle.std.specs.Ordering.{nat_cmp}
 use Rattle.std.specs.Cmp.Lexicographic.{slice_cmp}
 use Rattle.std.specs.List.{AllByRecursion}
@@ -26,8 +27,10 @@ use Rattle.oas_difference.specs.Difference.{unit_changes}
 use Rattle.oas_difference.specs.Brief.{change_at, changed, only_first, only_second, brief_of, cell_brief}
 use Rattle.oas_difference.specs.Held.{pair_changed, held_changed, counted_to, held_brief, held_lines}
 use Rattle.oas_difference.specs.Options.{detailed}
+use Rattle.oas_difference.specs.Choice.{or_empty}
+use Rattle.oas_difference.specs.declared.choice.ChosenLayer.{ChosenLayer}
 use Rattle.oas_difference.proofs.Ascending.{all_append, all_ascending, items_keys}
-use Rattle.oas_difference.proofs.Held.{keys_normal, count_held, there, the_items, bag_of, bag_at, elements_found, keys_held, difference_held}
+use Rattle.oas_difference.proofs.Held.{keys_normal, count_held, there, the_items, bag_of, or_bag, bag_at, or_items, elements_found, keys_held, pairs_are, difference_held}
 use Rattle.oas_difference.proofs.Sums.{sorted_ascending, weight_if, sum_found}
 use Rattle.oas_difference.proofs.Lengths.{unwrapped, held_length}
 
@@ -152,6 +155,10 @@ unfolding IsFew
 few_of None h = omega arith
 few_of (Some es) h = h
 
+or_few : (layers : Option (Bor (List ChosenLayer))) (o : Option (List (Element × ℕ))) → IfSome o IsFew → IfSome (or_empty layers o) IsFew
+or_few None o h = h
+or_few (Some l) o h = few_of o h
+
 few_at : (test : List ℕ → Bool) (cs : List Cell) → AllByRecursion (λ c. IsFew c.1) cs → IfSome (lookup test cs) IsFew
 few_at test [] h = tt
 few_at test (c ∷ cs) h = elim (test c.0) as (λ b. IfSome (cond b (Some c.1) (lookup test cs)) IsFew) [ true ↦ h.0 | false ↦ few_at test cs h.1 ]
@@ -175,26 +182,30 @@ brief_held profile name o p b c few less =
 
 -- ---- the cells
 
-module _ (profile : Profile) (cs ds : List Cell) (p : AllByRecursion (IsCell profile) cs) (q : AllByRecursion (IsCell profile) ds)
+module _ (profile : Profile) (layers : Option (Bor (List ChosenLayer))) (cs ds : List Cell) (p : AllByRecursion (IsCell profile) cs) (q : AllByRecursion (IsCell profile) ds)
     (few : AllByRecursion (λ c. IsFew c.1) cs) (less : AllByRecursion (λ c. IsFew c.1) ds) where
-  line_held : (name : List ℕ) → cell_brief profile name (elements_of name (expanded cs)) (elements_of name (expanded ds))
-      ≡ held_brief (name, (found (slice_cmp nat_cmp) cs name, found (slice_cmp nat_cmp) ds name))
+  line_held : (name : List ℕ) → cell_brief profile name (or_empty layers (elements_of name (expanded cs))) (or_empty layers (elements_of name (expanded ds)))
+      ≡ held_brief (name, (or_empty layers (found (slice_cmp nat_cmp) cs name), or_empty layers (found (slice_cmp nat_cmp) ds name)))
   line_held name =
       let at = is_at (slice_cmp nat_cmp name) in
-      (λ i. cell_brief profile name (elements_found name cs i) (elements_found name ds i))
-      ∙ brief_held profile name (found (slice_cmp nat_cmp) cs name) (found (slice_cmp nat_cmp) ds name) (bag_at profile at cs p) (bag_at profile at ds q) (few_at at cs few) (few_at at ds less)
+      let o = found (slice_cmp nat_cmp) cs name in
+      let r = found (slice_cmp nat_cmp) ds name in
+      (λ i. cell_brief profile name (or_empty layers (elements_found name cs i)) (or_empty layers (elements_found name ds i)))
+      ∙ (λ i. cell_brief profile name (or_items layers o i) (or_items layers r i))
+      ∙ brief_held profile name (or_empty layers o) (or_empty layers r) (or_bag profile layers o (bag_at profile at cs p)) (or_bag profile layers r (bag_at profile at ds q))
+      (or_few layers o (few_at at cs few)) (or_few layers r (few_at at ds less))
 
-  lines_held : flat_map (λ name. cell_brief profile name (elements_of name (expanded cs)) (elements_of name (expanded ds)))
-      (ascending (slice_cmp nat_cmp) (keys_of (expanded cs) ++ keys_of (expanded ds))) ≡ held_lines Counts cs ds
+  lines_held : flat_map (λ name. cell_brief profile name (or_empty layers (elements_of name (expanded cs))) (or_empty layers (elements_of name (expanded ds))))
+      (ascending (slice_cmp nat_cmp) (keys_of (expanded cs) ++ keys_of (expanded ds))) ≡ held_lines layers Counts cs ds
   lines_held =
       (λ i. flat_map (λ name. line_held name i) (ascending (slice_cmp nat_cmp) (keys_held cs i ++ keys_held ds i)))
-      ∙ sym (flat_map-map held_brief (λ name. (name, (found (slice_cmp nat_cmp) cs name, found (slice_cmp nat_cmp) ds name))) (ascending (slice_cmp nat_cmp) (keys_of cs ++ keys_of ds)))
+      ∙ sym (pairs_are layers held_brief cs ds)
 
 -- the lines of the units, and then those of the cells that are held
-pub detailed_held : (detail : Detail) (a b : Contents) → IsLayout a → IsLayout b → a.profile ≡ b.profile →
-    detailed detail a.profile (meaning_of a) (meaning_of b) ≡ unit_changes a.unit b.unit ++ held_lines detail a.cells b.cells
-detailed_held Elements a b k l alike = difference_held a b k l alike
-detailed_held Counts a b k l alike =
+pub detailed_held : (layers : Option (Bor (List ChosenLayer))) (detail : Detail) (a b : Contents) → IsLayout a → IsLayout b → a.profile ≡ b.profile →
+    detailed layers detail a.profile (meaning_of a) (meaning_of b) ≡ unit_changes a.unit b.unit ++ held_lines layers detail a.cells b.cells
+detailed_held layers Elements a b k l alike = difference_held layers a b k l alike
+detailed_held layers Counts a b k l alike =
     let cells = subst (λ p. AllByRecursion (IsCell p) b.cells) (sym alike) l.cells in
     ap (λ (text : List ℕ). unit_changes a.unit b.unit ++ text)
-    (lines_held a.profile a.cells b.cells k.cells cells (all_few a.cells (omega (arith, k.few, k.limits.few))) (all_few b.cells (omega (arith, l.few, l.limits.few))))
+    (lines_held a.profile layers a.cells b.cells k.cells cells (all_few a.cells (omega (arith, k.few, k.limits.few))) (all_few b.cells (omega (arith, l.few, l.limits.few))))

@@ -26,6 +26,9 @@ use Rattle.oas_listing.specs.Listing.{element_line}
 use Rattle.oas_difference.specs.Ascending.{ascending}
 use Rattle.oas_difference.specs.Difference.{change, signed, unit_line, same_ratio, unit_changes, element_changes, below_name, cell_changes, difference}
 use Rattle.oas_difference.specs.Laws.DifferenceLaws.{EmptyIfSame}
+use Rattle.oas_difference.specs.Laws.OptionLaws.{SameElements}
+use Rattle.oas_difference.specs.declared.choice.ChosenLayer.{ChosenLayer}
+use Rattle.std.specs.Borrow.{Bor}
 
 -- ---- lists without a line
 
@@ -218,7 +221,7 @@ module _ (profile : Profile) where
     lines_of name = cell_changes profile name (elements_of name a.cells) (elements_of name b.cells)
 
     -- if there is no line, they are the same
-    same_from_none : difference profile a b ≡ [] → SameLayout profile a b
+    same_from_none : difference None profile a b ≡ [] → SameLayout profile a b
     unfolding OneOf lines_of
     same_from_none h =
         let parts = none_twice (unit_changes a.unit b.unit) _ h in
@@ -226,10 +229,48 @@ module _ (profile : Profile) where
         record { unit = units_alike a.unit b.unit parts.0; cells = λ name. (one name).both; counts = λ name. (one name).counts }
 
     -- and if they are the same, there is no line
-    none_from_same : SameLayout profile a b → difference profile a b ≡ []
+    none_from_same : SameLayout profile a b → difference None profile a b ≡ []
     unfolding lines_of
     none_from_same s =
         λ i. one_unit a.unit b.unit s.unit i ++ none_of_all lines_of (λ name. same_cell name _ _ (record { both = s.cells name; counts = s.counts name }))
+        (ascending (slice_cmp nat_cmp) (keys_of a.cells ++ keys_of b.cells)) i
+
+    -- ---- where only elements are compared
+
+    CountsOf : List ℕ → Type 0
+    CountsOf name = (e : Element) → count_of profile e (unwrap_or (elements_of name a.cells) []) ≡ count_of profile e (unwrap_or (elements_of name b.cells) [])
+
+    elements_line : List ℕ → List ℕ
+    elements_line name = cell_changes profile name (Some (unwrap_or (elements_of name a.cells) [])) (Some (unwrap_or (elements_of name b.cells) []))
+
+    counts_of : (names : List (List ℕ)) → AllByRecursion (λ name. elements_line name ≡ []) names → AllByRecursion CountsOf names
+    unfolding CountsOf elements_line
+    counts_of [] h = tt
+    counts_of (name ∷ names) h = ((cell_alike name (Some (unwrap_or (elements_of name a.cells) [])) (Some (unwrap_or (elements_of name b.cells) [])) h.0).counts, counts_of names h.1)
+
+    counts_of_all : AllByRecursion CountsOf (keys_of a.cells ++ keys_of b.cells) → (name : List ℕ) → CountsOf name
+    unfolding CountsOf
+    counts_of_all h name =
+        let parts = all_front CountsOf (keys_of a.cells) (keys_of b.cells) h in
+        elim (named CountsOf name a.cells parts.0) [
+          | inl one ↦ one
+          | inr none ↦ elim (named CountsOf name b.cells parts.1) [
+            | inl one ↦ one
+            | inr neither ↦ λ x. ap (λ q. count_of profile x (unwrap_or q [])) none ∙ sym (ap (λ q. count_of profile x (unwrap_or q [])) neither)
+          ]
+        ]
+
+    pub elements_from_none : (layers : Bor (List ChosenLayer)) → difference (Some layers) profile a b ≡ [] → SameElements profile a b
+    unfolding CountsOf elements_line
+    elements_from_none layers h =
+        let parts = none_twice (unit_changes a.unit b.unit) _ h in
+        let counts = counts_of_all (counts_of (keys_of a.cells ++ keys_of b.cells) (none_of_each elements_line (slice_cmp nat_cmp) exact_bytes (keys_of a.cells ++ keys_of b.cells) parts.1)) in
+        record { unit = units_alike a.unit b.unit parts.0; counts = counts }
+
+    pub none_from_elements : (layers : Bor (List ChosenLayer)) → SameElements profile a b → difference (Some layers) profile a b ≡ []
+    unfolding elements_line
+    none_from_elements layers s =
+        λ i. one_unit a.unit b.unit s.unit i ++ none_of_all elements_line (λ name. same_cell name (Some (unwrap_or (elements_of name a.cells) [])) (Some (unwrap_or (elements_of name b.cells) [])) (record { both = refl; counts = s.counts name }))
         (ascending (slice_cmp nat_cmp) (keys_of a.cells ++ keys_of b.cells)) i
 
 pub empty_if_same : (profile : Profile) → EmptyIfSame profile

@@ -1,6 +1,7 @@
--- With all options nothing is written exactly if the layouts are the same.
+-- With all options nothing is written exactly if what they compare of the layouts is the same.
 use Rattle.std.proofs.Common.{◌≡◌, ℕ, zero, suc, List, [], ◌∷◌, ◌++◌, flat_map, Bool, true, false, Option, None, Some, refl, ◌∙◌, ap, arith}
 use Rattle.std.specs.Prelude.{◌==◌, ◌&&◌, ◌↔◌, if◌then◌else◌}
+use Rattle.std.specs.Borrow.{Bor}
 use Rattle.std.specs.Ordering.{nat_cmp}
 use Rattle.std.specs.Cmp.Lexicographic.{slice_cmp}
 use Rattle.std.specs.Map.{keys_of}
@@ -9,8 +10,9 @@ use Rattle.std.proofs.lemmas.Bool.{eqb-true}
 use Rattle.oas_layout.specs.declared.profile.Profile.{Profile}
 use Rattle.oas_layout.specs.declared.element.Element.{Element}
 use Rattle.oas_layout.specs.Element.{element_cmp}
-use Rattle.oas_layout.specs.Meaning.{Meaning, SameLayout, elements_of, count_of}
+use Rattle.oas_layout.specs.Meaning.{Meaning, elements_of, count_of}
 use Rattle.oas_listing.specs.Listing.{element_line}
+use Rattle.oas_difference.specs.declared.choice.ChosenLayer.{ChosenLayer}
 use Rattle.oas_difference.specs.declared.options.Detail.{Detail}
 use Rattle.oas_difference.specs.declared.options.Detail.TheVariants.{Elements, Counts}
 use Rattle.oas_difference.specs.declared.options.Options.{Options}
@@ -18,10 +20,11 @@ use Rattle.oas_difference.specs.Ascending.{ascending}
 use Rattle.oas_difference.specs.Difference.{change, unit_changes, element_changes, below_name, cell_changes, difference}
 use Rattle.oas_difference.specs.Brief.{change_at, changed, only_first, only_second, signed_brief, brief_sign, cell_brief, brief}
 use Rattle.oas_difference.specs.Limited.{limited}
+use Rattle.oas_difference.specs.Choice.{chosen, or_empty}
 use Rattle.oas_difference.specs.Options.{detailed}
-use Rattle.oas_difference.specs.Laws.OptionLaws.{EmptyByOptions}
+use Rattle.oas_difference.specs.Laws.OptionLaws.{SameBy, EmptyByOptions}
 use Rattle.oas_difference.proofs.BriefHeld.{first_more, second_more}
-use Rattle.oas_difference.proofs.EmptyLaw.{none_twice, same_count, counts_alike, empty_if_same}
+use Rattle.oas_difference.proofs.EmptyLaw.{none_twice, same_count, counts_alike, empty_if_same, elements_from_none, none_from_elements}
 
 -- ---- the first lines of a text
 
@@ -133,35 +136,42 @@ all_none f g h (k ∷ ks) e =
     let parts = none_twice (f k) (flat_map f ks) e in
     λ i. h k parts.0 i ++ all_none f g h ks parts.1 i
 
-module _ (profile : Profile) (a b : Meaning) where
+module _ (layers : Option (Bor (List ChosenLayer))) (profile : Profile) (a b : Meaning) where
   fully : List ℕ → List ℕ
-  fully name = cell_changes profile name (elements_of name a.cells) (elements_of name b.cells)
+  fully name = cell_changes profile name (or_empty layers (elements_of name a.cells)) (or_empty layers (elements_of name b.cells))
 
   briefly : List ℕ → List ℕ
-  briefly name = cell_brief profile name (elements_of name a.cells) (elements_of name b.cells)
+  briefly name = cell_brief profile name (or_empty layers (elements_of name a.cells)) (or_empty layers (elements_of name b.cells))
 
   names : List (List ℕ)
   names = ascending (slice_cmp nat_cmp) (keys_of a.cells ++ keys_of b.cells)
 
-  brief_from_none : difference profile a b ≡ [] → brief profile a b ≡ []
+  brief_from_none : difference layers profile a b ≡ [] → brief layers profile a b ≡ []
   unfolding fully briefly names
   brief_from_none e =
       let parts = none_twice (unit_changes a.unit b.unit) (flat_map fully names) e in
-      λ i. parts.0 i ++ all_none fully briefly (λ name. brief_none profile name (elements_of name a.cells) (elements_of name b.cells)) names parts.1 i
+      λ i. parts.0 i ++ all_none fully briefly (λ name. brief_none profile name (or_empty layers (elements_of name a.cells)) (or_empty layers (elements_of name b.cells))) names parts.1 i
 
-  none_from_brief : brief profile a b ≡ [] → difference profile a b ≡ []
+  none_from_brief : brief layers profile a b ≡ [] → difference layers profile a b ≡ []
   unfolding fully briefly names
   none_from_brief e =
       let parts = none_twice (unit_changes a.unit b.unit) (flat_map briefly names) e in
-      λ i. parts.0 i ++ all_none briefly fully (λ name. changes_none profile name (elements_of name a.cells) (elements_of name b.cells)) names parts.1 i
+      λ i. parts.0 i ++ all_none briefly fully (λ name. changes_none profile name (or_empty layers (elements_of name a.cells)) (or_empty layers (elements_of name b.cells))) names parts.1 i
 
-by_detail : (limit : Option ℕ) (detail : Detail) (profile : Profile) (a b : Meaning) → (limited limit (detailed detail profile a b) ≡ []) ↔ SameLayout profile a b
-by_detail limit Elements profile a b =
-    (λ e. (empty_if_same profile a b).0 (limited_none limit (difference profile a b) e), λ s. none_limited limit (difference profile a b) ((empty_if_same profile a b).1 s))
-by_detail limit Counts profile a b = (
-  λ e. (empty_if_same profile a b).0 (none_from_brief profile a b (limited_none limit (brief profile a b) e)),
-  λ s. none_limited limit (brief profile a b) (brief_from_none profile a b ((empty_if_same profile a b).1 s)),
+empty_by_layers : (layers : Option (Bor (List ChosenLayer))) (profile : Profile) (a b : Meaning) → (difference layers profile a b ≡ []) ↔ SameBy layers profile a b
+empty_by_layers None profile a b = empty_if_same profile a b
+empty_by_layers (Some layers) profile a b = (elements_from_none profile a b layers, none_from_elements profile a b layers)
+
+by_detail : (limit : Option ℕ) (layers : Option (Bor (List ChosenLayer))) (detail : Detail) (profile : Profile) (a b : Meaning) →
+    (limited limit (detailed layers detail profile a b) ≡ []) ↔ SameBy layers profile a b
+by_detail limit layers Elements profile a b = (
+  λ e. (empty_by_layers layers profile a b).0 (limited_none limit (difference layers profile a b) e),
+  λ s. none_limited limit (difference layers profile a b) ((empty_by_layers layers profile a b).1 s),
+)
+by_detail limit layers Counts profile a b = (
+  λ e. (empty_by_layers layers profile a b).0 (none_from_brief layers profile a b (limited_none limit (brief layers profile a b) e)),
+  λ s. none_limited limit (brief layers profile a b) (brief_from_none layers profile a b ((empty_by_layers layers profile a b).1 s)),
 )
 
 pub empty_by_options : (options : Options) (profile : Profile) → EmptyByOptions options profile
-empty_by_options options profile a b = by_detail options.limit options.detail profile a b
+empty_by_options options profile a b = by_detail options.limit options.choice.layers options.detail profile (chosen options.choice a) (chosen options.choice b)

@@ -1,6 +1,7 @@
 -- The difference of two layouts is that of what they hold.
 use Rattle.std.proofs.Common.{◌≡◌, ℕ, List, [], ◌∷◌, ◌++◌, flat_map, Bool, true, false, cond, Option, None, Some, is_some, unwrap_or, refl, sym, ◌∙◌, ap, subst}
 use Rattle.std.specs.Prelude.{◌==◌, option_map, IfSome}
+use Rattle.std.specs.Borrow.{Bor}
 use Rattle.std.specs.Ordering.{nat_cmp}
 use Rattle.std.specs.Cmp.Lexicographic.{slice_cmp, pointwise, texts_ties}
 use Rattle.std.specs.List.{AllByRecursion}
@@ -19,9 +20,11 @@ use Rattle.oas_layout.specs.Contents.{Cell, Contents, expanded, meaning_of, IsCe
 use Rattle.oas_layout.proofs.LawProofs.{held}
 use Rattle.oas_listing.specs.Listing.{element_line}
 use Rattle.oas_difference.specs.Ascending.{ascending}
-use Rattle.oas_difference.specs.Pairs.{found}
+use Rattle.oas_difference.specs.Pairs.{found, side_by_side}
+use Rattle.oas_difference.specs.Choice.{or_empty}
+use Rattle.oas_difference.specs.declared.choice.ChosenLayer.{ChosenLayer}
 use Rattle.oas_difference.specs.Difference.{change, unit_changes, element_changes, below_name, cell_changes, difference}
-use Rattle.oas_difference.specs.Held.{pair_line, held_changes, held_cell, held_cells}
+use Rattle.oas_difference.specs.Held.{pair_line, held_changes, held_cell, with_empty, cell_pairs}
 use Rattle.oas_difference.proofs.Ascending.{all_append, all_ascending, items_keys}
 
 pub flat_map_alike : {A : Type 0} (f g : A → List ℕ) (xs : List A) → AllByRecursion (λ x. f x ≡ g x) xs → flat_map f xs ≡ flat_map g xs
@@ -81,6 +84,10 @@ module _ (profile : Profile) where
       (λ i. below_name (there o i) (there p i) name (element_changes profile (the_items o i) (the_items p i)))
       ∙ ap (below_name (is_some o) (is_some p) name) (changes_held (unwrap_or o []) (unwrap_or p []) (bag_of o b) (bag_of p c))
 
+  pub or_bag : (layers : Option (Bor (List ChosenLayer))) (o : Option (List (Element × ℕ))) → IfSome o (IsBag profile) → IfSome (or_empty layers o) (IsBag profile)
+  or_bag None o b = b
+  or_bag (Some l) o b = bag_of o b
+
   -- ---- the cells
 
   pub bag_at : (test : List ℕ → Bool) (cs : List Cell) → AllByRecursion (IsCell profile) cs → IfSome (lookup test cs) (IsBag profile)
@@ -100,21 +107,40 @@ pub keys_held : (cs : List Cell) → keys_of (expanded cs) ≡ keys_of cs
 keys_held [] = refl
 keys_held (c ∷ cs) = λ i. c.0 ∷ keys_held cs i
 
-module _ (profile : Profile) (cs ds : List Cell) (p : AllByRecursion (IsCell profile) cs) (q : AllByRecursion (IsCell profile) ds) where
-  name_held : (name : List ℕ) → cell_changes profile name (elements_of name (expanded cs)) (elements_of name (expanded ds))
-      ≡ held_cell (name, (found (slice_cmp nat_cmp) cs name, found (slice_cmp nat_cmp) ds name))
-  name_held name =
-      (λ i. cell_changes profile name (elements_found name cs i) (elements_found name ds i))
-      ∙ cell_held profile name (found (slice_cmp nat_cmp) cs name) (found (slice_cmp nat_cmp) ds name) (bag_at profile (is_at (slice_cmp nat_cmp name)) cs p)
-      (bag_at profile (is_at (slice_cmp nat_cmp name)) ds q)
+pub or_items : (layers : Option (Bor (List ChosenLayer))) (o : Option (List (Element × ℕ))) → or_empty layers (option_map items o) ≡ option_map items (or_empty layers o)
+or_items None o = refl
+or_items (Some l) None = refl
+or_items (Some l) (Some es) = refl
 
-  cells_held : flat_map (λ name. cell_changes profile name (elements_of name (expanded cs)) (elements_of name (expanded ds)))
-      (ascending (slice_cmp nat_cmp) (keys_of (expanded cs) ++ keys_of (expanded ds))) ≡ held_cells cs ds
+-- what is given for each pair of cells is given for each name
+pub pairs_are : {B : Type 0} (layers : Option (Bor (List ChosenLayer))) (f : List ℕ × (Option (List (Element × ℕ)) × Option (List (Element × ℕ))) → List B) (cs ds : List Cell) →
+    flat_map f (cell_pairs layers cs ds)
+    ≡ flat_map (λ name. f (name, (or_empty layers (found (slice_cmp nat_cmp) cs name), or_empty layers (found (slice_cmp nat_cmp) ds name))))
+    (ascending (slice_cmp nat_cmp) (keys_of cs ++ keys_of ds))
+pairs_are layers f cs ds =
+    let names = ascending (slice_cmp nat_cmp) (keys_of cs ++ keys_of ds) in
+    flat_map-map f (with_empty layers) (side_by_side (slice_cmp nat_cmp) cs ds)
+    ∙ flat_map-map (λ p. f (with_empty layers p)) (λ name. (name, (found (slice_cmp nat_cmp) cs name, found (slice_cmp nat_cmp) ds name))) names
+
+module _ (profile : Profile) (layers : Option (Bor (List ChosenLayer))) (cs ds : List Cell) (p : AllByRecursion (IsCell profile) cs) (q : AllByRecursion (IsCell profile) ds) where
+  name_held : (name : List ℕ) → cell_changes profile name (or_empty layers (elements_of name (expanded cs))) (or_empty layers (elements_of name (expanded ds)))
+      ≡ held_cell (name, (or_empty layers (found (slice_cmp nat_cmp) cs name), or_empty layers (found (slice_cmp nat_cmp) ds name)))
+  name_held name =
+      let o = found (slice_cmp nat_cmp) cs name in
+      let r = found (slice_cmp nat_cmp) ds name in
+      (λ i. cell_changes profile name (or_empty layers (elements_found name cs i)) (or_empty layers (elements_found name ds i)))
+      ∙ (λ i. cell_changes profile name (or_items layers o i) (or_items layers r i))
+      ∙ cell_held profile name (or_empty layers o) (or_empty layers r) (or_bag profile layers o (bag_at profile (is_at (slice_cmp nat_cmp name)) cs p))
+      (or_bag profile layers r (bag_at profile (is_at (slice_cmp nat_cmp name)) ds q))
+
+  cells_held : flat_map (λ name. cell_changes profile name (or_empty layers (elements_of name (expanded cs))) (or_empty layers (elements_of name (expanded ds))))
+      (ascending (slice_cmp nat_cmp) (keys_of (expanded cs) ++ keys_of (expanded ds))) ≡ flat_map held_cell (cell_pairs layers cs ds)
   cells_held =
       (λ i. flat_map (λ name. name_held name i) (ascending (slice_cmp nat_cmp) (keys_held cs i ++ keys_held ds i)))
-      ∙ sym (flat_map-map held_cell (λ name. (name, (found (slice_cmp nat_cmp) cs name, found (slice_cmp nat_cmp) ds name))) (ascending (slice_cmp nat_cmp) (keys_of cs ++ keys_of ds)))
+      ∙ sym (pairs_are layers held_cell cs ds)
 
 -- the lines of the units, and then those of the cells that are held
-pub difference_held : (a b : Contents) → IsLayout a → IsLayout b → a.profile ≡ b.profile → difference a.profile (meaning_of a) (meaning_of b) ≡ unit_changes a.unit b.unit ++ held_cells a.cells b.cells
-difference_held a b k l alike =
-    ap (λ (text : List ℕ). unit_changes a.unit b.unit ++ text) (cells_held a.profile a.cells b.cells k.cells (subst (λ p. AllByRecursion (IsCell p) b.cells) (sym alike) l.cells))
+pub difference_held : (layers : Option (Bor (List ChosenLayer))) (a b : Contents) → IsLayout a → IsLayout b → a.profile ≡ b.profile →
+    difference layers a.profile (meaning_of a) (meaning_of b) ≡ unit_changes a.unit b.unit ++ flat_map held_cell (cell_pairs layers a.cells b.cells)
+difference_held layers a b k l alike =
+    ap (λ (text : List ℕ). unit_changes a.unit b.unit ++ text) (cells_held a.profile layers a.cells b.cells k.cells (subst (λ p. AllByRecursion (IsCell p) b.cells) (sym alike) l.cells))

@@ -2,6 +2,7 @@
 use Rattle.std.proofs.Common.{◌≡◌, ℕ, ◌+◌, ◌*◌, ◌^◌, ◌<◌, ◌≤◌, zero, suc, List, [], ◌∷◌, ◌++◌, length, sum_by, Bool, true, false, Option, None, Some, unwrap_or}
 use Rattle.std.proofs.Common.{decimal, replicate, length-append, refl, ap, arith}
 use Rattle.std.specs.Prelude.{codes, nat_lt, ◌-◌, if◌then◌else◌}
+use Rattle.std.specs.Borrow.{Bor}
 use Rattle.std.specs.Ordering.{nat_cmp}
 use Rattle.std.specs.Cmp.{IsTotalOrder}
 use Rattle.std.specs.Cmp.Lexicographic.{slice_cmp, nat_list_cmp_total}
@@ -28,8 +29,11 @@ use Rattle.oas_difference.specs.Pairs.{found}
 use Rattle.oas_difference.specs.Difference.{signed, change, unit_line, same_ratio, unit_changes, cell_line, place_line, below_name}
 use Rattle.oas_difference.specs.Brief.{only_first, only_second, brief_line, brief_sign, signed_brief}
 use Rattle.oas_difference.specs.Held.{pair_line, held_changes, held_changed, counted_to, held_cell, held_brief, held_by, held_lines}
+use Rattle.oas_difference.specs.Choice.{or_empty}
+use Rattle.oas_difference.specs.declared.choice.ChosenLayer.{ChosenLayer}
 use Rattle.oas_difference.specs.declared.options.Detail.{Detail}
 use Rattle.oas_difference.specs.declared.options.Detail.TheVariants.{Elements, Counts}
+use Rattle.oas_difference.proofs.Held.{pairs_are}
 use Rattle.oas_difference.proofs.Sums.{sum_ascending, sorted_ascending, sum_le, two_sums, length-texts, weight_if, entries_sum, sum_found}
 
 -- ---- numbers beside elements
@@ -141,19 +145,38 @@ length-held_by : (detail : Detail) (name : List ℕ) (x y : Option (List (Elemen
 length-held_by Elements name x y = length-held_cell name x y
 length-held_by Counts name x y = length-held_brief name x y
 
-length-held_lines : (detail : Detail) (cs ds : List Cell) → length (held_lines detail cs ds)
+-- where a cell that is not there has no elements
+length-set : (layers : Option (Bor (List ChosenLayer))) (detail : Detail) (name : List ℕ) (x y : Option (List (Element × ℕ))) → length (held_by detail (name, (or_empty layers x, or_empty layers y)))
+    ≤ weight_if (slice_cmp nat_cmp) names_total exact_bytes cell_most name x + weight_if (slice_cmp nat_cmp) names_total exact_bytes cell_most name y
+unfolding weight_if cell_most
+length-set None detail name x y = length-held_by detail name x y
+length-set (Some l) detail name (Some es) (Some fs) = length-held_by detail name (Some es) (Some fs)
+length-set (Some l) Elements name None None = omega arith
+length-set (Some l) Elements name (Some es) None = omega (arith, length-below true true name (held_changes es []), length-changes es [])
+length-set (Some l) Elements name None (Some fs) = omega (arith, length-below true true name (held_changes [] fs), length-changes [] fs)
+length-set (Some l) Counts name None None = omega arith
+length-set (Some l) Counts name (Some es) None =
+    let n : ℕ = counted_to (only_first (held_changed es [])) in
+    let m : ℕ = counted_to (only_second (held_changed es [])) in
+    omega (arith, length-signed_brief (brief_sign true true n m) name n m)
+length-set (Some l) Counts name None (Some fs) =
+    let n : ℕ = counted_to (only_first (held_changed [] fs)) in
+    let m : ℕ = counted_to (only_second (held_changed [] fs)) in
+    omega (arith, length-signed_brief (brief_sign true true n m) name n m)
+
+length-held_lines : (layers : Option (Bor (List ChosenLayer))) (detail : Detail) (cs ds : List Cell) → length (held_lines layers detail cs ds)
     ≤ entries_sum (slice_cmp nat_cmp) names_total exact_bytes cell_most cs + entries_sum (slice_cmp nat_cmp) names_total exact_bytes cell_most ds
-length-held_lines detail cs ds =
+length-held_lines layers detail cs ds =
     let R = slice_cmp nat_cmp in
     let ks = ascending R (keys_of cs ++ keys_of ds) in
     let s = sorted_ascending R names_total (keys_of cs ++ keys_of ds) in
-    let pair : List ℕ → List ℕ × (Option (List (Element × ℕ)) × Option (List (Element × ℕ))) = λ k. (k, (found R cs k, found R ds k)) in
+    let line : List ℕ → List ℕ = λ k. held_by detail (k, (or_empty layers (found R cs k), or_empty layers (found R ds k))) in
     omega (
       arith,
-      ap length (flat_map-map (held_by detail) pair ks),
-      length-texts (λ k. held_by detail (pair k)) ks,
-      two_sums (λ k. length (held_by detail (pair k))) (λ k. weight_if R names_total exact_bytes cell_most k (found R cs k))
-          (λ k. weight_if R names_total exact_bytes cell_most k (found R ds k)) (λ k. length-held_by detail k (found R cs k) (found R ds k)) ks,
+      ap length (pairs_are layers (held_by detail) cs ds),
+      length-texts line ks,
+      two_sums (λ k. length (line k)) (λ k. weight_if R names_total exact_bytes cell_most k (found R cs k)) (λ k. weight_if R names_total exact_bytes cell_most k (found R ds k))
+          (λ k. length-set layers detail k (found R cs k) (found R ds k)) ks,
       sum_found R names_total exact_bytes cell_most ks s cs,
       sum_found R names_total exact_bytes cell_most ks s ds,
     )
@@ -203,13 +226,14 @@ length-units u v =
     ]
 
 -- and no layout weighs more than 2^30
-pub short_enough : (detail : Detail) (a b : Contents) → IsLayout a → IsLayout b → length (unit_changes a.unit b.unit ++ held_lines detail a.cells b.cells) < 2 ^ 63
-short_enough detail a b k l =
+pub short_enough : (layers : Option (Bor (List ChosenLayer))) (detail : Detail) (a b : Contents) → IsLayout a → IsLayout b →
+    length (unit_changes a.unit b.unit ++ held_lines layers detail a.cells b.cells) < 2 ^ 63
+short_enough layers detail a b k l =
     omega (
       arith,
-      length-append (unit_changes a.unit b.unit) (held_lines detail a.cells b.cells),
+      length-append (unit_changes a.unit b.unit) (held_lines layers detail a.cells b.cells),
       length-units a.unit b.unit,
-      length-held_lines detail a.cells b.cells,
+      length-held_lines layers detail a.cells b.cells,
       cells_weigh a.profile a.cells k.cells,
       cells_weigh b.profile b.cells l.cells,
       k.light,

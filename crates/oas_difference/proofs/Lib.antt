@@ -1,5 +1,7 @@
 pub mod Ascending
 pub mod BriefHeld
+pub mod Chosen
+pub mod Compared
 pub mod EmptyLaw
 pub mod EmptyOptions
 pub mod Held

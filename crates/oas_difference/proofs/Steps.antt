@@ -1,5 +1,5 @@
 -- The difference of what is held, a line at a time.
-use Rattle.std.proofs.Common.{◌≡◌, ◌≢◌, ℕ, zero, suc, ◌+◌, ◌<◌, List, [], ◌∷◌, ◌++◌, length, drop, flat_map, decimal, Bool, true, false, cond, Option, None, Some, is_some}
+use Rattle.std.proofs.Common.{◌≡◌, ◌≢◌, ℕ, zero, suc, ◌+◌, ◌<◌, List, [], ◌∷◌, ◌++◌, length, drop, map, flat_map, decimal, Bool, true, false, cond, Option, None, Some, is_some}
 use Rattle.std.proofs.Common.{unwrap_or, slice_get, refl, sym, ◌∙◌, ap, subst, append_assoc, arith}
 use Rattle.std.specs.Prelude.{◌-◌, nat_lt, IfSome, if◌then◌else◌}
 use Rattle.std.proofs.lemmas.Bool.{eq-eqb}
@@ -23,8 +23,9 @@ use Rattle.oas_listing.specs.Listing.{element_line}
 use Rattle.oas_difference.specs.Difference.{signed, change, unit_line, same_ratio, unit_changes, cell_line, place_line, below_name}
 use Rattle.oas_difference.specs.Pairs.{head_key, least, taken}
 use Rattle.oas_difference.specs.Brief.{change_at, only_first, only_second, brief_line, brief_sign, signed_brief}
-use Rattle.oas_difference.specs.Held.{in_hand, pair_line, pair_changed, held_changes, held_changed, held_cell, counted_to, held_brief, held_by, held_lines}
-use Rattle.oas_difference.specs.declared.options.Detail.{Detail}
+use Rattle.oas_difference.specs.Held.{in_hand, pair_line, pair_changed, held_changes, held_changed, held_cell, with_empty, cell_pairs, counted_to, held_brief}
+use Rattle.oas_difference.specs.Choice.{or_empty}
+use Rattle.oas_difference.specs.declared.choice.ChosenLayer.{ChosenLayer}
 use Rattle.oas_difference.proofs.EmptyLaw.{same_count, neither_below}
 use Rattle.oas_difference.proofs.Pairs.{none_left, sorted_taken, take_least}
 
@@ -58,14 +59,14 @@ module _ (es fs : List (Element × ℕ)) (k : Element) (s : IsStrictlySortedBy e
 
 -- ---- cells
 
-pub no_cells : (detail : Detail) (cs ds : List Cell) → least (slice_cmp nat_cmp) (head_key cs) (head_key ds) ≡ None → held_lines detail cs ds ≡ []
-no_cells detail cs ds h = let none = none_left (slice_cmp nat_cmp) cs ds h in λ i. held_lines detail (none.0 i) (none.1 i)
+pub no_pairs : (layers : Option (Bor (List ChosenLayer))) (cs ds : List Cell) → least (slice_cmp nat_cmp) (head_key cs) (head_key ds) ≡ None → cell_pairs layers cs ds ≡ []
+no_pairs layers cs ds h = let none = none_left (slice_cmp nat_cmp) cs ds h in λ i. cell_pairs layers (none.0 i) (none.1 i)
 
-pub first_cell : (detail : Detail) (cs ds : List Cell) (name : List ℕ) → IsStrictlySortedBy (slice_cmp nat_cmp) (keys_of cs) →
-    IsStrictlySortedBy (slice_cmp nat_cmp) (keys_of ds) → least (slice_cmp nat_cmp) (head_key cs) (head_key ds) ≡ Some name → held_lines detail cs ds
-    ≡ held_by detail (name, ((taken (slice_cmp nat_cmp) name cs).0, (taken (slice_cmp nat_cmp) name ds).0))
-    ++ held_lines detail (taken (slice_cmp nat_cmp) name cs).1 (taken (slice_cmp nat_cmp) name ds).1
-first_cell detail cs ds name s t h = ap (flat_map (held_by detail)) (take_least (slice_cmp nat_cmp) nat_list_cmp_total exact_bytes cs ds name s t h).listed
+pub first_pair : (layers : Option (Bor (List ChosenLayer))) (cs ds : List Cell) (name : List ℕ) → IsStrictlySortedBy (slice_cmp nat_cmp) (keys_of cs) →
+    IsStrictlySortedBy (slice_cmp nat_cmp) (keys_of ds) → least (slice_cmp nat_cmp) (head_key cs) (head_key ds) ≡ Some name → cell_pairs layers cs ds
+    ≡ (name, (or_empty layers (taken (slice_cmp nat_cmp) name cs).0, or_empty layers (taken (slice_cmp nat_cmp) name ds).0))
+    ∷ cell_pairs layers (taken (slice_cmp nat_cmp) name cs).1 (taken (slice_cmp nat_cmp) name ds).1
+first_pair layers cs ds name s t h = ap (map (with_empty layers)) (take_least (slice_cmp nat_cmp) nat_list_cmp_total exact_bytes cs ds name s t h).listed
 
 -- ---- the first key
 
@@ -134,27 +135,6 @@ alike_changed e n m rest h = ap (λ (b : Bool). (if b then [] else (e, (n, m)) �
 pub left_is : {K : Type 0} {given : K → List ℕ → K → Type 0} {failures : K → ℕ} {whole b c : List ℕ} {old now : K} → PutSoFar given failures whole b old now → b
     ≡ c → PutSoFar given failures whole c old now
 left_is {given = given} {failures = failures} {whole = whole} {old = old} {now = now} p e = subst (λ (x : List ℕ). PutSoFar given failures whole x old now) e p
-
--- ---- a cell taken from both sides
-
-pub record CellStepped (detail : Detail) (cs ds : List Cell) (name : List ℕ) (x y : Option (List (Element × ℕ))) (cs' ds' : List Cell) : Type 0 where
-  pub text : held_lines detail cs ds ≡ held_by detail (name, (x, y)) ++ held_lines detail cs' ds'
-  pub before : IsStrictlySortedBy (slice_cmp nat_cmp) (keys_of cs')
-  pub after : IsStrictlySortedBy (slice_cmp nat_cmp) (keys_of ds')
-  pub fewer : length cs' + length ds' < length cs + length ds
-
-pub cell_stepped : (detail : Detail) (cs ds : List Cell) (name : List ℕ) (x y : Option (List (Element × ℕ))) (cs' ds' : List Cell) →
-    IsStrictlySortedBy (slice_cmp nat_cmp) (keys_of cs) → IsStrictlySortedBy (slice_cmp nat_cmp) (keys_of ds) →
-    least (slice_cmp nat_cmp) (head_key cs) (head_key ds) ≡ Some name → x ≡ (taken (slice_cmp nat_cmp) name cs).0 → y ≡ (taken (slice_cmp nat_cmp) name ds).0 →
-    cs' ≡ (taken (slice_cmp nat_cmp) name cs).1 → ds' ≡ (taken (slice_cmp nat_cmp) name ds).1 → CellStepped detail cs ds name x y cs' ds'
-cell_stepped detail cs ds name x y cs' ds' s t h p q u v =
-    let fewer = (take_least (slice_cmp nat_cmp) nat_list_cmp_total exact_bytes cs ds name s t h).fewer in
-    record {
-      text = first_cell detail cs ds name s t h ∙ (λ i. held_by detail (name, (sym p i, sym q i)) ++ held_lines detail (sym u i) (sym v i));
-      before = subst (λ (l : List Cell). IsStrictlySortedBy (slice_cmp nat_cmp) (keys_of l)) (sym u) (sorted_taken (slice_cmp nat_cmp) name cs s);
-      after = subst (λ (l : List Cell). IsStrictlySortedBy (slice_cmp nat_cmp) (keys_of l)) (sym v) (sorted_taken (slice_cmp nat_cmp) name ds t);
-      fewer = omega (arith, ap length u, ap length v, fewer);
-    }
 
 -- ---- the cells of a layout from one on
 

@@ -1,7 +1,6 @@
 -- Sums over keys that ascend, and over the numbers beside them.
 use Rattle.std.proofs.Common.{◌≡◌, ℕ, ◌+◌, ◌≤◌, List, [], ◌∷◌, length, flat_map, sum_by, cond, Bool, true, false, Option, None, Some}
 use Rattle.std.proofs.Common.{length-append, refl, ◌∙◌, ap, subst, arith}
-use Rattle.std.specs.Prelude.{◌-◌}
 use Rattle.std.specs.Ordering.{is_eq, match_ordering, ordering_reverse}
 use Rattle.std.specs.Cmp.{IsTotalOrder}
 use Rattle.std.specs.declared.cmp.Ordering.{Ordering}

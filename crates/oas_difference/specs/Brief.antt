@@ -1,5 +1,6 @@
 -- The difference of two layouts in brief: for each cell that differs how many elements only one of them has.
 use Rattle.std.specs.Prelude.{ℕ, ◌-◌, ◌==◌, ◌&&◌, Bool, true, false, List, [], ◌∷◌, ◌++◌, flat_map, sum_by, codes, decimal, Option, None, Some, is_some, unwrap_or, if◌then◌else◌}
+use Rattle.std.specs.Borrow.{Bor}
 use Rattle.std.specs.Ordering.{nat_cmp}
 use Rattle.std.specs.Cmp.Lexicographic.{slice_cmp}
 use Rattle.std.specs.Map.{keys_of}
@@ -8,7 +9,9 @@ use Rattle.oas_layout.specs.declared.element.Element.{Element}
 use Rattle.oas_layout.specs.Element.{element_cmp}
 use Rattle.oas_layout.specs.Meaning.{Meaning, elements_of, count_of}
 use Rattle.oas_difference.specs.Ascending.{ascending}
+use Rattle.oas_difference.specs.Choice.{or_empty}
 use Rattle.oas_difference.specs.Difference.{unit_changes}
+use Rattle.oas_difference.specs.declared.choice.ChosenLayer.{ChosenLayer}
 
 -- ---- the elements of a cell
 
@@ -58,7 +61,8 @@ cell_brief profile name before after =
 -- ---- the layouts
 
 -- the changes of the unit, and then the line of each cell that differs
-abbrev pub brief : Profile → Meaning → Meaning → List ℕ
-brief profile a b =
+abbrev pub brief : Option (Bor (List ChosenLayer)) → Profile → Meaning → Meaning → List ℕ
+brief layers profile a b =
     unit_changes a.unit b.unit
-    ++ flat_map (λ name. cell_brief profile name (elements_of name a.cells) (elements_of name b.cells)) (ascending (slice_cmp nat_cmp) (keys_of a.cells ++ keys_of b.cells))
+    ++ flat_map (λ name. cell_brief profile name (or_empty layers (elements_of name a.cells)) (or_empty layers (elements_of name b.cells)))
+    (ascending (slice_cmp nat_cmp) (keys_of a.cells ++ keys_of b.cells))

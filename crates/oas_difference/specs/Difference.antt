@@ -1,5 +1,6 @@
 -- The difference of two layouts: what one of them has more often than the other, in the order of the listing.
 use Rattle.std.specs.Prelude.{ℕ, ◌-◌, ◌==◌, ◌&&◌, nat_lt, Bool, true, false, List, [], ◌∷◌, ◌++◌, flat_map, codes, decimal, Option, is_some, unwrap_or, if◌then◌else◌}
+use Rattle.std.specs.Borrow.{Bor}
 use Rattle.std.specs.Ordering.{nat_cmp}
 use Rattle.std.specs.Cmp.Lexicographic.{slice_cmp}
 use Rattle.std.specs.Map.{keys_of}
@@ -11,6 +12,8 @@ use Rattle.oas_layout.specs.Meaning.{Meaning, elements_of, count_of}
 use Rattle.oas_listing.specs.Lines.{line}
 use Rattle.oas_listing.specs.Listing.{fraction, element_line}
 use Rattle.oas_difference.specs.Ascending.{ascending}
+use Rattle.oas_difference.specs.Choice.{or_empty}
+use Rattle.oas_difference.specs.declared.choice.ChosenLayer.{ChosenLayer}
 
 -- SIGN COUNT LINE, for a thing that is there this many more times
 abbrev pub signed : ℕ → ℕ → List ℕ → List ℕ
@@ -68,8 +71,10 @@ cell_changes profile name before after =
 
 -- ---- the layouts
 
--- the changes of the unit, and then those of each cell that either has
-abbrev pub difference : Profile → Meaning → Meaning → List ℕ
-difference profile a b =
+-- The changes of the unit, and then those of each cell that either has. Where layers are named, a cell that only one has is
+-- compared with one that has no elements.
+abbrev pub difference : Option (Bor (List ChosenLayer)) → Profile → Meaning → Meaning → List ℕ
+difference layers profile a b =
     unit_changes a.unit b.unit
-    ++ flat_map (λ name. cell_changes profile name (elements_of name a.cells) (elements_of name b.cells)) (ascending (slice_cmp nat_cmp) (keys_of a.cells ++ keys_of b.cells))
+    ++ flat_map (λ name. cell_changes profile name (or_empty layers (elements_of name a.cells)) (or_empty layers (elements_of name b.cells)))
+    (ascending (slice_cmp nat_cmp) (keys_of a.cells ++ keys_of b.cells))

@@ -1,16 +1,20 @@
 -- The difference of what two layouts hold: cells and elements with their counts.
-use Rattle.std.specs.Prelude.{ℕ, ◌-◌, ◌^◌, min, List, [], ◌∷◌, flat_map, Option, None, Some, is_some, unwrap_or}
+use Rattle.std.specs.Prelude.{◌≡◌, ℕ, ◌-◌, ◌^◌, min, true, List, [], ◌∷◌, map, flat_map, cond, slice_get, Option, None, Some, is_some, unwrap_or, IfSome}
 use Rattle.std.specs.Borrow.{Bor}
+use Rattle.std.specs.List.{filter}
 use Rattle.std.specs.Ordering.{nat_cmp}
 use Rattle.std.specs.Cmp.Lexicographic.{slice_cmp}
 use Rattle.oas_layout.specs.declared.element.Element.{Element}
 use Rattle.oas_layout.specs.Element.{element_cmp}
 use Rattle.oas_layout.specs.Bag.{counted}
-use Rattle.oas_layout.specs.Contents.{Cell}
+use Rattle.oas_layout.specs.Contents.{Cell, Contents, names}
 use Rattle.oas_listing.specs.Listing.{element_line}
 use Rattle.oas_difference.specs.Pairs.{side_by_side}
 use Rattle.oas_difference.specs.Difference.{change, below_name}
 use Rattle.oas_difference.specs.Brief.{change_at, only_first, only_second, brief_of}
+use Rattle.oas_difference.specs.Choice.{is_named, is_shown, or_empty}
+use Rattle.oas_difference.specs.declared.choice.Choice.{Choice}
+use Rattle.oas_difference.specs.declared.choice.ChosenLayer.{ChosenLayer}
 use Rattle.oas_difference.specs.declared.options.Detail.{Detail}
 use Rattle.oas_difference.specs.declared.options.Detail.TheVariants.{Elements, Counts}
 
@@ -28,8 +32,13 @@ held_changes es fs = flat_map pair_line (side_by_side element_cmp es fs)
 abbrev pub held_cell : List ℕ × (Option (List (Element × ℕ)) × Option (List (Element × ℕ))) → List ℕ
 held_cell p = below_name (is_some p.1.0) (is_some p.1.1) p.0 (held_changes (unwrap_or p.1.0 []) (unwrap_or p.1.1 []))
 
-abbrev pub held_cells : List Cell → List Cell → List ℕ
-held_cells cs ds = flat_map held_cell (side_by_side (slice_cmp nat_cmp) cs ds)
+-- a pair of cells as they are compared: where layers are named, a cell that is not there has no elements
+abbrev pub with_empty : Option (Bor (List ChosenLayer)) → List ℕ × (Option (List (Element × ℕ)) × Option (List (Element × ℕ))) → List ℕ × (Option (List (Element × ℕ)) × Option (List (Element × ℕ)))
+with_empty layers p = (p.0, (or_empty layers p.1.0, or_empty layers p.1.1))
+
+-- the cells of two layouts, in pairs by their names
+abbrev pub cell_pairs : Option (Bor (List ChosenLayer)) → List Cell → List Cell → List (List ℕ × (Option (List (Element × ℕ)) × Option (List (Element × ℕ))))
+cell_pairs layers cs ds = map (with_empty layers) (side_by_side (slice_cmp nat_cmp) cs ds)
 
 -- ---- in brief
 
@@ -55,5 +64,21 @@ abbrev pub held_by : Detail → List ℕ × (Option (List (Element × ℕ)) × O
 held_by Elements p = held_cell p
 held_by Counts p = held_brief p
 
-abbrev pub held_lines : Detail → List Cell → List Cell → List ℕ
-held_lines detail cs ds = flat_map (held_by detail) (side_by_side (slice_cmp nat_cmp) cs ds)
+abbrev pub held_lines : Option (Bor (List ChosenLayer)) → Detail → List Cell → List Cell → List ℕ
+held_lines layers detail cs ds = flat_map (held_by detail) (cell_pairs layers cs ds)
+
+-- ---- what is compared of what a layout holds
+
+abbrev pub elements_shown : Option (Bor (List ChosenLayer)) → List (Element × ℕ) → List (Element × ℕ)
+elements_shown layers es = filter (λ p. is_shown layers p.0) es
+
+abbrev pub cells_chosen : Choice → List Cell → List Cell
+cells_chosen choice [] = []
+cells_chosen choice (c ∷ cs) = cond (is_named choice.cells c.0) ((c.0, elements_shown choice.layers c.1) ∷ cells_chosen choice cs) (cells_chosen choice cs)
+
+abbrev pub contents_chosen : Choice → Contents → Contents
+contents_chosen choice a = record a { cells = cells_chosen choice a.cells }
+
+-- the cell at that place, if there is one, is compared
+abbrev pub IsNamedAt : Choice → List Cell → ℕ → Type 0
+IsNamedAt choice cs i = IfSome (slice_get (names cs) i) (λ name. is_named choice.cells name ≡ true)

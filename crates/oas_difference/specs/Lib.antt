@@ -4,6 +4,7 @@ pub mod Difference
 pub mod Brief
 pub mod Limited
 pub mod Limiting
+pub mod Choice
 pub mod Options
 pub mod Held
 pub mod Laws

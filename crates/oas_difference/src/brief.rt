@@ -11,8 +11,8 @@ ghost use Rattle.oas_difference.specs.Held.{counted_to, held_brief, held_changed
 
 use crate::changes::next_change;
 use crate::elements::Side;
+use crate::shown::Shown;
 use itoa::Buffer;
-use oas_layout::Elements;
 use oas_num::{Name, Sink, SinkFault};
 
 /// How many elements of a cell only the layout before has, and how many only the one after has.
@@ -84,8 +84,8 @@ fn put_brief<K: Sink>(sink: &mut K, sign: u8, name: &Name, excess: Excess) -> Re
 pub(crate) fn put_brief_cell<'a, K: Sink>(
     sink: &mut K,
     name: &Name,
-    before: Option<Elements<'a>>,
-    after: Option<Elements<'a>>,
+    before: Option<Shown<'a>>,
+    after: Option<Shown<'a>>,
 ) -> Result<(), SinkFault>
     requires before { IfSome before IsTally }
     requires after { IfSome after IsTally }

@@ -1,6 +1,6 @@
 //! What has changed in each cell.
 
-ghost use Rattle.std.specs.Prelude.{◌≡◌, ◌+◌, ◌<◌, ◌∷◌, [], length, true, option_map, IfSome, MatchOption};
+ghost use Rattle.std.specs.Prelude.{◌≡◌, ◌+◌, ◌<◌, ◌∷◌, [], length, drop, true, option_map, IfSome, MatchOption};
 ghost use Rattle.std.specs.Ordering.{nat_cmp};
 ghost use Rattle.std.specs.Cmp.Lexicographic.{slice_cmp};
 ghost use Rattle.std.specs.List.Sorted.{IsStrictlySortedBy};
@@ -11,23 +11,26 @@ ghost use Rattle.oas_layout.specs.Bag.{IsTally};
 ghost use Rattle.oas_layout.specs.Contents.{IsLayout};
 ghost use Rattle.oas_layout.specs.Element.{element_cmp};
 ghost use Rattle.oas_difference.specs.Difference.{cell_line, place_line, signed, below_name};
-ghost use Rattle.oas_difference.specs.Pairs.{head_key, least, taken, side_by_side};
-ghost use Rattle.oas_difference.specs.Held.{held_by, held_cell, held_changes, held_lines};
+ghost use Rattle.oas_difference.specs.Pairs.{head_key, least, taken};
+ghost use Rattle.oas_difference.specs.Held.{cell_pairs, held_by, held_cell, held_changes, held_lines, cells_chosen, IsNamedAt};
 
 use crate::brief::put_brief_cell;
 use crate::changes::{next_change, put_change, put_changes, put_sign};
+use crate::choice::{Choice, ChosenLayer, is_named};
 use crate::elements::Side;
 use crate::options::Detail;
-use oas_layout::{Elements, Layout};
+use crate::shown::{Shown, or_empty};
+use oas_layout::Layout;
 use oas_listing::put_name;
 use oas_num::{Name, Sink, SinkFault};
 use std::cmp::Ordering;
 use std::marker::Model;
 
-/// The cells of a layout from one on; contracts see the list of them.
+/// The cells of a layout that are compared, from one on; contracts see the list of them.
 #[derive(Drop)]
 pub struct Cells<'a> {
     layout: &'a Layout,
+    choice: Choice<'a>,
     count: usize,
     next: usize,
 }
@@ -35,25 +38,27 @@ pub struct Cells<'a> {
 impl<'a> Model for Cells<'a> {
     ghost use Rattle.std.specs.Prelude.{◌≡◌, List, length, drop};
     ghost use Rattle.oas_layout.specs.Contents.{Cell};
+    ghost use Rattle.oas_difference.specs.Held.{cells_chosen, IsNamedAt};
 
     ghost Value = { List Cell };
 
-    ghost view = { λ c. drop c.next c.layout.now.cells };
+    ghost view = { λ c. cells_chosen c.choice (drop c.next c.layout.now.cells) };
 
-    ghost invariant = { λ c. c.count ≡ length c.layout.now.cells };
+    ghost invariant = { λ c. (c.count ≡ length c.layout.now.cells) × IsNamedAt c.choice c.layout.now.cells c.next };
 }
 
 impl<'a> Cells<'a> {
     /// All of them.
-    pub fn new(layout: &'a Layout) -> Cells<'a>
-        ensures cells { result ≡ layout.now.cells }
+    pub fn new(layout: &'a Layout, choice: Choice<'a>) -> Cells<'a>
+        ensures cells { result ≡ cells_chosen choice.entry layout.now.cells }
         ensures layout { IsLayout layout.now }
     {
         let count = layout.cell_count();
         Cells {
             layout,
+            choice,
             count,
-            next: 0,
+            next: first_named(layout, choice, 0),
         }
     }
 
@@ -69,7 +74,7 @@ impl<'a> Cells<'a> {
     }
 
     /// Returns the elements of the cell with that name, where it is the first, and removes it.
-    fn take(&mut self, name: &Name) -> Option<Elements<'a>>
+    fn take(&mut self, name: &Name) -> Option<Shown<'a>>
         ensures elements { result ≡ (taken (slice_cmp nat_cmp) name.now self.old).0 }
         ensures rest { self.new ≡ (taken (slice_cmp nat_cmp) name.now self.old).1 }
         ensures tally { IfSome result IsTally }
@@ -81,12 +86,28 @@ impl<'a> Cells<'a> {
         match name.as_bytes().cmp(first.as_bytes()) {
             Ordering::Equal => {
                 let elements = self.layout.elements(self.next);
-                self.next += 1;
-                Some(elements)
+                self.next = first_named(self.layout, self.choice, self.next + 1);
+                Some(Shown::new(elements, self.choice.layers))
             }
             _ => None,
         }
     }
+}
+
+/// The place of the first cell from one on that is compared, or a place behind all cells.
+fn first_named(layout: &Layout, choice: Choice<'_>, from: usize) -> usize
+    ensures rest { cells_chosen choice.entry (drop result layout.now.cells) ≡ cells_chosen choice.entry (drop from layout.now.cells) }
+    ensures named { IsNamedAt choice.entry layout.now.cells result }
+{
+    let count = layout.cell_count();
+    let mut place = from;
+    while place < count {
+        if is_named(choice, layout.cell_name(place)) {
+            return place;
+        }
+        place += 1;
+    }
+    place
 }
 
 /// The lesser of two names, or the one that is there.
@@ -106,26 +127,32 @@ fn first_name<'a>(left: Option<&'a Name>, right: Option<&'a Name>) -> Option<&'a
 #[derive(Drop)]
 pub struct CellPair<'a> {
     pub name: &'a Name,
-    pub before: Option<Elements<'a>>,
-    pub after: Option<Elements<'a>>,
+    pub before: Option<Shown<'a>>,
+    pub after: Option<Shown<'a>>,
 }
 
-/// Removes the cell with the first name from both sides, if there is one.
-pub fn next_cell<'a>(before: &mut Cells<'a>, after: &mut Cells<'a>) -> Option<CellPair<'a>>
+/// Removes the cell with the first name from both sides, if there is one. Where layers are named, a cell that is not there has
+/// no elements.
+pub fn next_cell<'a>(
+    before: &mut Cells<'a>,
+    after: &mut Cells<'a>,
+    layers: Option<&[ChosenLayer]>,
+) -> Option<CellPair<'a>>
     requires before { IsStrictlySortedBy (slice_cmp nat_cmp) (keys_of before.old) }
     requires after { IsStrictlySortedBy (slice_cmp nat_cmp) (keys_of after.old) }
-    ensures pair { MatchOption result (side_by_side (slice_cmp nat_cmp) before.old after.old ≡ [])
-        (λ p. side_by_side (slice_cmp nat_cmp) before.old after.old ≡ (p.name.now, (p.before, p.after)) ∷ side_by_side (slice_cmp nat_cmp) before.new after.new) }
+    ensures pair { MatchOption result (cell_pairs layers.entry before.old after.old ≡ [])
+        (λ p. cell_pairs layers.entry before.old after.old ≡ (p.name.now, (p.before, p.after)) ∷ cell_pairs layers.entry before.new after.new) }
     ensures tally { IfSome result (λ p. IfSome p.before IsTally × IfSome p.after IsTally) }
     ensures fewer { IfSome result (λ _. length before.new + length after.new < length before.old + length after.old) }
     ensures before { IsStrictlySortedBy (slice_cmp nat_cmp) (keys_of before.new) }
     ensures after { IsStrictlySortedBy (slice_cmp nat_cmp) (keys_of after.new) }
 {
     let name = first_name(before.name(), after.name())?;
+    let (left, right) = (before.take(name), after.take(name));
     Some(CellPair {
         name,
-        before: before.take(name),
-        after: after.take(name),
+        before: or_empty(layers, left),
+        after: or_empty(layers, right),
     })
 }
 
@@ -168,8 +195,8 @@ fn put_both<'a, K: Sink>(
 fn put_cell<'a, K: Sink>(
     sink: &mut K,
     name: &Name,
-    before: Option<Elements<'a>>,
-    after: Option<Elements<'a>>,
+    before: Option<Shown<'a>>,
+    after: Option<Shown<'a>>,
 ) -> Result<(), SinkFault>
     requires before { IfSome before IsTally }
     requires after { IfSome after IsTally }
@@ -196,8 +223,8 @@ fn put_cell<'a, K: Sink>(
 fn put_cell_by<'a, K: Sink>(
     sink: &mut K,
     name: &Name,
-    before: Option<Elements<'a>>,
-    after: Option<Elements<'a>>,
+    before: Option<Shown<'a>>,
+    after: Option<Shown<'a>>,
     detail: Detail,
 ) -> Result<(), SinkFault>
     requires before { IfSome before IsTally }
@@ -215,15 +242,15 @@ pub(crate) fn put_cells<'a, K: Sink>(
     sink: &mut K,
     mut before: Cells<'a>,
     mut after: Cells<'a>,
+    layers: Option<&[ChosenLayer]>,
     detail: Detail,
 ) -> Result<(), SinkFault>
     requires before { IsStrictlySortedBy (slice_cmp nat_cmp) (keys_of before) }
     requires after { IsStrictlySortedBy (slice_cmp nat_cmp) (keys_of after) }
-    ensures { Writes K.given K.failures sink.old (held_lines detail before.entry after.entry) result sink.new }
+    ensures { Writes K.given K.failures sink.old (held_lines layers.entry detail before.entry after.entry) result sink.new }
 {
-    while let Some(name) = first_name(before.name(), after.name()) {
-        let (left, right) = (before.take(name), after.take(name));
-        put_cell_by(sink, name, left, right, detail)?;
+    while let Some(pair) = next_cell(&mut before, &mut after, layers) {
+        put_cell_by(sink, pair.name, pair.before, pair.after, detail)?;
     }
     Ok(())
 }

@@ -6,7 +6,8 @@ ghost use Rattle.oas_layout.specs.Bag.{counted};
 ghost use Rattle.oas_layout.specs.Element.{element_cmp};
 ghost use Rattle.oas_difference.specs.Pairs.{head_key, least, taken};
 
-use oas_layout::{Element, Elements};
+use crate::shown::Shown;
+use oas_layout::Element;
 use std::cmp::Ordering;
 use std::marker::Model;
 
@@ -14,7 +15,7 @@ use std::marker::Model;
 #[derive(Drop)]
 pub struct Side<'a> {
     first: Option<(&'a Element, u64)>,
-    rest: Option<Elements<'a>>,
+    rest: Option<Shown<'a>>,
 }
 
 impl<'a> Model for Side<'a> {
@@ -31,7 +32,7 @@ impl<'a> Model for Side<'a> {
 
 impl<'a> Side<'a> {
     /// All of these elements.
-    pub fn new(mut elements: Option<Elements<'a>>) -> Side<'a>
+    pub fn new(mut elements: Option<Shown<'a>>) -> Side<'a>
         ensures { result ≡ unwrap_or elements.entry [] }
     {
         let first = next_of(&mut elements);
@@ -70,11 +71,11 @@ impl<'a> Side<'a> {
 }
 
 /// The next of these elements, if there are any.
-fn next_of<'a>(elements: &mut Option<Elements<'a>>) -> Option<(&'a Element, u64)>
+fn next_of<'a>(elements: &mut Option<Shown<'a>>) -> Option<(&'a Element, u64)>
     ensures { TakesFirst counted (unwrap_or elements.old []) result (unwrap_or elements.new []) }
 {
     match elements {
-        Some(rest) => rest.next(),
+        Some(rest) => rest.take_first(),
         None => None,
     }
 }

@@ -2,14 +2,19 @@
 ghost use Rattle.oas_layout.specs.declared.profile.Profile.{Profile};
 ghost use Rattle.oas_difference.specs.declared.options.Options.{Options};
 ghost use Rattle.oas_difference.specs.Laws.DifferenceLaws.{EmptyIfSame};
-ghost use Rattle.oas_difference.specs.Laws.OptionLaws.{EmptyByOptions};
+ghost use Rattle.oas_difference.specs.Laws.OptionLaws.{EmptyByOptions, AllByDefault};
 
 /// The difference of two layouts has no line exactly if they are the same under their profile.
 pub fn empty_if_same()
     ensures { (profile : Profile) → EmptyIfSame profile }
 {}
 
-/// The same of what is written by any options.
+/// What is written by any options is empty exactly if what they compare of the layouts is the same.
 pub fn empty_by_options()
     ensures { (options : Options) (profile : Profile) → EmptyByOptions options profile }
+{}
+
+/// Where neither cells nor layers are named, all of a layout is compared.
+pub fn all_by_default()
+    ensures { AllByDefault }
 {}

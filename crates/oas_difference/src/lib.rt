@@ -16,7 +16,13 @@
 //! What this crate promises to the crates above it: a writer takes exactly the bytes of `difference` (specs/Difference.antt)
 //! of the layouts' meanings, and [`write_difference`] returns how many they are (`IsWritten`, oas_num's specs/Written.antt).
 //! Or it fails with [`oas_num::Why::Write`], and then the writer took as many of the first bytes as the refusal's place says
-//! (`IsCutOff`). [`put_difference`] puts all lines into a sink. They allocate nothing. There is no line exactly if the layouts are the same ([`laws`]).
+//! (`IsCutOff`). [`put_difference`] puts all lines into a sink. They allocate nothing. There is no line exactly if the layouts
+//! are the same ([`laws`]).
+//!
+//! [`Choice`] names cells and layers. Then the lines are those of what is left of both layouts without all other cells, and
+//! without the elements that are on none of these layers (`chosen`, specs/Choice.antt): placements are on no layer. Where
+//! layers are named, only elements are compared: a cell that only one layout has is as one without elements in the other
+//! (`or_empty`), so each line of an element is below a line `@ cell NAME`.
 //!
 //! For other texts of a difference [`next_cell`] goes over the cells of two layouts, and [`next_change`] over the elements
 //! that are not as often in both.
@@ -25,8 +31,8 @@
 //!
 //! oas_difference stands on oas_listing, oas_layout, oas_num, oas_ring and `itoa`. Promise upwards: `write_difference`,
 //! whose clauses speak of `difference_by`, a function of options and of what two layouts mean, and the law that by any
-//! options it is empty exactly if they are the same, which holds of all meanings, in whatever order and form their elements
-//! are.
+//! options it is empty exactly if what they compare is the same, which holds of all meanings, in whatever order and form
+//! their elements are.
 //!
 //! - specs/Ascending.antt: what is in a list, ascending, each once. specs/Difference.antt: for each element of either list
 //!   how often it is in both (`count_of`, which also defines sameness), and one line where that differs; for each name of
@@ -52,14 +58,18 @@
 mod brief;
 mod cells;
 mod changes;
+mod choice;
 mod elements;
 pub mod laws;
 mod limiting;
 mod options;
+mod shown;
 mod writing;
 
 pub use cells::{CellPair, Cells, next_cell};
 pub use changes::{Change, next_change};
+pub use choice::{Choice, ChosenLayer, layer_of};
 pub use elements::Side;
 pub use options::{Detail, Options};
+pub use shown::Shown;
 pub use writing::{put_difference, write_difference};

@@ -1,5 +1,7 @@
 //! What is written of a difference.
 
+use crate::choice::Choice;
+
 /// What is said of each cell that differs.
 #[derive(Clone, Copy, Debug, PartialEq, Eq)]
 pub enum Detail {
@@ -9,9 +11,10 @@ pub enum Detail {
     Counts,
 }
 
-/// What is written of a difference, and how many lines of it.
-#[derive(Clone, Copy, Debug, PartialEq, Eq)]
-pub struct Options {
+/// What is compared of two layouts, what is written of their difference, and how many lines of it.
+#[derive(Clone, Copy)]
+pub struct Options<'a> {
+    pub choice: Choice<'a>,
     pub detail: Detail,
     /// At most this many lines, and where there are more a last line `...`; without it all of them.
     pub limit: Option<u64>,

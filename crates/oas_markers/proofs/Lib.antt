@@ -1,4 +1,5 @@
 pub mod NumberLemmas
 pub mod Steps
+pub mod Firsts
 pub mod HeldLemmas
 pub mod WrittenLemmas

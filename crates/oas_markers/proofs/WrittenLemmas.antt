@@ -1,5 +1,5 @@
 -- What a writer under an outlet took, once the outlet is gone, of a text of any length.
-use Rattle.std.proofs.Common.{◌≡◌, ℕ, ◌^◌, ◌<◌, List, length, Option, length-append, refl, ap, ◌∙◌, arith, MutBor}
+use Rattle.std.proofs.Common.{◌≡◌, ℕ, List, length, Option, length-append, refl, ap, ◌∙◌, arith, MutBor}
 use Rattle.oas_num.specs.Outlet.{Outlet}
 use Rattle.oas_num.specs.declared.refusals.Why.TheVariants.{Write as NotWritten}
 use Rattle.oas_num.specs.Writing.{Puts, PutsPrefix}

@@ -1,5 +1,6 @@
 -- The markers: what one of two layouts has more often than the other, as the text of a report database.
-use Rattle.std.specs.Prelude.{ℕ, ◌-◌, nat_lt, Bool, true, false, List, [], ◌∷◌, ◌++◌, flat_map, codes, decimal, Option, is_some, unwrap_or, if◌then◌else◌}
+use Rattle.std.specs.Prelude.{ℕ, zero, suc, ◌-◌, nat_lt, Bool, true, false, List, [], ◌∷◌, ◌++◌, length, map, flat_map, codes, decimal, Option, is_some, unwrap_or, if◌then◌else◌}
+use Rattle.std.specs.Borrow.{Bor}
 use Rattle.std.specs.Ordering.{nat_cmp}
 use Rattle.std.specs.Cmp.Lexicographic.{slice_cmp}
 use Rattle.std.specs.Map.{keys_of}
@@ -9,11 +10,14 @@ use Rattle.oas_layout.specs.declared.element.Element.{Element}
 use Rattle.oas_layout.specs.Meaning.{Meaning, elements_of}
 use Rattle.oas_difference.specs.Ascending.{ascending}
 use Rattle.oas_difference.specs.Difference.{same_ratio}
+use Rattle.oas_difference.specs.Choice.{layer_of, or_empty}
+use Rattle.oas_difference.specs.declared.choice.ChosenLayer.{ChosenLayer}
 use Rattle.oas_difference.specs.Brief.{changed}
 use Rattle.oas_markers.specs.declared.items.Way.{Way}
 use Rattle.oas_markers.specs.declared.items.Way.TheVariants.{Removed, Added}
+use Rattle.oas_markers.specs.Numbers.{counted}
 use Rattle.oas_markers.specs.Texts.{escaped}
-use Rattle.oas_markers.specs.Shapes.{kind_name, shape, layer_of, layer_value}
+use Rattle.oas_markers.specs.Shapes.{kind_name, shape, layer_value}
 
 -- ---- categories
 
@@ -38,10 +42,16 @@ abbrev pub about : Bool → List ℕ
 about true = codes "The difference of A and B"
 about false = codes "The difference of A and B, whose units differ: each marker is in microns by the unit of its own layout"
 
-abbrev pub head : Ratio → Ratio → List ℕ
-head u v =
+-- how many markers there are, and how many of them are here, where these aren't all
+abbrev pub note : ℕ → ℕ → List ℕ
+note most count =
+    if nat_lt most count then codes " (the first " ++ (decimal most ++ (codes " of " ++ (decimal count ++ codes " markers)"))) else []
+
+abbrev pub head : Ratio → Ratio → ℕ → ℕ → List ℕ
+head u v most count =
     codes "<?xml version=\"1.0\" encoding=\"utf-8\"?>\n<report-database>\n <description>"
-    ++ (about (same_ratio u v) ++ (codes "</description>\n <categories>\n" ++ (category u Removed ++ (category v Added ++ codes " </categories>\n <cells>\n"))))
+    ++ (about (same_ratio u v)
+    ++ (note most count ++ (codes "</description>\n <categories>\n" ++ (category u Removed ++ (category v Added ++ codes " </categories>\n <cells>\n")))))
 
 -- ---- items
 
@@ -70,16 +80,16 @@ cell_item way name =
     ++ (codes ".cell</category><cell>" ++ (escaped name ++ codes "</cell><multiplicity>1</multiplicity><values><value>text: 'cell'</value></values></item>\n")))
 
 -- given whether the cell is there before and after
-abbrev pub alone : Bool → Bool → List ℕ → List ℕ
+abbrev pub alone : Bool → Bool → List ℕ → List (List ℕ)
 alone true true name = []
-alone true false name = cell_item Removed name
-alone false true name = cell_item Added name
+alone true false name = cell_item Removed name ∷ []
+alone false true name = cell_item Added name ∷ []
 alone false false name = []
 
 -- the items of a cell; its elements are given where it is there
-abbrev pub cell_items : Ratio → Ratio → Profile → List ℕ → Option (List Element) → Option (List Element) → List ℕ
+abbrev pub cell_items : Ratio → Ratio → Profile → List ℕ → Option (List Element) → Option (List Element) → List (List ℕ)
 cell_items u v profile name before after =
-    alone (is_some before) (is_some after) name ++ flat_map (change_item u v name) (changed profile (unwrap_or before []) (unwrap_or after []))
+    alone (is_some before) (is_some after) name ++ map (change_item u v name) (changed profile (unwrap_or before []) (unwrap_or after []))
 
 -- ---- the layouts
 
@@ -87,11 +97,21 @@ cell_items u v profile name before after =
 abbrev pub all_names : Meaning → Meaning → List (List ℕ)
 all_names a b = ascending (slice_cmp nat_cmp) (keys_of a.cells ++ keys_of b.cells)
 
--- the cells' names, and then the items of each
-abbrev pub markers : Profile → Meaning → Meaning → List ℕ
-markers profile a b =
-    head a.unit b.unit
+-- the items of each; where layers are named, only elements are compared, as in `difference`
+abbrev pub all_items : Option (Bor (List ChosenLayer)) → Profile → Meaning → Meaning → List (List ℕ)
+all_items layers profile a b =
+    flat_map (λ name. cell_items a.unit b.unit profile name (or_empty layers (elements_of name a.cells)) (or_empty layers (elements_of name b.cells))) (all_names a b)
+
+-- the first of them, at most this many
+abbrev pub first_items : ℕ → List (List ℕ) → List ℕ
+first_items zero items = []
+first_items (suc n) [] = []
+first_items (suc n) (item ∷ items) = item ++ first_items n items
+
+-- How many items there are, the cells' names, and then at most this many items.
+abbrev pub markers : ℕ → Option (Bor (List ChosenLayer)) → Profile → Meaning → Meaning → List ℕ
+markers most layers profile a b =
+    head a.unit b.unit most (counted (length (all_items layers profile a b)))
     ++ (flat_map cell_entry (all_names a b)
     ++ (codes " </cells>\n <items>\n"
-    ++ (flat_map (λ name. cell_items a.unit b.unit profile name (elements_of name a.cells) (elements_of name b.cells)) (all_names a b)
-    ++ codes " </items>\n</report-database>\n")))
+    ++ (first_items most (all_items layers profile a b) ++ codes " </items>\n</report-database>\n")))

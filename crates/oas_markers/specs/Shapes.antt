@@ -64,14 +64,6 @@ shape unit (Circle layer datatype radius x y) = circle unit radius x y
 
 -- ---- layers
 
-abbrev pub layer_of : Element → Option (ℕ × ℕ)
-layer_of (Placement cell x y turns flip) = None
-layer_of (Text string textlayer texttype x y) = Some (textlayer, texttype)
-layer_of (Rectangle layer datatype width height x y) = Some (layer, datatype)
-layer_of (Polygon layer datatype points) = Some (layer, datatype)
-layer_of (Path layer datatype half_width start end points) = Some (layer, datatype)
-layer_of (Circle layer datatype radius x y) = Some (layer, datatype)
-
 -- text: 'layer LAYER/DATATYPE'
 abbrev pub layer_value : Option (ℕ × ℕ) → List ℕ
 layer_value None = []

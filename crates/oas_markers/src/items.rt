@@ -2,9 +2,10 @@
 
 ghost use Rattle.std.specs.Prelude.{◌≡◌, ◌++◌, ◌∷◌, [], codes};
 ghost use Rattle.oas_num.specs.Writing.{Writes};
-ghost use Rattle.oas_markers.specs.Shapes.{shape, layer_of, layer_value};
+ghost use Rattle.oas_difference.specs.Choice.{layer_of};
+ghost use Rattle.oas_markers.specs.Shapes.{shape, layer_value};
 ghost use Rattle.oas_markers.specs.declared.items.Way.TheVariants.{Removed, Added};
-ghost use Rattle.oas_markers.specs.Markers.{way_name, way_file, category, about, head, cell_entry, item, change_item, cell_item};
+ghost use Rattle.oas_markers.specs.Markers.{way_name, way_file, category, about, note, head, cell_entry, item, change_item, cell_item};
 
 use crate::numbers::put_number;
 use crate::shapes::{kind_name, put_layer, put_shape};
@@ -70,6 +71,21 @@ fn put_about<K: Sink>(sink: &mut K, same: bool) -> Result<(), SinkFault>
     }
 }
 
+/// Puts how many markers there are, and how many of them are here, where these aren't all.
+fn put_note<K: Sink>(sink: &mut K, most: u64, count: u64) -> Result<(), SinkFault>
+    ensures { Writes K.given K.failures sink.old (note most count) result sink.new }
+{
+    if most < count {
+        sink.put_all(b" (the first ")?;
+        put_number(sink, most)?;
+        sink.put_all(b" of ")?;
+        put_number(sink, count)?;
+        sink.put_all(b" markers)")
+    } else {
+        Ok(())
+    }
+}
+
 /// Puts the categories of both layouts, and what comes between them and the cells.
 fn put_categories<K: Sink>(sink: &mut K, before: Fraction, after: Fraction) -> Result<(), SinkFault>
     ensures { Writes K.given K.failures sink.old (category before Removed ++ (category after Added ++ codes " </categories>\n <cells>\n")) result sink.new }
@@ -84,11 +100,14 @@ pub(crate) fn put_head<K: Sink>(
     sink: &mut K,
     before: Fraction,
     after: Fraction,
+    most: u64,
+    count: u64,
 ) -> Result<(), SinkFault>
-    ensures { Writes K.given K.failures sink.old (head before after) result sink.new }
+    ensures { Writes K.given K.failures sink.old (head before after most count) result sink.new }
 {
     sink.put_all(b"<?xml version=\"1.0\" encoding=\"utf-8\"?>\n<report-database>\n <description>")?;
     put_about(sink, before == after)?;
+    put_note(sink, most, count)?;
     sink.put_all(b"</description>\n <categories>\n")?;
     put_categories(sink, before, after)
 }

@@ -9,19 +9,23 @@
 //! and `added` for what the second has; below these there is a category for each kind. Coordinates are in microns, by the
 //! unit of the layout that has it more often. A cell that only one of them has is an item too.
 //!
-//! What this crate promises to the crates above it: a writer takes exactly the bytes of `markers` (specs/Markers.antt) of the
-//! layouts' meanings, or it fails, and then it took a prefix of them ([`write_markers`]). It allocates nothing.
+//! What this crate promises to the crates above it: a writer takes exactly the bytes of `markers` (specs/Markers.antt) of what
+//! is compared of the layouts' meanings (`chosen` of oas_difference), or it fails, and then it took a prefix of them
+//! ([`write_markers`]). There are at most as many markers as are asked for; where there are more, the description says how
+//! many. It allocates nothing.
 //!
 //! # How it is built
 //!
 //! oas_markers stands on oas_difference, whose walks over cells and over elements it uses (`next_cell`, `next_change`).
 //! Promise upwards: `write_markers`, whose clauses speak of `markers`, a function of what two layouts mean.
-//! specs/Markers.antt has the text: categories, then the cells by name, then the items; specs/Shapes.antt an element as a
+//! specs/Markers.antt has the text: categories, then the cells by name, then the first of the items (`first_items`), which are
+//! counted before (counting.rt); specs/Shapes.antt an element as a
 //! value, specs/Numbers.antt grid steps in microns, specs/Texts.antt names in XML. src/numbers.rt divides digit by digit,
 //! so a finite decimal number stands as it is. specs/Held.antt is the word between, as that of oas_difference.
 #![tactic(auto)]
 
 mod cells;
+mod counting;
 mod items;
 mod numbers;
 mod shapes;

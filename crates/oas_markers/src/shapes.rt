@@ -2,12 +2,14 @@
 
 ghost use Rattle.std.specs.Prelude.{◌≡◌, Some};
 ghost use Rattle.oas_num.specs.Writing.{Writes};
-ghost use Rattle.oas_markers.specs.Shapes.{label, box, polygon, path, circle, shape, layer_value, layer_of, turn_code, kind_name};
+ghost use Rattle.oas_difference.specs.Choice.{layer_of};
+ghost use Rattle.oas_markers.specs.Shapes.{label, box, polygon, path, circle, shape, layer_value, turn_code, kind_name};
 
 use crate::numbers::{
     put_coordinate, put_double, put_far, put_number, put_place, put_places, put_steps,
 };
 use crate::texts::put_quoted;
+use oas_difference::layer_of;
 use oas_layout::{Element, Turns};
 use oas_num::{Fraction, Sink, SinkFault};
 use oas_ring::Point;
@@ -181,40 +183,6 @@ pub(crate) fn put_shape<K: Sink>(
             ..
         } => put_path(sink, unit, *half_width, *start, *end, points.as_slice()),
         Element::Circle { radius, x, y, .. } => put_circle(sink, unit, *radius, *x, *y),
-    }
-}
-
-/// The layer and the datatype of an element, which a placement does not have.
-fn layer_of(element: &Element) -> Option<(u64, u64)>
-    ensures { result ≡ layer_of element.now }
-{
-    match element {
-        Element::Placement { .. } => None,
-        Element::Text {
-            textlayer,
-            texttype,
-            ..
-        } => Some((*textlayer, *texttype)),
-        Element::Rectangle {
-            layer,
-            datatype,
-            ..
-        }
-        | Element::Polygon {
-            layer,
-            datatype,
-            ..
-        }
-        | Element::Path {
-            layer,
-            datatype,
-            ..
-        }
-        | Element::Circle {
-            layer,
-            datatype,
-            ..
-        } => Some((*layer, *datatype)),
     }
 }
 

@@ -26,8 +26,12 @@ enum Kind<'a> {
     /// Such a flag, which is allowed only with this option.
     FlagOf(char, &'a str),
     Option(&'a str),
+    /// An option that may be given several times.
+    Repeated(&'a str),
     /// An option whose value is a number.
     Number(&'a str),
+    /// Such an option, which is allowed only with this one.
+    NumberOf(&'a str, &'a str),
     /// An option in place of the words `IN`.
     InPlaceOfInputs(&'a str),
     /// An option in place of these words and of the option for their list.
@@ -130,10 +134,28 @@ pub const LIMIT: Argument<'static> = Argument {
     help: "Prints N lines, and a line ... where there are more",
 };
 
+pub const CELL: Argument<'static> = Argument {
+    name: "cell",
+    kind: Kind::Repeated("NAME"),
+    help: "Compares this cell alone; may be given several times",
+};
+
+pub const LAYER: Argument<'static> = Argument {
+    name: "layer",
+    kind: Kind::Repeated("L[/D]"),
+    help: "Compares this layer alone, or of it datatype D; as often",
+};
+
 pub const MARKERS: Argument<'static> = Argument {
     name: "markers",
     kind: Kind::Option("FILE"),
-    help: "Writes the whole difference to FILE too, for KLayout",
+    help: "Writes the difference to FILE too, for KLayout",
+};
+
+pub const MARKERS_LIMIT: Argument<'static> = Argument {
+    name: "markers-limit",
+    kind: Kind::NumberOf("N", "markers"),
+    help: "Writes at most N markers [default: 100000]",
 };
 
 pub const JSON: Argument<'static> = Argument {
@@ -189,9 +211,18 @@ fn argument_of<'a>(alloc: Global, argument: &Argument<'a>) -> Result<Arg<'a>, Al
             flag.action(ArgAction::SetTrue).requires_arg(needed)
         }
         Kind::Option(value) => Ok(word.long(option).value_name(value)),
+        Kind::Repeated(value) => {
+            let option = word.long(option).value_name(value);
+            Ok(option.action(ArgAction::Append))
+        }
         Kind::Number(value) => {
             let number = value_parser!(u64);
             Ok(word.long(option).value_name(value).value_parser(number))
+        }
+        Kind::NumberOf(value, needed) => {
+            let number = value_parser!(u64);
+            let option = word.long(option).value_name(value);
+            option.value_parser(number).requires_arg(needed)
         }
         Kind::InPlaceOfInputs(value) => {
             word.long(option).value_name(value).conflicts_with(IN.name)

@@ -1,10 +1,10 @@
 //! What the words of the command line request.
 
+use crate::differences::{Asked, Markers, diff_of, has_layers};
 use crate::questions::{Ending, Inputs, Question, key_of, question_of};
 use crate::usage::oascanon;
 use clap::error::ErrorKind;
 use clap::{ArgMatches, Command, Error};
-use oas_difference::{Detail, Options};
 use oas_files::file_of_word;
 use std::alloc::{AllocError, Global};
 use std::convert::AsStr;
@@ -51,9 +51,9 @@ pub enum Task<'a> {
     Diff {
         first: Option<&'a str>,
         second: Option<&'a str>,
-        options: Options,
-        /// The file for the markers, if they are requested.
-        markers: Option<&'a str>,
+        asked: Asked<'a>,
+        /// The file for the markers, if they are requested, and how many there are at most.
+        markers: Option<Markers<'a>>,
     },
     Show {
         input: Option<&'a str>,
@@ -81,6 +81,15 @@ pub fn parse<'a, S: AsStr>(alloc: Global, words: &'a [S]) -> Result<Request<'a>,
     request_by(alloc, &mut command, words)
 }
 
+/// Why words that `clap` understands request nothing.
+#[derive(Clone, Copy)]
+enum Misuse {
+    /// They name standard input or output twice.
+    SharedStream,
+    /// They name a layer that is none.
+    Layer,
+}
+
 /// What the words of this command line request.
 fn request_by<'a, S: AsStr>(
     alloc: Global,
@@ -88,25 +97,48 @@ fn request_by<'a, S: AsStr>(
     words: &'a [S],
 ) -> Result<Request<'a>, Error> {
     match found_by(alloc, command, words)? {
-        Some(request) => Ok(request),
-        None => Err(conflict(command)),
+        Ok(request) => Ok(request),
+        Err(misuse) => Err(error_of(command, misuse)),
     }
 }
 
-/// What the words of this command line request, where [`request_of`] returns something for their matches.
+/// What the words of this command line request, where they aren't misused.
 fn found_by<'a, S: AsStr>(
     alloc: Global,
     command: &mut Command<'a>,
     words: &'a [S],
-) -> Result<Option<Request<'a>>, Error> {
+) -> Result<Result<Request<'a>, Misuse>, Error> {
     let matches = command.try_get_matches_from_mut(words)?;
-    Ok(request_of(alloc, &matches)?)
+    if !names_layers(&matches) {
+        return Ok(Err(Misuse::Layer));
+    }
+    match request_of(alloc, &matches)? {
+        Some(request) => Ok(Ok(request)),
+        None => Ok(Err(Misuse::SharedStream)),
+    }
 }
 
-/// The error for words that name standard input or output twice.
-fn conflict(command: &mut Command<'_>) -> Error {
-    let message = "standard input and standard output can each stand for one file only";
-    match command.error(ErrorKind::ArgumentConflict, message) {
+/// Whether each word for a layer is one.
+fn names_layers(matches: &ArgMatches<'_>) -> bool {
+    match matches.subcommand() {
+        Some((_, found)) => has_layers(found),
+        None => true,
+    }
+}
+
+/// The error for words that are misused.
+fn error_of(command: &mut Command<'_>, misuse: Misuse) -> Error {
+    let (kind, message) = match misuse {
+        Misuse::SharedStream => (
+            ErrorKind::ArgumentConflict,
+            "standard input and standard output can each stand for one file only",
+        ),
+        Misuse::Layer => (
+            ErrorKind::ValueValidation,
+            "a layer is a number, or two with a slash between them: L or L/D",
+        ),
+    };
+    match command.error(kind, message) {
         Ok(error) => error,
         Err(error) => Error::from(error),
     }
@@ -157,7 +189,7 @@ fn task_of<'a>(
             is_json: found.get_flag("json"),
         })),
         "same" => Ok(same_of(found)),
-        "diff" => Ok(diff_of(found)),
+        "diff" => diff_of(alloc, found),
         "rekey" => Ok(Some(Task::Rekey {
             old: file_of(found, "OLD"),
             new: file_of(found, "NEW"),
@@ -185,36 +217,8 @@ fn same_of<'a>(found: &ArgMatches<'a>) -> Option<Task<'a>> {
     Some(Task::Same { first, second })
 }
 
-/// The task of `diff`, unless both files are standard input, or the markers would go to standard output.
-fn diff_of<'a>(found: &ArgMatches<'a>) -> Option<Task<'a>> {
-    let (first, second) = two_of(found)?;
-    let markers = match found.get_str("markers") {
-        Some(word) => Some(file_of_word(word)?),
-        None => None,
-    };
-    Some(Task::Diff {
-        first,
-        second,
-        options: options_of(found),
-        markers,
-    })
-}
-
-/// How `diff` should print the difference.
-fn options_of(found: &ArgMatches<'_>) -> Options {
-    let detail = if found.get_flag("brief") {
-        Detail::Counts
-    } else {
-        Detail::Elements
-    };
-    Options {
-        detail,
-        limit: found.get_one::<u64>("limit"),
-    }
-}
-
 /// The files A and B, unless both are standard input.
-fn two_of<'a>(found: &ArgMatches<'a>) -> Option<(Option<&'a str>, Option<&'a str>)> {
+pub fn two_of<'a>(found: &ArgMatches<'a>) -> Option<(Option<&'a str>, Option<&'a str>)> {
     let (first, second) = (file_of(found, "A"), file_of(found, "B"));
     if first.is_none() && second.is_none() {
         return None;

@@ -9,18 +9,21 @@
 //! It promises nothing to the crates above: no contract says what words request, which is tested (`words.rt` and `options.rt`
 //! in `src/requests` of program_tests). `usage.rt` has a table of the commands and their help, and makes them for `clap`.
 //! `arguments.rt` has their arguments, by kinds, and makes each by itself, since a call of `clap` is expensive to prove with
-//! others at hand. `commands.rt` has what words request, and `questions.rt` what can be asked about many files. A `Request`
+//! others at hand. `commands.rt` has what words request, `questions.rt` what can be asked about many files,
+//! and `differences.rt` what `diff` is asked. A `Request`
 //! borrows its names from the words, so nothing is copied. The crate has neither tests nor wrong bodies, so that the gate
 //! proves it once; its parts with contracts are in oas_command (`limits_of`) and oas_files (`file_of_word`).
 #![tactic(auto)]
 
 mod arguments;
 mod commands;
+mod differences;
 mod questions;
 mod usage;
 
 // The crates below, for those above.
 pub use commands::{Request, Task, parse, request_of};
+pub use differences::{Asked, Markers};
 pub use oas_difference;
 pub use oas_files;
 pub use questions::{Ending, Inputs, Question};

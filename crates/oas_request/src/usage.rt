@@ -1,8 +1,9 @@
 //! The command line: its commands and the help on them, by `clap`.
 
 use crate::arguments::{
-    A, Argument, B, BRIEF, CHECK, EXPLAIN, IN, INPUTS, JSON, LARGE, LIMIT, LIST, MARKERS, NAMES,
-    NEW, NO_CLOBBER, NUMBER, OLD, OUT, PROGRESS, QUIET, ZERO, put_arguments,
+    A, Argument, B, BRIEF, CELL, CHECK, EXPLAIN, IN, INPUTS, JSON, LARGE, LAYER, LIMIT, LIST,
+    MARKERS, MARKERS_LIMIT, NAMES, NEW, NO_CLOBBER, NUMBER, OLD, OUT, PROGRESS, QUIET, ZERO,
+    put_arguments,
 };
 use clap::{Command, Error};
 use std::alloc::Global;
@@ -60,6 +61,11 @@ Status:
 const AFTER_DIFF: &str = "Example:
   oascanon diff --brief before.oas after.oas
   oascanon diff --markers changes.lyrdb before.oas after.oas
+  oascanon diff --cell TOP --layer 5 --layer 7/1 before.oas after.oas
+
+With --cell or --layer all else is left out of both files before they are
+compared, and the status is that of what is left. Placements and cells are on
+no layer, so --layer leaves them out.
 
 Status:
   0  the same layout
@@ -146,7 +152,19 @@ const COMMANDS: [Described<'static>; 10] = [
         name: "diff",
         about: "Lists what one of two files has more often than the other",
         after: AFTER_DIFF,
-        arguments: &[LARGE, EXPLAIN, PROGRESS, A, B, BRIEF, LIMIT, MARKERS],
+        arguments: &[
+            LARGE,
+            EXPLAIN,
+            PROGRESS,
+            A,
+            B,
+            CELL,
+            LAYER,
+            BRIEF,
+            LIMIT,
+            MARKERS,
+            MARKERS_LIMIT,
+        ],
     },
     Described {
         name: "show",

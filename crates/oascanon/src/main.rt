@@ -54,7 +54,7 @@ use many::ask;
 use oas_explain::oas_command::{Form, Options, limits_of};
 use oas_explain::{Asked, Onward, all_reasons, run_explain};
 use oas_request::oas_files::{Existing, mark_output};
-use oas_request::{Ending, Request, Task, parse};
+use oas_request::{Ending, Markers, Request, Task, parse};
 use outcome::ended;
 use runs::{OfOne, OfTwo, mark};
 use session::{STANDARD_OUTPUT, Session};
@@ -124,9 +124,9 @@ fn run<'a>(session: &Session<'a>, task: &Task<'a>) -> Result<u8, u8> {
         Task::Diff {
             first,
             second,
-            options,
+            asked,
             markers,
-        } => diff(session, *first, *second, *options, *markers),
+        } => diff(session, *first, *second, asked.options(), *markers),
         Task::Show { input } => OfOne::Show.run(session, *input, None),
         Task::Keys { input } => OfOne::Keys.run(session, *input, None),
         Task::Info { input, is_json } => {
@@ -172,12 +172,12 @@ fn diff<'a>(
     session: &Session<'a>,
     first: Option<&str>,
     second: Option<&str>,
-    options: Options,
-    markers: Option<&'a str>,
+    options: Options<'_>,
+    markers: Option<Markers<'a>>,
 ) -> Result<u8, u8> {
     match markers {
         Some(markers) => {
-            keep_inputs(session, [first, second], markers)?;
+            keep_inputs(session, [first, second], markers.name)?;
             mark(session, first, second, options, markers)
         }
         None => OfTwo::Diff(options).run(session, first, second),

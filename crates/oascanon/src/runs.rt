@@ -9,7 +9,7 @@ use oas_explain::oas_command::{
     Form, Label, Options, PairWork, Work, name_of, pair_work_telling, run_marking, work_telling,
 };
 use oas_request::oas_files::{Existing, Printed};
-use oas_request::{Ending, Question};
+use oas_request::{Ending, Markers, Question};
 use std::alloc::Global;
 use std::io::Write;
 
@@ -30,9 +30,9 @@ pub enum OfOne {
 
 /// What is run on two files.
 #[derive(Clone, Copy)]
-pub enum OfTwo {
+pub enum OfTwo<'a> {
     Same,
-    Diff(Options),
+    Diff(Options<'a>),
 }
 
 impl OfOne {
@@ -155,7 +155,7 @@ pub struct Named<'a> {
     pub name: &'a str,
 }
 
-impl OfTwo {
+impl OfTwo<'_> {
     ghost use Rattle.oas_explain.specs.oas_command.Work.{DoesPairWork};
     ghost use Rattle.oascanon.specs.Work.{pair_work_of};
 
@@ -224,7 +224,7 @@ impl OfTwo {
         told: &mut K,
         limits: Limits,
     ) -> u8
-        ensures { DoesPairWork W.contents K.given K.failures limits T.script name_a.now name_b.now (S.script a.old) b.old out.old told.old (pair_work_of self) result (S.script a.new) b.new out.new told.new }
+        ensures { DoesPairWork W.contents K.given K.failures limits T.script name_a.now name_b.now (S.script a.old) b.old out.old told.old (pair_work_of self.entry) result (S.script a.new) b.new out.new told.new }
     {
         let work = match self {
             OfTwo::Same => PairWork::Same,
@@ -239,12 +239,12 @@ pub fn mark<'a>(
     session: &Session<'a>,
     first: Option<&str>,
     second: Option<&str>,
-    options: Options,
-    markers: &'a str,
+    options: Options<'_>,
+    markers: Markers<'a>,
 ) -> Result<u8, u8> {
     let name_a = session.printed(name_of(first))?;
     let name_b = session.printed(name_of(second))?;
-    let own = session.printed(markers)?;
+    let own = session.printed(markers.name)?;
     let (name_a, name_b, own) = (name_a.as_str(), name_b.as_str(), own.as_str());
     let a = Named {
         path: first,
@@ -262,8 +262,8 @@ fn open_to_mark<'a>(
     session: &Session<'a>,
     a: Named<'_>,
     b: Named<'_>,
-    options: Options,
-    markers: &'a str,
+    options: Options<'_>,
+    markers: Markers<'a>,
     own: &str,
 ) -> Result<u8, u8> {
     let mut from_a = session.source(a.path, a.name)?;
@@ -287,14 +287,14 @@ fn mark_heard<'a>(
     from_a: &mut Incoming<'_>,
     b: Named<'_>,
     from_b: &mut Incoming<'_>,
-    options: Options,
-    markers: &'a str,
+    options: Options<'_>,
+    markers: Markers<'a>,
     own: &str,
 ) -> Result<u8, u8> {
     let bytes = a.name.len().max(b.name.len()).max(own.len());
     let mut said = session.room(a.name, bytes)?;
     let mut out = session.output(None, Existing::Replaced);
-    let mut marked = session.output(Some(markers), Existing::Replaced);
+    let mut marked = session.output(Some(markers.name), Existing::Replaced);
     let status = run_marking(
         session.rt.alloc(),
         a.name,
@@ -305,12 +305,13 @@ fn mark_heard<'a>(
         &mut out,
         own,
         &mut marked,
+        markers.most,
         &mut said,
         session.limits,
     );
     let asked = asked_of_two(&said, a, b);
     match marked.fault() {
-        Some(fault) => session.tell(&said, Some(markers), Some(fault), asked),
+        Some(fault) => session.tell(&said, Some(markers.name), Some(fault), asked),
         None => session.tell(&said, None, out.fault(), asked),
     }
     Ok(status)

@@ -1,5 +1,5 @@
 -- What is put of facts and of differences.
-use Rattle.std.proofs.Common.{◌≡◌, ◌≢◌, ℕ, zero, suc, ◌<◌, List, [], ◌∷◌, ◌++◌, length, drop, take, refl, ◌∙◌, ap, arith}
+use Rattle.std.proofs.Common.{◌≡◌, ◌≢◌, ℕ, zero, suc, ◌<◌, List, [], ◌∷◌, ◌++◌, length, drop, take, refl, ◌∙◌, ap, arith, None}
 use Rattle.std.proofs.Math.Seq.{take-nil}
 use Rattle.oas_layout.specs.declared.limits.Limits.{Limits}
 use Rattle.oas_layout.specs.declared.profile.Profile.{Profile}
@@ -43,10 +43,10 @@ nothing_put old xs e = ap (filled_with old) e ∙ ap (λ (front : List ℕ). fro
 
 module _ {limits : Limits} {one other : List ℕ} {l k : Contents} (first : IsReadFrom limits one l) (second : IsReadFrom limits other k) where
   abbrev lines : List ℕ
-  lines = difference l.profile (meaning_of l) (meaning_of k)
+  lines = difference None l.profile (meaning_of l) (meaning_of k)
 
   differences : Differences limits one other lines
-  differences = record { before = l; after = k; first = first; second = second; is = ap (λ (p : Profile). difference p (meaning_of l) (meaning_of k)) first.by }
+  differences = record { before = l; after = k; first = first; second = second; is = ap (λ (p : Profile). difference None p (meaning_of l) (meaning_of k)) first.by }
 
   pub changes_told : (b : Bounds) → AreLimits limits b.elements b.weight b.input → (old new : List ℕ) (a : Answer) → Puts lines old a new → Differs b one other old (answer_by_lines a) new
   changes_told b are old new (Done zero) p =

@@ -1,5 +1,5 @@
 -- What the calls that put facts or differences promise of the bytes that they were given.
-use Rattle.std.specs.Prelude.{◌≡◌, ◌≢◌, ℕ, List, [], ◌∷◌, ◌++◌, length, ◌⊎◌}
+use Rattle.std.specs.Prelude.{◌≡◌, ◌≢◌, ℕ, List, [], ◌∷◌, ◌++◌, length, ◌⊎◌, None}
 use Rattle.oas_num.specs.declared.refusals.Refusal.{Refusal}
 use Rattle.oas_num.specs.declared.refusals.Why.TheVariants.{Memory}
 use Rattle.oas_layout.specs.declared.limits.Limits.{Limits}
@@ -47,7 +47,7 @@ pub record Differences (limits : Limits) (one other lines : List ℕ) : Type 0 w
   pub after : Contents
   pub first : IsReadFrom limits one before
   pub second : IsReadFrom limits other after
-  pub is : lines ≡ difference Two (meaning_of before) (meaning_of after)
+  pub is : lines ≡ difference None Two (meaning_of before) (meaning_of after)
 
 abbrev pub Differing : Bounds → List ℕ → List ℕ → (List ℕ → Type 0) → Type 0
 Differing b one other P = Within b (λ limits. (lines : List ℕ) × Differences limits one other lines × P lines)

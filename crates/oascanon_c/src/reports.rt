@@ -1,5 +1,5 @@
 //! The calls that put a text, over bytes and room: the listing, the keys of the cells, the facts, and what differs.
-ghost use Rattle.std.specs.Prelude.{◌≡◌, length, IfOk};
+ghost use Rattle.std.specs.Prelude.{◌≡◌, length, IfOk, None};
 ghost use Rattle.oas_num.specs.declared.refusals.Why.TheVariants.{Memory as NoMemory};
 ghost use Rattle.oas_num.specs.Writing.{Writes};
 ghost use Rattle.oas_layout.specs.Contents.{meaning_of};
@@ -43,7 +43,7 @@ fn put_keys(layout: &Layout, room: &mut [u8]) -> Answer
 /// Puts the lines of what differs between two layouts into the room, as far as they fit.
 fn put_changes(before: &Layout, after: &Layout, room: &mut [u8]) -> Answer
     requires { before.now.profile ≡ after.now.profile }
-    ensures { Puts (difference before.now.profile (meaning_of before.now) (meaning_of after.now)) room.old result room.new }
+    ensures { Puts (difference None before.now.profile (meaning_of before.now) (meaning_of after.now)) room.old result room.new }
 {
     let mut filler = Filler::new(room);
     let _ = put_difference(before, after, Detail::Elements, &mut filler);

@@ -1,17 +1,25 @@
 //! Differences with texts from outside.
 
 mod brief;
+mod chosen;
 mod faults;
 mod layouts;
 mod limited;
 
 use layouts::{Sketch, layout};
 use oas_layout::Layout;
-use oas_markers::oas_difference::{Detail, Options, write_difference};
+use oas_markers::oas_difference::{Choice, Detail, Options, write_difference};
 use std::test::Fail;
 
+/// All cells, with all their elements.
+const WHOLE: Choice<'static> = Choice {
+    cells: None,
+    layers: None,
+};
+
 /// All that differs.
-const ALL: Options = Options {
+const ALL: Options<'static> = Options {
+    choice: WHOLE,
     detail: Detail::Elements,
     limit: None,
 };
@@ -21,7 +29,7 @@ fn is_written(
     rt: &HostRuntime,
     before: &Layout,
     after: &Layout,
-    options: Options,
+    options: Options<'_>,
     text: &str,
 ) -> bool {
     if before.profile() != after.profile() {
@@ -37,7 +45,7 @@ fn differ_by(
     rt: &HostRuntime,
     before: Sketch<'_>,
     after: Sketch<'_>,
-    options: Options,
+    options: Options<'_>,
     text: &str,
 ) -> Result<bool, Fail> {
     let before = layout(rt.alloc(), before)?;
@@ -49,7 +57,7 @@ fn differ_from(
     rt: &HostRuntime,
     before: &Layout,
     after: Sketch<'_>,
-    options: Options,
+    options: Options<'_>,
     text: &str,
 ) -> Result<bool, Fail> {
     let after = layout(rt.alloc(), after)?;

@@ -4,6 +4,7 @@ mod layouts;
 
 use layouts::{Sketch, kinds, rectangles};
 use oas_layout::Layout;
+use oas_markers::oas_difference::Choice;
 use oas_markers::write_markers;
 use std::test::Fail;
 
@@ -29,11 +30,16 @@ const ADDED: &str = " <items>
 
 /// Whether the layouts' markers end like this, and their length is returned.
 fn mark(rt: &HostRuntime, before: &Layout, after: &Layout, end: &str) -> bool {
+    mark_first(rt, before, after, u64::MAX, end)
+}
+
+/// Like `mark`, for at most this many markers.
+fn mark_first(rt: &HostRuntime, before: &Layout, after: &Layout, most: u64, end: &str) -> bool {
     if before.profile() != after.profile() {
         return false;
     }
     let mut written = Vec::new(rt.alloc());
-    let count = write_markers(before, after, &mut written);
+    let count = write_markers(before, after, Choice::all(), most, &mut written);
     count == Ok(written.len() as u64) && written.as_slice().ends_with(end.as_bytes())
 }
 
@@ -77,5 +83,18 @@ fn each_is_in_microns_of_its_own_unit(rt: HostRuntime) -> Result<(), Fail> {
     let (many, one) = ((1000, 1, 3), (3, 2, 1));
     assert!(rt; mark_rectangles(&rt, many, one, REMOVED)?);
     assert!(rt; mark_rectangles(&rt, one, many, ADDED)?);
+    Ok(())
+}
+
+/// Whether there is no item where none is asked for, of two layouts that differ.
+fn mark_none(rt: &HostRuntime, before: &Layout) -> Result<bool, Fail> {
+    let after = rectangles(rt.alloc(), (1000, 1, 1))?;
+    Ok(mark_first(rt, before, &after, 0, NONE) && mark_first(rt, before, &after, 1, REMOVED))
+}
+
+#[test]
+fn only_the_first_items_are_written(rt: HostRuntime) -> Result<(), Fail> {
+    let before = rectangles(rt.alloc(), (1000, 1, 3))?;
+    assert!(rt; mark_none(&rt, &before)?);
     Ok(())
 }

@@ -4,7 +4,7 @@ use super::devices::Writer;
 use super::runs::refusal_of;
 use file_pieces::bytes_of;
 use oas_command::oas_canon::Limits;
-use oas_command::oas_difference::{Detail, Options};
+use oas_command::oas_difference::{Choice, Detail, Options};
 use oas_command::run_marking;
 use oas_num::{INPUT_MAX, SliceSource};
 use std::alloc::Global;
@@ -31,6 +31,7 @@ fn run(
     said: &mut Vec<u8>,
 ) -> Result<u8, Fail> {
     let options = Options {
+        choice: Choice::all(),
         detail: Detail::Elements,
         limit: None,
     };
@@ -48,6 +49,7 @@ fn run(
         out,
         "marks",
         markers,
+        u64::MAX,
         said,
         Limits::standard(),
     ))

@@ -8,8 +8,8 @@ use super::devices::{Full, Writer};
 use file_pieces::bytes_of;
 use oas_command::oas_canon::Limits;
 use oas_command::{
-    Detail, End, Form, Label, Options, run_canon, run_check, run_diff, run_info, run_key, run_keys,
-    run_named_check, run_named_key, run_rekey, run_same, run_show,
+    Choice, Detail, End, Form, Label, Options, run_canon, run_check, run_diff, run_info, run_key,
+    run_keys, run_named_check, run_named_key, run_rekey, run_same, run_show,
 };
 use oas_num::{INPUT_MAX, SliceSource};
 use std::alloc::Global;
@@ -47,7 +47,11 @@ pub struct Run<'a> {
 }
 
 /// All lines of a difference.
-const ALL_LINES: Options = Options {
+const ALL_LINES: Options<'static> = Options {
+    choice: Choice {
+        cells: None,
+        layers: None,
+    },
     detail: Detail::Elements,
     limit: None,
 };

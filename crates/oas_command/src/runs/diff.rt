@@ -15,23 +15,24 @@ use std::alloc::Global;
 use std::io::Write;
 
 /// Writes the difference of the layouts of all that `a` and `b` give within these limits to `out`, as the options say.
-/// Returns the status of the command: 0 where there is no line, 3 where there is, or 1 after a refusal, which is named on
-/// `err` in a line that begins with the name of the refused file. `a` is read whole before `b` is begun. A fault of `out` is
-/// the refusal `Why::Write`, under the name of `a`; a fault of `err` changes nothing.
+/// Returns the status of the command: 0 where what the options compare is the same, so that there is no line, 3 where it
+/// differs, or 1 after a refusal, which is named on `err` in a line that begins with the name of the refused file. `a` is read
+/// whole before `b` is begun. A fault of `out` is the refusal `Why::Write`, under the name of `a`; a fault of `err` changes
+/// nothing.
 pub fn run_diff<S: Source, T: Source, W: Write, E: Write>(
     alloc: Global,
     name_a: &str,
     a: &mut S,
     name_b: &str,
     b: &mut T,
-    options: Options,
+    options: Options<'_>,
     out: &mut W,
     err: &mut E,
     limits: Limits,
 ) -> u8
-    ensures { (found : Result (Contents × Contents) (WhichFile × Refused)) × (answer : Result (Contents × Contents) Refused) × (result ≡ diff_status options answer)
+    ensures { (found : Result (Contents × Contents) (WhichFile × Refused)) × (answer : Result (Contents × Contents) Refused) × (result ≡ diff_status options.entry answer)
         × ReadsBoth T.script limits (S.script a.old) (S.script a.new) b.old b.new found
-        × Delivers W.contents (diff_text options) out.old (found_in found) answer out.new
+        × Delivers W.contents (diff_text options.entry) out.old (found_in found) answer out.new
         × AppendsPrefix (E.contents err.old) (E.contents err.new) (said (blamed name_a.now name_b.now found) answer) }
 {
     let mut told = Outlet::new(err);
@@ -47,14 +48,14 @@ pub fn diff_telling<S: Source, T: Source, W: Write, K: Sink>(
     a: &mut S,
     name_b: &str,
     b: &mut T,
-    options: Options,
+    options: Options<'_>,
     out: &mut W,
     told: &mut K,
     limits: Limits,
 ) -> u8
-    ensures { (found : Result (Contents × Contents) (WhichFile × Refused)) × (answer : Result (Contents × Contents) Refused) × (result ≡ diff_status options answer)
+    ensures { (found : Result (Contents × Contents) (WhichFile × Refused)) × (answer : Result (Contents × Contents) Refused) × (result ≡ diff_status options.entry answer)
         × ReadsBoth T.script limits (S.script a.old) (S.script a.new) b.old b.new found
-        × Delivers W.contents (diff_text options) out.old (found_in found) answer out.new
+        × Delivers W.contents (diff_text options.entry) out.old (found_in found) answer out.new
         × Ends K.given K.failures (blamed name_a.now name_b.now found) told.old answer told.new }
 {
     match read_both(alloc, a, b, limits) {

@@ -17,27 +17,28 @@ use oas_num::{Outlet, Sink, Source};
 use std::alloc::Global;
 use std::io::Write;
 
-/// Writes the difference of two layouts to `out` as `run_diff` does, and after that its markers to `markers`, which the
-/// options don't affect. The status is that of `run_diff`, or 1 where `markers` failed: that is the refusal `Why::Write`,
-/// under the markers' own name. Where an input is refused, or `out` failed, `markers` is given nothing.
+/// Writes the difference of two layouts to `out` as `run_diff` does, and after that the markers of what the options compare
+/// to `markers`, at most this many, whatever else the options say. The status is that of `run_diff`, or 1 where `markers` failed: that is the
+/// refusal `Why::Write`, under the markers' own name. Where an input is refused, or `out` failed, `markers` is given nothing.
 pub fn run_marking<S: Source, T: Source, W: Write, M: Write, E: Write>(
     alloc: Global,
     name_a: &str,
     a: &mut S,
     name_b: &str,
     b: &mut T,
-    options: Options,
+    options: Options<'_>,
     out: &mut W,
     name_of_markers: &str,
     markers: &mut M,
+    most: u64,
     err: &mut E,
     limits: Limits,
 ) -> u8
     ensures { (found : Result (Contents × Contents) (WhichFile × Refused)) × (lines : Result (Contents × Contents) Refused) × (last : Result (Contents × Contents) Refused)
-        × (result ≡ diff_status options last)
+        × (result ≡ diff_status options.entry last)
         × ReadsBoth T.script limits (S.script a.old) (S.script a.new) b.old b.new found
-        × Delivers W.contents (diff_text options) out.old (found_in found) lines out.new
-        × Marks M.contents markers.old lines last markers.new
+        × Delivers W.contents (diff_text options.entry) out.old (found_in found) lines out.new
+        × Marks options.entry most M.contents markers.old lines last markers.new
         × AppendsPrefix (E.contents err.old) (E.contents err.new) (said (blamed_marking name_a.now name_b.now name_of_markers.now found lines) last) }
 {
     let mut told = Outlet::new(err);
@@ -51,6 +52,7 @@ pub fn run_marking<S: Source, T: Source, W: Write, M: Write, E: Write>(
         out,
         name_of_markers,
         markers,
+        most,
         &mut told,
         limits,
     );
@@ -65,24 +67,25 @@ pub fn marking_telling<S: Source, T: Source, W: Write, M: Write, K: Sink>(
     a: &mut S,
     name_b: &str,
     b: &mut T,
-    options: Options,
+    options: Options<'_>,
     out: &mut W,
     name_of_markers: &str,
     markers: &mut M,
+    most: u64,
     told: &mut K,
     limits: Limits,
 ) -> u8
     ensures { (found : Result (Contents × Contents) (WhichFile × Refused)) × (lines : Result (Contents × Contents) Refused) × (last : Result (Contents × Contents) Refused)
-        × (result ≡ diff_status options last)
+        × (result ≡ diff_status options.entry last)
         × ReadsBoth T.script limits (S.script a.old) (S.script a.new) b.old b.new found
-        × Delivers W.contents (diff_text options) out.old (found_in found) lines out.new
-        × Marks M.contents markers.old lines last markers.new
+        × Delivers W.contents (diff_text options.entry) out.old (found_in found) lines out.new
+        × Marks options.entry most M.contents markers.old lines last markers.new
         × Ends K.given K.failures (blamed_marking name_a.now name_b.now name_of_markers.now found lines) told.old last told.new }
 {
     match read_both(alloc, a, b, limits) {
         Ok((before, after)) => match write_difference(&before, &after, options, out) {
             Ok(length) => {
-                let marked = write_markers(&before, &after, markers);
+                let marked = write_markers(&before, &after, options.choice, most, markers);
                 conclude(name_of_markers, marked, status_of_length(Ok(length)), told)
             }
             Err(refusal) => refuse(name_a, refusal, told),

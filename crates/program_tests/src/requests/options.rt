@@ -1,24 +1,31 @@
 //! Command lines with options: what they request.
 
 use super::words::{asks, plain};
-use oas_request::Task;
-use oas_request::oas_difference::{Detail, Options};
+use oas_request::oas_difference::{ChosenLayer, Detail};
+use oas_request::{Asked, Markers, Task};
 use std::alloc::{AllocError, Global};
 use std::test::Fail;
 
-/// Whether the words of a line request `diff a b`, with these options and these markers, or with which status they end.
+/// Whether the words of a line request `diff a b` for all cells and layers, with these options and these markers, or with
+/// which status they end.
 fn asks_diff(
     alloc: Global,
     line: &str,
     is_large: bool,
-    options: Options,
-    markers: Option<&str>,
+    detail: Detail,
+    limit: Option<u64>,
+    markers: Option<Markers<'_>>,
 ) -> Result<Result<bool, i32>, AllocError> {
-    let (first, second) = (Some("a"), Some("b"));
+    let asked = Asked {
+        cells: None,
+        layers: None,
+        detail,
+        limit,
+    };
     let task = Task::Diff {
-        first,
-        second,
-        options,
+        first: Some("a"),
+        second: Some("b"),
+        asked,
         markers,
     };
     asks(alloc, line, plain(task, is_large))
@@ -27,6 +34,7 @@ fn asks_diff(
 #[test]
 fn words_of_diff(rt: HostRuntime) -> Result<(), Fail> {
     let (all, brief) = (Detail::Elements, Detail::Counts);
+    let (file, most) = ("m", 100_000);
     for (line, is_large, detail, limit, markers) in [
         ("oascanon diff a b", false, all, None, None),
         ("oascanon diff --brief a b", false, brief, None, None),
@@ -38,19 +46,69 @@ fn words_of_diff(rt: HostRuntime) -> Result<(), Fail> {
             Some(0),
             None,
         ),
-        ("oascanon diff --markers m a b", false, all, None, Some("m")),
         (
-            "oascanon diff a --brief b --markers=./-",
+            "oascanon diff --markers m a b",
+            false,
+            all,
+            None,
+            Some(Markers { name: file, most }),
+        ),
+        (
+            "oascanon diff a --brief b --markers=./- --markers-limit 0",
             false,
             brief,
             None,
-            Some("./-"),
+            Some(Markers {
+                name: "./-",
+                most: 0,
+            }),
         ),
     ] {
-        let options = Options { detail, limit };
-        let found = asks_diff(rt.alloc(), line, is_large, options, markers)?;
+        let found = asks_diff(rt.alloc(), line, is_large, detail, limit, markers)?;
         assert_eq!(rt; found, Ok(true), "at {line}");
     }
+    Ok(())
+}
+
+/// The layers of a text: each a number, or two with a slash between them.
+fn layers_of(alloc: Global, layers: &[(u64, Option<u64>)]) -> Result<Vec<ChosenLayer>, AllocError> {
+    let mut list = Vec::new(alloc);
+    for (layer, datatype) in layers {
+        list.push(ChosenLayer {
+            layer: *layer,
+            datatype: *datatype,
+        })?;
+    }
+    Ok(list)
+}
+
+/// Whether the words of a line request `diff a b` for these cells and layers, or with which status they end.
+fn asks_for(
+    alloc: Global,
+    line: &str,
+    cells: &str,
+    layers: &[(u64, Option<u64>)],
+) -> Result<Result<bool, i32>, AllocError> {
+    let asked = Asked {
+        cells: Some(cells.split_whitespace().collect(alloc)?),
+        layers: Some(layers_of(alloc, layers)?),
+        detail: Detail::Elements,
+        limit: None,
+    };
+    let task = Task::Diff {
+        first: Some("a"),
+        second: Some("b"),
+        asked,
+        markers: None,
+    };
+    asks(alloc, line, plain(task, false))
+}
+
+#[test]
+fn cells_and_layers_of_diff(rt: HostRuntime) -> Result<(), Fail> {
+    let line = "oascanon diff --cell B a --cell=A --layer 5 b --layer=0/18446744073709551615";
+    let layers = [(5, None), (0, Some(u64::MAX))];
+    assert_eq!(rt; asks_for(rt.alloc(), line, "B A", &layers)?, Ok(true));
     Ok(())
 }
 

@@ -214,9 +214,21 @@ oascanon same - -
 oascanon diff a b --limit
 oascanon diff a b --limit x
 oascanon diff a b --limit=-1
+oascanon diff a b --cell
+oascanon diff a b --layer
+oascanon diff a b --layer x
+oascanon diff a b --layer 1/
+oascanon diff a b --layer /1
+oascanon diff a b --layer 1/2/3
+oascanon diff a b --layer 1 --layer=-1
+oascanon diff a b --layer 18446744073709551616
 oascanon diff a b --markers
 oascanon diff a b --markers -
 oascanon diff a b --markers m --markers n
+oascanon diff a b --markers m --markers-limit
+oascanon diff a b --markers m --markers-limit x
+oascanon diff a b --markers m --markers-limit=-1
+oascanon diff a b --markers-limit 7
 oascanon same --brief a b
 oascanon same --markers m a b
 oascanon rekey

@@ -1,10 +1,11 @@
 //! Differences in brief.
 
-use super::differ_by;
+use super::{WHOLE, differ_by};
 use oas_markers::oas_difference::{Detail, Options};
 use std::test::Fail;
 
-const BRIEF: Options = Options {
+const BRIEF: Options<'static> = Options {
+    choice: WHOLE,
     detail: Detail::Counts,
     limit: None,
 };

@@ -1,6 +1,6 @@
 //! The first lines of a difference.
 
-use super::differ_by;
+use super::{WHOLE, differ_by};
 use oas_markers::oas_difference::{Detail, Options};
 use std::test::Fail;
 
@@ -17,8 +17,9 @@ const ROWS: &[(u64, &str)] = &[
 const ALL: &str = "@ cell A\n- 2 rectangle 1 0 10 20 0 0\n+ 3 rectangle 3 0 10 20 0 0\n";
 
 /// The first lines, this many, of the elements that differ.
-fn first(lines: u64) -> Options {
+fn first(lines: u64) -> Options<'static> {
     Options {
+        choice: WHOLE,
         detail: Detail::Elements,
         limit: Some(lines),
     }
@@ -55,6 +56,7 @@ fn the_same_have_no_last_line(rt: HostRuntime) -> Result<(), Fail> {
 #[test]
 fn lines_of_counts_are_counted_too(rt: HostRuntime) -> Result<(), Fail> {
     let options = Options {
+        choice: WHOLE,
         detail: Detail::Counts,
         limit: Some(1),
     };

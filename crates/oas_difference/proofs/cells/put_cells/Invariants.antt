@@ -7,12 +7,12 @@ use Rattle.oas_num.proofs.PuttingLemmas.{PutSoFar}
 use Rattle.oas_difference.specs.Held.{held_lines}
 use Rattle.oas_difference.proofs.cells.put_cells.Given as goal
 
-abbrev pub invariant-loop-name : goal.invariant-loop-name
-invariant-loop-name g l = record {
-  put : PutSoFar g.K.Sink.given g.K.Sink.failures (held_lines l.fn.detail l.fn.before l.fn.after) (held_lines l.fn.detail l.before l.after) l.fn.sink l.sink;
+abbrev pub invariant-loop-pair : goal.invariant-loop-pair
+invariant-loop-pair g l = record {
+  put : PutSoFar g.K.Sink.given g.K.Sink.failures (held_lines l.layers l.detail l.fn.before l.fn.after) (held_lines l.layers l.detail l.before l.after) l.fn.sink l.sink;
   before : IsStrictlySortedBy (slice_cmp nat_cmp) (keys_of l.before);
   after : IsStrictlySortedBy (slice_cmp nat_cmp) (keys_of l.after);
 }
 
-abbrev pub decreases-loop-name : goal.decreases-loop-name
-decreases-loop-name g l = length l.before + length l.after
+abbrev pub decreases-loop-pair : goal.decreases-loop-pair
+decreases-loop-pair g l = length l.before + length l.after

@@ -1,62 +1,18 @@
-use Rattle.std.proofs.Common.{◌≡◌, ◌∙◌, ◌^◌, ◌<◌, ◌++◌, List, ℕ, length, sym, subst}
-use Rattle.oas_num.proofs.PuttingLemmas.{begins, ends, fails_at, ◌▸◌}
-use Rattle.std.proofs.lemmas.Result.{err_from_is_err_and}
-use Rattle.std.specs.Ordering.{nat_cmp}
-use Rattle.std.specs.Cmp.Lexicographic.{slice_cmp}
-use Rattle.std.specs.List.Sorted.{IsStrictlySortedBy}
-use Rattle.std.specs.Map.{keys_of}
-use Rattle.oas_layout.specs.Contents.{Cell, meaning_of}
-use Rattle.oas_difference.specs.Difference.{unit_changes}
-use Rattle.oas_difference.specs.Options.{detailed}
-use Rattle.oas_difference.specs.Held.{held_lines}
-use Rattle.oas_difference.proofs.BriefHeld.{detailed_held}
-use Rattle.oas_difference.proofs.Lengths.{short_enough}
-use Rattle.oas_difference.proofs.Steps.{left_is}
+use Rattle.std.proofs.Common.{◌^◌, ◌<◌, List, ℕ, None, length, subst}
+use Rattle.oas_num.specs.Writing.{Writes}
+use Rattle.oas_layout.specs.Contents.{meaning_of}
+use Rattle.oas_difference.specs.declared.options.Options.{Options}
+use Rattle.oas_difference.proofs.Compared.{compared_by_default}
 use Rattle.oas_difference.proofs.writing.put_difference.Goals as goal
-
-pub returns-in_err-put_units-clause-short : goal.returns-in_err-put_units-clause-short
-returns-in_err-put_units-clause-short g c =
-    let a = c.args.before.now in
-    let b = c.args.after.now in
-    subst (λ (text : List ℕ). length text < 2 ^ 63) (sym (detailed_held c.args.detail a b c.new-left.ensures.layout c.new-right.ensures.layout c.requires))
-    (short_enough c.args.detail a b c.new-left.ensures.layout c.new-right.ensures.layout)
-
-pub returns-clause-short : goal.returns-clause-short
-returns-clause-short g c =
-    let a = c.args.before.now in
-    let b = c.args.after.now in
-    subst (λ (text : List ℕ). length text < 2 ^ 63) (sym (detailed_held c.args.detail a b c.new-left.ensures.layout c.new-right.ensures.layout c.requires))
-    (short_enough c.args.detail a b c.new-left.ensures.layout c.new-right.ensures.layout)
 
 pub returns-clause-writes : goal.returns-clause-writes
 returns-clause-writes g c =
-    let a = c.args.before.now in
-    let b = c.args.after.now in
-    let units : unit_changes c.unit.result c.unit-2.result ≡ unit_changes a.unit b.unit = λ i. unit_changes (c.unit.ensures i) (c.unit-2.ensures i) in
-    let cells : held_lines c.args.detail c.new-left.result c.new-right.result ≡ held_lines c.args.detail a.cells b.cells =
-    λ i. held_lines c.args.detail (c.new-left.ensures.cells i) (c.new-right.ensures.cells i) in
-    let whole : detailed c.args.detail a.profile (meaning_of a) (meaning_of b) ≡ unit_changes c.unit.result c.unit-2.result
-    ++ held_lines c.args.detail c.new-left.result c.new-right.result =
-    detailed_held c.args.detail a b c.new-left.ensures.layout c.new-right.ensures.layout c.requires ∙ (λ i. sym units i ++ sym cells i) in
-    ends _ _ (left_is (begins _ _) whole ▸ c.in_ok-put_units.ensures) c.put_cells.ensures
+    let options : Options = record { choice = c.all.result; detail = c.args.detail; limit = None } in
+    subst (λ (text : List ℕ). Writes g.K.Sink.given g.K.Sink.failures c.args.sink.now text c.put_compared.result c.put_compared.new.sink)
+    (compared_by_default options c.all.ensures c.args.before.now.profile (meaning_of c.args.before.now) (meaning_of c.args.after.now)) c.put_compared.ensures.writes
 
-pub returns-in_err-put_units-clause-writes : goal.returns-in_err-put_units-clause-writes
-returns-in_err-put_units-clause-writes g c =
-    let a = c.args.before.now in
-    let b = c.args.after.now in
-    let units : unit_changes c.unit.result c.unit-2.result ≡ unit_changes a.unit b.unit = λ i. unit_changes (c.unit.ensures i) (c.unit-2.ensures i) in
-    let cells : held_lines c.args.detail c.new-left.result c.new-right.result ≡ held_lines c.args.detail a.cells b.cells =
-    λ i. held_lines c.args.detail (c.new-left.ensures.cells i) (c.new-right.ensures.cells i) in
-    let whole : detailed c.args.detail a.profile (meaning_of a) (meaning_of b) ≡ unit_changes c.unit.result c.unit-2.result
-    ++ held_lines c.args.detail c.new-left.result c.new-right.result =
-    detailed_held c.args.detail a b c.new-left.ensures.layout c.new-right.ensures.layout c.requires ∙ (λ i. sym units i ++ sym cells i) in
-    let p = err_from_is_err_and c.from_residual.result c.from_residual.ensures.1 in
-    rw p.1 (fails_at _ (left_is (begins _ _) whole) c.in_err-put_units.ensures)
-
-pub put_cells-requires-clause-before : goal.put_cells-requires-clause-before
-put_cells-requires-clause-before g c =
-    subst (λ (cs : List Cell). IsStrictlySortedBy (slice_cmp nat_cmp) (keys_of cs)) (sym c.new-left.ensures.cells) c.new-left.ensures.layout.ascending
-
-pub put_cells-requires-clause-after : goal.put_cells-requires-clause-after
-put_cells-requires-clause-after g c =
-    subst (λ (cs : List Cell). IsStrictlySortedBy (slice_cmp nat_cmp) (keys_of cs)) (sym c.new-right.ensures.cells) c.new-right.ensures.layout.ascending
+pub returns-clause-short : goal.returns-clause-short
+returns-clause-short g c =
+    let options : Options = record { choice = c.all.result; detail = c.args.detail; limit = None } in
+    subst (λ (text : List ℕ). length text < 2 ^ 63)
+    (compared_by_default options c.all.ensures c.args.before.now.profile (meaning_of c.args.before.now) (meaning_of c.args.after.now)) c.put_compared.ensures.short

@@ -9,7 +9,7 @@ use Rattle.oas_markers.proofs.cells.put_entries.Given as goal
 
 abbrev pub invariant-loop-pair : goal.invariant-loop-pair
 invariant-loop-pair g l = record {
-  put : PutSoFar g.K.Sink.given g.K.Sink.failures (held_entries l.fn.before l.fn.after) (held_entries l.before l.after) l.fn.sink l.sink;
+  put : PutSoFar g.K.Sink.given g.K.Sink.failures (held_entries l.layers l.fn.before l.fn.after) (held_entries l.layers l.before l.after) l.fn.sink l.sink;
   before : IsStrictlySortedBy (slice_cmp nat_cmp) (keys_of l.before);
   after : IsStrictlySortedBy (slice_cmp nat_cmp) (keys_of l.after);
 }

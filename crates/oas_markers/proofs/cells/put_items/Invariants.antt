@@ -4,12 +4,14 @@ use Rattle.std.specs.Map.{keys_of}
 use Rattle.oas_num.proofs.PuttingLemmas.{PutSoFar}
 use Rattle.std.specs.Ordering.{nat_cmp}
 use Rattle.std.specs.Cmp.Lexicographic.{slice_cmp}
+use Rattle.oas_markers.specs.Markers.{first_items}
 use Rattle.oas_markers.specs.Held.{held_items}
 use Rattle.oas_markers.proofs.cells.put_items.Given as goal
 
 abbrev pub invariant-loop-pair : goal.invariant-loop-pair
 invariant-loop-pair g l = record {
-  put : PutSoFar g.K.Sink.given g.K.Sink.failures (held_items l.gone l.come l.fn.before l.fn.after) (held_items l.gone l.come l.before l.after) l.fn.sink l.sink;
+  put : PutSoFar g.K.Sink.given g.K.Sink.failures (first_items l.most (held_items l.layers l.gone l.come l.fn.before l.fn.after))
+      (first_items l.left (held_items l.layers l.gone l.come l.before l.after)) l.fn.sink l.sink;
   before : IsStrictlySortedBy (slice_cmp nat_cmp) (keys_of l.before);
   after : IsStrictlySortedBy (slice_cmp nat_cmp) (keys_of l.after);
 }

@@ -1,10 +1,6 @@
-use Rattle.std.proofs.Common.{◌≡◌, ◌∙◌, ◌*◌, ℕ, ℤ, List, subst, ap, arith, rules, SFits, w64}
-use Rattle.std.specs.Int.{w128}
-use Rattle.std.specs.Prelude.{pos, ◌+ℤ◌}
-use Rattle.std.proofs.lemmas.Int.{to_z-of_z}
+use Rattle.std.proofs.Common.{◌*◌, ℕ, List, subst, ap}
 use Rattle.oas_num.specs.Writing.{Writes}
-use Rattle.oas_markers.specs.Numbers.{counted, length_in, microns}
-use Rattle.oas_markers.proofs.NumberLemmas.{length_of, coordinate_of, far_of}
+use Rattle.oas_markers.specs.Numbers.{length_in}
 use Rattle.oas_markers.proofs.numbers.put_double.Goals as goal
 
 pub returns : goal.returns

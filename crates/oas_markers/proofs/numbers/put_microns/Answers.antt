@@ -1,10 +1,7 @@
-use Rattle.std.proofs.Common.{◌≡◌, ◌∷◌, List, ℕ, refl, sym, subst}
-use Rattle.std.specs.Prelude.{nat_abs}
-use Rattle.std.specs.Int.{w128}
+use Rattle.std.proofs.Common.{List, ℕ, refl, sym, subst}
 use Rattle.std.proofs.lemmas.Result.{err_from_is_err_and}
 use Rattle.oas_num.specs.Writing.{Writes}
 use Rattle.oas_num.proofs.PuttingLemmas.{begins, fails_at, ends, ◌▸◌}
-use Rattle.oas_markers.specs.Numbers.{length_in}
 use Rattle.oas_markers.proofs.NumberLemmas.{negative_of, other_of}
 use Rattle.oas_markers.proofs.Steps.{left_is}
 use Rattle.oas_markers.proofs.numbers.put_microns.Goals as goal

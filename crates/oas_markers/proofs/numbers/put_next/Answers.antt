@@ -1,7 +1,7 @@
 use Rattle.std.proofs.Common.{SFits, rules, w64}
 use Rattle.std.proofs.lemmas.Int.{to_z-of_z}
 use Rattle.std.proofs.lemmas.Result.{err_from_is_err_and}
-use Rattle.oas_num.proofs.PuttingLemmas.{first, begins, fails_at, ends, ◌▸◌}
+use Rattle.oas_num.proofs.PuttingLemmas.{first, begins, fails_at, ends}
 use Rattle.oas_markers.proofs.numbers.put_next.Goals as goal
 
 pub returns-in_err-put : goal.returns-in_err-put

@@ -1,4 +1,4 @@
-use Rattle.std.proofs.Common.{SFits, rules, w64}
+use Rattle.std.proofs.Common.{SFits, w64}
 use Rattle.std.proofs.lemmas.Int.{to_z-of_z}
 use Rattle.std.proofs.lemmas.Result.{err_from_is_err_and}
 use Rattle.oas_num.proofs.PuttingLemmas.{first, begins, fails_at, ends, ◌▸◌}

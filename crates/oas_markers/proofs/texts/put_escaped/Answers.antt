@@ -1,4 +1,3 @@
-use Rattle.std.proofs.Common.{◌∷◌}
 use Rattle.std.proofs.lemmas.Result.{err_from_is_err_and}
 use Rattle.oas_markers.specs.Texts.{escape}
 use Rattle.oas_num.proofs.PuttingLemmas.{item_put, item_fails}

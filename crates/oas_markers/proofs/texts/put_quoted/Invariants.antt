@@ -1,4 +1,4 @@
-use Rattle.std.proofs.Common.{◌∷◌, drop, flat_map}
+use Rattle.std.proofs.Common.{drop, flat_map}
 use Rattle.oas_markers.specs.Texts.{quote}
 use Rattle.oas_num.proofs.PuttingLemmas.{PutSoFar}
 use Rattle.oas_markers.proofs.texts.put_quoted.Given as goal

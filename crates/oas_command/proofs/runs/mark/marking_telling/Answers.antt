@@ -4,6 +4,7 @@ use Rattle.oas_num.specs.declared.refusals.Refusal.{Refusal}
 use Rattle.oas_num.specs.Written.{IsWritten, IsCutOff}
 use Rattle.oas_layout.specs.Contents.{Contents, meaning_of}
 use Rattle.oas_markers.specs.oas_difference.Options.{difference_by}
+use Rattle.oas_markers.specs.oas_difference.Choice.{chosen}
 use Rattle.oas_markers.specs.Markers.{markers}
 use Rattle.oas_markers.specs.Written.{IsMarked, IsMarkedUpTo}
 use Rattle.oas_command.specs.Diff.{diff_text}
@@ -27,7 +28,10 @@ returns-in-Ok-write_difference g c =
     let marked = c.write_markers-marked.result in
     let old = c.args.markers.now in
     let new = c.write_markers-marked.new.writer in
-    let same : markers a.profile (meaning_of a) (meaning_of b) ≡ marks found = ap (λ p. markers p (meaning_of a) (meaning_of b)) both.0.by in
+    let choice = options.choice in
+    let most = c.args.most in
+    let same : markers most choice.layers a.profile (chosen choice (meaning_of a)) (chosen choice (meaning_of b)) ≡ marks options most found =
+    ap (λ p. markers most choice.layers p (chosen choice (meaning_of a)) (chosen choice (meaning_of b))) both.0.by in
     let all = subst (λ (t : List ℕ). IfOk marked (IsMarked g.M.Write.contents old t new)) same c.write_markers-marked.ensures.written in
     let cut = subst (λ (t : List ℕ). IfErr marked (IsMarkedUpTo g.M.Write.contents old t new)) same c.write_markers-marked.ensures.refused in (
       Ok found,
@@ -36,7 +40,7 @@ returns-in-Ok-write_difference g c =
       marks_differ found options g.W.Write.contents out after count marked _ _ whole c.status_of_length.ensures c.conclude.ensures.answers,
       both,
       (refl, whole.took),
-      marks_follow found g.M.Write.contents marked old new all cut,
+      marks_follow found options most g.M.Write.contents marked old new all cut,
       tells {T = Contents × Contents} found g.K.Sink.given g.K.Sink.failures c.args.name_of_markers.now c.args.told.now marked c.conclude.new.told c.conclude.ensures.ends,
     )
 

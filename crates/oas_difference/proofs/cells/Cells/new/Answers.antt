@@ -1,5 +1,4 @@
-use Rattle.std.proofs.Common.{rules}
 use Rattle.oas_difference.proofs.cells.Cells.new.Goals as goal
 
 pub returns-clause-cells : goal.returns-clause-cells
-returns-clause-cells c = search rules
+returns-clause-cells c = c.first_named.ensures.rest
