@@ -5,7 +5,7 @@ PREFIX ?= /usr/local
 JOBS ?=
 PROVE = scripts/prove $(if $(JOBS),--jobs $(JOBS))
 
-.PHONY: all lib install install-built install-lib dist test test-built test-house test-c test-large test-rows test-reference test-readings test-reading test-inflate test-command test-completion test-words test-workflows test-cluster test-klayout test-klayout-prepared bench bench-klayout clean
+.PHONY: all lib wheel install install-built install-lib dist test test-built test-house test-c test-python test-large test-rows test-reference test-readings test-reading test-inflate test-command test-completion test-words test-workflows test-cluster test-klayout test-klayout-prepared bench bench-klayout clean
 
 # The programs: proves every crate that they stand on and no other, and leaves them as ./oascanon and ./oasprep. It tells how far it
 # is, and goes on where it was stopped.
@@ -17,6 +17,10 @@ LIBRARY ?= lib
 lib:
 	@$(PROVE) oascanon_c
 	scripts/library crates/oascanon_c/out/liboascanon_c.a lib
+
+# The Python package: a wheel with that library in it, in dist/.
+wheel: lib
+	python3 python/backend.py dist
 
 install: all lib install-built
 
@@ -58,6 +62,11 @@ test-house:
 test-c: lib
 	tests/c/run lib
 
+# The Python package, with ten times as many random files as the gate gives. It wants pytest: Debian's package, where it isn't there.
+test-python: all lib
+	python3 -c 'import pytest' 2>/dev/null || test -e /usr/lib/python3/dist-packages/pytest || apt-get install -y python3-pytest
+	tests/python/run ./oascanon 10000
+
 # Files at the limits, given to the built program: too large for the tests of a crate.
 test-large: all
 	tests/large ./oascanon
@@ -83,8 +92,8 @@ test-inflate:
 	@$(PROVE) oas_bench
 	tests/inflate
 
-# The packages: a tar.gz, a .deb and SHA256SUMS in dist/, tried in clean folders, and by Debian's lintian.
-dist: all
+# The packages: a tar.gz, a .deb, a wheel for Python and SHA256SUMS in dist/, tried in clean folders, and by Debian's lintian.
+dist: all lib
 	command -v lintian >/dev/null || apt-get install -y lintian
 	tests/dist/run
 	scripts/dist dist

@@ -102,7 +102,7 @@ typedef struct {
 
 /*
  * Over buffers. `bytes` may be NULL where `count` is 0, and `room` where `size` is 0; no other pointer may be.
- * Neither buffer overlaps another, and none has 2^63 bytes or more.
+ * Nothing that a pointer leads to overlaps another, and no buffer has 2^63 bytes or more.
  */
 
 /* Puts the canonical file at the start of the room: all of it, of `length` bytes, and what is behind it stays. Where the

@@ -18,11 +18,13 @@ SECONDS = 40 * 60
 
 @dataclass
 class Part:
-    """A name, the words of the command, which runs at the top, and packages of Debian's with the file that tells whether they are there."""
+    """A name, the words of the command, which runs at the top, packages of Debian's with the file that tells whether they are there,
+    and the name of the part whose end it waits for."""
 
     name: str
     words: list
     package: tuple = None
+    after: str = None
 
 
 @dataclass
@@ -38,12 +40,15 @@ class Result:
 KLAYOUT = ("klayout", "/usr/lib/klayout/strm2oas")
 SHELLS = ("zsh fish", "/usr/bin/fish")
 SLURM = ("slurm-wlm munge parallel", "/usr/sbin/slurmctld")
+PYTHON = ("python3-pytest", "/usr/lib/python3/dist-packages/pytest/__init__.py")
 
 
 def parts_of(top, after_ci):
     """The parts, the longest first. A folder of tests/ that isn't named here is a part by its `run`, which is given the program."""
     named = [
-        Part("c", ["tests/c/build", *(["--after-ci"] if after_ci else [])]),
+        Part("library", ["tests/library", *(["--after-ci"] if after_ci else [])]),
+        Part("c", ["tests/c/run", "lib"], after="library"),
+        Part("python", ["tests/python/run", "./oascanon"], PYTHON, after="library"),
         Part("readings", ["tests/reference/readings"]),
         Part("reference", ["tests/reference/compare", "./oascanon", "2000"]),
         Part("command", ["tests/command/run", "./oascanon"]),
@@ -56,12 +61,18 @@ def parts_of(top, after_ci):
         Part("klayout-prepared", ["tests/klayout/prepared", "."], KLAYOUT),
         Part("inflate", ["tests/inflate", "crates/oas_bench/out/oas_bench"]),
         Part("cluster", ["tests/cluster/run", "./oascanon"], SLURM),
-        Part("dist", ["tests/dist/run"], ("lintian", "/usr/bin/lintian")),
+        Part("dist", ["tests/dist/run"], ("lintian", "/usr/bin/lintian"), after="library"),
         Part("completion", ["tests/completion/run"], SHELLS),
     ]
     folders = {pathlib.Path(part.words[0]).parent.name for part in named}
     others = [path for path in sorted((top / "tests").glob("*/run")) if path.parent.name not in folders]
     return named + [Part(path.parent.name, [str(path.relative_to(top)), "./oascanon"]) for path in others]
+
+
+def chosen_of(parts, names):
+    """The parts of these names, and those whose end they wait for."""
+    awaited = {part.after for part in parts if part.name in names}
+    return [part for part in parts if part.name in names or part.name in awaited]
 
 
 APT = threading.Lock()

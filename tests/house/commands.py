@@ -19,6 +19,7 @@ CASES = [
     ("rt ci fails", {"bin/rt": 'echo "7 passed, 1 failed"; exit 1'}, False, "rt ci"),
     ("rt ci is killed", {"bin/rt": f"{GREEN}; kill -9 $$"}, False, "rt ci"),
     ("there is no rt", {"bin/rt": None}, False, "rt ci"),
+    ("the library isn't built", {"tests/library": "echo NOT built; exit 1"}, False, "library"),
 ]
 
 
