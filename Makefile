@@ -62,9 +62,11 @@ test-house:
 test-c: lib
 	tests/c/run lib
 
-# The Python package, with ten times as many random files as the gate gives. It wants pytest: Debian's package, where it isn't there.
+# The Python package, with ten times as many random files as the gate gives. It wants pytest and KLayout: Debian's packages, where they
+# aren't there.
 test-python: all lib
 	python3 -c 'import pytest' 2>/dev/null || test -e /usr/lib/python3/dist-packages/pytest || apt-get install -y python3-pytest
+	test -e /usr/lib/klayout/pymod || apt-get install -y klayout
 	tests/python/run ./oascanon 10000
 
 # Files at the limits, given to the built program: too large for the tests of a crate.

@@ -1,5 +1,8 @@
 # Completions of oasprep for fish.
 complete -c oasprep -x -l drop -a '(__fish_append , properties layer-names extensions)' -d 'Leaves these out, and counts them'
+complete -c oasprep -l key -d 'Prints the key of what each file is prepared to'
+complete -c oasprep -l same -d 'Says whether two files are prepared to the same layout'
+complete -c oasprep -r -l files0-from -d 'Reads names from a file'
 complete -c oasprep -l large -d 'Takes larger files'
 complete -c oasprep -l explain -d 'Says below a refusal what it means, and what to try'
 complete -c oasprep -l progress -d 'Shows how many bytes were read and written'

@@ -18,8 +18,8 @@ SECONDS = 40 * 60
 
 @dataclass
 class Part:
-    """A name, the words of the command, which runs at the top, packages of Debian's with the file that tells whether they are there,
-    and the name of the part whose end it waits for."""
+    """A name, the words of the command, which runs at the top, packages of Debian's with the files that tell whether they are
+    there, and the name of the part whose end it waits for."""
 
     name: str
     words: list
@@ -40,7 +40,11 @@ class Result:
 KLAYOUT = ("klayout", "/usr/lib/klayout/strm2oas")
 SHELLS = ("zsh fish", "/usr/bin/fish")
 SLURM = ("slurm-wlm munge parallel", "/usr/sbin/slurmctld")
-PYTHON = ("python3-pytest", "/usr/lib/python3/dist-packages/pytest/__init__.py")
+PYTHON = (
+    "python3-pytest python3-pip klayout",
+    *(f"/usr/lib/python3/dist-packages/{name}/__init__.py" for name in ("pytest", "pip")),
+    "/usr/lib/klayout/pymod/klayout/db",
+)
 
 
 def parts_of(top, after_ci):
@@ -89,15 +93,17 @@ def apt_get(*words):
 
 def lacking(package):
     """Installs the packages where they aren't there. Returns why they aren't there then, or None."""
-    if package is None or os.path.exists(package[1]):
+    names, *files = package or ("",)
+    missing = [file for file in files if not os.path.exists(file)]
+    if not missing:
         return None
     if os.geteuid() or not shutil.which("apt-get"):
-        return f"there is no {package[1]}, and Debian's {package[0]} can't be installed here"
+        return f"there is no {missing[0]}, and Debian's {names} can't be installed here"
     with APT:
         if not UPDATED:
             UPDATED.append(apt_get("update"))
-        why = apt_get("install", "-y", "--no-install-recommends", *package[0].split())
-    return None if os.path.exists(package[1]) else f"Debian's {package[0]} can't be installed: {why}"
+        why = apt_get("install", "-y", "--no-install-recommends", *names.split())
+    return None if all(map(os.path.exists, files)) else f"Debian's {names} can't be installed: {why}"
 
 
 def result_of(name, last, status):

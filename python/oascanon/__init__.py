@@ -16,27 +16,37 @@ from ._files import File
 from ._layout import Cell, Circle, Element, Layout, Path, Placement, Point, Polygon, Rectangle, Text
 from ._limits import Limits
 from ._listing import read
+from ._prepare import Drop, LeftOut, Prepared, prepare
 from ._refused import Refused
+from ._reports import Info, diff, info, keys
 
 __version__ = metadata.version("oascanon")
 
 __all__ = [
     "Cell",
     "Circle",
+    "Drop",
     "Element",
     "File",
+    "Info",
     "Layout",
+    "LeftOut",
     "Limits",
     "Path",
     "Placement",
     "Point",
     "Polygon",
+    "Prepared",
     "Rectangle",
     "Refused",
     "Text",
     "canonicalize",
     "check",
+    "diff",
+    "info",
     "key",
+    "keys",
+    "prepare",
     "read",
     "same",
 ]

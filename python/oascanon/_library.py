@@ -4,7 +4,7 @@ from __future__ import annotations
 
 import ctypes
 import pathlib
-from typing import Any, Callable, List, Sequence, Tuple, Union
+from typing import Any, Callable, List, Optional, Sequence, Tuple, Union
 
 from ._files import Contents
 from ._limits import Limits
@@ -71,10 +71,10 @@ def buffers(files: Sequence[Contents]) -> List[Any]:
     return [argument for file in files for argument in (pointer(file.data), len(file.data))]
 
 
-def accepted(outcome: Outcome, files: Sequence[Contents]) -> Outcome:
+def accepted(outcome: Outcome, files: Sequence[Contents], within: Optional[int] = None) -> Outcome:
     """The outcome of a call on files that it doesn't refuse. Raises Refused where it refuses one."""
     if outcome.status in REASONS:
-        raise Refused(outcome.status, outcome.at, files[outcome.file - 1].name, outcome.file)
+        raise Refused(outcome.status, outcome.at, files[outcome.file - 1].name, outcome.file, within)
     if outcome.status == NOT_LIMITS:
         raise ValueError("these numbers are no limits")
     if outcome.status not in (DONE, NO, TOO_SMALL):

@@ -1,4 +1,4 @@
-"""The reasons for a refusal, by their numbers. Made by scripts/python-reasons of docs/REFUSALS.md."""
+"""The reasons for a refusal, by their numbers. Made by scripts/python-reasons of docs/REFUSALS.md and docs/PREPARING.md."""
 
 from __future__ import annotations
 
@@ -189,5 +189,70 @@ REASONS: Dict[int, Reason] = {
         "Memory",
         "a request for memory was refused",
         "Run it where there is more memory.",
+    ),
+    101: Reason(
+        "Properties",
+        "a record is of 7 to 10, 28 or 29, and properties aren't to be left out",
+        "Name them with `--drop properties`, if the key needn't stand for them.",
+    ),
+    102: Reason(
+        "LayerNames",
+        "a record is a LAYERNAME, and these aren't to be left out",
+        "Name them with `--drop layer-names`, if the key needn't stand for them.",
+    ),
+    103: Reason(
+        "Extensions",
+        "a record is of 30 to 33, and extensions aren't to be left out",
+        "Name them with `--drop extensions`, if the key needn't stand for them.",
+    ),
+    104: Reason(
+        "CblockType",
+        "a block's kind of compression isn't 0",
+        "The writer is at fault.",
+    ),
+    105: Reason(
+        "CblockNested",
+        "a block stands within a block; START or END there is 13",
+        "The writer is at fault.",
+    ),
+    106: Reason(
+        "CblockLength",
+        "a block inflates to other than the stated number of bytes, or doesn't use just the stated number",
+        "The writer is at fault, or the file was changed.",
+    ),
+    107: Reason(
+        "CblockBorder",
+        "a record runs out of its block",
+        "The writer is at fault.",
+    ),
+    108: Reason(
+        "Deflate",
+        "a block's bytes are no DEFLATE stream, or an unfinished one",
+        "The file was changed, or its writer is at fault.",
+    ),
+    109: Reason(
+        "Trapezoid",
+        "the corners of a trapezoid cross, or enclose nothing",
+        "Look at the shape; draw it as a polygon.",
+    ),
+    110: Reason(
+        "CtrapezoidType",
+        "the kind of a CTRAPEZOID is above 25",
+        "The writer is at fault.",
+    ),
+    111: Reason(
+        "ValueType",
+        "the type of a property's value is above 15",
+        "The writer is at fault.",
+    ),
+    112: Reason(
+        "IntervalType",
+        "the type of a LAYERNAME's interval is above 4",
+        "The writer is at fault.",
+    ),
+    113: Reason(
+        "Checksum",
+        "the signature isn't that of the file",
+        "The file was changed on its way: get it again.",
     ),
 }

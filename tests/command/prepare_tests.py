@@ -93,6 +93,12 @@ def test_a_name_that_is_no_text(program, folder):
     assert [path.name for path in folder.iterdir()] == ["in"]
 
 
+def test_a_name_that_is_not_utf_8(program, folder):
+    beside = pathlib.Path(program).with_name("oasprep")
+    done = subprocess.run([beside, b"\xff\\"], cwd=folder, capture_output=True)
+    assert (done.returncode, done.stdout, done.stderr) == (1, b"", b"\\xff\\\\: cannot be opened\n")
+
+
 def test_full_device(program, folder):
     done = prep(program, "--drop", ALL, "-", "/dev/full", input=DRESSED)
     assert (done.returncode, done.stderr) == (1, b"standard input: refused 33 at 0\n")
@@ -113,7 +119,7 @@ def test_key_in_two_words(program, folder):
 
 
 def flags(program):
-    return set(re.findall(r"--[a-z-]+", prep(program, "--help").stdout.decode().split("Examples:")[0]))
+    return set(re.findall(r"--[a-z0-9-]+", prep(program, "--help").stdout.decode().split("Examples:")[0]))
 
 
 def test_help_fits_a_screen(program, folder):
@@ -128,7 +134,7 @@ def test_version(program, folder):
 
 
 def test_manual_and_completions(program, folder):
-    assert flags(program) == {"--drop", "--large", "--explain", "--progress", "--help", "--version"}
+    assert flags(program) == {"--drop", "--key", "--same", "--files0-from", "--large", "--explain", "--progress", "--help", "--version"}
     for path in ("man/oasprep.1", "completions/oasprep.bash", "completions/_oasprep", "completions/oasprep.fish"):
         text = (TOP / path).read_text().replace("\\-", "-").replace("-l ", "--")
         for word in flags(program) | set(ALL.split(",")):

@@ -9,7 +9,7 @@ def test_examples(top, tmp_path, monkeypatch):
     shutil.copy(top / "tests/rows/klayout/default-stdcell-with-everything.oas", tmp_path / "chip.oas")
     monkeypatch.chdir(tmp_path)
     failed, tried = doctest.testfile(str(top / "docs/PYTHON.md"), module_relative=False)
-    assert tried > 4 and failed == 0
+    assert tried > 5 and failed == 0
 
 
 def test_it_is_short(top):

@@ -9,12 +9,16 @@ from layout import STANDARD, read
 from preparing import preparation
 from reading import Refused
 
+STDIN = "standard input"
+
 
 def answer(command, files, profile=2, limits=STANDARD):
     """Status, output and error output of a command, with its options, on files, each a name and its bytes. What `rekey` writes
-    is its output; `prepare` is the second program, and its options are what is named to be left out."""
+    is its output; `prepare` is the second program."""
+    if command.startswith("prepare --same"):
+        return compared(files, command.split()[2:])
     if command.startswith("prepare"):
-        return preparation(*files[0], command.split()[1:])
+        return prepared(*files[0], command.split()[1:])
     layouts = []
     for name, data in files:
         try:
@@ -24,6 +28,23 @@ def answer(command, files, profile=2, limits=STANDARD):
     if command == "rekey":
         return rekeyed(*files[0], limits)
     return *said(command, files[0][1], layouts), b""
+
+
+def prepared(name, data, words):
+    """The same of the second program, with words for a question and for what is left out."""
+    status, out, err = preparation(name, data, [word for word in words if word != "--key"])
+    if "--key" in words and status == 0:
+        shown = "-" if name == STDIN else name
+        out = f"{hashlib.sha256(out).hexdigest()}  {shown}\n".encode()
+    return status, out, err
+
+
+def compared(files, dropped):
+    """The same of the second program, of whether two files mean the same."""
+    (one, a, first), (other, b, second) = (preparation(*file, dropped) for file in files)
+    if one or other:
+        return 1, b"", first if one else second
+    return (0, b"same\n", first + second) if a == b else (3, b"different\n", first + second)
 
 
 def said(command, data, layouts):

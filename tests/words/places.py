@@ -4,7 +4,7 @@ import os
 import signal
 import subprocess
 
-from results import PROGRESS, TO_TRY, Result, items_in
+from results import PROGRESS, TO_TRY, Result, markers_in
 
 SECONDS = 60
 MARKERS = "m"
@@ -69,5 +69,5 @@ class Place:
         names = tuple(dict.fromkeys(found[1] for found in PROGRESS.finditer(err)))
         changed = self.changes(scene)
         if MARKERS in changed:
-            changed[MARKERS] = items_in(changed[MARKERS])
+            changed[MARKERS] = markers_in(changed[MARKERS])
         return Result(status, out, TO_TRY.sub("", PROGRESS.sub("", err)), names, tuple(sorted(changed.items())))

@@ -7,9 +7,8 @@ from collections import namedtuple
 from xml.etree import ElementTree
 
 from commands import answer
-from difference import difference
 from explain_tests import preparing_reasons, reasons
-from layout import LARGE, STANDARD, read
+from layout import LARGE, STANDARD
 from table import COMMANDS, FILES, KEYS, NAMES, Version
 
 # Status, output, error output without commands to try and lines of progress, the names in these lines, and the files that are
@@ -38,32 +37,29 @@ def reason(number):
 
 
 def shown(name):
-    """A name in a message: in one line, and bytes that are no text as numbers."""
-    text = name.decode("utf-8", "surrogateescape")
-    if not re.search("[\n\r\udc80-\udcff]", text):
-        return text
-    text = text.replace("\\", "\\\\").replace("\n", "\\n").replace("\r", "\\r")
-    return re.sub("[\udc80-\udcff]", lambda found: f"\\x{ord(found[0]) - 0xdc00:02x}", text)
+    """A name in a message, in one line."""
+    return name.replace("\\", "\\\\").replace("\n", "\\n") if "\n" in name else name
 
 
-def items_of(before, after, is_large):
-    """The markers of a difference: what is removed or added, in which cell, and how often."""
+def markers_of(lines, most):
+    """The markers of the lines of a difference: a description, and what is removed or added, in which cell, and how often."""
     items, name = [], None
-    limits = LARGE if is_large else STANDARD
-    for line in difference(read(before, 2, limits), read(after, 2, limits)):
+    for line in lines:
         sign, second, third = line.split()[:3]
         if sign == "@":
             name = third
         else:
             items.append((f"{'removed' if sign == '-' else 'added'}.{third}", name, int(second)))
-    return tuple(items)
+    more = "" if most is None or most >= len(items) else f" (the first {most} of {len(items)} markers)"
+    return "The difference of A and B" + more, *items[:most]
 
 
-def items_in(text):
+def markers_in(text):
     """The same of a report database, or its bytes where it is none."""
     try:
-        items = ElementTree.fromstring(text).find("items")
-        return tuple((item.findtext("category"), item.findtext("cell"), int(item.findtext("multiplicity"))) for item in items)
+        root = ElementTree.fromstring(text)
+        items = [[item.findtext(name) for name in ("category", "cell", "multiplicity")] for item in root.find("items")]
+        return root.findtext("description"), *((kind, cell, int(count)) for kind, cell, count in items)
     except (ElementTree.ParseError, TypeError, ValueError):
         return text
 
@@ -85,6 +81,7 @@ class Run:
         self.status = 1 if 1 in (self.status, status) else max(self.status, status)
 
     def writes(self, name, data):
+        name = os.path.normpath(name)
         if self.scene.files.get(name) != data:
             self.files[name] = data
 
@@ -95,7 +92,7 @@ class Run:
         """What a file or standard input gives, or None where it can't be opened, which is said."""
         data = self.given if name is None else self.scene.files.get(os.path.normpath(name))
         if data is None:
-            self.says(f"{shown(os.fsencode(name))}: cannot be opened\n", MISSING)
+            self.says(f"{shown(name)}: cannot be opened\n", MISSING)
             self.ends(1)
         return data
 
@@ -104,17 +101,23 @@ class Run:
         data = self.content(name)
         if data is None:
             return None
-        in_messages = STANDARD_INPUT if name is None else shown(os.fsencode(name))
+        in_messages = STANDARD_INPUT if name is None else shown(name)
         if in_messages not in self.shown:
             self.shown.append(in_messages)
         return in_messages, data
+
+    def two_layouts(self):
+        """Both files of a request, or None where one can't be opened."""
+        first = self.layout(self.request.inputs[0])
+        second = self.layout(self.request.inputs[1]) if first else None
+        return (first, second) if second else None
 
     def took(self, status, out, err):
         """The output of the plain program, or None where it refuses. What it says is said."""
         refused = REFUSED.search(err.decode())
         self.says(err.decode(), reason(refused[1]) if refused else "")
         self.ends(status)
-        return None if err and status else out
+        return out if out or not status else None
 
     def answer(self, command, *files):
         """The same of a command of `oascanon`."""
@@ -123,40 +126,55 @@ class Run:
 
 def of_one(run):
     """`canon`, `show`, `keys`, `info` or `rekey`."""
-    request, output = run.request, run.request.output and os.path.normpath(run.request.output)
-    if "no-clobber" in request.flags and output in run.scene.files:
+    request = run.request
+    if "no-clobber" in request.flags and os.path.normpath(request.output) in run.scene.files:
         run.says(f"{request.output}: exists, and is not replaced\n")
         run.ends(1)
         return
     file = run.layout(request.inputs[0])
     out = run.answer("info --json" if "json" in request.flags else request.command, file) if file else None
-    if out is not None and output is not None:
-        run.writes(output, out)
+    if out is not None and request.output is not None:
+        run.writes(request.output, out)
     else:
         run.out += out or b""
 
 
+def chosen(request):
+    """`same`, or `diff` with the cells and the layers that it compares, and a cell that no file has where it is to compare
+    none."""
+    cells = sorted(request.cells or {"NONE"}) if request.cells is not None else ()
+    layers = sorted("/".join(map(str, layer)) for layer in request.layers or ())
+    return " ".join([request.command, *(f"--cell {name}" for name in cells), *(f"--layer {layer}" for layer in layers)])
+
+
 def of_two(run):
     """`same` or `diff`."""
-    request = run.request
-    files = []
-    for name in request.inputs:
-        files.append(run.layout(name))
-        if files[-1] is None:
-            return
+    request, compared = run.request, chosen(run.request)
+    files = run.two_layouts()
+    if files is None:
+        return
     limited = "" if request.limit is None else f" --limit {request.limit}"
-    out = run.answer(request.command + " --brief" * ("brief" in request.flags) + limited, *files)
+    out = run.answer(compared + " --brief" * ("brief" in request.flags) + limited, *files)
     if out is not None and request.markers is not None:
-        run.files[os.path.normpath(request.markers)] = items_of(files[0][1], files[1][1], run.is_large)
+        _, lines, _ = answered(compared, files, run.is_large)
+        run.writes(request.markers, markers_of(lines.decode().splitlines(), request.most))
     run.out += out or b""
 
 
-def of_many(run, names):
+def names_of(run):
+    """The files of a request by their names, or those that a list names."""
+    if run.request.reads == FILES:
+        return run.request.inputs
+    data = run.content(run.request.inputs[0])
+    return map(os.fsdecode, items_of_list(data or b"", b"\0"))
+
+
+def of_many(run):
     """`check` or `key` of files by name."""
     flags, command = run.request.flags, run.request.command
     has_names = "names" in flags or run.request.reads == NAMES
     end = b"\0" if "zero" in flags else b"\n"
-    for name in names:
+    for name in names_of(run):
         file = run.layout(name)
         out = run.answer(command, file) if file else None
         if out is not None:
@@ -169,13 +187,6 @@ def items_of_list(data, end):
     """The items of a list, each of which has this end, except perhaps the last."""
     items = data.split(end)
     return items if items[-1] else items[:-1]
-
-
-def of_names(run):
-    """`check` or `key` of the files that a list names."""
-    data = run.content(run.request.inputs[0])
-    if data is not None:
-        of_many(run, map(os.fsdecode, items_of_list(data, b"\0")))
 
 
 def of_keys(run):
@@ -223,10 +234,10 @@ def result_of(request, scene, kind):
         of_two(run)
     elif request.command not in ("check", "key"):
         of_one(run)
-    elif request.reads == FILES:
-        of_many(run, request.inputs)
+    elif request.reads == KEYS:
+        of_keys(run)
     else:
-        {NAMES: of_names, KEYS: of_keys}[request.reads](run)
+        of_many(run)
     return run.result()
 
 

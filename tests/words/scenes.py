@@ -5,7 +5,7 @@ from dataclasses import dataclass
 
 from commands import answer
 from layouts import cell, file_of, number, rectangle
-from table import FILES, KEYS, NAMES, is_option
+from table import CELLS, FILES, KEYS, NAMES, is_option
 
 # A polygon that goes round a rectangle: canonical by profile one alone.
 BOX = bytes.fromhex("153B010004030128290001290000")
@@ -25,9 +25,10 @@ class Scene:
 
 
 def layout(counts, width, more=b""):
-    """Cells with so many rectangles of this width."""
-    rows = [b"".join(rectangle(1, 0, width, 20, 100 * x, 0) for x in range(count)) for count in counts]
-    return file_of(b"".join(cell(name) + row for name, row in zip((b"A", b"B", b"C"), rows)) + more)
+    """Cells with so many rectangles of this width, the first ones on layer 1 with datatype 0, on layer 2, and on layer 1 with
+    datatype 1."""
+    rows = [b"".join(rectangle(1 + x % 2, x // 2, width, 20, 100 * x, 0) for x in range(count)) for count in counts]
+    return file_of(b"".join(cell(name.encode()) + row for name, row in zip(CELLS, rows)) + more)
 
 
 def canonical(data, profile=2):
@@ -72,7 +73,7 @@ def scene(name, dash, given, **layouts):
     return Scene(name, {"-": dash, "n": b"b\0-\0", "l": listed, **layouts}, stdin)
 
 
-A, B, GIVEN, DASH = layout((1, 2, 3), 10), layout((2, 4, 1), 11), layout((3, 1, 5), 12, BOX), layout((4, 4, 4), 13)
+A, B, GIVEN, DASH = layout((1, 3, 4), 10), layout((2, 4, 1), 11), layout((3, 1, 5), 12, BOX), layout((4, 4, 4), 13)
 OLD = layout((2, 2, 2), 14)
 SCENES = (
     scene("accepted", respelled(DASH), respelled(GIVEN), a=canonical(A), b=respelled(B)),
@@ -95,8 +96,10 @@ def is_named(request):
 
 def is_seen(request):
     """Whether all of a request can be seen by its results: not where a file isn't there, a layout is read as a list, a file
-    that is there in all scenes isn't to be replaced, or a file is compared with itself."""
+    that is there in all scenes isn't to be replaced, nothing is compared but a file with itself or no cell, or a difference is
+    cut after one line."""
     is_list = request.reads == FILES or request.inputs[0] in (None, *LISTS)
     is_kept = "no-clobber" in request.flags and request.output in ("./-", *request.inputs)
-    is_itself = request.command == "diff" and len({*request.inputs}) == 1
-    return is_named(request) and is_list and not is_kept and not is_itself
+    is_alike = request.command == "diff" and (len({*request.inputs}) == 1 or request.cells == frozenset())
+    is_cut = request.limit in (0, 1)
+    return is_named(request) and is_list and not is_kept and not is_alike and not is_cut

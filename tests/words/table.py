@@ -12,6 +12,10 @@ from explain_tests import preparing_reasons, reasons
 MANY = 1000
 # More lines than there are: as many as without a limit.
 NO_LIMIT = 2**64 - 1
+# How many markers are written without a limit: more than there are.
+MOST_MARKERS = 100_000
+# The cells that the files have.
+CELLS = ("A", "B", "C")
 COMMON = ("large", "explain", "progress")
 # Its flags, its options, how many words that are no options it needs and may have, and what it tells about itself.
 Command = namedtuple("Command", "flags options least most tells", defaults=(("help",),))
@@ -19,7 +23,7 @@ COMMANDS = {
     "canon": Command((*COMMON, "no-clobber"), (), 0, 2),
     "check": Command((*COMMON, "names"), ("files0-from",), 0, MANY),
     "same": Command(COMMON, (), 2, 2),
-    "diff": Command((*COMMON, "brief"), ("limit", "markers"), 2, 2),
+    "diff": Command((*COMMON, "brief"), ("cell", "layer", "limit", "markers", "markers-limit"), 2, 2),
     "show": Command(COMMON, (), 0, 1),
     "key": Command((*COMMON, "names", "zero", "quiet"), ("files0-from", "check"), 0, MANY),
     "keys": Command(COMMON, (), 0, 1),
@@ -27,8 +31,9 @@ COMMANDS = {
     "rekey": Command(COMMON, (), 2, 2),
     "explain": Command((), (), 0, 1),
 }
-# The option of `oasprep` that may be repeated, and the words for it.
-REPEATED = ("drop",)
+# The options that may be repeated, those whose value may be any word, and the words for that of `oasprep`.
+REPEATED = ("drop", "cell", "layer")
+ANY = ("cell", "layer")
 DROPPED = ("properties", "layer-names", "extensions")
 LETTERS = {"h": "help", "V": "version", "q": "quiet", "z": "zero"}
 # What the help calls the files that have to be there.
@@ -37,9 +42,11 @@ NEEDED = {"same": ("<A>", "<B>"), "diff": ("<A>", "<B>"), "rekey": ("<OLD>", "<N
 FILES, NAMES, KEYS = "files", "names", "keys"
 
 # The run of a command. `reads` is one of the three kinds, and `inputs` are the names of these files, or of the one list; None
-# is standard input. The output is None where it is standard output. `flags` are those that matter; `explain` has a number.
-FIELDS = "command reads inputs output flags limit markers number"
-Request = namedtuple("Request", FIELDS, defaults=(None, frozenset(), None, None, None))
+# is standard input. The output is None where it is standard output. `flags` are those that matter. For `diff` there are the
+# cells and the layers to which it is limited, its limit, the file for markers and how many these may be; None where there is
+# none. `explain` has a number.
+FIELDS = "command reads inputs output flags cells layers limit markers most number"
+Request = namedtuple("Request", FIELDS, defaults=(None, frozenset(), *(None,) * 6))
 # The help of a command, or of the program where it is None.
 Help = namedtuple("Help", "command")
 Version = namedtuple("Version", "")
@@ -66,9 +73,15 @@ def is_number(text):
     return text.isascii() and text.isdigit() and int(text) < 2**64
 
 
+def is_layer(text):
+    """Whether a word is a layer, with a datatype or without one."""
+    numbers = text.split("/")
+    return len(numbers) < 3 and all(map(is_number, numbers))
+
+
 def no_values(name, value):
     """The parts of an option's value that it can't have."""
-    if name == "limit":
+    if name in ("limit", "markers-limit"):
         return [] if is_number(value) else [value]
     return [word for word in value.split(",") if word not in DROPPED] if name == "drop" else []
 
@@ -115,7 +128,7 @@ class Words:
     def take_option(self, name, value):
         if value is None and self.left and not is_option(self.left[0]):
             value = self.left.pop(0)
-        if not value or name in self.given and name not in REPEATED:
+        if value is None or value == "" and name not in ANY or name in self.given and name not in REPEATED:
             self.wrong.append((f"'--{name} <",))
         else:
             self.wrong += [(f"'{word}'", f"'--{name} <") for word in no_values(name, value)]
@@ -129,12 +142,19 @@ def together(name, read):
         yield NEEDED[name][len(files):]
     if files and "files0-from" in given:
         yield ("--files0-from <",)
-    if (files or "files0-from" in given) and "check" in given:
+    has_names = files or "files0-from" in given
+    if has_names and "check" in given:
         yield ("--check <",)
-    if "quiet" in given and "check" not in given:
+    if has_names and "quiet" in given:
+        yield ("--quiet",)
+    if not has_names and "quiet" in given and "check" not in given:
         yield ("--check <",)
     if files.count("-") > 1 and name not in ("canon", "rekey"):
         yield ("standard input",)
+    if not all(map(is_layer, given.get("layer", "0").split(","))):
+        yield ("a layer is a number",)
+    if "markers-limit" in given and "markers" not in given:
+        yield ("--markers <",)
     if "markers" in given:
         if given["markers"] == "-":
             yield ("standard output",)
@@ -159,6 +179,26 @@ def of_many(given, files):
     return FILES, tuple(file_of(files, i) for i in range(max(len(files), 1))), {"names", "zero"}
 
 
+def layers_of(given):
+    """The layers to which a difference is limited, without those of which another is a part; or None."""
+    if "layer" not in given:
+        return None
+    layers = {tuple(map(int, layer.split("/"))) for layer in given["layer"].split(",")}
+    return frozenset(layer for layer in layers if len(layer) == 1 or layer[:1] not in layers)
+
+
+def difference_of(given):
+    """The fields of a request that `diff` has. A cell that no file has is the same as none."""
+    limit, most = int(given.get("limit", NO_LIMIT)), int(given.get("markers-limit", MOST_MARKERS))
+    return {
+        "cells": frozenset(given["cell"].split(",")) & {*CELLS} if "cell" in given else None,
+        "layers": layers_of(given),
+        "limit": None if limit == NO_LIMIT else limit,
+        "markers": given.get("markers"),
+        "most": None if most >= MOST_MARKERS else most,
+    }
+
+
 def request_of(name, read):
     """The run that words request which are right."""
     files, given, command = read.files, read.given, COMMANDS[name]
@@ -172,8 +212,7 @@ def request_of(name, read):
     output = file_of(files, 1) if name in ("canon", "rekey") else None
     inputs = tuple(file_of(files, i) for i in range(2 if name in ("same", "diff") else 1))
     flags = frozenset(given) & {*command.flags} - ({"no-clobber"} if output is None else set())
-    limit = None if int(given.get("limit", NO_LIMIT)) == NO_LIMIT else int(given["limit"])
-    return Request(name, FILES, inputs, output, flags, limit, given.get("markers"))
+    return Request(name, FILES, inputs, output, flags, **difference_of(given))
 
 
 def requested(words):

@@ -26,7 +26,9 @@
 //! - [`work_telling`] and [`pair_work_telling`] are those of them that the work asks for ([`Work`], [`PairWork`]): what each
 //!   does is one definition by cases (`DoesWork`, `DoesPairWork`, specs/Work.antt).
 //! - [`limits_of`] returns the limits with the flag `--large` and without it.
-//! - [`write_line`] writes a line to an output, or a prefix of it (`IsWritten`, `IsCutOff`).
+//! - [`write_line`] writes a line to an output, or a prefix of it (`IsWritten`, `IsCutOff`), and [`write_named_key`] that of a
+//!   key and a name, [`write_sameness`] that of a comparison, and
+//!   [`write_named_check`] that of a check with a name.
 //! - [`put_refusal`] puts the line `NAME: refused N at OFFSET` (`refusal_line`, specs/Lines.antt), and [`put_unopened`] the
 //!   line `NAME: cannot be opened` (`unopened_line`, specs/Unopened.antt). The line of a file that isn't canonical by
 //!   profile one is `NAME: not profile 1 canonical` (`not_profile_1_line`).
@@ -79,7 +81,7 @@ pub use runs::{
     keys_telling, marking_telling, named_check_telling, named_key_telling, rekey_telling,
     run_canon, run_check, run_diff, run_info, run_kept, run_key, run_keys, run_marking,
     run_named_check, run_named_key, run_refused, run_rekey, run_same, run_show, same_telling,
-    show_telling, worse,
+    show_telling, status_of_verdict, worse, write_named_check, write_named_key, write_sameness,
 };
 pub use unopened::{name_of, put_unopened, run_unopened};
 pub use work::{PairWork, Work, pair_work_telling, work_telling};

@@ -15,9 +15,9 @@
 //!
 //! [`mark_output`] marks the pipe to the next program, which asks [`is_input_marked`].
 //!
-//! What a file holds no contract can say: it is tested. [`Names`] reads the names of a list, and [`Printed`] has each name in
-//! one line; [`is_same_file`] and [`is_taken`] ask the system. Below it stands oas_bytes alone, for
-//! the history of a writer.
+//! What a file holds no contract can say: it is tested. [`arguments`] has the words of the process, [`Names`] reads the names
+//! of a list, and [`Printed`] has each name in one line; [`is_same_file`] and [`is_taken`] ask the system. Below it stands
+//! oas_bytes alone, for the history of a writer.
 #![tactic(auto)]
 
 mod beside;
@@ -30,6 +30,7 @@ mod owning;
 mod pipes;
 mod placing;
 mod printing;
+mod process;
 mod replacing;
 mod words;
 
@@ -41,5 +42,6 @@ pub use opening::{Input, Opened};
 pub use pipes::{is_input_marked, mark_output};
 pub use placing::Place;
 pub use printing::{Printed, unescaped};
+pub use process::arguments;
 pub use replacing::{Existing, Replacement, Stage};
 pub use words::file_of_word;

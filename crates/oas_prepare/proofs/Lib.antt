@@ -15,6 +15,7 @@ pub mod Ending
 pub mod Whole
 pub mod Doubling
 pub mod WideMeanings
+pub mod Sameness
 pub mod ProfileHeads
 pub mod ProfileFiles
 pub mod Pads

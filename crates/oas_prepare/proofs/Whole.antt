@@ -91,7 +91,7 @@ module _ {limits : Limits} {profile : Profile} {dropping : Dropping} {old new : 
     left_out = read.left_out;
   }
 
-  taken : IsTaken limits profile dropping old new (canonical_bytes (meaning_of l)) report
+  pub taken : IsTaken limits profile dropping old new (canonical_bytes (meaning_of l)) report
   unfolding prepared_as
   taken = record { bytes = read.bytes; takes = read.takes; ended = read.ended; is = prepared_as; valid = read.valid }
 

@@ -1,2 +1,4 @@
 pub mod PhraseLemmas
 pub mod RunLemmas
+pub mod AnswerLemmas
+pub mod SamenessLemmas

@@ -1,6 +1,6 @@
 -- Putting phrases one after another, with a comma before each except the first.
-use Rattle.std.proofs.Common.{◌≡◌, ◌≢◌, ℕ, zero, suc, ◌+◌, ◌<◌, ◌≤◌, Bool, true, false, List, [], ◌∷◌, ◌++◌, length, drop, get_or, drop-cons, refl, sym, ap, subst, ◌∙◌, add-one, append-nil, append_assoc, arith}
-use Rattle.std.specs.Prelude.{codes, filter, map, nat_lt, ◌==◌, ◌&&◌}
+use Rattle.std.proofs.Common.{◌≡◌, ℕ, ◌+◌, ◌<◌, ◌≤◌, Bool, true, false, List, [], ◌∷◌, ◌++◌, length, drop, get_or, drop-cons, refl, sym, ap, subst, ◌∙◌, add-one, append-nil, append_assoc, arith}
+use Rattle.std.specs.Prelude.{codes, ◌==◌, ◌&&◌}
 use Rattle.std.proofs.lemmas.Bool.{lt-ltb, le-ltb, ltb-false}
 use Rattle.oas_num.specs.Writing.{Puts, PutsPrefix}
 use Rattle.oas_num.proofs.PuttingLemmas.{PutSoFar, fails_at, ◌▸◌}

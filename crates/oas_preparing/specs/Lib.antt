@@ -1,3 +1,5 @@
 pub mod Kinds
 pub mod Lines
 pub mod Runs
+pub mod Answers
+pub mod Sameness

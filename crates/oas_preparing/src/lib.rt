@@ -1,6 +1,6 @@
-//! The run of the command `oasprep`: from a file of the standard to the canonical file of what its records are translated to.
-//! It is generic over its input and outputs, so that tests call it over memory; the program opens the streams of its process
-//! and calls it. What it promises to it:
+//! The runs of the command `oasprep`: from a file of the standard to the canonical file of what its records are translated
+//! to, and answers about that file, which isn't written for them. They are generic over their inputs and outputs, so that
+//! tests call them over memory; the program opens the streams of its process and calls them. What they promise to it:
 //!
 //! - [`run_prepare`] returns status 0 where `oas_prepare::prepare` returned Ok, and 1 where it stopped. What was read and
 //!   written is all that the contract of that call says for its result (`Prepares`, specs/Runs.antt). What the error output
@@ -8,6 +8,13 @@
 //!   otherwise of the rejection's line (`said`).
 //! - [`prepare_telling`] is the same over a sink for that line, whose contract counts failures: the line was put, unless the
 //!   sink failed (`Ends`).
+//! - [`prepared_key`] returns the SHA-256 of the canonical file that `prepare` writes, and stops exactly as that does
+//!   (`KeysPrepared`, specs/Answers.antt). [`key_telling`] writes that key and a name in a line (`Delivers`): the line of
+//!   `oas_command` (`named_key_line`). Its status and its line on the error output are as above; where the writer failed that
+//!   is the line of a rejection.
+//! - [`prepared_same`] returns whether two files mean the same layout once they are prepared, which is whether `prepare` writes
+//!   the same file for both (`ComparesPrepared`, specs/Sameness.antt). [`same_telling`] writes that in the line of
+//!   `oascanon same`; its status is 0 or 3, or 1 after a refusal.
 //! - [`put_report`] puts the line `NAME: left out 12 properties, 3 layer names`, or nothing (`report_line`, specs/Lines.antt),
 //!   and [`put_rejection`] the line `NAME: refused N at OFFSET`, or `NAME: refused N at P+Q` for a place in a block
 //!   (`rejection_line`).
@@ -21,18 +28,28 @@
 //!   record, with a comma between two; without a phrase there is no line. The loop puts the separator before each phrase,
 //!   which is nothing before the first (`behind`, proofs/PhraseLemmas.antt). There is a phrase exactly where something was
 //!   left out, which is proved there too.
-//! - src/kinds.rt: the kinds in words. src/runs.rt: the run.
+//! - src/kinds.rt: the kinds in words. src/runs.rt: the run that writes the canonical file. src/ends.rt: how each run ends.
+//! - src/keys.rt: a layout that was read is keyed as it is (`layout_key` of oas_canon). That this is the key of the file that
+//!   `prepare` writes follows from what oas_prepare proves of its own writing (`taken` of its proofs/Whole.antt). A run that
+//!   answers has two results: what was found, and the answer, which is the same where its text was written
+//!   (proofs/AnswerLemmas.antt).
+//! - src/sameness.rt: two layouts that were read are compared as they are (`Layout::same`). That their canonical files are
+//!   equal exactly if they are the same is proved in oas_prepare (proofs/Sameness.antt).
 //!
 //! `oasprep` has its words in src/usage.rt (`parse`), and `main` opens the streams, as oascanon's does. Its profile is
 //! `PROFILE` of oas_canon, which is that of the first command. Its src/session.rt has meters and explains as oascanon's does,
 //! by `oas_explain`, which also recognizes the place in a block.
 #![tactic(auto)]
 
+mod ends;
+mod keys;
 mod kinds;
 mod lines;
 mod runs;
+mod sameness;
 
 // The crates below, for those above.
+pub use keys::{key_telling, prepared_key};
 pub use lines::{put_rejection, put_report};
 pub use oas_explain;
 pub use oas_explain::oas_command;
@@ -40,3 +57,4 @@ pub use oas_explain::oas_command::oas_canon;
 pub use oas_prepare;
 pub use oas_prepare::{oas_narrow, oas_wide};
 pub use runs::{prepare_telling, run_prepare};
+pub use sameness::{Comparison, prepared_same, same_telling};

@@ -6,20 +6,14 @@ ghost use Rattle.oas_prepare.specs.oas_narrow.declared.places.Rejection.{Rejecti
 ghost use Rattle.oas_explain.specs.oas_command.Runs.{AppendsPrefix};
 ghost use Rattle.oas_preparing.specs.Runs.{Prepares, status_of, said, Ends};
 
-use crate::lines::{put_rejection, put_report};
+use crate::ends::conclude;
 use oas_explain::oas_command::oas_canon::PROFILE;
 use oas_layout::Limits;
 use oas_num::{Outlet, Sink, Source};
-use oas_prepare::oas_narrow::{Dropping, Rejection, Report};
+use oas_prepare::oas_narrow::Dropping;
 use oas_prepare::prepare;
 use std::alloc::Global;
 use std::io::Write;
-
-/// The status of a run that did what was asked.
-const DONE: u8 = 0;
-
-/// The status of a run that refused its input.
-const REFUSED: u8 = 1;
 
 /// Writes the canonical bytes of what the records of all that `from` gives are translated to, within these limits and without
 /// what is named to be left out, to `out`. Returns the status of the command: 0, or 1 after a refusal. What was left out, or
@@ -59,21 +53,4 @@ pub fn prepare_telling<S: Source, W: Write, K: Sink>(
 {
     let answer = prepare(alloc, from, out, limits, PROFILE, dropping);
     conclude(name, answer, told)
-}
-
-/// Ends a run: names what was left out, or the rejection, and returns its status.
-fn conclude<K: Sink>(name: &str, answer: Result<Report, Rejection>, told: &mut K) -> u8
-    ensures answers { result ≡ status_of answer }
-    ensures ends { Ends K.given K.failures name.now told.old answer told.new }
-{
-    match answer {
-        Ok(report) => {
-            let _ = put_report(told, name, report);
-            DONE
-        }
-        Err(rejection) => {
-            let _ = put_rejection(told, name, rejection);
-            REFUSED
-        }
-    }
 }

@@ -23,7 +23,7 @@ enum Kind<'a> {
     Flag,
     /// A flag that has a letter too.
     ShortFlag(char),
-    /// Such a flag, which is allowed only with this option.
+    /// Such a flag, which is allowed only with this option, one in place of all names.
     FlagOf(char, &'a str),
     Option(&'a str),
     /// An option that may be given several times.
@@ -207,8 +207,10 @@ fn argument_of<'a>(alloc: Global, argument: &Argument<'a>) -> Result<Arg<'a>, Al
             Ok(word.long(option).short(letter).action(ArgAction::SetTrue))
         }
         Kind::FlagOf(letter, needed) => {
-            let flag = word.long(option).short(letter);
-            flag.action(ArgAction::SetTrue).requires_arg(needed)
+            let flag = word.long(option).short(letter).action(ArgAction::SetTrue);
+            // What an option requires is excused where that conflicts with a word that is there.
+            flag.requires_arg(needed)?
+                .conflicts_with_all(&[IN.name, LIST.name])
         }
         Kind::Option(value) => Ok(word.long(option).value_name(value)),
         Kind::Repeated(value) => {

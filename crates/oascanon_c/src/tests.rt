@@ -91,29 +91,6 @@ fn reports(rt: HostRuntime) -> Result<(), Fail> {
 }
 
 #[test]
-fn a_name_of_layers(rt: HostRuntime) -> Result<(), Fail> {
-    let alloc = rt.alloc();
-    let file = file();
-    let mut named = [0; 306];
-    named[..34].copy_from_slice(&file[..34]);
-    named[34..39].copy_from_slice(&[0x0B, 0x01, 0x4C, 0x00, 0x00]);
-    named[39..].copy_from_slice(&file[34..]);
-    let mut room = room_of(alloc, 400)?;
-    let mut said = WideAnswer::NotLimits.preparation();
-    let stops = oascanon_c_prepare(alloc, &named, 5, &STANDARD, &mut room[..], &mut said);
-    assert_eq!(rt; (stops.status, stops.at, said.layer_names), (102, 34, 0));
-    let prepared = oascanon_c_prepare(alloc, &named, 2, &STANDARD, &mut room[..], &mut said);
-    assert_eq!(rt;
-        (prepared.status, prepared.length, said.layer_names),
-        (0, 301, 1)
-    );
-    assert!(rt; room.starts_with(&file));
-    let unknown = oascanon_c_prepare(alloc, &named, 8, &STANDARD, &mut room[..], &mut said);
-    assert_eq!(rt; (unknown.status, said.layer_names), (68, 0));
-    Ok(())
-}
-
-#[test]
 fn refusals(rt: HostRuntime) -> Result<(), Fail> {
     let alloc = rt.alloc();
     let file = file();

@@ -1,9 +1,7 @@
 //! The words that the process was given, and the texts for those that request no run.
 
 use clap::Error;
-use oas_files::text_of;
-use std::env::{Env, FillError};
-use std::io;
+use oas_files::arguments;
 use std::io::ErrorKind;
 
 /// The status of help and of the version.
@@ -15,44 +13,13 @@ const FAILED: u8 = 1;
 /// The status of a command line that isn't understood.
 const MISUSED: u8 = 2;
 
-/// How many bytes there is room for in a word at first.
-const FIRST_ROOM: usize = 4096;
-
 /// The words of the command line, as texts, or the exit status where they can't be read.
 pub fn words_of(rt: &HostRuntime) -> Result<Vec<String>, u8> {
-    if let Ok(words) = read_words(rt) {
+    if let Ok(words) = arguments(rt) {
         return Ok(words);
     }
     let _ = eprintln!(rt; "error: the command line can't be read");
     Err(MISUSED)
-}
-
-/// Reads the words, each of which is a text or denotes a name that is none.
-fn read_words(rt: &HostRuntime) -> io::Result<Vec<String>> {
-    let mut words = Vec::new(rt.alloc());
-    let mut room = Vec::new(rt.alloc());
-    for place in 0..usize::MAX {
-        match read_word(rt, place, &mut room)? {
-            Some(count) => words.push(text_of(rt.alloc(), &room[..count.min(room.len())])?)?,
-            None => break,
-        }
-    }
-    Ok(words)
-}
-
-/// Reads the word at this place into a buffer, which is enlarged until it fits, and returns how many bytes it has; nothing
-/// where there is no such word.
-fn read_word(rt: &HostRuntime, place: usize, room: &mut Vec<u8>) -> io::Result<Option<usize>> {
-    for _ in 0..usize::BITS {
-        match rt.arg(place, room.as_mut_slice()) {
-            Ok(count) => return Ok(Some(count)),
-            Err(FillError::NotPresent) => return Ok(None),
-            Err(FillError::TooLong) => {
-                room.resize(room.len().saturating_mul(2).max(FIRST_ROOM), 0)?;
-            }
-        }
-    }
-    Err(io::Error::from(ErrorKind::OutOfMemory))
 }
 
 /// The message where a file would go to a terminal.

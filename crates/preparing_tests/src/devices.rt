@@ -1,5 +1,6 @@
 //! Readers that fail, and writers that take a fixed number of bytes.
 
+use std::alloc::Global;
 use std::io;
 use std::io::{ErrorKind, Read, Write};
 
@@ -27,6 +28,16 @@ impl Read for Torn<'_> {
 pub struct Narrow {
     pub taken: Vec<u8>,
     pub room: usize,
+}
+
+impl Narrow {
+    /// One that took nothing, with this much room.
+    pub fn new(alloc: Global, room: usize) -> Narrow {
+        Narrow {
+            taken: Vec::new(alloc),
+            room,
+        }
+    }
 }
 
 impl Write for Narrow {

@@ -62,14 +62,6 @@ fn readers_that_fail(rt: HostRuntime) -> Result<(), Fail> {
     Ok(())
 }
 
-/// A writer with this much room.
-fn narrow(alloc: Global, room: usize) -> Narrow {
-    Narrow {
-        taken: Vec::new(alloc),
-        room,
-    }
-}
-
 /// The result for the file at an output and an error output with this much room, apart from what they take.
 fn answer_of_writers(
     alloc: Global,
@@ -80,7 +72,7 @@ fn answer_of_writers(
 ) -> Result<Answer, Fail> {
     let file = bytes_of(alloc, FILE)?;
     let from = &mut SliceSource::new(&file, INPUT_MAX);
-    let (mut out, mut err) = (narrow(alloc, out_room), narrow(alloc, err_room));
+    let (mut out, mut err) = (Narrow::new(alloc, out_room), Narrow::new(alloc, err_room));
     let (limits, dropping) = (Limits::standard(), dropping_of("properties"));
     let status = run_prepare(alloc, NAME, from, &mut out, &mut err, limits, dropping);
     Ok((

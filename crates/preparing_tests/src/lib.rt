@@ -12,6 +12,8 @@ mod devices;
 #[cfg(test)]
 mod faults;
 #[cfg(test)]
+mod keys;
+#[cfg(test)]
 mod lines;
 #[cfg(test)]
 mod memory;
@@ -19,5 +21,7 @@ mod memory;
 mod rows;
 #[cfg(test)]
 mod runs;
+#[cfg(test)]
+mod sameness;
 #[cfg(test)]
 mod signatures;

@@ -6,9 +6,10 @@
 use crate::devices::Narrow;
 use crate::rows::dropping_of;
 use file_pieces::bytes_of;
-use oas_num::{INPUT_MAX, SliceSource};
+use oas_num::{INPUT_MAX, Outlet, SliceSource};
 use oas_preparing::oas_canon::Limits;
-use oas_preparing::run_prepare;
+use oas_preparing::oas_command::{End, Label};
+use oas_preparing::{key_telling, run_prepare};
 use scarce_memory::Hoard;
 use std::alloc::Global;
 use std::process::Abort;
@@ -27,22 +28,48 @@ fn is_refusal(line: &[u8]) -> bool {
     str::from_utf8(line).is_ok_and(|line| line.starts_with("chip.oas: refused 34 at "))
 }
 
-/// Runs once. Whether it was `prepared`, or failed out of memory (`refused`) with nothing written; `wrong` where it was
-/// neither.
+/// What is asked of a file.
+#[derive(Clone, Copy)]
+enum Asked {
+    Prepare,
+    Key,
+}
+
+/// The status of a run.
+fn status(alloc: Global, asked: Asked, file: &[u8], out: &mut Narrow, err: &mut Narrow) -> u8 {
+    let from = &mut SliceSource::new(file, INPUT_MAX);
+    let (name, limits, dropping) = ("chip.oas", Limits::standard(), dropping_of("all"));
+    match asked {
+        Asked::Prepare => run_prepare(alloc, name, from, out, err, limits, dropping),
+        Asked::Key => {
+            let label = Label {
+                name,
+                is_escaped: false,
+                end: End::Newline,
+            };
+            let mut told = Outlet::new(err);
+            let status = key_telling(alloc, name, label, from, out, &mut told, limits, dropping);
+            let _ = told.close();
+            status
+        }
+    }
+}
+
+/// Runs once. Whether this was written (`done`), or the run failed out of memory (`refused`) with nothing written; `wrong`
+/// where it was neither.
 fn run(
     alloc: Global,
+    asked: Asked,
     file: &[u8],
-    prepared: &[u8],
+    wanted: &[u8],
     out: &mut Narrow,
     err: &mut Narrow,
 ) -> &'static str {
     out.taken.clear();
     err.taken.clear();
-    let mut from = SliceSource::new(file, INPUT_MAX);
-    let (limits, dropping) = (Limits::standard(), dropping_of("all"));
-    let status = run_prepare(alloc, "chip.oas", &mut from, out, err, limits, dropping);
-    if status == 0 && out.taken.as_slice() == prepared {
-        "prepared"
+    let status = status(alloc, asked, file, out, err);
+    if status == 0 && out.taken.as_slice() == wanted {
+        "done"
     } else if status != 0 && out.taken.is_empty() && is_refusal(&err.taken) {
         "refused"
     } else {
@@ -53,14 +80,15 @@ fn run(
 /// Runs until it succeeds, and gives back a piece of memory after each failure. How the last run ended, and how many failed.
 fn insist(
     alloc: Global,
+    asked: Asked,
     file: &[u8],
-    prepared: &[u8],
+    wanted: &[u8],
     hoard: &mut Hoard,
     out: &mut Narrow,
     err: &mut Narrow,
 ) -> (&'static str, u32) {
     for refused in 0..4000u32 {
-        let end = run(alloc, file, prepared, out, err);
+        let end = run(alloc, asked, file, wanted, out, err);
         if end != "refused" {
             return (end, refused);
         }
@@ -70,23 +98,47 @@ fn insist(
 }
 
 /// How the last run on a file ended, and whether one failed out of memory before, where the heap could be filled.
-fn ends(alloc: Global, file: &[u8], prepared: &[u8]) -> Result<(&'static str, bool), Fail> {
+fn ends(
+    alloc: Global,
+    asked: Asked,
+    file: &[u8],
+    wanted: &[u8],
+) -> Result<(&'static str, bool), Fail> {
     let (mut out, mut err) = (roomy(alloc)?, roomy(alloc)?);
     let mut hoard = Hoard::new(alloc)?;
-    let (end, refused) = insist(alloc, file, prepared, &mut hoard, &mut out, &mut err);
+    let (end, refused) = insist(alloc, asked, file, wanted, &mut hoard, &mut out, &mut err);
     Ok((end, !hoard.is_full() || refused > 0))
 }
 
 /// The same for a file from which each kind of record is left out.
-fn ends_of_each_kind(alloc: Global) -> Result<(&'static str, bool), Fail> {
+fn ends_of_each_kind(
+    alloc: Global,
+    asked: Asked,
+    wanted: &[u8],
+) -> Result<(&'static str, bool), Fail> {
     let pieces = "HEAD 070150 0B014C0000 CELL RECT 1C1401500805 20000159 TAIL";
     let file = bytes_of(alloc, pieces)?;
+    ends(alloc, asked, &file, wanted)
+}
+
+/// The same where it is prepared.
+fn ends_of_preparing(alloc: Global) -> Result<(&'static str, bool), Fail> {
     let prepared = bytes_of(alloc, "HEAD CELL RECT TAIL")?;
-    ends(alloc, &file, &prepared)
+    ends_of_each_kind(alloc, Asked::Prepare, &prepared)
 }
 
 #[test]
 fn without_memory(rt: HostRuntime) -> Result<(), Fail> {
-    assert!(rt; ends_of_each_kind(rt.alloc())? == ("prepared", true));
+    assert!(rt; ends_of_preparing(rt.alloc())? == ("done", true));
+    Ok(())
+}
+
+/// The line of the key, which `sha256sum` gives.
+const KEY: &[u8] = b"faa9cb7d21110cae5bde5660c1b56c7b0b00a54880eacf1bfeba45a6cc348d77  chip.oas\n";
+
+#[test]
+fn key_without_memory(rt: HostRuntime) -> Result<(), Fail> {
+    let found = ends_of_each_kind(rt.alloc(), Asked::Key, KEY)?;
+    assert!(rt; found == ("done", true));
     Ok(())
 }

@@ -11,7 +11,7 @@ use std::test::Fail;
 
 /// The rows: a name, what is named to be left out, the file, its result, or `NUMBER@OFFSET` where it is refused, and the line
 /// about what was left out.
-const ROWS: &str = "\
+pub const ROWS: &str = "\
 a-file-of-the-profile | - | HEAD CELL RECT TAIL | HEAD CELL RECT TAIL | -
 spelled-by-a-number | - | HEAD 0D00 RECT 030141 TAIL | HEAD CELL RECT TAIL | -
 nothing-to-leave-out | all | HEAD CELL RECT TAIL | HEAD CELL RECT TAIL | -
@@ -70,7 +70,7 @@ pub fn answer(
 }
 
 /// What follows the name in a row: what is left out, the file, its result, and the line.
-fn fields_of(row: &str) -> [&str; 4] {
+pub fn fields_of(row: &str) -> [&str; 4] {
     let mut fields = row.split(" | ").skip(1);
     [
         fields.next().unwrap_or(""),
@@ -81,7 +81,7 @@ fn fields_of(row: &str) -> [&str; 4] {
 }
 
 /// The line of a file with this output or refusal in its row, and with this left out.
-fn line_of(alloc: Global, output: &str, said: &str) -> Result<String, AllocError> {
+pub fn line_of(alloc: Global, output: &str, said: &str) -> Result<String, AllocError> {
     match output.split_once('@') {
         Some((number, at)) => format!(in alloc; "{NAME}: refused {number} at {at}\n"),
         None if said == "-" => Ok(String::new(alloc)),

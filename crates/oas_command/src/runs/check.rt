@@ -97,15 +97,16 @@ pub fn named_check_telling<S: Source, W: Write, K: Sink>(
 {
     match is_canonical(alloc, from, limits) {
         Ok(yes) => {
-            let written = write_named(out, label, yes);
+            let written = write_named_check(out, label, yes);
             conclude(name, written, status_of_verdict(yes), told)
         }
         Err(refusal) => refuse(name, refusal, told),
     }
 }
 
-/// Writes the line of a result after the name.
-fn write_named<W: Write>(out: &mut W, label: Label<'_>, yes: bool) -> Result<u64, Refusal>
+/// Writes the line of a result after the name of this label, as [`run_named_check`] does, and returns how many bytes that is.
+/// A fault of the writer is `Why::Write`, after as many bytes of the line as its place says.
+pub fn write_named_check<W: Write>(out: &mut W, label: Label<'_>, yes: bool) -> Result<u64, Refusal>
     ensures written { IfOk result (IsWritten W.contents out.old (named_check_line label.entry yes) out.new) }
     ensures refused { IfErr result (IsCutOff W.contents out.old (named_check_line label.entry yes) out.new) }
 {

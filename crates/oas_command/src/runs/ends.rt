@@ -19,7 +19,7 @@ const REFUSED: u8 = 1;
 pub(super) const NO: u8 = 3;
 
 /// The status of a run with the result yes or no.
-pub(super) fn status_of_verdict(yes: bool) -> u8
+pub fn status_of_verdict(yes: bool) -> u8
     ensures { result ≡ verdict_status (Ok yes) }
 {
     if yes { DONE } else { NO }

@@ -100,15 +100,20 @@ pub fn named_key_telling<S: Source, W: Write, K: Sink>(
 {
     match key(alloc, from, limits) {
         Ok(digest) => {
-            let written = write_named(out, label, &digest);
+            let written = write_named_key(out, label, &digest);
             conclude(name, written, DONE, told)
         }
         Err(refusal) => refuse(name, refusal, told),
     }
 }
 
-/// Writes the line of a key with the name after it.
-fn write_named<W: Write>(out: &mut W, label: Label<'_>, digest: &[u8; 32]) -> Result<u64, Refusal>
+/// Writes the line of a key with the name of this label after it, as [`run_named_key`] does, and returns how many bytes that
+/// is. A fault of the writer is `Why::Write`, after as many bytes of the line as its place says.
+pub fn write_named_key<W: Write>(
+    out: &mut W,
+    label: Label<'_>,
+    digest: &[u8; 32],
+) -> Result<u64, Refusal>
     ensures written { IfOk result (IsWritten W.contents out.old (named_key_line label.entry digest.now) out.new) }
     ensures refused { IfErr result (IsCutOff W.contents out.old (named_key_line label.entry digest.now) out.new) }
 {

@@ -1,7 +1,8 @@
 //! The command `same`.
 
-ghost use Rattle.std.specs.Prelude.{◌≡◌, Bool, Result};
+ghost use Rattle.std.specs.Prelude.{◌≡◌, Bool, Result, IfOk, IfErr};
 ghost use Rattle.oas_num.specs.declared.refusals.Refusal.{Refusal as Refused};
+ghost use Rattle.oas_num.specs.Written.{IsWritten, IsCutOff};
 ghost use Rattle.oas_canon.specs.declared.sameness.Which.{Which as WhichFile};
 ghost use Rattle.oas_command.specs.Calls.{Compares};
 ghost use Rattle.oas_command.specs.Lines.{same_text, same_line};
@@ -10,7 +11,7 @@ ghost use Rattle.oas_command.specs.Runs.{verdict_status, Delivers, found_in, bla
 use super::ends::{conclude, refuse, status_of_verdict};
 use crate::lines::write_line;
 use oas_canon::{Limits, Which, same_files};
-use oas_num::{Outlet, Sink, Source};
+use oas_num::{Outlet, Refusal, Sink, Source};
 use std::alloc::Global;
 use std::io::Write;
 
@@ -57,12 +58,21 @@ pub fn same_telling<S: Source, T: Source, W: Write, K: Sink>(
 {
     match same_files(alloc, a, b, limits) {
         Ok(same) => {
-            let written = write_line(out, sameness(same));
+            let written = write_sameness(out, same);
             conclude(name_a, written, status_of_verdict(same), told)
         }
         Err((Which::First, refusal)) => refuse(name_a, refusal, told),
         Err((Which::Second, refusal)) => refuse(name_b, refusal, told),
     }
+}
+
+/// Writes the line of a result, as [`run_same`] does, and returns how many bytes that is. A fault of the writer is
+/// `Why::Write`, after as many bytes of the line as its place says.
+pub fn write_sameness<W: Write>(out: &mut W, same: bool) -> Result<u64, Refusal>
+    ensures written { IfOk result (IsWritten W.contents out.old (same_line same) out.new) }
+    ensures refused { IfErr result (IsCutOff W.contents out.old (same_line same) out.new) }
+{
+    write_line(out, sameness(same))
 }
 
 /// The text of a result.

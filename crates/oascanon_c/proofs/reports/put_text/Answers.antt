@@ -1,4 +1,4 @@
-use Rattle.std.proofs.Common.{ℕ, ◌<◌, ◌^◌, List, [], ◌∷◌, length, length-append, rules, arith}
+use Rattle.std.proofs.Common.{◌<◌, ◌^◌, [], ◌∷◌, length, length-append, rules, arith}
 use Rattle.oascanon_c.proofs.FillingLemmas.{written}
 use Rattle.oascanon_c.proofs.reports.put_text.Goals as goal
 
