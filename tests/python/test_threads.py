@@ -28,16 +28,22 @@ def longest_pause(thread):
     return longest
 
 
-def test_other_threads_run(large):
+def share_of_a_call(data):
+    """Makes a call in another thread. Returns for which share of it, at most, this one stood still."""
     seconds = []
 
     def work():
         begun = time.perf_counter()
-        oascanon.key(large)
+        oascanon.key(data)
         seconds.append(time.perf_counter() - begun)
 
-    # If the call kept other threads from running, this one would stand still for all of it.
-    assert longest_pause(threading.Thread(target=work)) < seconds[0] / 2
+    return longest_pause(threading.Thread(target=work)) / seconds[0]
+
+
+def test_other_threads_run(large):
+    # If the call kept other threads from running, this one would stand still for all of it each time. A busy machine may stop
+    # it too, but hardly five times.
+    assert min(share_of_a_call(large) for _ in range(5)) < 1 / 2
 
 
 def test_two_calls_at_once(large, top):
