@@ -1,7 +1,7 @@
 -- What follows an id of the profile is given unchanged, where its integers have at most ten bytes.
-use Rattle.std.proofs.Common.{◌≡◌, ◌≢◌, ℕ, ◌/◌, ◌%◌, ◌≤◌, Bool, true, false, List, [], ◌∷◌, ◌++◌, length, ◌⊎◌, inl, inr, refl, sym, ap, subst, arith}
-use Rattle.std.specs.Prelude.{◌==◌}
-use Rattle.std.proofs.lemmas.Bool.Decides.{eqb_tells}
+use Rattle.std.proofs.Common.{◌≡◌, ◌≢◌, ℕ, ◌≤◌, Bool, true, false, List, [], ◌∷◌, ◌++◌, length, ◌⊎◌, inl, inr, refl, sym, ap, subst, ◌∙◌, arith}
+use Rattle.std.specs.Prelude.{◌==◌, ◌||◌}
+use Rattle.std.proofs.lemmas.Bool.Decides.{eqb_tells, nat_tests}
 use Rattle.std.proofs.lemmas.List.{length-append}
 use Rattle.oas_num.specs.declared.refusals.Why.{Why}
 use Rattle.oas_num.specs.declared.refusals.Why.TheVariants.{Truncated, IntegerRange, InfoByte, Read, InputTooLong}
@@ -9,18 +9,9 @@ use Rattle.oas_num.specs.Combinators.{IsEither}
 use Rattle.oas_num.specs.Grammar.{IsPair, IsSuch, IsByte, IsImage}
 use Rattle.oas_num.specs.Pieces.{PairTook, SuchTook, Unless}
 use Rattle.oas_num.specs.Reading.{ByteMay}
-use Rattle.oas_record.specs.Fields.{layers, spot, spot_of}
-use Rattle.oas_record.specs.Info.{has}
-use Rattle.oas_record.specs.Paths.{IsScheme, extensions_of, extensions_kind, path_of, path_parts, IsPathInfo}
-use Rattle.oas_record.specs.Placements.{quarters_of, quarter_parts, IsPlacementInfo}
-use Rattle.oas_record.specs.Texts.{text_of, text_parts, IsTextInfo}
-use Rattle.oas_record.specs.Rectangles.{rectangle_of, rectangle_parts, IsRectangleInfo}
-use Rattle.oas_record.specs.Polygons.{polygon_of, polygon_parts, IsPolygonInfo}
-use Rattle.oas_record.specs.Circles.{circle_of, circle_parts, IsCircleInfo}
-use Rattle.oas_record.specs.References.{cell_number, cell_name, cell_kind, text_number, text_label, string_kind}
-use Rattle.oas_record.specs.Records as records
-use Rattle.oas_record.specs.Records.{after}
-use Rattle.oas_shape.specs.declared.list_use.ListUse.TheVariants as uses
+use Rattle.oas_record.specs.declared.records.Record.{Record}
+use Rattle.oas_record.specs.Trees.{Row, by_table, EachRow}
+use Rattle.oas_record.specs.Records.{table, after}
 use Rattle.oas_shortened.specs.declared.places.Place.{Place}
 use Rattle.oas_shortened.specs.declared.places.Place.TheVariants.{Free}
 use Rattle.oas_shortened.specs.Places.{shortened, IsSettled}
@@ -28,48 +19,6 @@ use Rattle.oas_shortened.specs.Places as places
 use Rattle.oas_long.specs.AnyLength.{first_of}
 use Rattle.oas_long.proofs.TameLemmas.{start, Tame, tame_pair, tame_there, tame_either, tame_image, tame_such, tame_number, tame_nothing}
 use Rattle.oas_long.proofs.TameFields.{tame_signed, tame_name, tame_label, tame_points, tame_repetition}
-
--- ---- parts
-
-tame_layers : (info : ℕ) → Tame (layers info).any (layers info).took
-tame_layers info = tame_pair (tame_there (has info 1) tame_number) (λ v. tame_there (has info 2) tame_number)
-
-tame_spot : (x y r : Bool) → Tame (spot x y r).any (spot x y r).took
-tame_spot x y r = tame_image spot_of (tame_pair (tame_there x tame_signed) (λ v. tame_pair (tame_there y tame_signed) (λ w. tame_there r tame_repetition)))
-
-tame_cell : (numbered : Bool) → Tame (cell_kind numbered).any (cell_kind numbered).took
-tame_cell numbered = tame_either numbered (tame_image cell_number tame_number) (tame_image cell_name tame_name)
-
-tame_string : (numbered : Bool) → Tame (string_kind numbered).any (string_kind numbered).took
-tame_string numbered = tame_either numbered (tame_image text_number tame_number) (tame_image text_label tame_label)
-
-tame_extensions : Tame extensions_kind.any extensions_kind.took
-tame_extensions =
-    tame_image extensions_of (tame_pair (tame_such IsScheme (λ v h. let e : Read ≡ InfoByte = h.0 in cc) tame_number)
-    (λ scheme. tame_pair (tame_there (scheme / 4 == 3) tame_signed) (λ v. tame_there (scheme % 4 == 3) tame_signed)))
-
--- ---- what follows info bytes
-
-tame_quarters : (info : ℕ) → Tame (quarter_parts info).any (quarter_parts info).took
-tame_quarters info = tame_pair (tame_there (has info 128) (tame_cell (has info 64))) (λ v. tame_spot (has info 32) (has info 16) (has info 8))
-
-tame_text_parts : (info : ℕ) → Tame (text_parts info).any (text_parts info).took
-tame_text_parts info = tame_pair (tame_there (has info 64) (tame_string (has info 32))) (λ v. tame_pair (tame_layers info) (λ w. tame_spot (has info 16) (has info 8) (has info 4)))
-
-tame_rectangle : (info : ℕ) → Tame (rectangle_parts info).any (rectangle_parts info).took
-tame_rectangle info =
-    tame_pair (tame_layers info) (λ v. tame_pair (tame_there (has info 64) tame_number) (λ w. tame_pair (tame_there (has info 32) tame_number) (λ u. tame_spot (has info 16) (has info 8) (has info 4))))
-
-tame_polygon : (info : ℕ) → Tame (polygon_parts info).any (polygon_parts info).took
-tame_polygon info = tame_pair (tame_layers info) (λ v. tame_pair (tame_there (has info 32) (tame_points uses.Polygon)) (λ w. tame_spot (has info 16) (has info 8) (has info 4)))
-
-tame_path : (info : ℕ) → Tame (path_parts info).any (path_parts info).took
-tame_path info =
-    tame_pair (tame_layers info) (λ v. tame_pair (tame_there (has info 64) tame_number) (λ w. tame_pair (tame_there (has info 128) tame_extensions)
-    (λ u. tame_pair (tame_there (has info 32) (tame_points uses.Path)) (λ t. tame_spot (has info 16) (has info 8) (has info 4)))))
-
-tame_circle : (info : ℕ) → Tame (circle_parts info).any (circle_parts info).took
-tame_circle info = tame_pair (tame_layers info) (λ v. tame_pair (tame_there (has info 32) tame_number) (λ w. tame_spot (has info 16) (has info 8) (has info 4)))
 
 -- ---- after an id
 
@@ -132,26 +81,33 @@ by_id {V} {A} {B} {f} {g} id n here other = by (id == n) (eqb_tells id n) where
   by true (inr p) = absurd cc
   by false p = other
 
-of_id : {V : Type 0} {A : V → List ℕ → Type 0} {f : Why → List ℕ → Type 0} (id n : ℕ) → TameFrom (first_of n) A f → id ≡ n → TameFrom (first_of id) A f
-of_id {V} {A} {f} id n t is = subst (λ (k : ℕ). TameFrom (first_of k) A f) (sym is) t
+-- END and placements by degrees are read elsewhere
+abbrev TameUnless : Bool → Row Record → Type 0
+TameUnless true row = Unit {0}
+TameUnless false row = TameFrom (first_of row.number) row.kind.any row.kind.took
+
+-- what follows the id of a row is given unchanged
+abbrev IsTameRow : Row Record → Type 0
+IsTameRow row = TameUnless ((row.number == 2) || (row.number == 18)) row
+
+info_not_read : (allowed : ℕ → Type 0) (v : ℕ) → Unless allowed InfoByte v Read → ⊥
+info_not_read allowed v h = let e : Read ≡ InfoByte = h.0 in cc
+
+-- the search takes the rows one after another, and each as its tree is made, so that a row more needs no line here
+tame_rows : (in_end : Bool) → EachRow IsTameRow (table in_end)
+tame_rows in_end = search (plain_from, image_from, from_info, tame_image, tame_pair, tame_there, tame_either, tame_such, info_not_read, tame_number, tame_signed, tame_name, tame_label, tame_points, tame_repetition, tame_nothing) depth 60
+
+inner_row : (n : ℕ) → n ≢ 2 → n ≢ 18 → ((n == 2) || (n == 18)) ≡ false
+inner_row n not_end not_degrees = grind (arith, nat_tests)
+
+of_row : (id : ℕ) (r : Row Record) → id ≢ 2 → id ≢ 18 → IsTameRow r → id ≡ r.number → TameFrom (first_of id) r.kind.any r.kind.took
+of_row id r not_end not_degrees t is =
+    let inner = inner_row r.number (λ e. not_end (is ∙ e)) (λ e. not_degrees (is ∙ e)) in
+    subst (λ (n : ℕ). TameFrom (first_of n) r.kind.any r.kind.took) (sym is) (subst (λ (elsewhere : Bool). TameUnless elsewhere r) inner t)
+
+tame_by : (id : ℕ) (rows : List (Row Record)) → id ≢ 2 → id ≢ 18 → EachRow IsTameRow rows → TameFrom (first_of id) (by_table id rows).any (by_table id rows).took
+tame_by id [] not_end not_degrees each = record { whole = λ v bytes p. absurd p; part = λ why bytes h. absurd h; cut = λ bytes h. h }
+tame_by id (r ∷ rows) not_end not_degrees each = by_id id r.number (of_row id r not_end not_degrees each.0) (tame_by id rows not_end not_degrees each.1)
 
 pub tame_after : (in_end : Bool) (id : ℕ) → id ≢ 2 → id ≢ 18 → TameFrom (first_of id) (after in_end id).any (after in_end id).took
-tame_after in_end id not_end not_degrees =
-    by_id id 0 (of_id id 0 (plain_from (tame_image records.pad tame_nothing)))
-    (by_id id 2 (λ e. absurd (not_end e))
-    (by_id id 3 (of_id id 3 (plain_from (tame_image records.cell_name (tame_pair tame_name (λ v. tame_there false tame_number)))))
-    (by_id id 4 (of_id id 4 (plain_from (tame_image records.cell_name (tame_pair tame_name (λ v. tame_there true tame_number)))))
-    (by_id id 5 (of_id id 5 (plain_from (tame_image records.text_string (tame_pair tame_label (λ v. tame_there false tame_number)))))
-    (by_id id 6 (of_id id 6 (plain_from (tame_image records.text_string (tame_pair tame_label (λ v. tame_there true tame_number)))))
-    (by_id id 13 (of_id id 13 (plain_from (tame_image records.a_cell (tame_cell true))))
-    (by_id id 14 (of_id id 14 (plain_from (tame_image records.a_cell (tame_cell false))))
-    (by_id id 15 (of_id id 15 (plain_from (tame_image records.xy_absolute tame_nothing)))
-    (by_id id 16 (of_id id 16 (plain_from (tame_image records.xy_relative tame_nothing)))
-    (by_id id 17 (of_id id 17 (image_from records.placement (from_info IsPlacementInfo _ _ tame_quarters quarters_of)))
-    (by_id id 18 (λ e. absurd (not_degrees e))
-    (by_id id 19 (of_id id 19 (image_from records.text (from_info IsTextInfo _ _ tame_text_parts text_of)))
-    (by_id id 20 (of_id id 20 (image_from records.rectangle (from_info IsRectangleInfo _ _ tame_rectangle rectangle_of)))
-    (by_id id 21 (of_id id 21 (image_from records.polygon (from_info IsPolygonInfo _ _ tame_polygon polygon_of)))
-    (by_id id 22 (of_id id 22 (image_from records.path (from_info IsPathInfo _ _ tame_path path_of)))
-    (by_id id 27 (of_id id 27 (image_from records.circle (from_info IsCircleInfo _ _ tame_circle circle_of)))
-    (record { whole = λ v bytes p. absurd p; part = λ why bytes h. absurd h; cut = λ bytes h. h })))))))))))))))))
+tame_after in_end id not_end not_degrees = tame_by id (table in_end) not_end not_degrees (tame_rows in_end)

@@ -22,10 +22,11 @@
 //! - specs/Reading.antt: what a read says about the source below. For bytes that no contract knows, the only known fact is
 //!   that the shortened ones are fewer, so a record's read (oas_wide, proofs/AnyLengthLemmas.antt) counts the rest to its id,
 //!   whose number of bytes is free.
-//! - For that the bytes of a read must be their own shortened form where all integers have at most ten bytes (`Tame`,
-//!   proofs/TameLemmas.antt): a lemma for each combinator, and a term for each kind in the form of its tree (TameFields.antt,
-//!   TameRecords.antt). `Tame` also says that a device's fault may be wherever a source's limit may: through a shortened
-//!   source both are the device's, and which it was is looked up after the read (`judged`).
+//! - For that the bytes of a read must be their own shortened form where all integers have at most ten bytes (`Tame`): a
+//!   lemma for each combinator (proofs/TameLemmas.antt) and for each field (TameFields.antt). A search puts them together
+//!   along the tree of each row in the table of ids (`tame_rows`, TameRecords.antt), so a kind more needs no line there. `Tame`
+//!   also says that a device's fault may be wherever a source's limit may: through a shortened source both are the device's,
+//!   and which it was is looked up after the read (`judged`).
 #![tactic(auto)]
 
 mod records;
