@@ -1,7 +1,8 @@
 -- Reading what follows an id that the profile leaves out, and END's.
-use Rattle.std.proofs.Common.{◌≡◌, ℕ, ◌+◌, ◌≤◌, Bool, false, not, List, [], Option, inl, inr, refl, sym, subst, arith, ◌⊎◌}
+use Rattle.std.proofs.Common.{◌≡◌, ◌≢◌, ℕ, ◌+◌, ◌<◌, ◌≤◌, Bool, false, not, List, [], Option, inl, inr, refl, sym, subst, arith, ◌⊎◌}
 use Rattle.std.specs.Prelude.{◌==◌, Result}
 use Rattle.std.proofs.lemmas.Bool.{cases_lt}
+use Rattle.std.proofs.lemmas.Bool.Decides.{nat_tests}
 use Rattle.oas_num.specs.declared.refusals.Why.{Why}
 use Rattle.oas_num.specs.declared.padding.Padding.{Padding}
 use Rattle.oas_num.specs.Script.{Script}
@@ -12,12 +13,13 @@ use Rattle.oas_num.proofs.ReadLemmas.{Consumed-none}
 use Rattle.oas_num.proofs.MidwayLemmas.{image_fails}
 use Rattle.oas_long.specs.AnyLength.{IsAnyLength, AnyLengthTook, first_of}
 use Rattle.oas_record.specs.Records.{after}
+use Rattle.oas_record.specs.Refusals.{is_known}
 use Rattle.oas_wide.specs.declared.records.WideRecord.{WideRecord}
 use Rattle.oas_wide.specs.declared.trapezoids.Trapezoid.{Trapezoid}
 use Rattle.oas_wide.specs.LayerNames.{SpellsLayerName, LayerNameTook}
 use Rattle.oas_wide.specs.Strings.{SpellsString, StringTook, SpellsAttributed, AttributedTook}
 use Rattle.oas_wide.specs.Trapezoids.{SpellsTrapezoid, TrapezoidTook}
-use Rattle.oas_wide.specs.WideRecords.{property_name, property_string, layers_named, textlayers_named, a_trapezoid, last_property, extension_name, extension_element, profile, foreign, fields, is_profile_id}
+use Rattle.oas_wide.specs.WideRecords.{property_name, property_string, layers_named, textlayers_named, a_trapezoid, last_property, extension_name, extension_element, profile, foreign, fields, is_profile_id, IsForeignId}
 
 -- ---- which id it is
 
@@ -26,6 +28,19 @@ two_ids id n low high = elim (cases_lt n id) [ inl more ↦ inr (omega (arith, m
 
 pub three_ids : (id n : ℕ) → n ≤ id → id ≤ n + 2 → (id ≡ n) ⊎ ((id ≡ n + 1) ⊎ (id ≡ n + 2))
 three_ids id n low high = elim (cases_lt n id) [ inl more ↦ inr (elim (cases_lt (n + 1) id) [ inl m ↦ inr (omega (arith, m, high)) | inr s ↦ inl (omega (arith, more, s)) ]) | inr same ↦ inl (omega (arith, same, low)) ]
+
+-- those of the profile that lie between the others
+pub above_names : (id : ℕ) → IsForeignId id → id ≤ 12 → 7 ≤ id
+unfolding is_known
+above_names id h low = grind (arith, nat_tests, h.1.1)
+
+pub above_paths : (id : ℕ) → IsForeignId id → 12 < id → id ≢ 18 → 23 ≤ id
+unfolding is_known
+above_paths id h high turned = grind (arith, nat_tests, h.1.1)
+
+pub no_circle : (id : ℕ) → IsForeignId id → id ≢ 27
+unfolding is_known
+no_circle id h is = grind (arith, nat_tests, h.1.1)
 
 -- ---- what is read
 

@@ -1,6 +1,6 @@
 -- Reading records of the standard: the id, what follows it, and END's length.
 use Rattle.std.proofs.Common.{◌≡◌, ◌≢◌, ℕ, ◌+◌, ◌≤◌, Bool, true, false, IsTrue, inl, inr, List, [], ◌++◌, length, Some, refl, sym, ap, subst, ◌∙◌, append_assoc, ◌⊎◌, arith}
-use Rattle.std.specs.Prelude.{◌==◌, if◌then◌else◌}
+use Rattle.std.specs.Prelude.{◌==◌, ◌&&◌, not, if◌then◌else◌}
 use Rattle.oas_num.specs.declared.refusals.Why.{Why}
 use Rattle.oas_num.specs.declared.refusals.Why.TheVariants as why
 use Rattle.oas_num.specs.Combinators.{IsEither}
@@ -14,7 +14,7 @@ use Rattle.oas_num.proofs.PieceLemmas.{fails_behind}
 use Rattle.oas_num.proofs.ReadLemmas.{Consumed-none, Consumed-then, Wants}
 use Rattle.oas_long.specs.AnyLength.{first_of}
 use Rattle.oas_long.specs.oas_shortened.Places.{shortened}
-use Rattle.std.proofs.lemmas.Bool.Decides.{nat_tests}
+use Rattle.std.proofs.lemmas.Bool.{and_parts}
 use Rattle.oas_record.specs.Refusals.{is_known, IsKnown}
 use Rattle.oas_record.proofs.IdLemmas.{either_id, id_after, known_id, known_within}
 use Rattle.oas_wide.specs.declared.reasons.WideWhy.{WideWhy}
@@ -48,9 +48,8 @@ wide_id id n low high is = (λ e. omega (arith, low, is, e), omega (arith, high,
 by_test : {C : Type 0} (id n : ℕ) (A B : WideRecord → List ℕ → Type 0) (v : WideRecord) (q : List ℕ) → (id ≡ n → C) → (B v q → C) → IsEither (id == n) A B v q → C
 by_test id n A B v q here other h = elim (either_id id n A B v q h) [ inl p ↦ here p.0 | inr r ↦ other r ]
 
-pub profile_known : (id : ℕ) → id ≢ 1 → is_profile_id id ≡ true → IsKnown id
-unfolding is_known
-profile_known id first h = grind (arith, nat_tests, first, h)
+pub profile_known : (id : ℕ) → is_profile_id id ≡ true → IsKnown id
+profile_known id h = (and_parts (not (id == 18)) (is_known id) (and_parts (not (id == 2)) (not (id == 18) && is_known id) h).1).1
 
 foreign_wide : (in_end : Bool) (id : ℕ) (v : WideRecord) (q : List ℕ) → (foreign in_end id).any v q → IsWideId id
 foreign_wide in_end id v q =

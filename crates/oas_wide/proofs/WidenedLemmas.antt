@@ -19,6 +19,7 @@ use Rattle.oas_record.specs.Ends.{end_in}
 use Rattle.oas_record.specs.Info.{has}
 use Rattle.oas_record.specs.Placements.{degrees_in}
 use Rattle.oas_record.specs.Records.{id_of, after_id, record_in}
+use Rattle.oas_record.specs.Refusals.{is_known}
 use Rattle.oas_record.proofs.IdLemmas.{either_id, id_after}
 use Rattle.oas_wide.specs.declared.ends.Validation.TheVariants.{Unvalidated}
 use Rattle.oas_wide.specs.declared.placements.WidePlacement.{WidePlacement}
@@ -140,7 +141,7 @@ same_placement p q e = cc
 
 placed : (in_end : Bool) (c : Option CellRef) (turn : Turn) (flip : Bool) (at : Spot) (bytes : List ℕ) →
     let p : Placement = record { cell = c; turn = turn; flip = flip; spot = at } in record_in Any in_end (record_of.Placement p) bytes → wide_record_in in_end (inner_widened (record_of.Placement p)) bytes
-unfolding as_turned
+unfolding as_turned is_known
 placed in_end c (Quarters turns) flip at bytes p = inner in_end _ bytes refl p
 placed in_end c (Degrees magnification angle) flip at bytes p =
     let b = p.parts in
@@ -162,6 +163,7 @@ placed in_end c (Degrees magnification angle) flip at bytes p =
     }
 
 pub widen : (in_end : Bool) (r : Record) (bytes : List ℕ) → record_in Any in_end r bytes → wide_record_in in_end (widened r) bytes
+unfolding is_known
 widen in_end record_of.End bytes p =
     let b = p.parts in
     record {

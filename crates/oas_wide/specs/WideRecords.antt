@@ -1,7 +1,6 @@
 -- How records of the standard are spelled, except START, and where a read of one may fail.
 use Rattle.std.proofs.Common.{◌≡◌, ◌≢◌, ℕ, ◌<◌, ◌≤◌, Bool, true, false, List, [], length, Option, Some, None, ◌⊎◌}
-use Rattle.std.specs.Prelude.{◌==◌, if◌then◌else◌, Result, Ok, Err}
-use Rattle.std.proofs.Math.Dec.{ltb}
+use Rattle.std.specs.Prelude.{◌==◌, ◌&&◌, not, Result, Ok, Err}
 use Rattle.oas_num.specs.declared.refusals.Why.{Why}
 use Rattle.oas_num.specs.declared.refusals.Why.TheVariants.{OutOfPlace, UnknownRecord, EndLength}
 use Rattle.oas_num.specs.declared.padding.Padding.{Padding}
@@ -18,6 +17,7 @@ use Rattle.oas_record.specs.declared.records.Record.{Record}
 use Rattle.oas_record.specs.declared.records.Record.TheVariants as profile_of
 use Rattle.oas_record.specs.Found.{found_image, found_either}
 use Rattle.oas_record.specs.Records.{after}
+use Rattle.oas_record.specs.Refusals.{is_known}
 use Rattle.oas_record.specs.Trees.{Choice, exactly, image_any, by_number, no_other, either_never}
 use Rattle.oas_wide.specs.declared.blocks.BlockHead.{BlockHead}
 use Rattle.oas_wide.specs.declared.ends.WideEnd.{WideEnd}
@@ -117,11 +117,10 @@ foreign in_end id =
     (by_number (id == 34) (image_any a_block block_head)
     no_other))))))))))))))))))
 
--- the ids of the profile, except that of END, which has no signature there, and that of placements by reals, which have no
--- floats there
+-- the ids of the profile, by its table, except that of END, which has no signature there, and that of placements by reals,
+-- which have no floats there
 abbrev pub is_profile_id : ℕ → Bool
-is_profile_id id =
-    if id == 2 then false else (if id == 18 then false else (if ltb id 7 then true else (if ltb id 13 then false else (if ltb id 23 then true else id == 27))))
+is_profile_id id = not (id == 2) && (not (id == 18) && is_known id)
 
 -- what a value of a choice denotes
 abbrev pub image_choice : {U V : Type 0} → (U → V) → Choice U → Choice V

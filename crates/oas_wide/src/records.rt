@@ -83,11 +83,12 @@ fn refused_id(id: u64) -> Option<Why>
 }
 
 /// Whether what follows that id is as in the profile, where END has no signature and placements have no floats.
+#[tactic(auto, unfolding(oas_record::specs::Refusals::is_known))]
 fn is_profile_id(id: u64) -> bool
     ensures is { result ≡ is_profile_id id }
     ensures inner { result ≡ true → (id ≢ 2) × (id ≢ 18) }
 {
-    id != 2 && id != 18 && (id <= 6 || (id >= 13 && id <= 22) || id == 27)
+    matches!(id, 0 | 3..=6 | 13..=17 | 19..=22 | 27)
 }
 
 /// What follows the id of a name that isn't in the profile: 7 to 12.

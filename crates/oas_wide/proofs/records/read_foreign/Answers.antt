@@ -2,8 +2,17 @@ use Rattle.std.proofs.Common.{◌≡◌, arith}
 use Rattle.std.proofs.lemmas.Result.{err_from_is_err_and}
 use Rattle.oas_num.proofs.MidwayLemmas.{image_fails}
 use Rattle.oas_wide.specs.WideRecords.{a_placement, a_property, a_block}
-use Rattle.oas_wide.proofs.ForeignLemmas.{last_read}
+use Rattle.oas_wide.proofs.ForeignLemmas.{above_names, above_paths, no_circle, last_read}
 use Rattle.oas_wide.proofs.records.read_foreign.Goals as goal
+
+pub read_name-requires-clause-above : goal.read_name-requires-clause-above
+read_name-requires-clause-above g c = above_names _ c.requires c.if-id-le12.true
+
+pub read_trapezoid-requires-clause-above : goal.read_trapezoid-requires-clause-above
+read_trapezoid-requires-clause-above g c = above_paths _ c.requires c.if-id-le12.false c.if-id-eq18.false
+
+pub read_extension-requires-clause-above : goal.read_extension-requires-clause-above
+read_extension-requires-clause-above g c = omega (arith, no_circle _ c.requires, c.if-id-le26.false, c.if-id-eq28.false, c.if-id-eq29.false)
 
 pub returns-then-id-le12 : goal.returns-then-id-le12
 returns-then-id-le12 g c = λ in_end. c.read_name.ensures in_end

@@ -1,4 +1,4 @@
-use Rattle.std.proofs.Common.{Ok, Err, rules, sym, ◌∙◌, arith}
+use Rattle.std.proofs.Common.{Ok, Err, sym, ◌∙◌, arith}
 use Rattle.std.proofs.lemmas.Result.{err_from_is_err_and}
 use Rattle.oas_wide.proofs.AnyLengthLemmas.{record_read, record_fails}
 use Rattle.oas_wide.proofs.ForeignLemmas.{foreign_done}
@@ -38,4 +38,4 @@ pub returns-in-Err-read_foreign : goal.returns-in-Err-read_foreign
 returns-in-Err-read_foreign g c = rw c.named-in-Err-read_foreign.ensures (fields_fail _ c.in_ok-id.ensures (foreign_done c.args.in_end c.in_ok-id.id _ _ (Err _) (sym c.is_profile_id.ensures.is ∙ c.if-is_profile_id.false) (c.in-Err-read_foreign.ensures c.args.in_end)))
 
 pub read_after-requires-clause-known : goal.read_after-requires-clause-known
-read_after-requires-clause-known g c = profile_known c.in_ok-id.id (search rules) (sym c.is_profile_id.ensures.is ∙ c.if-is_profile_id.true)
+read_after-requires-clause-known g c = profile_known c.in_ok-id.id (sym c.is_profile_id.ensures.is ∙ c.if-is_profile_id.true)
