@@ -42,9 +42,10 @@
 //!   it is refused. A kind has a file of its own in src/kinds (circles.rt): what its record sets, what its element weighs,
 //!   and the element at an offset; src/modal/drawing.rt has the points within the grid that these share. src/kinds.rt has
 //!   each match on kinds, to which those files are branches, what of a record no variable keeps, and what all geometry
-//!   gives ([`Geometry`], [`with_geometry`]: a record that gives other values for it). proofs/AllKinds.antt is the same for
-//!   proofs: that an element weighs as much wherever it stands, and so is defined at each point or at none. Where memory may
-//!   run out depends on the element that is drawn, not on the kind of its record (`MayRunOut`, Reasons.antt).
+//!   gives ([`Geometry`], [`with_geometry`]: a record that gives other values for it). proofs/AllKinds.antt says of any kind,
+//!   by the cases of `kind_at`, that its element weighs as much wherever it stands, and so is defined at each point or at
+//!   none. Where memory may run out depends on the element that is drawn, not on the kind of its record (`MayRunOut`,
+//!   Reasons.antt).
 //!   src/modal/checking.rt: `copies`, all that can be decided before a copy is made. src/modal/copying.rt: `places`,
 //!   where they stand, and `copy`, one of them. src/kinds/rectangles.rt has besides `one_rectangle`, what these come to for
 //!   a rectangle that stands once, as often most records of a file are, in one look at four variables and the position;
