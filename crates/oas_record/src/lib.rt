@@ -11,6 +11,7 @@
 //!   bytes that were taken: the id goes wrong, or there is an id and what follows this id goes wrong, by its info byte and
 //!   field by field. It fails with a reason of format only where no record's spelling is a prefix of the bytes that come
 //!   next.
+//! - [`is_known`] says which ids there are: those of the table (`is_known`, specs/Refusals.antt).
 //! - For an id that no record has, and for a circle's info byte, the tables leave one reason ([`laws::reasons`]).
 //! - A byte list has at most one list of records, and no record's spelling is a prefix of another's ([`laws`]).
 //! - The grammar is written over a `Style`: any spelling that the standard allows, or the canonical one, in which each record
@@ -64,7 +65,7 @@ pub use heads::{Head, read_head, read_magic, read_version};
 pub use paths::{Extension, Extensions, Path};
 pub use placements::{Placement, Turn};
 pub use polygons::Polygon;
-pub use records::Record;
+pub use records::{Record, is_known};
 pub use rectangles::Rectangle;
 pub use references::{CellRef, TextRef};
 pub use spots::{Spot, read_layers, read_spot};

@@ -50,9 +50,9 @@ pub enum Record {
     Circle(Circle),
 }
 
-/// Whether the profile has records of that id.
+/// Whether the profile has records of that id. START, which is read by itself, is none of them.
 #[tactic(auto, unfolding(crate::specs::Refusals::is_known))]
-fn is_known(id: u64) -> bool
+pub fn is_known(id: u64) -> bool
     ensures { result ≡ is_known id }
 {
     matches!(id, 0 | 2..=6 | 13..=22 | 27)

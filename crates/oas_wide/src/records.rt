@@ -15,7 +15,7 @@ use crate::strings::{read_attributed, read_string};
 use crate::trapezoids::{NamedTrapezoid, Trapezoid};
 use oas_long::read_after;
 use oas_num::{Padding, Source, Why};
-use oas_record::Record;
+use oas_record::{Record, is_known};
 use std::alloc::Global;
 
 /// How long END is, in bytes, its id and its signature included.
@@ -83,12 +83,11 @@ fn refused_id(id: u64) -> Option<Why>
 }
 
 /// Whether what follows that id is as in the profile, where END has no signature and placements have no floats.
-#[tactic(auto, unfolding(oas_record::specs::Refusals::is_known))]
 fn is_profile_id(id: u64) -> bool
     ensures is { result ≡ is_profile_id id }
     ensures inner { result ≡ true → (id ≢ 2) × (id ≢ 18) }
 {
-    matches!(id, 0 | 3..=6 | 13..=17 | 19..=22 | 27)
+    id != 2 && id != 18 && is_known(id)
 }
 
 /// What follows the id of a name that isn't in the profile: 7 to 12.
