@@ -6,8 +6,7 @@ import sys
 
 TOP = pathlib.Path(__file__).resolve().parents[2]
 TESTS = TOP / "crates/command_tests/src/tests"
-BY_PROFILE_ONE = TOP / "crates/canon_tests/src/files/table.rt"
-CHECKED = TOP / "crates/form_tests/src/files/table.rt"
+CHECKED = TOP / "crates/canon_tests/src/files/table.rt"
 sys.path.insert(0, str(TOP / "tests/rows"))
 
 from tables import STANDARD, Row, bytes_of, canon_rows, command_rows, refused, rows_of_tables  # noqa: E402
@@ -24,15 +23,6 @@ def under_limits(name, numbers, body, answer):
     """A row of `canon` under limits of its own."""
     limits = tuple(map(int, numbers.split()))
     return [row._replace(limits=limits) for row in canon_rows(name, body, answer)]
-
-
-def by_profile_one(name, file, answer):
-    """A row of a file by profile one: it is refused, or has the layout of another, or hasn't."""
-    if wanted := refused(answer):
-        return [Row(name, "oascanon", ("canon",), [("first", bytes_of(file))], wanted, profile=1)]
-    files = [("first", bytes_of(file)), ("second", bytes_of(answer.removeprefix("unlike ")))]
-    wanted = (3, b"different\n", b"") if answer.startswith("unlike ") else (0, b"same\n", b"")
-    return [Row(name, "oascanon", ("same",), files, wanted, profile=1)]
 
 
 def checked(name, file, *answers):
@@ -66,9 +56,8 @@ def of_crates():
 def all_rows():
     """All rows of the gate."""
     once = of_crates() + rows_of_tables()
-    one = [row for fields in lines(BY_PROFILE_ONE, "ROWS") for row in by_profile_one(*fields)]
     both = [row for fields in lines(CHECKED, "ROWS") for row in checked(*fields)]
-    return [each for row in once for each in in_both_profiles(row)] + one + both
+    return [each for row in once for each in in_both_profiles(row)] + both
 
 
 def command_of(row):

@@ -3,7 +3,6 @@
 
 mod cell_keys;
 mod memory;
-mod rekeying;
 
 use oas_canon::{
     Limits, ReaderSource, Refusal, SliceSource, Source, Which, Why, canonicalize, is_canonical,
@@ -40,18 +39,13 @@ const REFUSAL: Refusal = Refusal {
     why: Why::InfoByte,
 };
 
-/// A file of these bytes, those, and the canonical END.
-fn ended(alloc: Global, front: &[u8], more: &[u8]) -> Option<Vec<u8>> {
-    let mut file = Vec::from_slice(alloc, front).ok()?;
+/// A file of that head, these bytes, and the canonical END.
+fn file_of(alloc: Global, more: &[u8]) -> Option<Vec<u8>> {
+    let mut file = Vec::from_slice(alloc, &FRONT).ok()?;
     file.extend_from_slice(more).ok()?;
     file.extend_from_slice(&[0x02, 0xFC, 0x01]).ok()?;
     file.extend_from_slice(&[0; 253]).ok()?;
     Some(file)
-}
-
-/// A file of that head, these bytes, and the canonical END.
-fn file_of(alloc: Global, more: &[u8]) -> Option<Vec<u8>> {
-    ended(alloc, &FRONT, more)
 }
 
 /// Returns its bytes, and then fails.

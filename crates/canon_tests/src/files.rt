@@ -1,111 +1,65 @@
-//! What no contract says: a layout is read where memory is there, and which of the reasons is returned.
+//! Files that are canonical, and files that differ from one in one thing.
 
-ghost use Rattle.std.specs.Prelude.{◌≡◌, IfOk};
-ghost use Rattle.oas_layout.specs.declared.profile.Profile.TheVariants.{One};
-
-mod faults;
-mod memory;
 mod table;
 
 use self::table::ROWS;
 use file_pieces::bytes_of;
-use oas_canon::oas_file::{accept_file, read_layout};
-use oas_layout::{Layout, Limits, Profile};
+use oas_judge::oas_compact::ByProfileTwo;
+use oas_judge::oas_runs::CompactLayout;
+use oas_judge::{is_canonical, read_judged};
+use oas_layout::{Limits, Profile};
 use oas_num::{INPUT_MAX, Refusal, SliceSource};
 use std::alloc::Global;
 
-/// A refusal, as the number of its reason and its place; `None` where nothing is refused.
-type Told = Option<(u8, u64)>;
+/// Whether a file is canonical, or its refusal as the number of its reason and its place.
+type Answer = Result<bool, (u8, u64)>;
 
-/// A file that calls its cells and its text by numbers that are named after them, with the table-offsets in END.
-const COMPACT: &str =
-    "MAGIC START 00E807 01 0D01 14DB01000A0000 141028 0D00 11F80100000100003232 137B0003000000 0403544F5000 04014101 0602486900 02 00*12 F001 00*240 00";
-
-/// Reads a file.
-fn read(alloc: Global, file: &[u8], limits: Limits) -> Result<Layout, Refusal>
-    ensures { IfOk result (λ layout. layout.profile ≡ One) }
-{
+/// The result for a file by a profile.
+fn answer(alloc: Global, file: &[u8], profile: Profile) -> Answer {
     let mut source = SliceSource::new(file, INPUT_MAX);
-    read_layout(alloc, &mut source, limits, Profile::One)
+    match is_canonical(alloc, &mut source, Limits::standard(), profile) {
+        Ok(yes) => Ok(yes),
+        Err(Refusal { at, why }) => Err((why.number(), at)),
+    }
 }
 
-fn told(refusal: Option<Refusal>) -> Told {
-    let refusal = refusal?;
-    Some((refusal.why.number(), refusal.at))
+/// The result for a file by profile one and by profile two.
+fn answers(alloc: Global, pieces: &str) -> Option<[Answer; 2]> {
+    let file = bytes_of(alloc, pieces).ok()?;
+    let by_one = answer(alloc, file.as_slice(), Profile::One);
+    let by_two = answer(alloc, file.as_slice(), Profile::Two);
+    Some([by_one, by_two])
 }
 
-/// The result for a file that is read, and for the same file without keeping anything.
-fn answers(alloc: Global, file: &[u8], limits: Limits) -> [Told; 2] {
-    let read = read(alloc, file, limits).err();
-    let mut source = SliceSource::new(file, INPUT_MAX);
-    let accepted = accept_file(alloc, &mut source, limits).err();
-    [told(read), told(accepted)]
+/// The result that a row gives as `canonical`, `other` or NUMBER@OFFSET.
+fn answer_of(text: &str) -> Option<Answer> {
+    match text {
+        "canonical" => Some(Ok(true)),
+        "other" => Some(Ok(false)),
+        _ => {
+            let (number, at) = text.split_once('@')?;
+            Some(Err((number.parse().ok()?, at.parse().ok()?)))
+        }
+    }
 }
 
-/// Drops a layout, in a step of its own.
-pub(crate) fn discard(_layout: Layout) {}
-
-/// Whether a file has this layout; `None` where it is refused.
-fn has(alloc: Global, layout: &Layout, file: &[u8]) -> Option<bool>
-    requires { layout.now.profile ≡ One }
-{
-    let Ok(other) = read(alloc, file, Limits::standard()) else {
-        return None;
-    };
-    let same = layout.same(&other);
-    discard(other);
-    Some(same)
-}
-
-/// Whether two files have the same layout; `None` where one of them is refused.
-fn is_same(alloc: Global, file: &[u8], other: &[u8]) -> Option<bool> {
-    let Ok(layout) = read(alloc, file, Limits::standard()) else {
-        return None;
-    };
-    let same = has(alloc, &layout, other);
-    discard(layout);
-    same
-}
-
-/// The result for a file, and whether it has the layout of the other, if there is one.
-type Answer = ([Told; 2], Option<bool>);
-
-/// The file of a row, and the result for it; `None` for a heading.
+/// The file of a row, and the result that it gives; `None` for a heading.
 fn parts(row: &str) -> Option<(&str, &str)> {
     let (_, rest) = row.split_once(" | ")?;
     rest.split_once(" | ")
 }
 
-/// A refusal that is given as NUMBER@OFFSET.
-fn refusal_of(wanted: &str) -> Told {
-    let (number, at) = wanted.split_once('@')?;
-    Some((number.parse().ok()?, at.parse().ok()?))
-}
-
-/// What a row says.
-fn wanted(row: &str) -> Option<Answer> {
+/// The result of a row: one for both profiles, or one for each.
+fn wanted(row: &str) -> Option<[Answer; 2]> {
     let (_, wanted) = parts(row)?;
-    Some(match refusal_of(wanted) {
-        None => ([None; 2], Some(!wanted.starts_with("unlike "))),
-        refusal => ([refusal; 2], None),
-    })
-}
-
-/// Whether a file has the layout of the file that a row names; `None` where one is refused, or the row names none.
-fn is_as_named(alloc: Global, file: &[u8], wanted: &str) -> Option<bool> {
-    if wanted.contains('@') {
-        return None;
-    }
-    let other = bytes_of(alloc, wanted.strip_prefix("unlike ").unwrap_or(wanted)).ok()?;
-    is_same(alloc, file, other.as_slice())
+    let (by_one, by_two) = wanted.split_once(" | ").unwrap_or((wanted, wanted));
+    Some([answer_of(by_one)?, answer_of(by_two)?])
 }
 
 /// The result for the file of a row.
-fn found(alloc: Global, row: &str) -> Option<Answer> {
-    let (file, wanted) = parts(row)?;
-    let file = bytes_of(alloc, file).ok()?;
-    let answers = answers(alloc, file.as_slice(), Limits::standard());
-    Some((answers, is_as_named(alloc, file.as_slice(), wanted)))
+fn found(alloc: Global, row: &str) -> Option<[Answer; 2]> {
+    let (file, _) = parts(row)?;
+    answers(alloc, file)
 }
 
 #[test]
@@ -118,69 +72,75 @@ fn each_row(rt: HostRuntime) {
             count = count.saturating_add(1);
         }
     }
-    assert!(rt; count == 68);
+    assert!(rt; count == 49);
 }
 
-/// Where the record at an offset of the compact file begins.
-fn record_at(offset: usize) -> u64 {
-    match offset {
-        0..=12 => 0,
-        13..=21 => 13,
-        22..=23 => 22,
-        24..=30 => 24,
-        31..=33 => 31,
-        34..=35 => 34,
-        36..=45 => 36,
-        46..=52 => 46,
-        53..=58 => 53,
-        59..=62 => 59,
-        63..=67 => 63,
-        68..=323 => 68,
-        _ => 324,
-    }
+/// The layout of a file, kept by profile two, and whether the file is canonical by profile one, if at most this many bytes
+/// are read.
+fn judged(alloc: Global, file: &[u8], limit: u64) -> Result<(CompactLayout, bool), Refusal> {
+    let mut source = SliceSource::new(file, limit);
+    read_judged::<_, ByProfileTwo>(alloc, &mut source, Limits::standard(), Profile::One)
 }
 
-/// How long the compact file is, and the result for this many of its bytes.
-fn of_prefix(alloc: Global, len: usize) -> Option<(usize, [Told; 2])> {
-    let file = bytes_of(alloc, COMPACT).ok()?;
-    let front = file.as_slice().get(..len)?;
-    Some((file.len(), answers(alloc, front, Limits::standard())))
+/// Drops a value in a step of its own, since that is expensive to prove beside other values.
+fn discard<T: Drop>(_value: T) {}
+
+/// The same for a file that is given in pieces.
+fn pieces_judged(alloc: Global, pieces: &str) -> Option<(CompactLayout, bool)> {
+    let file = bytes_of(alloc, pieces).ok()?;
+    judged(alloc, file.as_slice(), INPUT_MAX).ok()
 }
 
-#[test]
-fn each_prefix(rt: HostRuntime) {
-    for len in 0..324usize {
-        let cut_off = Some((2, record_at(len)));
-        assert!(rt;
-            of_prefix(rt.alloc(), len) == Some((324, [cut_off; 2])),
-            "{len}"
-        );
-    }
+/// Whether a file is canonical, and whether it has this layout.
+fn compared_with(alloc: Global, layout: &CompactLayout, pieces: &str) -> Option<[bool; 2]> {
+    let (other, is_canonical) = pieces_judged(alloc, pieces)?;
+    let is_same = layout.same(&other);
+    discard(other);
+    Some([is_canonical, is_same])
 }
 
-const FOUR: &str = "HEAD CELL RECT RECT RECT RECT TAIL";
-
-const FOUR_BY_NUMBER: &str = "HEAD 0D00 RECT RECT RECT RECT 030141 TAIL";
-
-/// The result for a file under these limits.
-fn within(alloc: Global, limits: Option<Limits>, file: &str) -> Option<[Told; 2]> {
-    let file = bytes_of(alloc, file).ok()?;
-    Some(answers(alloc, file.as_slice(), limits?))
+/// Whether a file is canonical, and whether another is, and has the same layout.
+fn compared(alloc: Global, one: &str, other: &str) -> Option<(bool, [bool; 2])> {
+    let (layout, is_canonical) = pieces_judged(alloc, one)?;
+    let other = compared_with(alloc, &layout, other);
+    discard(layout);
+    Some((is_canonical, other?))
 }
 
 #[test]
-fn limits(rt: HostRuntime) {
-    let found = [
-        within(rt.alloc(), Limits::new(3, 100, 6720), FOUR),
-        within(rt.alloc(), Limits::new(100, 6, 1000), FOUR),
-        within(rt.alloc(), Limits::new(100, 5, 1000), FOUR),
-        within(rt.alloc(), Limits::new(100, 5, 1000), FOUR_BY_NUMBER),
-    ];
-    let wanted = [
-        Some([Some((24, 61)); 2]),
-        Some([None; 2]),
-        Some([Some((25, 61)); 2]),
-        Some([Some((25, 71)); 2]),
-    ];
-    assert!(rt; found == wanted);
+fn a_box_is_its_rectangle(rt: HostRuntime) {
+    let found = compared(
+        rt.alloc(),
+        "HEAD CELL BOX BOX TAIL",
+        "HEAD CELL RECT RECT TAIL",
+    );
+    assert!(rt; found == Some((true, [true, true])));
+}
+
+#[test]
+fn one_box_is_not_two(rt: HostRuntime) {
+    let found = compared(
+        rt.alloc(),
+        "HEAD CELL BOX 00 TAIL",
+        "HEAD CELL BOX BOX TAIL",
+    );
+    assert!(rt; found == Some((false, [true, false])));
+}
+
+/// The number of the reason for which a file is refused where this many bytes may be read.
+fn refused_within(alloc: Global, pieces: &str, limit: u64) -> Option<u8> {
+    let file = bytes_of(alloc, pieces).ok()?;
+    match judged(alloc, file.as_slice(), limit) {
+        Ok((layout, _)) => {
+            discard(layout);
+            None
+        }
+        Err(refusal) => Some(refusal.why.number()),
+    }
+}
+
+#[test]
+fn a_file_past_the_limit(rt: HostRuntime) {
+    let found = refused_within(rt.alloc(), "HEAD CELL BOX TAIL", 100);
+    assert!(rt; found == Some(31));
 }

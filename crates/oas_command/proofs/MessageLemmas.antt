@@ -1,18 +1,11 @@
 -- What the error output has once an outlet before it was given a line, and closed.
 use Rattle.std.proofs.Common.{◌≡◌, ℕ, List, [], ◌∷◌, ◌++◌, length, Option, Result, Ok, Err, inl, inr, refl, sym, ap, ◌∙◌, append_assoc, append-nil, arith, MutBor}
 use Rattle.oas_num.specs.Outlet.{Outlet}
-use Rattle.oas_num.specs.declared.refusals.Refusal.{Refusal}
-use Rattle.oas_num.specs.Refusals.{number_of}
 use Rattle.oas_num.specs.SinkFault.{SinkFault}
 use Rattle.oas_num.specs.OutletLaws.{given_since, takes_front, stays}
 use Rattle.oas_num.specs.Outlets.{Opens, IsGiven, failures_of}
 use Rattle.oas_num.specs.Writing.{Writes}
-use Rattle.oas_num.proofs.WritingLemmas.{Puts-none}
-use Rattle.oas_canon.specs.declared.rekeying.Rekeyed.{Rekeyed}
-use Rattle.oas_canon.specs.declared.rekeying.Rekeyed.TheVariants.{Done, NotProfile1}
-use Rattle.oas_command.specs.Lines.{refusal_line, not_profile_1_line}
-use Rattle.oas_command.specs.Rekeying.{rekey_said, EndsRekeying}
-use Rattle.oas_command.specs.Runs.{said, Tells, Ends, AppendsPrefix}
+use Rattle.oas_command.specs.Runs.{Tells, AppendsPrefix}
 
 none_front : (a b : List ℕ) → [] ≡ a ++ b → a ≡ []
 none_front [] b e = refl
@@ -32,18 +25,6 @@ module _ {W : Type 0} (contents : W → Option (List ℕ)) (writer : MutBor W) w
       record { front = line; back = []; joined = sym (append-nil line); given = given_since contents writer o now line opens all }
   told o now line opens (inr some) =
       record { front = some.front; back = some.back; joined = some.joined; given = given_since contents writer o now some.front opens some.puts }
-
-  -- what a run said was put
-  pub ended : {T : Type 0} (o now : Outlet W) (name : List ℕ) (answer : Result T Refusal) → Opens writer o → Ends (IsGiven contents) failures_of name o answer now → GivenPrefix o (said name answer) now
-  ended o now name (Ok value) opens same = rw same (told o o [] opens (inl (Puts-none (IsGiven contents) failures_of o)))
-  ended o now name (Err refusal) opens tells = told o now (refusal_line name (number_of refusal.why) refusal.at) opens tells
-
-  -- the same for a run that should re-key
-  pub rekey_ended : (o now : Outlet W) (name : List ℕ) (answer : Result Rekeyed Refusal) → Opens writer o →
-      EndsRekeying (IsGiven contents) failures_of name o answer now → GivenPrefix o (rekey_said name answer) now
-  rekey_ended o now name (Ok (Done n)) opens same = ended o now name (Ok n) opens same
-  rekey_ended o now name (Ok NotProfile1) opens tells = told o now (not_profile_1_line name) opens tells
-  rekey_ended o now name (Err refusal) opens tells = told o now (refusal_line name (number_of refusal.why) refusal.at) opens tells
 
   -- and then it was closed
   pub closed : (o mid now : Outlet W) (line : List ℕ) (r : Result Unit SinkFault) → GivenPrefix o line mid → Writes (IsGiven contents) failures_of mid [] r now → GivenPrefix o line now

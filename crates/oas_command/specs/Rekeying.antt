@@ -1,5 +1,5 @@
 -- How a run that re-keys ends: its status, and what it puts on its error output.
-use Rattle.std.specs.Prelude.{◌≡◌, ℕ, List, [], Result, Ok, Err}
+use Rattle.std.specs.Prelude.{◌≡◌, ℕ, List, Result, Ok, Err}
 use Rattle.oas_num.specs.declared.refusals.Refusal.{Refusal}
 use Rattle.oas_num.specs.Refusals.{number_of}
 use Rattle.oas_canon.specs.declared.rekeying.Rekeyed.{Rekeyed}
@@ -13,13 +13,7 @@ rekey_status (Ok (Done n)) = 0
 rekey_status (Ok NotProfile1) = 3
 rekey_status (Err refusal) = 1
 
--- nothing where it was re-keyed, or else the line that says why not
-abbrev pub rekey_said : List ℕ → Result Rekeyed Refusal → List ℕ
-rekey_said name (Ok (Done n)) = []
-rekey_said name (Ok NotProfile1) = not_profile_1_line name
-rekey_said name (Err refusal) = refusal_line name (number_of refusal.why) refusal.at
-
--- where it was re-keyed the sink is unchanged, or else that line was put
+-- where it was re-keyed the sink is unchanged, or else the line that says why not was put
 abbrev pub EndsRekeying : {K : Type 0} → (K → List ℕ → K → Type 0) → (K → ℕ) → List ℕ → K → Result Rekeyed Refusal → K → Type 0
 EndsRekeying given failures name old (Ok (Done n)) new = new ≡ old
 EndsRekeying given failures name old (Ok NotProfile1) new = Tells given failures old (not_profile_1_line name) new

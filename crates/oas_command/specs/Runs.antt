@@ -1,5 +1,5 @@
 -- How a run ends: its status, what it writes, and what it puts on its error output.
-use Rattle.std.specs.Prelude.{◌≡◌, ℕ, Bool, true, false, List, [], ◌++◌, Option, Result, Ok, Err, ◌⊎◌}
+use Rattle.std.specs.Prelude.{◌≡◌, ℕ, Bool, true, false, List, ◌++◌, Option, Result, Ok, Err, ◌⊎◌}
 use Rattle.std.specs.Io.KnownBytes.{Appends}
 use Rattle.oas_num.specs.declared.refusals.Refusal.{Refusal}
 use Rattle.oas_num.specs.Refusals.{number_of}
@@ -36,11 +36,6 @@ Delivers contents text before (Ok value) (Err refusal) after = IsCutOff contents
 Delivers contents text before (Err refusal) answer after = (answer ≡ Err refusal) × (after ≡ before)
 
 -- ---- its error output
-
--- nothing after a result, and the line of a refusal
-abbrev pub said : {T : Type 0} → List ℕ → Result T Refusal → List ℕ
-said name (Ok value) = []
-said name (Err refusal) = refusal_line name (number_of refusal.why) refusal.at
 
 -- the line was put, or a prefix of it, and the sink has failed
 abbrev pub Tells : {K : Type 0} → (K → List ℕ → K → Type 0) → (K → ℕ) → K → List ℕ → K → Type 0

@@ -8,7 +8,11 @@ use itoa::Buffer;
 use oas_num::{Refusal, Sink, SinkFault};
 
 /// Puts the line of a refusal: the input's name, the number of the reason, and the offset.
-pub fn put_refusal<K: Sink>(told: &mut K, name: &str, refusal: Refusal) -> Result<(), SinkFault>
+pub(crate) fn put_refusal<K: Sink>(
+    told: &mut K,
+    name: &str,
+    refusal: Refusal,
+) -> Result<(), SinkFault>
     ensures { Writes K.given K.failures told.old
         (refusal_line name.now (number_of refusal.why) refusal.at) result told.new }
 {

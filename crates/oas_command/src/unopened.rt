@@ -32,7 +32,7 @@ pub fn run_unopened<E: Write>(name: &str, err: &mut E) -> u8
 }
 
 /// Like `run_unopened`, with a sink for the line.
-pub fn unopened<K: Sink>(name: &str, told: &mut K) -> u8
+fn unopened<K: Sink>(name: &str, told: &mut K) -> u8
     ensures status { result ≡ 1 }
     ensures tells { Tells K.given K.failures told.old (unopened_line name.now) told.new }
 {
@@ -41,7 +41,7 @@ pub fn unopened<K: Sink>(name: &str, told: &mut K) -> u8
 }
 
 /// Puts the line of an input that can't be opened.
-pub fn put_unopened<K: Sink>(told: &mut K, name: &str) -> Result<(), SinkFault>
+fn put_unopened<K: Sink>(told: &mut K, name: &str) -> Result<(), SinkFault>
     ensures { Writes K.given K.failures told.old (unopened_line name.now) result told.new }
 {
     told.put_all(name.as_bytes())?;

@@ -4,7 +4,8 @@ use crate::labels::label_of;
 use crate::many::{DONE, list_of, unreadable};
 use crate::outcome::Outcome;
 use crate::session::{Incoming, Session};
-use oas_explain::oas_command::{KeptKey, Label, name_of, run_kept, worse};
+use oas_explain::oas_canon::Outlet;
+use oas_explain::oas_command::{KeptKey, Label, kept_telling, name_of, worse};
 use oas_explain::{Asked, Onward};
 use oas_request::Ending;
 use oas_request::oas_files::{Existing, Names, Printed, text_of, unescaped};
@@ -99,7 +100,8 @@ impl Kept<'_> {
         let (alloc, name) = (session.rt.alloc(), printed.as_str());
         let mut said = session.room(name, name.len())?;
         let mut out = session.output(None, Existing::Replaced);
-        let status = run_kept(
+        let mut told = Outlet::new(&mut said);
+        let status = kept_telling(
             alloc,
             name,
             label,
@@ -107,9 +109,10 @@ impl Kept<'_> {
             self.is_quiet,
             from,
             &mut out,
-            &mut said,
+            &mut told,
             session.limits,
         );
+        let _ = told.close();
         let fault = out.fault();
         session.tell(&said, None, fault, asked);
         Ok(Outcome {

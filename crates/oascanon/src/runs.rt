@@ -6,7 +6,7 @@ use crate::outcome::Outcome;
 use crate::session::{Incoming, Session};
 use oas_explain::oas_canon::{Limits, Outlet, Sink, Source};
 use oas_explain::oas_command::{
-    Form, Label, Options, PairWork, Work, name_of, pair_work_telling, run_marking, work_telling,
+    Form, Label, Options, PairWork, Work, marking_telling, name_of, pair_work_telling, work_telling,
 };
 use oas_request::oas_files::{Existing, Printed};
 use oas_request::{Ending, Markers, Question};
@@ -295,7 +295,8 @@ fn mark_heard<'a>(
     let mut said = session.room(a.name, bytes)?;
     let mut out = session.output(None, Existing::Replaced);
     let mut marked = session.output(Some(markers.name), Existing::Replaced);
-    let status = run_marking(
+    let mut told = Outlet::new(&mut said);
+    let status = marking_telling(
         session.rt.alloc(),
         a.name,
         from_a,
@@ -306,9 +307,10 @@ fn mark_heard<'a>(
         own,
         &mut marked,
         markers.most,
-        &mut said,
+        &mut told,
         session.limits,
     );
+    let _ = told.close();
     let asked = asked_of_two(&said, a, b);
     match marked.fault() {
         Some(fault) => session.tell(&said, Some(markers.name), Some(fault), asked),

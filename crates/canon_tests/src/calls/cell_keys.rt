@@ -1,7 +1,7 @@
 //! The keys of cells: what `sha256sum` prints for the files of one cell each.
 
 use super::{KEY, file_of};
-use crate::files::discard;
+use crate::reading::discard;
 use oas_canon::{
     Layout, Limits, PROFILE, Refusal, SliceSource, Why, cell_key, key, layout_key, read_layout,
     write_cell_keys,

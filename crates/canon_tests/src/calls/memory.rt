@@ -3,9 +3,8 @@
 //! The process's heap is filled with pieces, down to the smallest, and then emptied a piece at a time, so that each run has a
 //! little more memory than the one before. (Under `rt try` the heap can't be filled, and nothing fails.)
 
-use super::rekeying::{Short, boxed};
 use super::{AGAIN, file_of};
-use oas_canon::{Limits, Refusal, Rekeyed, SliceSource, Why, is_canonical, key, rekey, same_files};
+use oas_canon::{Limits, Refusal, SliceSource, Why, is_canonical, key, same_files};
 use scarce_memory::Hoard;
 use std::alloc::Global;
 
@@ -15,7 +14,6 @@ enum Call {
     IsCanonical,
     Key,
     SameFiles,
-    Rekey,
 }
 
 /// Whether two files of these bytes are the same.
@@ -36,10 +34,6 @@ fn is_right(alloc: Global, call: Call, file: &[u8], digest: &[u8; 32]) -> Result
         Call::IsCanonical => is_canonical(alloc, &mut from, limits),
         Call::Key => Ok(key(alloc, &mut from, limits)? == *digest),
         Call::SameFiles => is_same(alloc, file),
-        Call::Rekey => {
-            let rekeyed = rekey(alloc, &mut from, &mut Short { room: 301 }, limits)?;
-            Ok(rekeyed == Rekeyed::Done(301))
-        }
     }
 }
 
@@ -71,11 +65,8 @@ fn counts(
     [refused, done, wrong]
 }
 
-/// A file with more elements than there is room for at first; for a call that re-keys, a file with a box.
-fn file_for(alloc: Global, call: Call) -> Option<Vec<u8>> {
-    if matches!(call, Call::Rekey) {
-        return boxed(alloc);
-    }
+/// A file with more elements than there is room for at first.
+fn long_file(alloc: Global) -> Option<Vec<u8>> {
     let mut rectangles: Vec<u8> = Vec::new(alloc);
     for _ in 0..150u32 {
         rectangles.extend_from_slice(&AGAIN).ok()?;
@@ -86,7 +77,7 @@ fn file_for(alloc: Global, call: Call) -> Option<Vec<u8>> {
 /// The result of the call with all memory taken and given back little by little: whether no result is wrong, and, where the
 /// heap can be filled, whether some fail out of memory and some are right.
 fn at_each_growth(alloc: Global, call: Call) -> Option<[bool; 3]> {
-    let file = file_for(alloc, call)?;
+    let file = long_file(alloc)?;
     let digest = key(
         alloc,
         &mut SliceSource::new(&file, 10000),
@@ -101,7 +92,7 @@ fn at_each_growth(alloc: Global, call: Call) -> Option<[bool; 3]> {
 
 #[test]
 fn each_growth(rt: HostRuntime) {
-    for call in [Call::IsCanonical, Call::Key, Call::SameFiles, Call::Rekey] {
+    for call in [Call::IsCanonical, Call::Key, Call::SameFiles] {
         assert!(rt;
             at_each_growth(rt.alloc(), call) == Some([true; 3]),
             "{call:?}"

@@ -1,85 +1,62 @@
-//! The rows, one a line: a name, a file, and its result.
-//!
-//! A file is a list of pieces. A piece is bytes in hex, or such bytes and how often they are repeated, as `00*252`, or a word
-//! for bytes that many rows have (see `bytes_of`): HEAD is MAGIC, START, a unit of 1000 and OFFSETS; TAIL is the canonical
-//! END; CELL begins a cell `A`; RECT is a rectangle. `-` is no byte at all.
-//!
-//! The result is a refusal, as NUMBER@OFFSET, or a file that has the same layout, mostly the canonical one, or `unlike` and a
-//! file that has another layout. The results were worked out by hand from the rules in docs/.
+//! Files, one a line: a name, a file in pieces, and the result for it: `canonical`, `other`, or a refusal as NUMBER@OFFSET;
+//! where the profiles differ, by profile one and then by profile two. The results were worked out by hand from the rules in
+//! docs/.
 
-/// The rows, by what they are about.
+/// The rows.
 pub const ROWS: &str = "\
-# front
-no-cells | HEAD TAIL | HEAD TAIL
-empty-input | - | 2@0
-first-byte-wrong | 26 | 1@0
-first-record-is-left-out-elsewhere | MAGIC 22 | 13@13
-second-start | HEAD 01 | 13@34
-version-one-point-one | MAGIC 0103312E31 00E807 OFFSETS TAIL | 9@13
-unit-2000-over-2 | MAGIC START 04D00F02 OFFSETS TAIL | HEAD TAIL
-unit-one-fifth | MAGIC START 0205 OFFSETS TAIL | MAGIC START 040105 OFFSETS TAIL
-another-unit | MAGIC START 040302 OFFSETS TAIL | unlike HEAD TAIL
-unit-with-denominator-zero | MAGIC START 04D00F00 OFFSETS TAIL | 8@13
-unit-zero | MAGIC START 0000 OFFSETS TAIL | 8@13
-unit-negative | MAGIC START 050101 OFFSETS TAIL | 8@13
-unit-as-float | MAGIC START 07 OFFSETS TAIL | 6@13
-unit-of-unknown-type | MAGIC START 08 OFFSETS TAIL | 7@13
-offset-flag-two | MAGIC START 00E807 02 00*12 TAIL | 10@13
-# ends
-end-one-byte-short | HEAD 02FB01 00*251 00 | 28@34
-end-one-byte-long | HEAD 02FD01 00*253 00 | 28@34
-end-with-checksum | HEAD 02F801 00*248 0100000000 | 29@34
-byte-after-end | HEAD TAIL 00 | 30@290
-a-second-end | HEAD TAIL TAIL | 30@290
-# what the whole file decides
-number-without-a-name | HEAD 0D07 TAIL | 26@36
-cell-by-name-and-by-number | HEAD CELL 0D00 030141 TAIL | 27@42
-cell-twice | HEAD CELL CELL TAIL | 27@40
-number-without-a-name-and-a-byte-more | HEAD 0D07 TAIL 00 | 30@292
-cell-twice-and-a-byte-more | HEAD CELL CELL TAIL 00 | 30@296
-cell-twice-and-a-record-cut-short | HEAD CELL CELL 147B | 2@40
-cell-twice-and-a-bad-record | HEAD CELL CELL 14FB TAIL | 14@40
-cell-twice-and-an-end-one-byte-short | HEAD CELL CELL 02FB01 00*251 00 | 28@40
-forward-reference | HEAD 0D00 RECT 030141 TAIL | HEAD CELL RECT TAIL
-number-twice-alike | HEAD 04014105 04014105 TAIL | HEAD TAIL
-# records
-rectangle-outside-a-cell | HEAD RECT TAIL | 13@34
-rectangle-after-a-cell-name | HEAD CELL 030142 RECT TAIL | 13@40
-rectangle-outside-a-cell-cut-short | HEAD 147B01 | 2@34
-left-out-record | HEAD CELL 22 TAIL | 11@37
-unknown-record | HEAD CELL 23 TAIL | 12@37
-numbering-mixed | HEAD 030141 04014205 TAIL | 21@37
-number-twice | HEAD 04014105 04014205 TAIL | 22@38
-space-in-a-cell-name | HEAD 0E0120 TAIL | 4@34
-empty-cell-name | HEAD 0E00 TAIL | 5@34
-square-with-a-height | HEAD CELL 14FB TAIL | 14@37
-circle-with-a-zero-bit-set | HEAD CELL 1B7B TAIL | 14@37
-list-of-unknown-type | HEAD CELL 153B010006 TAIL | 15@37
-list-of-odd-length | HEAD CELL 153B01000003 TAIL | 16@37
-list-too-short | HEAD CELL 153B01000401 TAIL | 16@37
-repetition-of-unknown-type | HEAD CELL 147F0100020200000C TAIL | 17@37
-overlong-width-and-minus-zero | HEAD CELL 147B01008A00140100 TAIL | HEAD CELL RECT TAIL
-width-goes-on-after-ten-bytes | HEAD CELL 147B01008A 80*9 00140100 TAIL | 3@37
-width-with-tenth-byte-two | HEAD CELL 147B0100 FF*9 02140100 TAIL | 3@37
-width-of-all-ones | HEAD CELL 147B0100 FF*9 01140100 TAIL | 23@37
-x-past-the-grid | HEAD CELL 16FB0100050F00000400 82 80*7 20 00 TAIL | 23@37
-x-at-the-edge-of-the-grid | HEAD CELL 16FB0100050F00000400 80*8 20 00 TAIL | HEAD CELL 16FB0100050F00000400 80*8 20 00 TAIL
-first-repetition-is-the-last-one | HEAD CELL 147F01000A14000002001E 0E0142 147F01000A14000000 TAIL | 18@51
-too-many-copies | HEAD CELL 147F01000A14000001 FF1F FE1F 0000 TAIL | 24@37
-more-copies-than-fit-a-number | HEAD CELL 147F01000A14000001 FF*9 01 FF*9 01 0000 TAIL | 24@37
-too-heavy-before-a-copy-is-made | HEAD CELL 16FF0100050F0000000F 00*15 0000 01FE1FFE1F0000 TAIL | 25@37
-magnified | HEAD CELL 12B601420002 02005A 0000 TAIL | 19@37
-turned-by-45-degrees | HEAD CELL 12B6014204020200 2D 0000 TAIL | 20@37
-# meanings
-four-copies-that-coincide | HEAD CELL 147F01000A1400000100000000 TAIL | HEAD CELL RECT RECT RECT RECT TAIL
-three-are-not-four | HEAD CELL RECT RECT RECT TAIL | unlike HEAD CELL RECT RECT RECT RECT TAIL
-relative-mode-and-a-repetition | HEAD CELL 10 147F01000A140A0E02011E 1410C801 TAIL | HEAD CELL 147B01000A140A0E 147B01000A14460E 147B01000A1482010E 147B01000A14D2010E TAIL
-ring-in-list-type-0 | HEAD CELL 153B0100000214280000 TAIL | HEAD CELL 153B01000403012829000129 0000 TAIL
-ring-in-list-type-1 | HEAD CELL 153B0100010228140000 TAIL | HEAD CELL 153B01000403012829000129 0000 TAIL
-ring-backwards | HEAD CELL 153B01000403C602A401C2021428 TAIL | HEAD CELL 153B01000403012829000129 0000 TAIL
-extension-stays-the-number-that-it-was | HEAD CELL 16FB0100050A040129000000 16480928 TAIL | HEAD CELL 16FB0100050F0A0A040129000000 16FB0100090F0A0A040129000028 TAIL
-angle-450 | HEAD CELL 12B6014204020200C2030000 TAIL | HEAD CELL 11B201420000 TAIL
-texts-that-differ | HEAD CELL 135B02486903000000 TAIL | unlike HEAD CELL 135B02486F03000000 TAIL
-circle-once-and-twice | HEAD CELL 1B3B0100050000 TAIL | unlike HEAD CELL 1B3B0100050000 1B3B0100050000 TAIL
-compact | MAGIC START 00E807 01 0D01 14DB01000A0000 141028 0D00 11F80100000100003232 137B0003000000 0403544F5000 04014101 0602486900 02 00*12 F001 00*240 00 | HEAD CELL 147B01000A0A0000 147B01000A0A2800 0E03544F50 11B001410000 11B001410064 11B001416400 11B001416464 135B02486903000000 TAIL
+# canonical
+no-cells | HEAD TAIL | canonical
+empty-cell | HEAD CELL TAIL | canonical
+rectangle | HEAD CELL RECT TAIL | canonical
+copies-stand-side-by-side | HEAD CELL RECT RECT RECT TAIL | canonical
+ascending-rectangles | HEAD CELL RECT 147B02000A140000 TAIL | canonical
+ascending-names | HEAD CELL RECT 0E0142 RECT 0E024242 TAIL | canonical
+elements-begin-anew-in-each-cell | HEAD CELL 147B02000A140000 0E0142 RECT TAIL | canonical
+square-of-two-sides | HEAD CELL 147B01000A0A0000 TAIL | canonical
+placement-text-rectangle | HEAD CELL 11B001420000 135B02486903000000 RECT TAIL | canonical
+triangle | HEAD CELL 153B01000402012829290000 TAIL | canonical
+triangle-the-other-way-round | HEAD CELL 153B0100040229002B280000 TAIL | other
+box-of-a-polygon | HEAD CELL BOX TAIL | canonical | other
+# names
+equal-names | HEAD CELL CELL TAIL | 27@40
+descending-names | HEAD 0E0142 CELL TAIL | other
+name-that-goes-on-before-its-front | HEAD 0E024141 CELL TAIL | other
+cell-by-number | HEAD 030141 0D00 RECT TAIL | other
+name-record-that-nothing-uses | HEAD 030141 CELL RECT TAIL | other
+text-string-record | HEAD 050141 CELL RECT TAIL | other
+name-record-behind | HEAD CELL RECT 030142 TAIL | other
+# order
+descending-rectangles | HEAD CELL 147B02000A140000 RECT TAIL | other
+rectangle-before-a-placement | HEAD CELL RECT 11B001420000 TAIL | other
+copies-apart | HEAD CELL RECT 147B02000A140000 RECT TAIL | other
+# spelling of records
+pad | HEAD CELL RECT 00 TAIL | other
+pad-before-cells | HEAD 00 CELL RECT TAIL | other
+pad-before-end | HEAD CELL RECT 00 TAIL | other
+xy-absolute | HEAD CELL 0F RECT TAIL | other
+xy-relative | HEAD CELL 10 RECT TAIL | other
+long-id | HEAD CELL 94007B01000A140000 TAIL | other
+long-width | HEAD CELL 147B01008A00140000 TAIL | other
+long-name | HEAD 0E810041 RECT TAIL | other
+square | HEAD CELL 14DB01000A0000 TAIL | other
+repetition-of-two | HEAD CELL 147F01000A140000020028 TAIL | other
+modal-layer | HEAD CELL RECT 147A000A140000 TAIL | other
+modal-x | HEAD CELL 146B01000A1400 TAIL | other
+placement-of-degrees | HEAD CELL 12B0014200000000 TAIL | other
+minus-zero-x | HEAD CELL 147B01000A140100 TAIL | other
+# START and END
+version-spelled-long | MAGIC 018300312E30 00E807 00*13 TAIL | other
+unit-spelled-long | MAGIC START 00E88700 00*13 TAIL | other
+unit-as-a-ratio | MAGIC START 04D00F02 00*13 TAIL | other
+offsets-of-another-value | MAGIC START 00E807 00 0509*6 TAIL | other
+offsets-in-end | MAGIC START 00E807 01 02 00*12 F001 00*240 00 | other
+end-with-other-padding | HEAD 02FC01 20*252 00 | other
+end-spelled-long | HEAD 02FB8100 00*251 00 | other
+# refusals
+empty | 26 | 1@0
+cut-off | HEAD CELL RECT | 2@45
+cut-off-in-a-record | HEAD CELL 147B | 2@37
+byte-behind-end | HEAD TAIL 00 | 30@290
+left-out-behind-a-pad | HEAD CELL 00 22 TAIL | 11@38
+number-without-a-name | HEAD CELL 11F0000000 TAIL | 26@42
 ";

@@ -1,9 +1,10 @@
 //! Runs over files by name: what is under an output's name once a run has ended.
 
 use super::rows::RECTANGLE;
+use super::runs::run_work;
 use file_pieces::bytes_of;
+use oas_command::Work;
 use oas_command::oas_canon::Limits;
-use oas_command::{run_canon, run_rekey};
 use oas_files::{Input, Output};
 use oas_num::{INPUT_MAX, ReaderSource, SliceSource};
 use std::fs;
@@ -47,7 +48,8 @@ fn canon_to(rt: &HostRuntime, pieces: &str, path: &str, line: &str) -> Result<(u
     let mut out = Output::new(rt, Some(path));
     let mut err: Vec<u8> = Vec::new(alloc);
     let limits = Limits::standard();
-    let status = run_canon(alloc, "a", &mut from, &mut out, &mut err, limits);
+    let work = Work::Canon;
+    let status = run_work(alloc, work, "a", &mut from, &mut out, &mut err, limits);
     Ok((status, err.as_slice() == line.as_bytes()))
 }
 
@@ -70,30 +72,26 @@ fn canonical_file_that_replaces_another(rt: HostRuntime) -> Result<(), Fail> {
     Ok(())
 }
 
-/// Runs `canon`, or `rekey`, on a file by name into itself. Returns its status and whether it said nothing.
-fn run_in_place(rt: &HostRuntime, path: &str, rekeys: bool) -> Result<(u8, bool), Fail> {
+/// Does the work on a file by name into itself. Returns its status and whether it said nothing.
+fn run_in_place(rt: &HostRuntime, path: &str, work: Work<'_>) -> Result<(u8, bool), Fail> {
     let alloc = rt.alloc();
     let mut from = ReaderSource::new(alloc, Input::open(rt, Some(path))?, INPUT_MAX)?;
     let mut out = Output::new(rt, Some(path));
     let mut err: Vec<u8> = Vec::new(alloc);
     let limits = Limits::standard();
-    let status = if rekeys {
-        run_rekey(alloc, path, &mut from, &mut out, &mut err, limits)
-    } else {
-        run_canon(alloc, path, &mut from, &mut out, &mut err, limits)
-    };
+    let status = run_work(alloc, work, path, &mut from, &mut out, &mut err, limits);
     Ok((status, err.is_empty()))
 }
 
 /// The same for a file that is made for it, and whether it then has these bytes.
 fn in_place(
     rt: &HostRuntime,
-    rekeys: bool,
+    work: Work<'_>,
     old: &str,
     new: &str,
 ) -> Result<((u8, bool), bool), Fail> {
     make(rt, "both", old)?;
-    let ran = run_in_place(rt, "both", rekeys)?;
+    let ran = run_in_place(rt, "both", work)?;
     let is_new = has(rt, "both", new)?;
     fs::remove_file(rt, "both")?;
     Ok((ran, is_new))
@@ -101,13 +99,13 @@ fn in_place(
 
 #[test]
 fn file_that_is_input_and_output(rt: HostRuntime) -> Result<(), Fail> {
-    for (rekeys, old, ran, new) in [
-        (false, RESPELLED, (0u8, true), RECTANGLE),
-        (true, BOX, (0, true), RECTANGLE),
-        (true, NUMBERED, (3, false), NUMBERED),
-        (true, LEFT_OUT, (1, false), LEFT_OUT),
+    for (work, old, ran, new) in [
+        (Work::Canon, RESPELLED, (0u8, true), RECTANGLE),
+        (Work::Rekey, BOX, (0, true), RECTANGLE),
+        (Work::Rekey, NUMBERED, (3, false), NUMBERED),
+        (Work::Rekey, LEFT_OUT, (1, false), LEFT_OUT),
     ] {
-        assert!(rt; in_place(&rt, rekeys, old, new)? == (ran, true), "of {old}");
+        assert!(rt; in_place(&rt, work, old, new)? == (ran, true), "of {old}");
     }
     Ok(())
 }
@@ -120,7 +118,8 @@ fn rekey_to(rt: &HostRuntime, pieces: &str, path: &str) -> Result<(u8, bool), Fa
     let mut out = Output::new(rt, Some(path));
     let mut err: Vec<u8> = Vec::new(alloc);
     let limits = Limits::standard();
-    let status = run_rekey(alloc, "a", &mut from, &mut out, &mut err, limits);
+    let work = Work::Rekey;
+    let status = run_work(alloc, work, "a", &mut from, &mut out, &mut err, limits);
     Ok((status, fs::exists(rt, path)?))
 }
 

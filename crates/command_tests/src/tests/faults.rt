@@ -2,10 +2,10 @@
 
 use super::devices::{After, Full, Reader, Writer};
 use super::rows::{RECTANGLE, front_of, outcome, record_at};
-use super::runs::{Outcome, unrefused};
+use super::runs::{Outcome, run_work, unrefused};
 use file_pieces::bytes_of;
 use oas_command::oas_canon::Limits;
-use oas_command::{run_canon, run_refused};
+use oas_command::{Work, run_refused};
 use oas_num::{INPUT_MAX, ReaderSource, Refusal, SliceSource, Why};
 use std::alloc::Global;
 use std::test::Fail;
@@ -26,7 +26,8 @@ fn cut(alloc: Global, most: usize) -> Result<(u8, [bool; 2]), Fail> {
     let mut from = ReaderSource::new(alloc, reader, INPUT_MAX)?;
     let (mut out, mut err) = (taker(alloc, most), taker(alloc, most));
     let limits = Limits::standard();
-    let status = run_canon(alloc, "cut", &mut from, &mut out, &mut err, limits);
+    let work = Work::Canon;
+    let status = run_work(alloc, work, "cut", &mut from, &mut out, &mut err, limits);
     Ok((status, [out.taken == canonical, err.taken.is_empty()]))
 }
 
@@ -115,7 +116,8 @@ fn refused_within(alloc: Global, room: usize) -> Result<(u8, bool), Fail> {
     let (mut out, mut err) = (taker(alloc, 1), taker(alloc, 1));
     err.room = room;
     let limits = Limits::standard();
-    let status = run_canon(alloc, "first", &mut from, &mut out, &mut err, limits);
+    let work = Work::Canon;
+    let status = run_work(alloc, work, "first", &mut from, &mut out, &mut err, limits);
     Ok((status, out.taken.is_empty()))
 }
 

@@ -3,10 +3,10 @@
 use super::devices::Writer;
 use super::runs::refusal_of;
 use file_pieces::bytes_of;
+use oas_command::marking_telling;
 use oas_command::oas_canon::Limits;
 use oas_command::oas_difference::{Choice, Detail, Options};
-use oas_command::run_marking;
-use oas_num::{INPUT_MAX, SliceSource};
+use oas_num::{INPUT_MAX, Outlet, SliceSource};
 use std::alloc::Global;
 use std::test::Fail;
 
@@ -39,7 +39,8 @@ fn run(
     let b = bytes_of(alloc, "HEAD CELL TAIL")?;
     let mut first = SliceSource::new(&a, INPUT_MAX);
     let mut second = SliceSource::new(&b, INPUT_MAX);
-    Ok(run_marking(
+    let mut told = Outlet::new(said);
+    let status = marking_telling(
         alloc,
         "first",
         &mut first,
@@ -50,9 +51,11 @@ fn run(
         "marks",
         markers,
         u64::MAX,
-        said,
+        &mut told,
         Limits::standard(),
-    ))
+    );
+    let _ = told.close();
+    Ok(status)
 }
 
 /// The markers, where they are taken whole.

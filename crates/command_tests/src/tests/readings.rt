@@ -1,4 +1,4 @@
-//! The rows that rule out wrong readings of the rules, through `run_canon` and `run_show`, over a slice.
+//! The rows that rule out wrong readings of the rules, through `canon` and `show`, over a slice.
 
 use super::limits_table::UNDER_LIMITS;
 use super::modal_table::MODAL;

@@ -1,10 +1,10 @@
-//! The worked rows through `run_canon`, over a slice.
+//! The worked rows through `canon`, over a slice.
 
-use super::runs::{Outcome, refusal_of};
+use super::runs::{Outcome, refusal_of, run_work};
 use super::table::ROWS;
 use file_pieces::{bytes_of, put_pieces};
+use oas_command::Work;
 use oas_command::oas_canon::Limits;
-use oas_command::run_canon;
 use oas_num::{INPUT_MAX, SliceSource, Source};
 use std::alloc::Global;
 use std::process::Abort;
@@ -46,7 +46,8 @@ fn put_by<'a>(status: u8, bytes: &'a [u8]) -> &'a [u8] {
 /// Runs `canon` on a source, under limits. Returns the result, where this is the canonical file of what is accepted.
 pub fn outcome(alloc: Global, limits: Limits, from: &mut impl Source, canonical: &[u8]) -> Outcome {
     let (mut out, mut err): (Vec<u8>, Vec<u8>) = (Vec::new(alloc), Vec::new(alloc));
-    let status = run_canon(alloc, INPUT, from, &mut out, &mut err, limits);
+    let work = Work::Canon;
+    let status = run_work(alloc, work, INPUT, from, &mut out, &mut err, limits);
     let is_put = out.as_slice() == put_by(status, canonical);
     (status, is_put, refusal_of(&err, INPUT))
 }

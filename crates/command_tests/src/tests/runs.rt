@@ -8,11 +8,11 @@ use super::devices::{Full, Writer};
 use file_pieces::bytes_of;
 use oas_command::oas_canon::Limits;
 use oas_command::{
-    Choice, Detail, End, Form, Label, Options, run_canon, run_check, run_diff, run_info, run_key,
-    run_keys, run_named_check, run_named_key, run_rekey, run_same, run_show,
+    Choice, Detail, End, Form, Label, Options, PairWork, Work, pair_work_telling, work_telling,
 };
-use oas_num::{INPUT_MAX, SliceSource};
+use oas_num::{INPUT_MAX, Outlet, SliceSource, Source};
 use std::alloc::Global;
+use std::io::Write;
 use std::process::Abort;
 use std::test::Fail;
 
@@ -84,6 +84,69 @@ fn parts_of(row: &str) -> Option<(&str, &str, &str, &str, &str)> {
     Some((command, first, second, status, answer))
 }
 
+/// Does the work on a source with this name, and returns the status of the command. What it has to say is put on an error
+/// output.
+pub fn run_work<S: Source, W: Write, E: Write>(
+    alloc: Global,
+    work: Work<'_>,
+    name: &str,
+    from: &mut S,
+    out: &mut W,
+    err: &mut E,
+    limits: Limits,
+) -> u8 {
+    let mut told = Outlet::new(err);
+    let status = work_telling(alloc, work, name, from, out, &mut told, limits);
+    let _ = told.close();
+    status
+}
+
+/// Does the work on two slices.
+fn run_pair(
+    alloc: Global,
+    work: PairWork<'_>,
+    first: &[u8],
+    second: &[u8],
+    out: &mut Writer,
+    err: &mut Writer,
+) -> u8 {
+    let limits = Limits::standard();
+    let mut a = SliceSource::new(first, INPUT_MAX);
+    let mut b = SliceSource::new(second, INPUT_MAX);
+    let mut told = Outlet::new(err);
+    let status = pair_work_telling(
+        alloc, work, "first", &mut a, "second", &mut b, out, &mut told, limits,
+    );
+    let _ = told.close();
+    status
+}
+
+/// What a command does with one file.
+fn work_of(command: &str) -> Option<Work<'static>> {
+    match command {
+        "canon" => Some(Work::Canon),
+        "check" => Some(Work::Check),
+        "key" => Some(Work::Key),
+        "named check" => Some(Work::NamedCheck(PLAIN)),
+        "named key" => Some(Work::NamedKey(PLAIN)),
+        "escaped key" => Some(Work::NamedKey(ESCAPED)),
+        "keys" => Some(Work::CellKeys),
+        "show" => Some(Work::Show),
+        "rekey" => Some(Work::Rekey),
+        "info" => Some(Work::Info(Form::Text)),
+        "info --json" => Some(Work::Info(Form::Json)),
+        _ => None,
+    }
+}
+
+/// What any other command does with two files.
+fn pair_work_of(command: &str) -> PairWork<'static> {
+    match command {
+        "diff" => PairWork::Diff(ALL_LINES),
+        _ => PairWork::Same,
+    }
+}
+
 impl<'a> Run<'a> {
     /// The run of a row.
     pub fn of_row(alloc: Global, row: &'a str) -> Result<Run<'a>, Fail> {
@@ -101,28 +164,20 @@ impl<'a> Run<'a> {
 
     /// Runs the command, and returns its status.
     pub fn run(&self, alloc: Global, out: &mut Writer, err: &mut Writer) -> u8 {
-        let limits = Limits::standard();
-        let mut from = SliceSource::new(self.first.as_slice(), INPUT_MAX);
-        let mut other = SliceSource::new(self.second.as_slice(), INPUT_MAX);
-        match self.command {
-            "canon" => run_canon(alloc, "first", &mut from, out, err, limits),
-            "check" => run_check(alloc, "first", &mut from, out, err, limits),
-            "key" => run_key(alloc, "first", &mut from, out, err, limits),
-            "named check" => run_named_check(alloc, "first", PLAIN, &mut from, out, err, limits),
-            "named key" => run_named_key(alloc, "first", PLAIN, &mut from, out, err, limits),
-            "escaped key" => run_named_key(alloc, "first", ESCAPED, &mut from, out, err, limits),
-            "keys" => run_keys(alloc, "first", &mut from, out, err, limits),
-            "show" => run_show(alloc, "first", &mut from, out, err, limits),
-            "rekey" => run_rekey(alloc, "first", &mut from, out, err, limits),
-            "info" => run_info(alloc, "first", &mut from, Form::Text, out, err, limits),
-            "info --json" => run_info(alloc, "first", &mut from, Form::Json, out, err, limits),
-            "diff" => run_diff(
-                alloc, "first", &mut from, "second", &mut other, ALL_LINES, out, err, limits,
-            ),
-            _ => run_same(
-                alloc, "first", &mut from, "second", &mut other, out, err, limits,
-            ),
-        }
+        let (first, second) = (self.first.as_slice(), self.second.as_slice());
+        let Some(work) = work_of(self.command) else {
+            return run_pair(alloc, pair_work_of(self.command), first, second, out, err);
+        };
+        let mut from = SliceSource::new(first, INPUT_MAX);
+        run_work(
+            alloc,
+            work,
+            "first",
+            &mut from,
+            out,
+            err,
+            Limits::standard(),
+        )
     }
 
     /// Whether an output and an error output that took these bytes took what they should.

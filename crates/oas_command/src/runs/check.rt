@@ -5,39 +5,19 @@ ghost use Rattle.oas_num.specs.declared.refusals.Refusal.{Refusal as Refused};
 ghost use Rattle.oas_num.specs.Written.{IsWritten, IsCutOff};
 ghost use Rattle.oas_command.specs.Calls.{Judges};
 ghost use Rattle.oas_command.specs.Lines.{check_text, check_line, named_check_line};
-ghost use Rattle.oas_command.specs.Runs.{verdict_status, Delivers, said, Ends, AppendsPrefix};
+ghost use Rattle.oas_command.specs.Runs.{verdict_status, Delivers, Ends};
 
 use super::ends::{conclude, refuse, status_of_verdict};
 use crate::lines::{Label, Pieces, write_line, write_pieces};
 use oas_canon::{Limits, is_canonical};
-use oas_num::{Outlet, Refusal, Sink, Source};
+use oas_num::{Refusal, Sink, Source};
 use std::alloc::Global;
 use std::io::Write;
 
 /// Writes whether all that `from` gives within these limits is canonical, as a line to `out`, `canonical` or `not canonical`,
-/// and returns the status of the command: 0 or 3, or 1 after a refusal, which is named on `err` in a line that begins with
-/// `name`. A fault of `out` is the refusal `Why::Write`; a fault of `err` changes nothing.
-pub fn run_check<S: Source, W: Write, E: Write>(
-    alloc: Global,
-    name: &str,
-    from: &mut S,
-    out: &mut W,
-    err: &mut E,
-    limits: Limits,
-) -> u8
-    ensures { (found : Result Bool Refused) × (answer : Result Bool Refused) × (result ≡ verdict_status answer)
-        × Judges limits (S.script from.old) found (S.script from.new)
-        × Delivers W.contents check_line out.old found answer out.new
-        × AppendsPrefix (E.contents err.old) (E.contents err.new) (said name.now answer) }
-{
-    let mut told = Outlet::new(err);
-    let status = check_telling(alloc, name, from, out, &mut told, limits);
-    let _ = told.close();
-    status
-}
-
-/// Like `run_check`, with a sink for the line of a refusal.
-pub fn check_telling<S: Source, W: Write, K: Sink>(
+/// and returns the status of the command: 0 or 3, or 1 after a refusal, which is named to `told` in a line that begins with
+/// `name`. A fault of `out` is the refusal `Why::Write`; a fault of `told` changes nothing.
+pub(crate) fn check_telling<S: Source, W: Write, K: Sink>(
     alloc: Global,
     name: &str,
     from: &mut S,
@@ -59,29 +39,8 @@ pub fn check_telling<S: Source, W: Write, K: Sink>(
     }
 }
 
-/// Like `run_check`, except that the line begins with the name of this label: `NAME: canonical`, `NAME: not canonical`.
-pub fn run_named_check<S: Source, W: Write, E: Write>(
-    alloc: Global,
-    name: &str,
-    label: Label<'_>,
-    from: &mut S,
-    out: &mut W,
-    err: &mut E,
-    limits: Limits,
-) -> u8
-    ensures { (found : Result Bool Refused) × (answer : Result Bool Refused) × (result ≡ verdict_status answer)
-        × Judges limits (S.script from.old) found (S.script from.new)
-        × Delivers W.contents (named_check_line label.entry) out.old found answer out.new
-        × AppendsPrefix (E.contents err.old) (E.contents err.new) (said name.now answer) }
-{
-    let mut told = Outlet::new(err);
-    let status = named_check_telling(alloc, name, label, from, out, &mut told, limits);
-    let _ = told.close();
-    status
-}
-
-/// Like `run_named_check`, with a sink for the line of a refusal.
-pub fn named_check_telling<S: Source, W: Write, K: Sink>(
+/// Like `check_telling`, except that the line begins with the name of this label: `NAME: canonical`, `NAME: not canonical`.
+pub(crate) fn named_check_telling<S: Source, W: Write, K: Sink>(
     alloc: Global,
     name: &str,
     label: Label<'_>,
@@ -104,9 +63,9 @@ pub fn named_check_telling<S: Source, W: Write, K: Sink>(
     }
 }
 
-/// Writes the line of a result after the name of this label, as [`run_named_check`] does, and returns how many bytes that is.
+/// Writes the line of a result after the name of this label, as [`named_check_telling`] does, and returns how many bytes that is.
 /// A fault of the writer is `Why::Write`, after as many bytes of the line as its place says.
-pub fn write_named_check<W: Write>(out: &mut W, label: Label<'_>, yes: bool) -> Result<u64, Refusal>
+fn write_named_check<W: Write>(out: &mut W, label: Label<'_>, yes: bool) -> Result<u64, Refusal>
     ensures written { IfOk result (IsWritten W.contents out.old (named_check_line label.entry yes) out.new) }
     ensures refused { IfErr result (IsCutOff W.contents out.old (named_check_line label.entry yes) out.new) }
 {

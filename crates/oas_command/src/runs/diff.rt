@@ -5,44 +5,21 @@ ghost use Rattle.oas_num.specs.declared.refusals.Refusal.{Refusal as Refused};
 ghost use Rattle.oas_layout.specs.Contents.{Contents};
 ghost use Rattle.oas_canon.specs.declared.sameness.Which.{Which as WhichFile};
 ghost use Rattle.oas_command.specs.Diff.{ReadsBoth, diff_text, diff_status, length_status};
-ghost use Rattle.oas_command.specs.Runs.{Delivers, found_in, blamed, said, Ends, AppendsPrefix};
+ghost use Rattle.oas_command.specs.Runs.{Delivers, found_in, blamed, Ends};
 
 use super::ends::{DONE, NO, conclude, refuse};
 use oas_canon::{Layout, Limits, PROFILE, Which, read_layout};
 use oas_markers::oas_difference::{Options, write_difference};
-use oas_num::{Outlet, Refusal, Sink, Source};
+use oas_num::{Refusal, Sink, Source};
 use std::alloc::Global;
 use std::io::Write;
 
 /// Writes the difference of the layouts of all that `a` and `b` give within these limits to `out`, as the options say.
 /// Returns the status of the command: 0 where what the options compare is the same, so that there is no line, 3 where it
-/// differs, or 1 after a refusal, which is named on `err` in a line that begins with the name of the refused file. `a` is read
-/// whole before `b` is begun. A fault of `out` is the refusal `Why::Write`, under the name of `a`; a fault of `err` changes
+/// differs, or 1 after a refusal, which is named to `told` in a line that begins with the name of the refused file. `a` is read
+/// whole before `b` is begun. A fault of `out` is the refusal `Why::Write`, under the name of `a`; a fault of `told` changes
 /// nothing.
-pub fn run_diff<S: Source, T: Source, W: Write, E: Write>(
-    alloc: Global,
-    name_a: &str,
-    a: &mut S,
-    name_b: &str,
-    b: &mut T,
-    options: Options<'_>,
-    out: &mut W,
-    err: &mut E,
-    limits: Limits,
-) -> u8
-    ensures { (found : Result (Contents × Contents) (WhichFile × Refused)) × (answer : Result (Contents × Contents) Refused) × (result ≡ diff_status options.entry answer)
-        × ReadsBoth T.script limits (S.script a.old) (S.script a.new) b.old b.new found
-        × Delivers W.contents (diff_text options.entry) out.old (found_in found) answer out.new
-        × AppendsPrefix (E.contents err.old) (E.contents err.new) (said (blamed name_a.now name_b.now found) answer) }
-{
-    let mut told = Outlet::new(err);
-    let status = diff_telling(alloc, name_a, a, name_b, b, options, out, &mut told, limits);
-    let _ = told.close();
-    status
-}
-
-/// Like `run_diff`, with a sink for the line of a refusal.
-pub fn diff_telling<S: Source, T: Source, W: Write, K: Sink>(
+pub(crate) fn diff_telling<S: Source, T: Source, W: Write, K: Sink>(
     alloc: Global,
     name_a: &str,
     a: &mut S,

@@ -9,43 +9,21 @@ ghost use Rattle.oas_info.specs.declared.info.Info.{Info as Told};
 ghost use Rattle.oas_info.specs.Info.{IsInfo};
 ghost use Rattle.oas_info.specs.Form.{form_text};
 ghost use Rattle.oas_command.specs.Info.{Informs, info_lines};
-ghost use Rattle.oas_command.specs.Runs.{status_of, Delivers, said, Ends, AppendsPrefix};
+ghost use Rattle.oas_command.specs.Runs.{status_of, Delivers, Ends};
 
 use super::ends::{DONE, conclude, refuse};
 use crate::lines::write_line;
 use oas_canon::{Layout, Limits, PROFILE, read_layout};
 use oas_info::{Form, Info, info_of, text_in};
-use oas_num::{Outlet, Refusal, Sink, Source, Why};
+use oas_num::{Refusal, Sink, Source, Why};
 use std::alloc::{AllocError, Global};
 use std::io::Write;
 
 /// Writes the facts of the layout of all that `from` gives within these limits to `out`, in this format. Returns the status
-/// of the command: 0, or 1 after a refusal, which is named on `err` in a line that begins with `name`. Out of memory for the
+/// of the command: 0, or 1 after a refusal, which is named to `told` in a line that begins with `name`. Out of memory for the
 /// facts or their text is the refusal `Why::Memory`, and nothing is written. A fault of `out` is the refusal `Why::Write`; a
-/// fault of `err` changes nothing.
-pub fn run_info<S: Source, W: Write, E: Write>(
-    alloc: Global,
-    name: &str,
-    from: &mut S,
-    form: Form,
-    out: &mut W,
-    err: &mut E,
-    limits: Limits,
-) -> u8
-    ensures { (read : Result Contents Refused) × (found : Result Told Refused) × (answer : Result Told Refused) × (result ≡ status_of answer)
-        × ReadsLayout limits PROFILE (S.script from.old) read (S.script from.new)
-        × Informs (S.script from.new) read found
-        × Delivers W.contents (info_lines form) out.old found answer out.new
-        × AppendsPrefix (E.contents err.old) (E.contents err.new) (said name.now answer) }
-{
-    let mut told = Outlet::new(err);
-    let status = info_telling(alloc, name, from, form, out, &mut told, limits);
-    let _ = told.close();
-    status
-}
-
-/// Like `run_info`, with a sink for the line of a refusal.
-pub fn info_telling<S: Source, W: Write, K: Sink>(
+/// fault of `told` changes nothing.
+pub(crate) fn info_telling<S: Source, W: Write, K: Sink>(
     alloc: Global,
     name: &str,
     from: &mut S,

@@ -7,46 +7,20 @@ ghost use Rattle.oas_num.specs.Written.{IsWritten, IsCutOff};
 ghost use Rattle.oas_command.specs.Calls.{Keys};
 ghost use Rattle.oas_command.specs.Keeping.{Agrees};
 ghost use Rattle.oas_command.specs.Lines.{kept_text, kept_line, saved_key_line};
-ghost use Rattle.oas_command.specs.Runs.{verdict_status, Delivers, said, Ends, AppendsPrefix};
+ghost use Rattle.oas_command.specs.Runs.{verdict_status, Delivers, Ends};
 
 use super::ends::{conclude, refuse, status_of_verdict};
 use super::key::hex_text;
 use crate::lines::{Label, Pieces, write_pieces};
 use oas_canon::{Limits, key};
-use oas_num::{Outlet, Refusal, Sink, Source};
+use oas_num::{Refusal, Sink, Source};
 use std::alloc::Global;
 use std::io::Write;
 
 /// Writes whether the key of all that `from` gives within these limits is the saved one (lower-case hex digits), as a line to
 /// `out`, `NAME: OK` or `NAME: changed` with this label; a quiet run writes only the second. Returns the status of the
-/// command: 0 or 3, or 1 after a refusal, which is named on `err` in a line that begins with `name`. A fault of `out` is the
-/// refusal `Why::Write`; a fault of `err` changes nothing.
-pub fn run_kept<S: Source, W: Write, E: Write>(
-    alloc: Global,
-    name: &str,
-    label: Label<'_>,
-    kept: &[u8],
-    is_quiet: bool,
-    from: &mut S,
-    out: &mut W,
-    err: &mut E,
-    limits: Limits,
-) -> u8
-    ensures { (found : Result (List ℕ) Refused) × (same : Result Bool Refused) × (answer : Result Bool Refused) × (result ≡ verdict_status answer)
-        × Keys limits (S.script from.old) found (S.script from.new)
-        × Agrees kept.now found same
-        × Delivers W.contents (saved_key_line is_quiet label.entry) out.old same answer out.new
-        × AppendsPrefix (E.contents err.old) (E.contents err.new) (said name.now answer) }
-{
-    let mut told = Outlet::new(err);
-    let status = kept_telling(
-        alloc, name, label, kept, is_quiet, from, out, &mut told, limits,
-    );
-    let _ = told.close();
-    status
-}
-
-/// Like `run_kept`, with a sink for the line of a refusal.
+/// command: 0 or 3, or 1 after a refusal, which is named to `told` in a line that begins with `name`. A fault of `out` is the
+/// refusal `Why::Write`; a fault of `told` changes nothing.
 pub fn kept_telling<S: Source, W: Write, K: Sink>(
     alloc: Global,
     name: &str,

@@ -6,40 +6,20 @@ ghost use Rattle.oas_num.specs.declared.refusals.Refusal.{Refusal as Refused};
 ghost use Rattle.oas_num.specs.Written.{IsWritten, IsCutOff};
 ghost use Rattle.oas_command.specs.Calls.{Keys};
 ghost use Rattle.oas_command.specs.Lines.{key_line, escape_mark, named_key_line};
-ghost use Rattle.oas_command.specs.Runs.{status_of, Delivers, said, Ends, AppendsPrefix};
+ghost use Rattle.oas_command.specs.Runs.{status_of, Delivers, Ends};
 
 use super::ends::{DONE, conclude, refuse};
 use crate::lines::{Label, Pieces, write_line, write_pieces};
 use hex::encode_to_slice;
 use oas_canon::{Limits, key};
-use oas_num::{Outlet, Refusal, Sink, Source};
+use oas_num::{Refusal, Sink, Source};
 use std::alloc::Global;
 use std::io::Write;
 
 /// Writes the key of all that `from` gives within these limits, as a line of 64 lower-case hex digits to `out`, and returns
-/// the status of the command: 0, or 1 after a refusal, which is named on `err` in a line that begins with `name`. A fault of
-/// `out` is the refusal `Why::Write`; a fault of `err` changes nothing.
-pub fn run_key<S: Source, W: Write, E: Write>(
-    alloc: Global,
-    name: &str,
-    from: &mut S,
-    out: &mut W,
-    err: &mut E,
-    limits: Limits,
-) -> u8
-    ensures { (found : Result (List ℕ) Refused) × (answer : Result (List ℕ) Refused) × (result ≡ status_of answer)
-        × Keys limits (S.script from.old) found (S.script from.new)
-        × Delivers W.contents key_line out.old found answer out.new
-        × AppendsPrefix (E.contents err.old) (E.contents err.new) (said name.now answer) }
-{
-    let mut told = Outlet::new(err);
-    let status = key_telling(alloc, name, from, out, &mut told, limits);
-    let _ = told.close();
-    status
-}
-
-/// Like `run_key`, with a sink for the line of a refusal.
-pub fn key_telling<S: Source, W: Write, K: Sink>(
+/// the status of the command: 0, or 1 after a refusal, which is named to `told` in a line that begins with `name`. A fault of
+/// `out` is the refusal `Why::Write`; a fault of `told` changes nothing.
+pub(crate) fn key_telling<S: Source, W: Write, K: Sink>(
     alloc: Global,
     name: &str,
     from: &mut S,
@@ -61,30 +41,9 @@ pub fn key_telling<S: Source, W: Write, K: Sink>(
     }
 }
 
-/// Like `run_key`, except that the line ends with the name of this label, as `sha256sum` prints it: `HEX  NAME`, with a
+/// Like `key_telling`, except that the line ends with the name of this label, as `sha256sum` prints it: `HEX  NAME`, with a
 /// backslash before it where the name was escaped.
-pub fn run_named_key<S: Source, W: Write, E: Write>(
-    alloc: Global,
-    name: &str,
-    label: Label<'_>,
-    from: &mut S,
-    out: &mut W,
-    err: &mut E,
-    limits: Limits,
-) -> u8
-    ensures { (found : Result (List ℕ) Refused) × (answer : Result (List ℕ) Refused) × (result ≡ status_of answer)
-        × Keys limits (S.script from.old) found (S.script from.new)
-        × Delivers W.contents (named_key_line label.entry) out.old found answer out.new
-        × AppendsPrefix (E.contents err.old) (E.contents err.new) (said name.now answer) }
-{
-    let mut told = Outlet::new(err);
-    let status = named_key_telling(alloc, name, label, from, out, &mut told, limits);
-    let _ = told.close();
-    status
-}
-
-/// Like `run_named_key`, with a sink for the line of a refusal.
-pub fn named_key_telling<S: Source, W: Write, K: Sink>(
+pub(crate) fn named_key_telling<S: Source, W: Write, K: Sink>(
     alloc: Global,
     name: &str,
     label: Label<'_>,
@@ -107,7 +66,7 @@ pub fn named_key_telling<S: Source, W: Write, K: Sink>(
     }
 }
 
-/// Writes the line of a key with the name of this label after it, as [`run_named_key`] does, and returns how many bytes that
+/// Writes the line of a key with the name of this label after it, as [`named_key_telling`] does, and returns how many bytes that
 /// is. A fault of the writer is `Why::Write`, after as many bytes of the line as its place says.
 pub fn write_named_key<W: Write>(
     out: &mut W,

@@ -5,39 +5,19 @@ ghost use Rattle.oas_num.specs.declared.refusals.Refusal.{Refusal as Refused};
 ghost use Rattle.oas_layout.specs.Contents.{Contents, meaning_of};
 ghost use Rattle.oas_canon.specs.oas_file.Reading.{ReadsLayout};
 ghost use Rattle.oas_canon.specs.CellKeys.{cell_key_lines};
-ghost use Rattle.oas_command.specs.Runs.{status_of, Delivers, said, Ends, AppendsPrefix};
+ghost use Rattle.oas_command.specs.Runs.{status_of, Delivers, Ends};
 
 use super::ends::{DONE, conclude, refuse};
 use oas_canon::{ByProfile, Limits, PROFILE, write_compact_cell_keys};
-use oas_num::{Outlet, Sink, Source};
+use oas_num::{Sink, Source};
 use oas_run_listing::oas_runs::read_compact;
 use std::alloc::Global;
 use std::io::Write;
 
 /// Writes the key of each cell of the layout of all that `from` gives within these limits to `out`, a line `HEX  CELL` each.
-/// Returns the status of the command: 0, or 1 after a refusal, which is named on `err` in a line that begins with `name`. A
-/// fault of `out` is the refusal `Why::Write`; a fault of `err` changes nothing.
-pub fn run_keys<S: Source, W: Write, E: Write>(
-    alloc: Global,
-    name: &str,
-    from: &mut S,
-    out: &mut W,
-    err: &mut E,
-    limits: Limits,
-) -> u8
-    ensures { (found : Result Contents Refused) × (answer : Result Contents Refused) × (result ≡ status_of answer)
-        × ReadsLayout limits PROFILE (S.script from.old) found (S.script from.new)
-        × Delivers W.contents (λ l. cell_key_lines (meaning_of l)) out.old found answer out.new
-        × AppendsPrefix (E.contents err.old) (E.contents err.new) (said name.now answer) }
-{
-    let mut told = Outlet::new(err);
-    let status = keys_telling(alloc, name, from, out, &mut told, limits);
-    let _ = told.close();
-    status
-}
-
-/// Like `run_keys`, with a sink for the line of a refusal.
-pub fn keys_telling<S: Source, W: Write, K: Sink>(
+/// Returns the status of the command: 0, or 1 after a refusal, which is named to `told` in a line that begins with `name`. A
+/// fault of `out` is the refusal `Why::Write`; a fault of `told` changes nothing.
+pub(crate) fn keys_telling<S: Source, W: Write, K: Sink>(
     alloc: Global,
     name: &str,
     from: &mut S,

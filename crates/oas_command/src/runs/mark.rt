@@ -6,61 +6,21 @@ ghost use Rattle.oas_layout.specs.Contents.{Contents};
 ghost use Rattle.oas_canon.specs.declared.sameness.Which.{Which as WhichFile};
 ghost use Rattle.oas_command.specs.Diff.{ReadsBoth, diff_text, diff_status};
 ghost use Rattle.oas_command.specs.Marking.{Marks, blamed_marking};
-ghost use Rattle.oas_command.specs.Runs.{Delivers, found_in, said, Ends, AppendsPrefix};
+ghost use Rattle.oas_command.specs.Runs.{Delivers, found_in, Ends};
 
 use super::diff::{read_both, status_of_length};
 use super::ends::{conclude, refuse};
 use oas_canon::{Limits, Which};
 use oas_markers::oas_difference::{Options, write_difference};
 use oas_markers::write_markers;
-use oas_num::{Outlet, Sink, Source};
+use oas_num::{Sink, Source};
 use std::alloc::Global;
 use std::io::Write;
 
-/// Writes the difference of two layouts to `out` as `run_diff` does, and after that the markers of what the options compare
-/// to `markers`, at most this many, whatever else the options say. The status is that of `run_diff`, or 1 where `markers` failed: that is the
-/// refusal `Why::Write`, under the markers' own name. Where an input is refused, or `out` failed, `markers` is given nothing.
-pub fn run_marking<S: Source, T: Source, W: Write, M: Write, E: Write>(
-    alloc: Global,
-    name_a: &str,
-    a: &mut S,
-    name_b: &str,
-    b: &mut T,
-    options: Options<'_>,
-    out: &mut W,
-    name_of_markers: &str,
-    markers: &mut M,
-    most: u64,
-    err: &mut E,
-    limits: Limits,
-) -> u8
-    ensures { (found : Result (Contents × Contents) (WhichFile × Refused)) × (lines : Result (Contents × Contents) Refused) × (last : Result (Contents × Contents) Refused)
-        × (result ≡ diff_status options.entry last)
-        × ReadsBoth T.script limits (S.script a.old) (S.script a.new) b.old b.new found
-        × Delivers W.contents (diff_text options.entry) out.old (found_in found) lines out.new
-        × Marks options.entry most M.contents markers.old lines last markers.new
-        × AppendsPrefix (E.contents err.old) (E.contents err.new) (said (blamed_marking name_a.now name_b.now name_of_markers.now found lines) last) }
-{
-    let mut told = Outlet::new(err);
-    let status = marking_telling(
-        alloc,
-        name_a,
-        a,
-        name_b,
-        b,
-        options,
-        out,
-        name_of_markers,
-        markers,
-        most,
-        &mut told,
-        limits,
-    );
-    let _ = told.close();
-    status
-}
-
-/// Like `run_marking`, with a sink for the line of a refusal.
+/// Writes the difference of two layouts to `out` as `diff_telling` does, and after that the markers of what the options
+/// compare to `markers`, at most this many, whatever else the options say. The status is that of `diff_telling`, or 1 where
+/// `markers` failed: that is the refusal `Why::Write`, under the markers' own name. Where an input is refused, or `out`
+/// failed, `markers` is given nothing.
 pub fn marking_telling<S: Source, T: Source, W: Write, M: Write, K: Sink>(
     alloc: Global,
     name_a: &str,

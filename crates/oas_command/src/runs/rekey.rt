@@ -6,39 +6,19 @@ ghost use Rattle.oas_canon.specs.declared.rekeying.Rekeyed.{Rekeyed as WasRekeye
 ghost use Rattle.oas_num.specs.Writing.{Writes};
 ghost use Rattle.oas_command.specs.Calls.{RekeysFile};
 ghost use Rattle.oas_command.specs.Lines.{not_profile_1_line};
-ghost use Rattle.oas_command.specs.Rekeying.{rekey_status, rekey_said, EndsRekeying};
-ghost use Rattle.oas_command.specs.Runs.{AppendsPrefix};
+ghost use Rattle.oas_command.specs.Rekeying.{rekey_status, EndsRekeying};
 
 use super::ends::{DONE, NO, refuse};
 use oas_canon::{Limits, Rekeyed, rekey};
-use oas_num::{Outlet, Refusal, Sink, SinkFault, Source};
+use oas_num::{Refusal, Sink, SinkFault, Source};
 use std::alloc::Global;
 use std::io::Write;
 
 /// Writes the canonical bytes by profile two of all that `from` gives within these limits, which is canonical by profile one,
 /// to `out`, and returns the status of the command: 0; or 3 where it isn't canonical by profile one, and 1 after a refusal.
-/// Each of these two is said on `err`, in a line that begins with `name`, and neither writes anything to `out` unless `out`
-/// itself failed. A fault of `err` changes nothing.
-pub fn run_rekey<S: Source, W: Write, E: Write>(
-    alloc: Global,
-    name: &str,
-    from: &mut S,
-    out: &mut W,
-    err: &mut E,
-    limits: Limits,
-) -> u8
-    ensures { (answer : Result WasRekeyed Refused) × (result ≡ rekey_status answer)
-        × RekeysFile W.contents limits (S.script from.old) out.old answer (S.script from.new) out.new
-        × AppendsPrefix (E.contents err.old) (E.contents err.new) (rekey_said name.now answer) }
-{
-    let mut told = Outlet::new(err);
-    let status = rekey_telling(alloc, name, from, out, &mut told, limits);
-    let _ = told.close();
-    status
-}
-
-/// Like `run_rekey`, with a sink for the line.
-pub fn rekey_telling<S: Source, W: Write, K: Sink>(
+/// Each of these two is said to `told`, in a line that begins with `name`, and neither writes anything to `out` unless `out`
+/// itself failed. A fault of `told` changes nothing.
+pub(crate) fn rekey_telling<S: Source, W: Write, K: Sink>(
     alloc: Global,
     name: &str,
     from: &mut S,

@@ -6,42 +6,20 @@ ghost use Rattle.oas_num.specs.Written.{IsWritten, IsCutOff};
 ghost use Rattle.oas_canon.specs.declared.sameness.Which.{Which as WhichFile};
 ghost use Rattle.oas_command.specs.Calls.{Compares};
 ghost use Rattle.oas_command.specs.Lines.{same_text, same_line};
-ghost use Rattle.oas_command.specs.Runs.{verdict_status, Delivers, found_in, blamed, said, Ends, AppendsPrefix};
+ghost use Rattle.oas_command.specs.Runs.{verdict_status, Delivers, found_in, blamed, Ends};
 
 use super::ends::{conclude, refuse, status_of_verdict};
 use crate::lines::write_line;
 use oas_canon::{Limits, Which, same_files};
-use oas_num::{Outlet, Refusal, Sink, Source};
+use oas_num::{Refusal, Sink, Source};
 use std::alloc::Global;
 use std::io::Write;
 
 /// Writes whether all that `a` gives within these limits, and all that `b` gives, mean the same layout, as a line to `out`,
-/// `same` or `different`, and returns the status of the command: 0 or 3, or 1 after a refusal, which is named on `err` in a
+/// `same` or `different`, and returns the status of the command: 0 or 3, or 1 after a refusal, which is named to `told` in a
 /// line that begins with the name of the refused file. `a` is read whole before `b` is begun. A fault of `out` is the
-/// refusal `Why::Write`, under the name of `a`; a fault of `err` changes nothing.
-pub fn run_same<S: Source, T: Source, W: Write, E: Write>(
-    alloc: Global,
-    name_a: &str,
-    a: &mut S,
-    name_b: &str,
-    b: &mut T,
-    out: &mut W,
-    err: &mut E,
-    limits: Limits,
-) -> u8
-    ensures { (found : Result Bool (WhichFile × Refused)) × (answer : Result Bool Refused) × (result ≡ verdict_status answer)
-        × Compares T.script limits (S.script a.old) (S.script a.new) b.old b.new found
-        × Delivers W.contents same_line out.old (found_in found) answer out.new
-        × AppendsPrefix (E.contents err.old) (E.contents err.new) (said (blamed name_a.now name_b.now found) answer) }
-{
-    let mut told = Outlet::new(err);
-    let status = same_telling(alloc, name_a, a, name_b, b, out, &mut told, limits);
-    let _ = told.close();
-    status
-}
-
-/// Like `run_same`, with a sink for the line of a refusal.
-pub fn same_telling<S: Source, T: Source, W: Write, K: Sink>(
+/// refusal `Why::Write`, under the name of `a`; a fault of `told` changes nothing.
+pub(crate) fn same_telling<S: Source, T: Source, W: Write, K: Sink>(
     alloc: Global,
     name_a: &str,
     a: &mut S,
@@ -66,7 +44,7 @@ pub fn same_telling<S: Source, T: Source, W: Write, K: Sink>(
     }
 }
 
-/// Writes the line of a result, as [`run_same`] does, and returns how many bytes that is. A fault of the writer is
+/// Writes the line of a result, as [`same_telling`] does, and returns how many bytes that is. A fault of the writer is
 /// `Why::Write`, after as many bytes of the line as its place says.
 pub fn write_sameness<W: Write>(out: &mut W, same: bool) -> Result<u64, Refusal>
     ensures written { IfOk result (IsWritten W.contents out.old (same_line same) out.new) }
