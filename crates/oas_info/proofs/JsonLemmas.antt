@@ -6,10 +6,10 @@ use Rattle.std.specs.Map.{lookup}
 use Rattle.std.specs.BTreeMap.{BTreeMap, is_at, get}
 use Rattle.std.proofs.lemmas.Str.{IsUtf8-from_ascii}
 use Rattle.oas_num.specs.Texts.{IsOf, IsNameByte, IsName}
-use Rattle.oas_facts.specs.declared.group.Group.{Group}
-use Rattle.oas_facts.specs.declared.group.Group.TheVariants.{Placements, Texts, Rectangles, Polygons, Paths, Circles, Layer, TextLayer}
-use Rattle.oas_facts.specs.Groups.{number_of}
-use Rattle.oas_facts.specs.Laws.GroupLaws.{derived_cmp, stated_cmp}
+use Rattle.oas_info.specs.declared.group.Group.{Group}
+use Rattle.oas_info.specs.declared.group.Group.TheVariants.{Placements, Texts, Rectangles, Polygons, Paths, Circles, Layer, TextLayer}
+use Rattle.oas_info.specs.Groups.{number_of}
+use Rattle.oas_info.specs.Laws.GroupLaws.{derived_cmp, stated_cmp}
 use Rattle.serde_json.specs.Data.{Data, string}
 use Rattle.serde_json.specs.View.{items_of}
 use Rattle.serde_json.specs.Written.{has_float, items_have_float}

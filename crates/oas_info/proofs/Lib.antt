@@ -1,2 +1,4 @@
+pub mod CountingLemmas
+pub mod NameLemmas
 pub mod JsonLemmas
 pub mod TextLemmas

@@ -1,9 +1,9 @@
 -- A layout's facts as JSON.
 use Rattle.std.specs.Prelude.{ℕ, List, [], ◌∷◌, map, flat_map, codes}
 use Rattle.oas_num.specs.Ratio.{Ratio}
-use Rattle.oas_facts.specs.declared.group.Group.{Group}
-use Rattle.oas_facts.specs.declared.group.Group.TheVariants.{Placements, Texts, Rectangles, Polygons, Paths, Circles, Layer, TextLayer}
-use Rattle.oas_facts.specs.Groups.{number_of}
+use Rattle.oas_info.specs.declared.group.Group.{Group}
+use Rattle.oas_info.specs.declared.group.Group.TheVariants.{Placements, Texts, Rectangles, Polygons, Paths, Circles, Layer, TextLayer}
+use Rattle.oas_info.specs.Groups.{number_of}
 use Rattle.serde_json.specs.Data.{Data, number, unsigned, string, array, object, Members, member, no_members}
 use Rattle.serde_json.specs.View.{items_of}
 use Rattle.serde_json.specs.Written.{compact_text}

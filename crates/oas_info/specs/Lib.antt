@@ -1,4 +1,9 @@
-pub mod Form
+pub mod Groups
+pub mod Names
+pub mod Totals
+pub mod Facts
 pub mod Info
-pub mod Json
 pub mod Text
+pub mod Json
+pub mod Form
+pub mod Laws

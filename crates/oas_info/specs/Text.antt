@@ -1,8 +1,8 @@
 -- A layout's facts as text.
 use Rattle.std.specs.Prelude.{ℕ, List, [], ◌∷◌, ◌++◌, length, flat_map, codes, decimal}
 use Rattle.oas_num.specs.Ratio.{Ratio}
-use Rattle.oas_facts.specs.declared.group.Group.{Group}
-use Rattle.oas_facts.specs.declared.group.Group.TheVariants.{Placements, Texts, Rectangles, Polygons, Paths, Circles, Layer, TextLayer}
+use Rattle.oas_info.specs.declared.group.Group.{Group}
+use Rattle.oas_info.specs.declared.group.Group.TheVariants.{Placements, Texts, Rectangles, Polygons, Paths, Circles, Layer, TextLayer}
 use Rattle.oas_info.specs.declared.info.Info.{Info}
 
 -- a field after a space

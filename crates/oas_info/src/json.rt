@@ -1,13 +1,13 @@
 //! A layout's facts as JSON.
 
 ghost use Rattle.std.specs.Prelude.{◌≡◌, ◌++◌, ◌∷◌, [], map, IfOk, OnOk};
-ghost use Rattle.oas_facts.specs.Groups.{number_of};
+ghost use Rattle.oas_info.specs.Groups.{number_of};
 ghost use Rattle.serde_json.specs.Data.{string, array, object, no_members};
 ghost use Rattle.serde_json.specs.View.{view, items_of, members_view};
 ghost use Rattle.oas_info.specs.Json.{strings, unit_data, kinds_data, layer_data, textlayer_data, as_layer, as_textlayer, layers, textlayers, info_data, info_json};
 
+use crate::group::Group;
 use crate::info::Info;
-use oas_facts::Group;
 use oas_num::{Fraction, Name};
 use serde_json::{Map, Value, json, put};
 use std::alloc::{AllocError, Global};

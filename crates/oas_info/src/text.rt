@@ -3,9 +3,9 @@
 ghost use Rattle.std.specs.Prelude.{◌≡◌, ◌++◌, [], flat_map, IfOk, OnOk};
 ghost use Rattle.oas_info.specs.Text.{behind_space, spaced_number, number_line, name_line, group_line, group_lines, unit_line, info_text};
 
+use crate::group::Group;
 use crate::info::Info;
 use itoa::Buffer;
-use oas_facts::Group;
 use oas_num::{Fraction, Name};
 use std::alloc::{AllocError, Global};
 use std::collections::BTreeMap;

@@ -9,7 +9,10 @@ use crate::answers::Answer;
 use crate::bounds::Bounds;
 use crate::filling::Filler;
 use oas_canon::oas_form::has_canonical_bytes;
-use oas_canon::{Layout, Limits, PROFILE, Refusal, SliceSource, Which, put_canonical, read_layout};
+use oas_canon::{
+    ByProfile, CompactLayout, Layout, Limits, PROFILE, Refusal, SliceSource, Which, put_canonical,
+    read_compact, read_layout,
+};
 use std::alloc::Global;
 
 /// The layout that bytes mean.
@@ -19,6 +22,19 @@ pub(crate) fn read(alloc: Global, bytes: &[u8], limits: Limits) -> Result<Layout
 {
     let mut source = SliceSource::new(bytes, limits.input());
     read_layout(alloc, &mut source, limits, PROFILE)
+}
+
+/// The same, held as runs of keys.
+pub(crate) fn read_runs(
+    alloc: Global,
+    bytes: &[u8],
+    limits: Limits,
+) -> Result<CompactLayout, Refusal>
+    ensures read { IfOk result (IsReadFrom limits bytes.now) }
+    ensures refused { IfErr result (IsRefusedFor limits bytes.now) }
+{
+    let mut source = SliceSource::new(bytes, limits.input());
+    read_compact::<_, ByProfile>(alloc, &mut source, limits)
 }
 
 /// What is said of a question's answer.

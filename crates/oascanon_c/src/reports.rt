@@ -14,9 +14,9 @@ ghost use Rattle.oascanon_c.specs.Rooms.{Puts};
 
 use crate::answers::Answer;
 use crate::bounds::Bounds;
-use crate::buffers::read;
+use crate::buffers::{read, read_runs};
 use crate::filling::Filler;
-use oas_canon::{Layout, Refusal, Sink, SinkFault, Which, Why, put_cell_keys};
+use oas_canon::{CompactLayout, Layout, Refusal, Sink, SinkFault, Which, Why, put_cell_keys};
 use oas_difference::{Detail, put_difference};
 use oas_info::{Info, info_of, json_of};
 use oas_listing::put_listing;
@@ -68,7 +68,7 @@ fn put_text(text: &[u8], room: &mut [u8]) -> Answer
 }
 
 /// The facts of a layout, and their text.
-fn facts(alloc: Global, layout: &Layout) -> Result<(Info, Vec<u8>), AllocError>
+fn facts(alloc: Global, layout: &CompactLayout) -> Result<(Info, Vec<u8>), AllocError>
     ensures facts { IfOk result (λ both. IsInfo (meaning_of layout.now) both.0) }
     ensures text { IfOk result (λ both. both.1.items ≡ info_json both.0) }
 {
@@ -121,7 +121,7 @@ pub(crate) fn info(alloc: Global, bytes: &[u8], bounds: &Bounds, room: &mut [u8]
     let Some(limits) = bounds.limits() else {
         return Answer::NotLimits;
     };
-    let layout = match read(alloc, bytes, limits) {
+    let layout = match read_runs(alloc, bytes, limits) {
         Ok(layout) => layout,
         Err(refusal) => return Answer::Refused(Which::First, refusal),
     };

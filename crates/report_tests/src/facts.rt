@@ -1,7 +1,7 @@
 //! A layout with elements of each kind, with numbers that were counted by hand.
 
-use crate::parts::{add_cell, draft, label, name, put, ring, sealed};
-use oas_info::oas_facts::{Facts, Group, count_groups, facts_of};
+use crate::parts::{add_cell, as_runs, draft, label, name, put, ring, sealed};
+use oas_info::{Facts, Group, facts_of};
 use oas_layout::{Draft, Element, Extensions, Layer, Layout, Profile, Turns};
 use oas_num::{Fraction, Name};
 use oas_ring::Point;
@@ -157,11 +157,17 @@ fn are_of_each_kind(numbers: &BTreeMap<Group, u64>) -> bool {
     are_counted(numbers, &expected)
 }
 
+/// The facts of a layout.
+fn found(alloc: Global, layout: &Layout) -> Result<Facts, Fail> {
+    let runs = as_runs(alloc, layout)?;
+    Ok(facts_of(alloc, &runs)?)
+}
+
 #[test]
 fn each_group(rt: HostRuntime) -> Result<(), Fail> {
     let layout = each_kind(rt.alloc())?;
-    let numbers = count_groups(rt.alloc(), &layout)?;
-    assert!(rt; are_of_each_kind(&numbers));
+    let facts = found(rt.alloc(), &layout)?;
+    assert!(rt; are_of_each_kind(&facts.groups));
     Ok(())
 }
 
@@ -211,7 +217,7 @@ fn placed_names(alloc: Global) -> Result<Layout, Fail> {
 /// The result for it.
 fn placed_facts(alloc: Global) -> Result<Facts, Fail> {
     let layout = placed_names(alloc)?;
-    Ok(facts_of(alloc, &layout)?)
+    found(alloc, &layout)
 }
 
 /// Whether the numbers are those of that layout.

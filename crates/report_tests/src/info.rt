@@ -1,7 +1,7 @@
 //! The texts of a layout, compared with those that were written by hand. Its canonical form has 35 bytes of head, 52 of the
 //! cell A, 19 of TOP, and 256 of END.
 
-use crate::parts::{add_cell, draft, label, name, put, sealed};
+use crate::parts::{add_cell, as_runs, draft, label, name, put, sealed};
 use oas_info::{Info, info_of, json_of, text_of};
 use oas_layout::{Draft, Element, Layer, Layout, Profile, Turns};
 use oas_ring::Point;
@@ -59,7 +59,8 @@ fn two_cells(alloc: Global) -> Result<Layout, Fail> {
 /// What is reported about them.
 fn told(alloc: Global) -> Result<Info, Fail> {
     let layout = two_cells(alloc)?;
-    Ok(info_of(alloc, &layout)?)
+    let runs = as_runs(alloc, &layout)?;
+    Ok(info_of(alloc, &runs)?)
 }
 
 #[test]

@@ -1,7 +1,10 @@
 //! The parts of the layouts of these tests.
 
+use oas_info::oas_run_form::oas_runs::oas_compact::ByProfileTwo;
+use oas_info::oas_run_form::oas_runs::oas_form::write_canonical;
+use oas_info::oas_run_form::oas_runs::{CompactLayout, read_compact};
 use oas_layout::{Draft, Element, Layout, Limits, Profile};
-use oas_num::{Fraction, Label, Name};
+use oas_num::{Fraction, INPUT_MAX, Label, Name, SliceSource};
 use oas_ring::{Point, Points};
 use std::alloc::{AllocError, Global};
 use std::test::Fail;
@@ -50,4 +53,12 @@ pub fn put(draft: &mut Draft, cell: usize, element: Element, times: u64) -> Resu
         draft.add_many(cell, element, times)?;
     }
     Ok(())
+}
+
+/// The layout as runs of keys, read from its canonical file.
+pub fn as_runs(alloc: Global, layout: &Layout) -> Result<CompactLayout, Fail> {
+    let mut file = Vec::new(alloc);
+    write_canonical(layout, &mut file)?;
+    let mut source = SliceSource::new(&file, INPUT_MAX);
+    Ok(read_compact::<_, ByProfileTwo>(alloc, &mut source, Limits::large())?)
 }

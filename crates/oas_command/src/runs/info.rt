@@ -13,7 +13,7 @@ ghost use Rattle.oas_command.specs.Runs.{status_of, Delivers, Ends};
 
 use super::ends::{DONE, conclude, refuse};
 use crate::lines::write_line;
-use oas_canon::{Layout, Limits, PROFILE, read_layout};
+use oas_canon::{ByProfile, CompactLayout, Limits, PROFILE, read_compact};
 use oas_info::{Form, Info, info_of, text_in};
 use oas_num::{Refusal, Sink, Source, Why};
 use std::alloc::{AllocError, Global};
@@ -38,7 +38,7 @@ pub(crate) fn info_telling<S: Source, W: Write, K: Sink>(
         × Delivers W.contents (info_lines form) out.old found answer out.new
         × Ends K.given K.failures name.now told.old answer told.new }
 {
-    match read_layout(alloc, from, limits, PROFILE) {
+    match read_compact::<S, ByProfile>(alloc, from, limits) {
         Ok(layout) => match facts_and_text(alloc, &layout, form) {
             Ok((_, text)) => {
                 let written = write_line(out, text.as_slice());
@@ -62,7 +62,11 @@ fn no_memory(at: u64) -> Refusal
 }
 
 /// The facts of a layout, and their text in this format.
-fn facts_and_text(alloc: Global, layout: &Layout, form: Form) -> Result<(Info, Vec<u8>), AllocError>
+fn facts_and_text(
+    alloc: Global,
+    layout: &CompactLayout,
+    form: Form,
+) -> Result<(Info, Vec<u8>), AllocError>
     ensures facts { IfOk result (λ both. IsInfo (meaning_of layout.now) both.0) }
     ensures text { IfOk result (λ both. both.1.items ≡ form_text form both.0) }
 {

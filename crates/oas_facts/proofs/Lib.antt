@@ -1,2 +1,0 @@
-pub mod CountingLemmas
-pub mod NameLemmas

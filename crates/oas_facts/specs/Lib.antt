@@ -1,4 +1,0 @@
-pub mod Facts
-pub mod Groups
-pub mod Names
-pub mod Laws

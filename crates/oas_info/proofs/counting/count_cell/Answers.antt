@@ -1,0 +1,7 @@
+use Rattle.std.proofs.Common.{arith}
+use Rattle.oas_layout.specs.Bag.{items}
+use Rattle.oas_info.proofs.CountingLemmas.{of_cell_room, cell_weighed}
+use Rattle.oas_info.proofs.counting.count_cell.Goals as goal
+
+pub count_elements-requires-clause-room : goal.count_elements-requires-clause-room
+count_elements-requires-clause-room c = of_cell_room c.args.name.now (items c.args.elements) c.args.totals.now c.requires.room

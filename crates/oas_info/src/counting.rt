@@ -1,0 +1,194 @@
+//! Counting the elements of a layout, by their groups and in all.
+
+ghost use Rattle.std.specs.Prelude.{◌≡◌, ◌+◌, ◌<◌, ◌^◌, ◌∷◌, Some, option_to_list, replicate, sum_by, unwrap_or, OnOk, IfOk};
+ghost use Rattle.std.specs.List.{AllByRecursion};
+ghost use Rattle.std.specs.BTreeMap.{Updates, IsOrdered, get};
+ghost use Rattle.oas_layout.specs.Bag.{items};
+ghost use Rattle.oas_layout.specs.Contents.{meaning_of};
+ghost use Rattle.oas_layout.specs.Weight.{weight_of};
+ghost use Rattle.oas_info.specs.declared.group.Group.{Group as GroupOf};
+ghost use Rattle.oas_info.specs.declared.group.Group.TheVariants.{Layer};
+ghost use Rattle.oas_info.specs.Groups.{kind_of, layer_of, if_same, number_of, IsTally, Grows};
+ghost use Rattle.oas_info.specs.Laws.GroupLaws.{derived_cmp};
+ghost use Rattle.oas_info.specs.Totals.{of_elements, of_cell, HasRoom, Added, AreTotals};
+
+use crate::group::Group;
+use crate::totals::Totals;
+use oas_run_form::oas_runs::{CompactLayout, KeyedElement, KeyedElements, ShownElement, show};
+use std::alloc::{AllocError, Global};
+use std::collections::BTreeMap;
+
+/// What an element is counted by.
+#[derive(Clone, Copy)]
+struct Aspects {
+    kind: Group,
+    layer: Option<Group>,
+    weight: u64,
+}
+
+/// The layer of a shape.
+fn layer_group(layer: u64, datatype: u64) -> Option<Group>
+    ensures { result ≡ Some (Layer layer datatype) }
+{
+    Some(Group::Layer { layer, datatype })
+}
+
+/// Its kind, the layer that it has, if any, and its weight, read from its key.
+fn aspects_of(element: &KeyedElement<'_>) -> Aspects
+    requires { weight_of element.now < 2 ^ 64 }
+    ensures kind { result.kind ≡ kind_of element.now }
+    ensures layer { result.layer ≡ layer_of element.now }
+    ensures weight { result.weight ≡ weight_of element.now }
+{
+    match show(element) {
+        ShownElement::Placement { cell, .. } => Aspects {
+            kind: Group::Placements,
+            layer: None,
+            weight: 1 + cell.len() as u64,
+        },
+        ShownElement::Text {
+            string,
+            textlayer,
+            texttype,
+            ..
+        } => Aspects {
+            kind: Group::Texts,
+            layer: Some(Group::TextLayer {
+                textlayer,
+                texttype,
+            }),
+            weight: 1 + string.len() as u64,
+        },
+        ShownElement::Rectangle {
+            layer,
+            datatype,
+            ..
+        } => Aspects {
+            kind: Group::Rectangles,
+            layer: layer_group(layer, datatype),
+            weight: 1,
+        },
+        ShownElement::Polygon {
+            layer,
+            datatype,
+            points,
+        } => Aspects {
+            kind: Group::Polygons,
+            layer: layer_group(layer, datatype),
+            weight: 1 + points.len() as u64,
+        },
+        ShownElement::Path {
+            layer,
+            datatype,
+            points,
+            ..
+        } => Aspects {
+            kind: Group::Paths,
+            layer: layer_group(layer, datatype),
+            weight: 1 + points.len() as u64,
+        },
+        ShownElement::Circle {
+            layer,
+            datatype,
+            ..
+        } => Aspects {
+            kind: Group::Circles,
+            layer: layer_group(layer, datatype),
+            weight: 1,
+        },
+    }
+}
+
+/// Adds this many elements to a group.
+fn count_up(numbers: &mut BTreeMap<Group, u64>, group: Group, times: u64) -> Result<(), AllocError>
+    requires { unwrap_or (get derived_cmp numbers.old group) 0 + times < 2 ^ 64 }
+    ensures updates { OnOk result (Updates derived_cmp numbers.old numbers.new group (Some (unwrap_or (get derived_cmp numbers.old group) 0 + times))) }
+    ensures ordered { OnOk result (IsOrdered derived_cmp numbers.new) }
+{
+    match numbers.get_mut(&group) {
+        Some(number) => *number += times,
+        None => {
+            numbers.insert(group, times)?;
+        }
+    }
+    Ok(())
+}
+
+/// Adds this many elements to their kind, and to their layer if they have one.
+fn count_in_groups(
+    numbers: &mut BTreeMap<Group, u64>,
+    kind: Group,
+    layer: Option<Group>,
+    times: u64,
+) -> Result<(), AllocError>
+    requires some { 0 < times }
+    requires tally { IsTally numbers.old.entries }
+    requires room { (g : GroupOf) → number_of numbers.old.entries g + sum_by (if_same times g) (kind ∷ option_to_list layer) < 2 ^ 64 }
+    ensures tally { OnOk result (IsTally numbers.new.entries) }
+    ensures grows { OnOk result (Grows (λ g. sum_by (if_same times g) (kind ∷ option_to_list layer)) numbers.old.entries numbers.new.entries) }
+{
+    count_up(numbers, kind, times)?;
+    match layer {
+        Some(group) => count_up(numbers, group, times),
+        None => Ok(()),
+    }
+}
+
+/// Adds this many of an element.
+fn count_element(
+    totals: &mut Totals,
+    element: &KeyedElement<'_>,
+    times: u64,
+) -> Result<(), AllocError>
+    requires some { 0 < times }
+    requires room { HasRoom (of_elements (replicate times element.now)) totals.old }
+    ensures { OnOk result (Added (of_elements (replicate times element.now)) totals.old totals.new) }
+{
+    let one = aspects_of(element);
+    count_in_groups(&mut totals.groups, one.kind, one.layer, times)?;
+    totals.elements += times;
+    totals.weight += times * one.weight;
+    Ok(())
+}
+
+/// Adds elements, each as often as it is there.
+fn count_elements(totals: &mut Totals, elements: KeyedElements<'_>) -> Result<(), AllocError>
+    requires some { AllByRecursion (λ p. 0 < p.1) elements }
+    requires room { HasRoom (of_elements (items elements)) totals.old }
+    ensures { OnOk result (Added (of_elements (items elements.entry)) totals.old totals.new) }
+{
+    for (element, times) in elements {
+        count_element(totals, &element, times)?;
+    }
+    Ok(())
+}
+
+/// Adds a cell with its name and its elements.
+fn count_cell(
+    totals: &mut Totals,
+    name: &[u8],
+    elements: KeyedElements<'_>,
+) -> Result<(), AllocError>
+    requires some { AllByRecursion (λ p. 0 < p.1) elements }
+    requires room { HasRoom (of_cell (name.now, items elements)) totals.old }
+    ensures { OnOk result (Added (of_cell (name.now, items elements.entry)) totals.old totals.new) }
+{
+    count_elements(totals, elements)?;
+    totals.weight += 1 + name.len() as u64;
+    Ok(())
+}
+
+/// What a layout adds up to. It goes over the distinct elements once, and allocates for the groups.
+pub(crate) fn totals_of(alloc: Global, layout: &CompactLayout) -> Result<Totals, AllocError>
+    ensures { IfOk result (λ totals. AreTotals (meaning_of layout.now) totals) }
+{
+    let mut totals = Totals {
+        groups: BTreeMap::new(alloc),
+        elements: 0,
+        weight: 0,
+    };
+    for (name, elements) in layout.cells() {
+        count_cell(&mut totals, name.as_bytes(), elements)?;
+    }
+    Ok(totals)
+}
