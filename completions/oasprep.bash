@@ -6,7 +6,7 @@ _oasprep() {
     [[ $word == *,* ]] && named=${word%,*},
     mapfile -t COMPREPLY < <(compgen -P "$named" -W "$kinds" -- "${word##*,}")
   elif [[ $word == -* ]]; then
-    mapfile -t COMPREPLY < <(compgen -W '--drop --key --same --files0-from --large --explain --progress --help --version' -- "$word")
+    mapfile -t COMPREPLY < <(compgen -W '--drop --key --check --same --files0-from --large --explain --progress --help --version' -- "$word")
   else
     mapfile -t COMPREPLY < <(compgen -f -- "$word")
   fi

@@ -1,6 +1,7 @@
 # Completions of oasprep for fish.
 complete -c oasprep -x -l drop -a '(__fish_append , properties layer-names extensions)' -d 'Leaves these out, and counts them'
 complete -c oasprep -l key -d 'Prints the key of what each file is prepared to'
+complete -c oasprep -l check -d 'Says whether each file is what it is prepared to'
 complete -c oasprep -l same -d 'Says whether two files are prepared to the same layout'
 complete -c oasprep -r -l files0-from -d 'Reads names from a file'
 complete -c oasprep -l large -d 'Takes larger files'

@@ -134,7 +134,7 @@ def test_version(program, folder):
 
 
 def test_manual_and_completions(program, folder):
-    assert flags(program) == {"--drop", "--key", "--same", "--files0-from", "--large", "--explain", "--progress", "--help", "--version"}
+    assert flags(program) == {"--drop", "--key", "--check", "--same", "--files0-from", "--large", "--explain", "--progress", "--help", "--version"}
     for path in ("man/oasprep.1", "completions/oasprep.bash", "completions/_oasprep", "completions/oasprep.fish"):
         text = (TOP / path).read_text().replace("\\-", "-").replace("-l ", "--")
         for word in flags(program) | set(ALL.split(",")):

@@ -32,10 +32,13 @@ def answer(command, files, profile=2, limits=STANDARD):
 
 def prepared(name, data, words):
     """The same of the second program, with words for a question and for what is left out."""
-    status, out, err = preparation(name, data, [word for word in words if word != "--key"])
+    status, out, err = preparation(name, data, [word for word in words if not word.startswith("--")])
+    shown = "-" if name == STDIN else name
     if "--key" in words and status == 0:
-        shown = "-" if name == STDIN else name
         out = f"{hashlib.sha256(out).hexdigest()}  {shown}\n".encode()
+    if "--check" in words and status == 0:
+        status, verdict = (0, "canonical") if out == data else (3, "not canonical")
+        out = f"{shown}: {verdict}\n".encode()
     return status, out, err
 
 

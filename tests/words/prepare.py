@@ -12,7 +12,9 @@ from results import Run, is_help, is_version, names_of
 from scenes import A, B, DASH, GIVEN, OLD, canonical, is_named, refused, respelled, scene, too_many
 from table import COMMON, DROPPED, FILES, MANY, NAMES, Command, Help, Version, Words, Wrong, file_of, is_option
 
-QUESTIONS = ("key", "same")
+# What is asked of each of many files, and of two.
+OF_EACH, OF_TWO = ("key", "check"), ("same",)
+QUESTIONS = (*OF_EACH, *OF_TWO)
 COMMAND = Command((*COMMON, *QUESTIONS), ("drop", "files0-from"), 0, MANY, ("help", "version"))
 WORDS = (
     *(f"--{flag}" for flag in (*COMMON, *QUESTIONS)), "--drop=properties", "--drop=layer-names,extensions", "--files0-from=n",
@@ -23,7 +25,7 @@ SPELLED = (
     ("--drop=nope",), ("--drop=",), ("--drop", "properties"), ("--drop", "extensions,properties"), ("--drop", "-"), ("--drop",),
     ("--files0-from=-",), ("--files0-from", "n"), ("--files0-from", "-"), ("--files0-from",), ("o",),
 )
-LACKED = (*NOWHERE, ("--key=1",), ("--check",), ("--check=l",), ("--names",), ("-q",))
+LACKED = (*NOWHERE, ("--key=1",), ("--check=l",), ("--names",), ("-q",))
 # What is asked of which files, what is to be left out, and the flags.
 Request = namedtuple("Request", "command reads inputs output question dropped flags")
 HEAD = MAGIC + START
@@ -50,7 +52,7 @@ def together(read):
         yield (f"--{one}", f"--{other}")
     if "files0-from" in given and files:
         yield ("--files0-from",)
-    if "files0-from" in given and "key" not in given:
+    if "files0-from" in given and not {*OF_EACH} & {*asked}:
         yield from (("--files0-from",), ("--key",))
     if "same" in given and len(files) != 2:
         yield ("--same",)

@@ -3,3 +3,5 @@ pub mod Lines
 pub mod Runs
 pub mod Answers
 pub mod Sameness
+pub mod Keeping
+pub mod Checks

@@ -15,6 +15,9 @@
 //! - [`prepared_same`] returns whether two files mean the same layout once they are prepared, which is whether `prepare` writes
 //!   the same file for both (`ComparesPrepared`, specs/Sameness.antt). [`same_telling`] writes that in the line of
 //!   `oascanon same`; its status is 0 or 3, or 1 after a refusal.
+//! - [`prepared_check`] returns whether a file is, byte for byte, the canonical file that `prepare` writes for it
+//!   (`ChecksPrepared`, specs/Checks.antt), and [`check_telling`] writes that in the line of `oascanon check --names`, with
+//!   the same statuses.
 //! - [`put_report`] puts the line `NAME: left out 12 properties, 3 layer names`, or nothing (`report_line`, specs/Lines.antt),
 //!   and [`put_rejection`] the line `NAME: refused N at OFFSET`, or `NAME: refused N at P+Q` for a place in a block
 //!   (`rejection_line`).
@@ -35,13 +38,21 @@
 //!   (proofs/AnswerLemmas.antt).
 //! - src/sameness.rt: two layouts that were read are compared as they are (`Layout::same`). That their canonical files are
 //!   equal exactly if they are the same is proved in oas_prepare (proofs/Sameness.antt).
+//! - src/checks.rt: the bytes of a file are compared with the canonical ones of the layout that it was read to, as these are
+//!   made (`has_canonical_bytes` of oas_form). src/keeping.rt: the file is read through a source that keeps the bytes as they
+//!   are taken (`IsKept`, specs/Keeping.antt). It has the script of the source below, so the read stops as it would without
+//!   it. If there is no memory for a byte, nothing is kept any more and the read goes on: a file that isn't prepared is
+//!   refused for its own reason, and one that is, as out of memory at END. That may happen to each file that is prepared, so
+//!   the contract needs no case for it; END is the last 256 bytes (proofs/EndLemmas.antt).
 //!
 //! `oasprep` has its words in src/usage.rt (`parse`), and `main` opens the streams, as oascanon's does. Its profile is
 //! `PROFILE` of oas_canon, which is that of the first command. Its src/session.rt has meters and explains as oascanon's does,
 //! by `oas_explain`, which also recognizes the place in a block.
 #![tactic(auto)]
 
+mod checks;
 mod ends;
+mod keeping;
 mod keys;
 mod kinds;
 mod lines;
@@ -49,6 +60,7 @@ mod runs;
 mod sameness;
 
 // The crates below, for those above.
+pub use checks::{check_telling, prepared_check};
 pub use keys::{key_telling, prepared_key};
 pub use lines::{put_rejection, put_report};
 pub use oas_explain;

@@ -17,7 +17,7 @@ mod session;
 mod usage;
 mod words;
 
-use many::keys;
+use many::answers;
 use oas_files::mark_output;
 use oas_preparing::oas_command::limits_of;
 use outcome::ended;
@@ -62,7 +62,7 @@ fn answer(rt: &HostRuntime, request: &Request<'_>) -> u8 {
             insists,
         } => to_standard_output(&session, *input, *insists),
         Task::Prepare { input, output, .. } => ended(prepare(&session, *input, *output)),
-        Task::Key(inputs) => keys(&session, inputs),
+        Task::Each(question, inputs) => answers(&session, *question, inputs),
         Task::Same { first, second } => ended(same(&session, *first, *second)),
     }
 }

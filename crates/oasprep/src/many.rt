@@ -1,8 +1,8 @@
-//! Keys of many files.
+//! A question about many files.
 
 use crate::outcome::{Outcome, ended};
-use crate::requests::Inputs;
-use crate::runs::key;
+use crate::requests::{Inputs, Question};
+use crate::runs::ask;
 use crate::session::Session;
 use oas_files::{Input, Names, text_of};
 use oas_preparing::oas_canon::{Refusal, Why};
@@ -11,20 +11,20 @@ use oas_preparing::oas_command::{name_of, worse};
 /// The status where there is no file.
 const DONE: u8 = 0;
 
-/// Prints the key of each input, in order, and returns the status of all. One that is refused has its line on standard error,
-/// and the others go on; where the output fails the rest is skipped.
-pub fn keys(session: &Session<'_>, inputs: &Inputs<'_>) -> u8 {
+/// Prints the answer for each input, in order, and returns the status of all. One that is refused has its line on standard
+/// error, and the others go on; where the output fails the rest is skipped.
+pub fn answers(session: &Session<'_>, question: Question, inputs: &Inputs<'_>) -> u8 {
     match inputs {
-        Inputs::Named(paths) => keys_of(session, paths.as_slice()),
-        Inputs::Listed(list) => ended(keys_listed(session, *list)),
+        Inputs::Named(paths) => answers_of(session, question, paths.as_slice()),
+        Inputs::Listed(list) => ended(answers_listed(session, question, *list)),
     }
 }
 
-/// Prints the key of each of these files.
-fn keys_of(session: &Session<'_>, paths: &[Option<&str>]) -> u8 {
+/// Prints the answer for each of these files.
+fn answers_of(session: &Session<'_>, question: Question, paths: &[Option<&str>]) -> u8 {
     let mut status = DONE;
     for path in paths {
-        let ended = Outcome::of(key(session, *path));
+        let ended = Outcome::of(ask(session, question, *path));
         status = worse(status, ended.status);
         if ended.is_last {
             break;
@@ -33,11 +33,11 @@ fn keys_of(session: &Session<'_>, paths: &[Option<&str>]) -> u8 {
     status
 }
 
-/// Prints the key of each file that a list names.
-fn keys_listed(session: &Session<'_>, list: Option<&str>) -> Result<u8, u8> {
+/// Prints the answer for each file that a list names.
+fn answers_listed(session: &Session<'_>, question: Question, list: Option<&str>) -> Result<u8, u8> {
     let shown = session.printed(name_of(list))?;
     let mut names = names_in(session, list, shown.as_str())?;
-    Ok(keys_of_each(session, &mut names, shown.as_str()))
+    Ok(answers_of_each(session, question, &mut names, shown.as_str()))
 }
 
 /// The names in a list, or the status where it can't be opened, after its line on standard error.
@@ -49,13 +49,18 @@ fn names_in(session: &Session<'_>, list: Option<&str>, shown: &str) -> Result<Na
     }
 }
 
-/// Prints the keys of the files of all names. Where the list can't be read further, that is said under its name.
-fn keys_of_each(session: &Session<'_>, names: &mut Names, shown: &str) -> u8 {
+/// Prints the answers for the files of all names. Where the list can't be read further, that is said under its name.
+fn answers_of_each(
+    session: &Session<'_>,
+    question: Question,
+    names: &mut Names,
+    shown: &str,
+) -> u8 {
     let mut status = DONE;
     for _ in 0..u64::MAX {
         let at = names.taken();
         let ended = match names.next() {
-            Ok(Some(name)) => key_of(session, name),
+            Ok(Some(name)) => answer_of(session, question, name),
             Ok(None) => break,
             Err(_) => unreadable(session, shown, at),
         };
@@ -76,10 +81,10 @@ fn unreadable(session: &Session<'_>, shown: &str, at: u64) -> Outcome {
     }
 }
 
-/// Prints the key of the file of a name in a list.
-fn key_of(session: &Session<'_>, name: &[u8]) -> Outcome {
+/// Prints the answer for the file of a name in a list.
+fn answer_of(session: &Session<'_>, question: Question, name: &[u8]) -> Outcome {
     match text_of(session.rt.alloc(), name) {
-        Ok(path) => Outcome::of(key(session, Some(path.as_str()))),
+        Ok(path) => Outcome::of(ask(session, question, Some(path.as_str()))),
         Err(_) => Outcome::of(Err(session.unbegun("?"))),
     }
 }

@@ -32,13 +32,22 @@ pub enum Task<'a> {
         /// Whether `-` names standard output, so that the file goes there even if it is a terminal.
         insists: bool,
     },
-    /// Print the key of what each file is prepared to.
-    Key(Inputs<'a>),
+    /// Answer a question about each file.
+    Each(Question, Inputs<'a>),
     /// Print whether two files are prepared to the same layout.
     Same {
         first: Option<&'a str>,
         second: Option<&'a str>,
     },
+}
+
+/// What is asked about each of many files.
+#[derive(Clone, Copy, Debug, PartialEq, Eq)]
+pub enum Question {
+    /// The key of what it is prepared to.
+    Key,
+    /// Whether it is what it is prepared to.
+    Check,
 }
 
 /// The files of a question.
@@ -82,14 +91,25 @@ fn misfit_of(found: &ArgMatches<'_>) -> Option<&'static str> {
     if found.get_flag("same") && words.len() != 2 {
         return Some("--same takes two files");
     }
-    if found.get_flag("key") || found.get_flag("same") {
+    if question_of(found).is_some() || found.get_flag("same") {
         if dashes(words) > 1 {
             return Some("standard input can stand for one file only");
         }
     } else if words.len() > 2 {
-        return Some("one file is prepared to another; --key takes more");
+        return Some("one file is prepared to another; --key and --check take more");
     }
     None
+}
+
+/// What is asked about each file, if anything is.
+fn question_of(found: &ArgMatches<'_>) -> Option<Question> {
+    if found.get_flag("key") {
+        Some(Question::Key)
+    } else if found.get_flag("check") {
+        Some(Question::Check)
+    } else {
+        None
+    }
 }
 
 /// How many of these words are standard input.
@@ -102,8 +122,8 @@ fn dashes(words: &[&str]) -> usize {
 
 /// What these matches request, whose files fit.
 fn request_of<'a>(alloc: Global, found: &ArgMatches<'a>) -> Result<Request<'a>, AllocError> {
-    let task = if found.get_flag("key") {
-        Task::Key(inputs_of(alloc, found)?)
+    let task = if let Some(question) = question_of(found) {
+        Task::Each(question, inputs_of(alloc, found)?)
     } else if found.get_flag("same") {
         comparing(found.get_strs(FILES).unwrap_or(&[]))
     } else {

@@ -1,12 +1,13 @@
 //! Runs over one file and over two: each opens its files, runs, and prints what was said.
 
 use crate::outcome::Outcome;
-use crate::session::{Incoming, Session};
+use crate::requests::Question;
+use crate::session::{Incoming, Outgoing, Session};
 use oas_files::Printed;
 use oas_preparing::oas_canon::Outlet;
 use oas_preparing::oas_command::{End, Label, name_of};
 use oas_preparing::oas_explain::{Asked, Onward};
-use oas_preparing::{key_telling, run_prepare, same_telling};
+use oas_preparing::{check_telling, key_telling, run_prepare, same_telling};
 
 /// The output that advice names where the command has none.
 const CANONICAL: &str = "canonical.oas";
@@ -54,16 +55,17 @@ fn prepare_heard<'a>(
     Ok(status)
 }
 
-/// Prints the key of what a file is prepared to, and returns how the run ended; or the status of one that could not begin.
-pub fn key(session: &Session<'_>, input: Option<&str>) -> Result<Outcome, u8> {
+/// Prints the answer to a question about a file, and returns how the run ended; or the status of one that could not begin.
+pub fn ask(session: &Session<'_>, question: Question, input: Option<&str>) -> Result<Outcome, u8> {
     let printed = session.printed(name_of(input))?;
     let mut from = session.source(input, printed.as_str())?;
-    key_heard(session, input, &printed, &mut from)
+    ask_heard(session, question, input, &printed, &mut from)
 }
 
-/// Prints the key for what was opened, and what was said.
-fn key_heard(
+/// Prints the answer for what was opened, and what was said.
+fn ask_heard(
     session: &Session<'_>,
+    question: Question,
     input: Option<&str>,
     printed: &Printed<'_>,
     from: &mut Incoming<'_>,
@@ -71,26 +73,44 @@ fn key_heard(
     let (name, label) = (printed.as_str(), label_of(input, printed));
     let mut said = session.room(name, name.len())?;
     let mut out = session.output(None);
-    let mut told = Outlet::new(&mut said);
-    let (alloc, limits) = (session.rt.alloc(), session.limits);
-    let status = key_telling(
-        alloc,
-        name,
-        label,
-        from,
-        &mut out,
-        &mut told,
-        limits,
-        session.dropping,
-    );
-    let _ = told.close();
+    let status = ask_told(session, question, name, label, from, &mut out, &mut said);
     let fault = out.fault();
-    let (path, onward) = (input, Onward::Piped("oascanon key"));
+    let (path, onward) = (input, onward_of(question));
     session.tell(&said, None, fault, Asked { path, onward });
     Ok(Outcome {
         status,
         is_last: fault.is_some(),
     })
+}
+
+/// Prints the answer, puts what is said into memory, and returns the status.
+fn ask_told(
+    session: &Session<'_>,
+    question: Question,
+    name: &str,
+    label: Label<'_>,
+    from: &mut Incoming<'_>,
+    out: &mut Outgoing<'_>,
+    said: &mut Vec<u8>,
+) -> u8 {
+    let (alloc, limits, dropping) = (session.rt.alloc(), session.limits, session.dropping);
+    let mut told = Outlet::new(said);
+    let status = match question {
+        Question::Key => key_telling(alloc, name, label, from, out, &mut told, limits, dropping),
+        Question::Check => {
+            check_telling(alloc, name, label, from, out, &mut told, limits, dropping)
+        }
+    };
+    let _ = told.close();
+    status
+}
+
+/// Where the canonical file goes that is made in place of the one that was asked about.
+fn onward_of(question: Question) -> Onward<'static> {
+    match question {
+        Question::Key => Onward::Piped("oascanon key"),
+        Question::Check => Onward::Written(CANONICAL),
+    }
 }
 
 /// How the line of an answer names the file with this path, or standard input.

@@ -18,9 +18,12 @@ const KINDS: [&str; 3] = [PROPERTIES, LAYER_NAMES, EXTENSIONS];
 /// The name of the files in matches.
 pub const FILES: &str = "FILE";
 
+/// The questions about each of many files, of which one is asked.
+const OF_EACH: &str = "question";
+
 /// The forms of the command line.
 const USAGE: &str = "oasprep [OPTIONS] [IN [OUT]]
-       oasprep --key [OPTIONS] [FILE]...
+       oasprep --key|--check [OPTIONS] [FILE]...
        oasprep --same [OPTIONS] A B";
 
 /// The text below the help.
@@ -28,7 +31,7 @@ const AFTER: &str = "Examples:
   oasprep --drop properties,layer-names chip.oas prepared.oas
   oasprep --drop properties,layer-names --key *.oas >keys
 
-Status: 0 done, or the same; 3 different; 2 the command line isn't understood
+Status: 0 done, or yes; 3 no; 2 the command line isn't understood
   1 refused (NAME: refused REASON at OFFSET), or a file can't be opened";
 
 /// The program's command line.
@@ -45,7 +48,8 @@ pub fn oasprep<'a>(alloc: Global) -> Result<Command<'a>, Error> {
 fn with_tasks<'a>(alloc: Global, command: Command<'a>) -> Result<Command<'a>, AllocError> {
     command
         .arg(drops(alloc))?
-        .arg(key(alloc))?
+        .arg(key(alloc)?)?
+        .arg(check(alloc)?)?
         .arg(same(alloc)?)?
         .arg(list(alloc)?)?
         .arg(files(alloc))
@@ -71,11 +75,21 @@ fn drops<'a>(alloc: Global) -> Arg<'a> {
 }
 
 /// `--key`
-fn key<'a>(alloc: Global) -> Arg<'a> {
+fn key<'a>(alloc: Global) -> Result<Arg<'a>, AllocError> {
     Arg::new(alloc, "key")
         .long("key")
         .action(ArgAction::SetTrue)
         .help("Prints KEY  NAME for each FILE, with the key of what is prepared")
+        .group(OF_EACH)
+}
+
+/// `--check`
+fn check<'a>(alloc: Global) -> Result<Arg<'a>, AllocError> {
+    Arg::new(alloc, "check")
+        .long("check")
+        .action(ArgAction::SetTrue)
+        .help("Prints NAME: canonical, or not canonical, for each FILE as it is")
+        .group(OF_EACH)
 }
 
 /// `--same`
@@ -84,7 +98,8 @@ fn same<'a>(alloc: Global) -> Result<Arg<'a>, AllocError> {
         .long("same")
         .action(ArgAction::SetTrue)
         .help("Says whether A and B are prepared to the same layout")
-        .conflicts_with("key")
+        .conflicts_with("key")?
+        .conflicts_with("check")
 }
 
 /// `--files0-from F`
@@ -93,7 +108,7 @@ fn list<'a>(alloc: Global) -> Result<Arg<'a>, AllocError> {
         .long("files0-from")
         .value_name("F")
         .help("Reads names from F, each ended by a zero byte")
-        .requires_arg("key")?
+        .requires_arg(OF_EACH)?
         .conflicts_with(FILES)
 }
 

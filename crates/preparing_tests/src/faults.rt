@@ -11,13 +11,13 @@ use std::process::Abort;
 use std::test::Fail;
 
 /// A file of 304 bytes, from which a name of properties is left out.
-const FILE: &str = "HEAD 070150 CELL RECT TAIL";
+pub const FILE: &str = "HEAD 070150 CELL RECT TAIL";
 
 /// Its result, in 301 bytes.
 const PREPARED: &str = "HEAD CELL RECT TAIL";
 
 /// The first offset of the record at an offset of the file, which is where a reader that fails there is refused.
-fn record_at(offset: usize) -> usize {
+pub fn record_at(offset: usize) -> usize {
     match offset {
         0..=12 => 0,
         13..=33 => 13,

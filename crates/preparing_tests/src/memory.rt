@@ -9,7 +9,7 @@ use file_pieces::bytes_of;
 use oas_num::{INPUT_MAX, Outlet, SliceSource};
 use oas_preparing::oas_canon::Limits;
 use oas_preparing::oas_command::{End, Label};
-use oas_preparing::{key_telling, run_prepare};
+use oas_preparing::{check_telling, key_telling, prepare_telling};
 use scarce_memory::Hoard;
 use std::alloc::Global;
 use std::process::Abort;
@@ -33,26 +33,34 @@ fn is_refusal(line: &[u8]) -> bool {
 enum Asked {
     Prepare,
     Key,
+    Check,
 }
+
+/// The name of the file.
+const NAME: &str = "chip.oas";
+
+/// What it is prepared to.
+const CANONICAL: &str = "HEAD CELL RECT TAIL";
+
+/// How the line of an answer names it.
+const LABEL: Label<'static> = Label {
+    name: NAME,
+    is_escaped: false,
+    end: End::Newline,
+};
 
 /// The status of a run.
 fn status(alloc: Global, asked: Asked, file: &[u8], out: &mut Narrow, err: &mut Narrow) -> u8 {
     let from = &mut SliceSource::new(file, INPUT_MAX);
-    let (name, limits, dropping) = ("chip.oas", Limits::standard(), dropping_of("all"));
-    match asked {
-        Asked::Prepare => run_prepare(alloc, name, from, out, err, limits, dropping),
-        Asked::Key => {
-            let label = Label {
-                name,
-                is_escaped: false,
-                end: End::Newline,
-            };
-            let mut told = Outlet::new(err);
-            let status = key_telling(alloc, name, label, from, out, &mut told, limits, dropping);
-            let _ = told.close();
-            status
-        }
-    }
+    let (limits, dropping) = (Limits::standard(), dropping_of("all"));
+    let mut told = Outlet::new(err);
+    let status = match asked {
+        Asked::Prepare => prepare_telling(alloc, NAME, from, out, &mut told, limits, dropping),
+        Asked::Key => key_telling(alloc, NAME, LABEL, from, out, &mut told, limits, dropping),
+        Asked::Check => check_telling(alloc, NAME, LABEL, from, out, &mut told, limits, dropping),
+    };
+    let _ = told.close();
+    status
 }
 
 /// Runs once. Whether this was written (`done`), or the run failed out of memory (`refused`) with nothing written; `wrong`
@@ -123,7 +131,7 @@ fn ends_of_each_kind(
 
 /// The same where it is prepared.
 fn ends_of_preparing(alloc: Global) -> Result<(&'static str, bool), Fail> {
-    let prepared = bytes_of(alloc, "HEAD CELL RECT TAIL")?;
+    let prepared = bytes_of(alloc, CANONICAL)?;
     ends_of_each_kind(alloc, Asked::Prepare, &prepared)
 }
 
@@ -140,5 +148,58 @@ const KEY: &[u8] = b"faa9cb7d21110cae5bde5660c1b56c7b0b00a54880eacf1bfeba45a6cc3
 fn key_without_memory(rt: HostRuntime) -> Result<(), Fail> {
     let found = ends_of_each_kind(rt.alloc(), Asked::Key, KEY)?;
     assert!(rt; found == ("done", true));
+    Ok(())
+}
+
+/// The line of a file that is canonical.
+const YES: &[u8] = b"chip.oas: canonical\n";
+
+/// How the last run on that ended, and whether one failed before, where the heap could be filled.
+fn ends_of_checking(alloc: Global) -> Result<(&'static str, bool), Fail> {
+    let file = bytes_of(alloc, CANONICAL)?;
+    ends(alloc, Asked::Check, &file, YES)
+}
+
+#[test]
+fn check_without_memory(rt: HostRuntime) -> Result<(), Fail> {
+    assert!(rt; ends_of_checking(rt.alloc())? == ("done", true));
+    Ok(())
+}
+
+/// How many runs were refused with this line, before one was not.
+fn refused_with(
+    alloc: Global,
+    file: &[u8],
+    line: &[u8],
+    hoard: &mut Hoard,
+    out: &mut Narrow,
+    err: &mut Narrow,
+) -> u32 {
+    let mut count = 0;
+    for _ in 0..4000u32 {
+        if run(alloc, Asked::Check, file, YES, out, err) != "refused" {
+            break;
+        }
+        if err.taken.as_slice() == line {
+            count += 1;
+        }
+        hoard.give_back();
+    }
+    count
+}
+
+/// Whether a file with much more bytes than its layout has was refused at END, where the heap could be filled.
+fn is_refused_at_the_end(alloc: Global) -> Result<bool, Fail> {
+    let file = bytes_of(alloc, "HEAD CELL RECT 00*10000 TAIL")?;
+    let line = b"chip.oas: refused 34 at 10045\n";
+    let (mut out, mut err) = (roomy(alloc)?, roomy(alloc)?);
+    let mut hoard = Hoard::new(alloc)?;
+    let count = refused_with(alloc, &file, line, &mut hoard, &mut out, &mut err);
+    Ok(!hoard.is_full() || count > 0)
+}
+
+#[test]
+fn a_file_that_can_not_be_kept(rt: HostRuntime) -> Result<(), Fail> {
+    assert!(rt; is_refused_at_the_end(rt.alloc())?);
     Ok(())
 }
