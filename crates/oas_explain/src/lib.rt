@@ -1,4 +1,5 @@
-//! The reasons for which a file is refused, in words, and the message of a run with its reason explained.
+//! What both programs stand on: the reasons for which a file is refused, in words; the message of a run with its reason
+//! explained; and what each run of a command line is given in addition to its files.
 //!
 //! What this crate promises to the program:
 //!
@@ -11,28 +12,46 @@
 //!   writes the same, and after it, where it is the line of a refusal, the lines that explain its reason, with the advice
 //!   that it is given (`IsExplanation`, specs/Telling.antt). What [`advise`] advises is tested.
 //! - [`Recorded`] writes what is below it, and keeps why that failed.
+//! - [`Session`] has the limits that are asked for, explains refusals and shows progress where that is (`HoldsFor`,
+//!   specs/Session.antt). Each source that it opens gives at most as many bytes as its limits allow (`IsOpened`), and each
+//!   output is one of the name that it is given, or standard output, and does to a file of that name as it is told
+//!   (`IsOutput`).
+//!
+//! Which words the process was given, and what is done with each of many files, is tested ([`words_of`], [`of_all`],
+//! [`of_listed`], [`of_items`]).
 #![tactic(auto)]
 
 mod advice;
 mod explain;
 mod hearing;
 mod looking;
+mod many;
+mod naming;
+mod outcome;
 mod quoting;
 mod reasons;
 mod recording;
+mod session;
 mod table;
 mod telling;
 mod texts;
 mod voice;
+mod words;
 
 // The crates below, for those above.
 pub use advice::{Asked, Onward, advise};
 pub use explain::run_explain;
+pub use many::{OfEach, OfItem, of_all, of_items, of_listed};
+pub use naming::{CANONICAL, Named, Pair, label_of};
 pub use oas_command;
 pub use oas_command::oas_canon;
+pub use oas_files;
 pub use oas_num::Reason;
 pub use oas_progress;
+pub use outcome::{Outcome, ended};
 pub use reasons::all_reasons;
 pub use recording::Recorded;
+pub use session::{Incoming, Outgoing, STANDARD_OUTPUT, Session};
 pub use telling::{print_explained, tell};
 pub use voice::Voice;
+pub use words::{BINARY, ended_by_text, misused, words_of};

@@ -15,7 +15,6 @@ use Rattle.std.proofs.lemmas.List.Folds.{sum_by-replicate}
 use Rattle.std.proofs.lemmas.List.Sums.{sum_by-cons, sum_by-append}
 use Rattle.std.proofs.lemmas.Cmp.{tied_itself}
 use Rattle.oas_layout.specs.declared.element.Element.{Element}
-use Rattle.oas_layout.specs.declared.profile.Profile.{Profile}
 use Rattle.oas_layout.specs.Bag.{items}
 use Rattle.oas_layout.specs.Meaning.{element_count}
 use Rattle.oas_layout.specs.Weight.{weight_of}

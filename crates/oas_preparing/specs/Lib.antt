@@ -5,3 +5,4 @@ pub mod Answers
 pub mod Sameness
 pub mod Keeping
 pub mod Checks
+pub use Rattle.oas_explain.specs as oas_explain

@@ -46,8 +46,8 @@
 //!   the contract needs no case for it; END is the last 256 bytes (proofs/EndLemmas.antt).
 //!
 //! `oasprep` has its words in src/usage.rt (`parse`), and `main` opens the streams, as oascanon's does. Its profile is
-//! `PROFILE` of oas_canon, which is that of the first command. Its src/session.rt has meters and explains as oascanon's does,
-//! by `oas_explain`, which also recognizes the place in a block.
+//! `PROFILE` of oas_canon, which is that of the first command. What each run is given in addition to its files is the `Session`
+//! of `oas_explain`, which also recognizes the place in a block.
 #![tactic(auto)]
 
 mod checks;

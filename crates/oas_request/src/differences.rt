@@ -1,5 +1,7 @@
 //! What `diff` is asked.
 
+ghost use Rattle.std.specs.Prelude.{◌≡◌, option_copied, option_map, vec_items};
+
 use crate::commands::{Task, two_of};
 use clap::ArgMatches;
 use oas_difference::{Choice, ChosenLayer, Detail, Options};
@@ -19,8 +21,12 @@ pub struct Asked<'a> {
 }
 
 impl Asked<'_> {
+    ghost use Rattle.oas_request.specs.Options.{AreOptions};
+
     /// The options of the run.
-    pub fn options(&self) -> Options<'_> {
+    pub fn options(&self) -> Options<'_>
+        ensures { AreOptions self.now result }
+    {
         Options {
             choice: Choice {
                 cells: slice_of(&self.cells),
@@ -43,7 +49,9 @@ pub struct Markers<'a> {
 const MOST_MARKERS: u64 = 100_000;
 
 /// What is in a list, if there is one.
-fn slice_of<T>(list: &Option<Vec<T>>) -> Option<&[T]> {
+fn slice_of<T>(list: &Option<Vec<T>>) -> Option<&[T]>
+    ensures { option_copied result ≡ option_map vec_items list.now }
+{
     match list {
         Some(list) => Some(list.as_slice()),
         None => None,

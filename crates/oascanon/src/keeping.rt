@@ -1,14 +1,11 @@
 //! Saved keys, and whether they are still valid.
 
-use crate::labels::label_of;
-use crate::many::{DONE, list_of, unreadable};
-use crate::outcome::Outcome;
-use crate::session::{Incoming, Session};
+use crate::asking::end_of;
 use oas_explain::oas_canon::Outlet;
-use oas_explain::oas_command::{KeptKey, Label, kept_telling, name_of, worse};
-use oas_explain::{Asked, Onward};
+use oas_explain::oas_command::{KeptKey, Label, kept_telling};
+use oas_explain::oas_files::{Existing, Printed, text_of, unescaped};
+use oas_explain::{Asked, Incoming, OfItem, Onward, Outcome, Session, label_of, of_items};
 use oas_request::Ending;
-use oas_request::oas_files::{Existing, Names, Printed, text_of, unescaped};
 
 /// A list of saved keys, and how the result is printed.
 #[derive(Clone, Copy)]
@@ -19,42 +16,23 @@ pub struct Kept<'a> {
     pub is_quiet: bool,
 }
 
-impl Kept<'_> {
-    /// Checks for each file in the list whether its key is the saved one, and returns the status of all.
-    pub fn check(self, session: &Session<'_>) -> Result<u8, u8> {
-        let shown = session.printed(name_of(self.list))?;
-        let end = match self.ending {
-            Ending::Newline => b'\n',
-            Ending::Zero => 0,
-        };
-        let mut lines = list_of(session, self.list, end, shown.as_str())?;
-        Ok(self.check_each(session, &mut lines, shown.as_str()))
-    }
-
-    /// Checks the files of all lines, until the output fails.
-    fn check_each(self, session: &Session<'_>, lines: &mut Names, shown: &str) -> u8 {
-        let mut status = DONE;
-        for number in 1..u64::MAX {
-            let at = lines.taken();
-            let ended = match lines.next() {
-                Ok(Some(line)) => self.check_line(session, line, number, shown),
-                Ok(None) => break,
-                Err(_) => unreadable(session, shown, at),
-            };
-            status = worse(status, ended.status);
-            if ended.is_last {
-                break;
-            }
-        }
-        status
-    }
-
-    /// Checks the file of a line.
-    fn check_line(self, session: &Session<'_>, line: &[u8], number: u64, shown: &str) -> Outcome {
+impl OfItem for Kept<'_> {
+    fn of_item(&self, session: &Session<'_>, line: &[u8], number: u64, shown: &str) -> Outcome {
         match KeptKey::of_line(line) {
             Some(kept) => Outcome::of(self.check_key(session, kept, number, shown)),
             None => not_understood(session, number, shown),
         }
+    }
+}
+
+impl Kept<'_> {
+    /// Checks for each file in the list whether its key is the saved one, and returns the status of all.
+    pub fn check(self, session: &Session<'_>) -> Result<u8, u8> {
+        let end = match self.ending {
+            Ending::Newline => b'\n',
+            Ending::Zero => 0,
+        };
+        of_items(session, &self, self.list, end)
     }
 
     /// Checks the file of a saved key.
@@ -78,7 +56,7 @@ impl Kept<'_> {
     /// Checks the file with this name.
     fn check_file(self, session: &Session<'_>, path: &str, digits: &[u8]) -> Result<Outcome, u8> {
         let printed = session.printed(path)?;
-        let label = label_of(Some(path), &printed, self.ending);
+        let label = label_of(Some(path), &printed, end_of(self.ending));
         let mut from = session.source(Some(path), printed.as_str())?;
         let asked = Asked {
             path: Some(path),

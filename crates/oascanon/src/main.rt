@@ -1,32 +1,29 @@
 //! The command `oascanon`: the canonical form of an OASIS file, and what can be asked about one.
 //!
-//! `oas_request` returns what its words request; [`words`] has those of the process, and prints the help and what is wrong
-//! with them. Files by name are those of `oas_files`. The runs of `oas_command` do the work; [`runs`] opens the streams of
-//! the process and calls them, and [`many`] asks a question about many files, whose names may be in a list. [`session`] has
-//! what each run is given in addition to its files: a run says its line into memory, and `oas_explain` prints it on standard
-//! error, with its reason explained where that is requested.
-//!
-//! [`keeping`] checks saved keys, [`guards`] looks for files that an output would overwrite, and [`labels`] has the names in
-//! results.
+//! `oas_request` returns the task that its words request, and [`plan`] has what a task comes to: which run, on which files, and
+//! to which output (`IsPlanOf`, specs/Plan.antt). The runs of `oas_command` do the work; [`one_file`] and [`two_files`] open
+//! the streams of the process and call them, [`asking`] asks a question about many files, and [`keeping`] checks saved keys.
+//! What each run is given in addition to its files, the words of the process, and what is done with each of many files, is in
+//! `oas_explain`: a run says its line into memory, and it is printed on standard error, with its reason explained where that
+//! is requested. [`guards`] looks for files that an output would overwrite.
 //!
 //! Not covered by a contract: that each run gets what was opened for it.
 //!
 //! # How it is built
 //!
-//! `oascanon` promises nothing to a crate above; its promise is to the caller of the program. `src/main.rt` chooses the run,
-//! and `runs.rt` opens the files of each and prints what it said. `session.rt` has what holds for all runs of a command line.
-//! `words.rt` has the words of the process, and prints the help and what is wrong with them. `many.rt` asks a question about
-//! many files, whose names may be in a list, and `keeping.rt` whether saved keys are still valid, until the output fails
-//! (`outcome.rt`). `labels.rt` has the names in results, and `guards.rt` looks for files that an output would overwrite. It
-//! has no tests of its own except the stored run: those of runs over files by name are command_tests' `by_name.rt`.
+//! `oascanon` promises nothing to a crate above; its promise is to the caller of the program. `plan.rt` chooses the run, by a
+//! contract that has each task with all its options, and `src/main.rt` does what the plan says, in one `match`. `one_file.rt`
+//! and `two_files.rt` open the files of each run and print what it said. `asking.rt` has what is done with each of many files,
+//! and `keeping.rt` what is done with each line of a list of keys. It has no tests of its own except the stored run: those of
+//! runs over files by name are command_tests' `by_name.rt`.
 //!
-//! `session.rt` has what each run is given in addition to its files. A run says its line into memory that was reserved before
-//! (`Voice::room`), and `oas_explain` prints it on standard error, followed by the lines of its reason where `--explain`
-//! requests that, or standard error is a terminal. `advise` of oas_explain looks at the refused file once more from outside
-//! (looking.rt), and says what to try (advice.rt), depending on what was asked (oascanon's advising.rt). So no signature of a
-//! run depends on it. `oas_explain` recognizes the number in the line byte by byte (`hears`, specs/Hearing.antt): no place in
-//! a line goes on with the `d` of `refused`, so what comes before it, also a name that looks like a refusal, is forgotten
-//! there. `oas_progress` is between a file and its run, and ignores the line's faults.
+//! A run says its line into memory that was reserved before (`Voice::room`), and `oas_explain` prints it on standard error,
+//! followed by the lines of its reason where `--explain` requests that, or standard error is a terminal. `advise` of
+//! oas_explain looks at the refused file once more from outside (looking.rt), and says what to try (advice.rt), depending on
+//! what was asked (oascanon's advising.rt). So no signature of a run depends on it. `oas_explain` recognizes the number in the
+//! line byte by byte (`hears`, specs/Hearing.antt): no place in a line goes on with the `d` of `refused`, so what comes before
+//! it, also a name that looks like a refusal, is forgotten there. `oas_progress` is between a file and its run, and ignores
+//! the line's faults.
 //!
 //! That a refused file creates nothing needs no proof of its own either: the writer that a refusal leaves unchanged is an
 //! `Output` that isn't created (specs/Creating.antt of oas_files).
@@ -39,25 +36,23 @@
 #![tactic(auto)]
 
 mod advising;
+mod asking;
 mod guards;
 mod keeping;
-mod labels;
-mod many;
-mod outcome;
-mod runs;
-mod session;
-mod words;
+mod one_file;
+mod plan;
+mod two_files;
 
-use guards::{keep_inputs, keep_old};
-use keeping::Kept;
-use many::ask;
-use oas_explain::oas_command::{Form, Options, limits_of};
-use oas_explain::{Asked, Onward, all_reasons, run_explain};
-use oas_request::oas_files::{Existing, mark_output};
-use oas_request::{Ending, Markers, Request, Task, parse};
-use outcome::ended;
-use runs::{OfOne, OfTwo, mark};
-use session::{STANDARD_OUTPUT, Session};
+ghost use Rattle.oas_explain.specs.Session.{HoldsFor};
+
+use asking::Asking;
+use oas_explain::oas_files::{Existing, mark_output};
+use oas_explain::{
+    Asked, BINARY, Onward, STANDARD_OUTPUT, Session, all_reasons, ended, ended_by_text, misused,
+    of_all, of_listed, run_explain, words_of,
+};
+use oas_request::{Request, parse};
+use plan::{Plan, plan_of};
 use std::io::IsTerminal;
 use std::process::ExitCode;
 
@@ -65,7 +60,7 @@ use std::process::ExitCode;
 const DONE: u8 = 0;
 
 fn main(rt: HostRuntime) -> ExitCode {
-    let status = match words::words_of(&rt) {
+    let status = match words_of(&rt) {
         Ok(words) => understood(&rt, words.as_slice()),
         Err(status) => status,
     };
@@ -75,112 +70,42 @@ fn main(rt: HostRuntime) -> ExitCode {
 /// Does what the words request, and returns the status.
 fn understood(rt: &HostRuntime, words: &[String]) -> u8 {
     match parse(rt.alloc(), words) {
-        Ok(request) => answer(rt, request),
-        Err(error) => words::end(rt, &error),
+        Ok(request) => answer(rt, &request),
+        Err(error) => ended_by_text(rt, error.exit_code() as u8, error.print(rt)),
     }
 }
 
 /// Does what is requested, and returns the status.
-fn answer(rt: &HostRuntime, request: Request<'_>) -> u8 {
-    if is_binary(&request.task) && !request.insists && rt.stdout().is_terminal() {
-        return words::misused(rt, words::BINARY);
+fn answer(rt: &HostRuntime, request: &Request<'_>) -> u8 {
+    let plan = plan_of(&request.task);
+    if plan.is_binary() && !request.insists && rt.stdout().is_terminal() {
+        return misused(rt, BINARY);
     }
-    let session = Session {
-        rt,
-        limits: limits_of(request.is_large),
-        explains: request.explains || rt.stderr().is_terminal(),
-        shows_progress: request.shows_progress,
-    };
-    let status = ended(run(&session, &request.task));
-    if status != DONE && is_binary(&request.task) {
+    let status = ended(run(&session_of(rt, request), plan));
+    if status != DONE && plan.is_binary() {
         mark_output(rt);
     }
     status
 }
 
-/// Whether the output is a file on standard output.
-fn is_binary(task: &Task<'_>) -> bool {
-    matches!(
-        task,
-        Task::Canon { output: None, .. } | Task::Rekey { new: None, .. }
-    )
+/// What holds for the runs of a request.
+fn session_of<'a>(rt: &'a HostRuntime, request: &Request<'_>) -> Session<'a>
+    ensures { HoldsFor request.now.is_large request.now.explains request.now.shows_progress result }
+{
+    let large = request.is_large;
+    Session::new(rt, large, request.explains, request.shows_progress)
 }
 
-/// Runs a task, and returns the status; or that of a run that could not begin.
-fn run<'a>(session: &Session<'a>, task: &Task<'a>) -> Result<u8, u8> {
-    match task {
-        Task::Canon {
-            input,
-            output,
-            keeps_old,
-        } => canon(session, *input, *output, *keeps_old),
-        Task::Ask { question, inputs } => Ok(ask(session, *question, inputs)),
-        Task::CheckKeys {
-            list,
-            ending,
-            is_quiet,
-        } => check_keys(session, *list, *ending, *is_quiet),
-        Task::Same { first, second } => OfTwo::Same.run(session, *first, *second),
-        Task::Diff {
-            first,
-            second,
-            asked,
-            markers,
-        } => diff(session, *first, *second, asked.options(), *markers),
-        Task::Show { input } => OfOne::Show.run(session, *input, None),
-        Task::Keys { input } => OfOne::Keys.run(session, *input, None),
-        Task::Info { input, is_json } => {
-            let form = if *is_json { Form::Json } else { Form::Text };
-            OfOne::Info(form).run(session, *input, None)
-        }
-        Task::Rekey { old, new } => OfOne::Rekey.run(session, *old, *new),
-        Task::Explain { number } => explain(session, *number),
-    }
-}
-
-/// Runs `canon`, to an output whose name is free where an old file should be kept.
-fn canon<'a>(
-    session: &Session<'a>,
-    input: Option<&str>,
-    output: Option<&'a str>,
-    keeps_old: bool,
-) -> Result<u8, u8> {
-    if !keeps_old {
-        return OfOne::Canon(Existing::Replaced).run(session, input, output);
-    }
-    keep_old(session, output)?;
-    OfOne::Canon(Existing::Kept).run(session, input, output)
-}
-
-/// Prints whether the keys in a list are still valid.
-fn check_keys(
-    session: &Session<'_>,
-    list: Option<&str>,
-    ending: Ending,
-    is_quiet: bool,
-) -> Result<u8, u8> {
-    let kept = Kept {
-        list,
-        ending,
-        is_quiet,
-    };
-    kept.check(session)
-}
-
-/// Runs `diff`, with its markers to a file where one is named.
-fn diff<'a>(
-    session: &Session<'a>,
-    first: Option<&str>,
-    second: Option<&str>,
-    options: Options<'_>,
-    markers: Option<Markers<'a>>,
-) -> Result<u8, u8> {
-    match markers {
-        Some(markers) => {
-            keep_inputs(session, [first, second], markers.name)?;
-            mark(session, first, second, options, markers)
-        }
-        None => OfTwo::Diff(options).run(session, first, second),
+/// Does what is planned, and returns the status; or that of a run that could not begin.
+fn run<'a>(session: &Session<'a>, plan: Plan<'a>) -> Result<u8, u8> {
+    match plan {
+        Plan::OneFile(one) => one.run(session),
+        Plan::TwoFiles(two) => two.run(session),
+        Plan::Marking(marking) => marking.run(session),
+        Plan::Each(question, paths) => Ok(of_all(session, &Asking { question }, paths)),
+        Plan::EachListed(question, list) => of_listed(session, &Asking { question }, list),
+        Plan::CheckKeys(kept) => kept.check(session),
+        Plan::Explain(number) => explain(session, number),
     }
 }
 

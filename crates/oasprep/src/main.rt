@@ -1,29 +1,25 @@
 //! The command `oasprep`: the canonical file of an OASIS file as tools write it, and answers about it.
 //!
-//! [`usage`] has the command line, and [`requests`] returns what its words request; [`words`] has those of the process, and
-//! prints the help and what is wrong with them. Files by name are those of `oas_files`. The runs of `oas_preparing` do the
-//! work; [`runs`] opens the streams of the process and calls them, and [`many`] does so for many files, whose names may be in
-//! a list. [`session`] has what each run is given in addition to its files: a run says its line into memory, and `oas_explain`
-//! prints it on standard error.
+//! [`usage`] has the command line, and [`requests`] returns what its words request. The runs of `oas_preparing` do the work;
+//! [`runs`] opens the streams of the process and calls them. What each run is given in addition to its files, the words of
+//! the process, and what is done with each of many files, is in `oas_explain`, as for `oascanon`: a run says its line into
+//! memory, and it is printed on standard error.
 //!
 //! Not covered by a contract: that the run gets what was opened.
 #![tactic(auto)]
 
-mod many;
-mod outcome;
 mod requests;
 mod runs;
-mod session;
 mod usage;
-mod words;
 
-use many::answers;
-use oas_files::mark_output;
-use oas_preparing::oas_command::limits_of;
-use outcome::ended;
-use requests::{Request, Task, parse};
-use runs::{prepare, same};
-use session::Session;
+ghost use Rattle.oas_preparing.specs.oas_explain.Session.{HoldsFor};
+
+use oas_preparing::oas_explain::oas_files::mark_output;
+use oas_preparing::oas_explain::{
+    BINARY, Session, ended, ended_by_text, misused, of_all, of_listed, words_of,
+};
+use requests::{Inputs, Request, Task, parse};
+use runs::{Asking, Comparing, Preparing};
 use std::io::IsTerminal;
 use std::process::ExitCode;
 
@@ -31,7 +27,7 @@ use std::process::ExitCode;
 const DONE: u8 = 0;
 
 fn main(rt: HostRuntime) -> ExitCode {
-    let status = match words::words_of(&rt) {
+    let status = match words_of(&rt) {
         Ok(words) => understood(&rt, words.as_slice()),
         Err(status) => status,
     };
@@ -41,38 +37,69 @@ fn main(rt: HostRuntime) -> ExitCode {
 /// Does what the words request, and returns the status.
 fn understood(rt: &HostRuntime, words: &[String]) -> u8 {
     match parse(rt.alloc(), words) {
-        Ok(request) => answer(rt, &request),
-        Err(error) => words::end(rt, &error),
+        Ok(request) => answer(&session_of(rt, &request), &request),
+        Err(error) => ended_by_text(rt, error.exit_code() as u8, error.print(rt)),
     }
+}
+
+/// What holds for the runs of a request.
+fn session_of<'a>(rt: &'a HostRuntime, request: &Request<'_>) -> Session<'a>
+    ensures { HoldsFor request.now.is_large request.now.explains request.now.shows_progress result }
+{
+    let large = request.is_large;
+    Session::new(rt, large, request.explains, request.shows_progress)
 }
 
 /// Does what is requested, and returns the status.
-fn answer(rt: &HostRuntime, request: &Request<'_>) -> u8 {
-    let session = Session {
-        rt,
-        limits: limits_of(request.is_large),
-        dropping: request.dropping,
-        explains: request.explains || rt.stderr().is_terminal(),
-        shows_progress: request.shows_progress,
-    };
+fn answer<'a>(session: &Session<'a>, request: &Request<'a>) -> u8 {
+    let dropping = request.dropping;
     match &request.task {
         Task::Prepare {
             input,
-            output: None,
+            output,
             insists,
-        } => to_standard_output(&session, *input, *insists),
-        Task::Prepare { input, output, .. } => ended(prepare(&session, *input, *output)),
-        Task::Each(question, inputs) => answers(&session, *question, inputs),
-        Task::Same { first, second } => ended(same(&session, *first, *second)),
+        } => {
+            let (input, output) = (*input, *output);
+            let preparing = Preparing {
+                input,
+                output,
+                dropping,
+            };
+            prepare(session, preparing, *insists)
+        }
+        Task::Each(question, inputs) => {
+            let question = *question;
+            ask(session, &Asking { question, dropping }, inputs)
+        }
+        Task::Same { first, second } => {
+            let (first, second) = (*first, *second);
+            let comparing = Comparing {
+                first,
+                second,
+                dropping,
+            };
+            ended(comparing.run(session))
+        }
     }
 }
 
-/// Prepares a file to standard output, which is a terminal only where that is insisted on, and returns the status.
-fn to_standard_output(session: &Session<'_>, input: Option<&str>, insists: bool) -> u8 {
-    if !insists && session.rt.stdout().is_terminal() {
-        return words::misused(session.rt, words::BINARY);
+/// Asks about each of these inputs, and returns the status of all.
+fn ask(session: &Session<'_>, asking: &Asking, inputs: &Inputs<'_>) -> u8 {
+    match inputs {
+        Inputs::Named(paths) => of_all(session, asking, paths.as_slice()),
+        Inputs::Listed(list) => ended(of_listed(session, asking, *list)),
     }
-    let status = ended(prepare(session, input, None));
+}
+
+/// Prepares a file. Standard output is a terminal only where that is insisted on. Returns the status.
+fn prepare<'a>(session: &Session<'a>, preparing: Preparing<'a>, insists: bool) -> u8 {
+    if preparing.output.is_some() {
+        return ended(preparing.run(session));
+    }
+    if !insists && session.rt.stdout().is_terminal() {
+        return misused(session.rt, BINARY);
+    }
+    let status = ended(preparing.run(session));
     if status != DONE {
         mark_output(session.rt);
     }

@@ -3,7 +3,7 @@
 use crate::usage::{EXTENSIONS, FILES, LAYER_NAMES, PROPERTIES, oasprep};
 use clap::error::ErrorKind;
 use clap::{ArgMatches, Command, Error};
-use oas_files::file_of_word;
+use oas_preparing::oas_explain::oas_files::file_of_word;
 use oas_preparing::oas_narrow::Dropping;
 use std::alloc::{AllocError, Global};
 use std::convert::AsStr;

@@ -1,6 +1,5 @@
-use Rattle.std.proofs.Common.{arith}
 use Rattle.oas_layout.specs.Bag.{items}
-use Rattle.oas_info.proofs.CountingLemmas.{of_cell_room, cell_weighed}
+use Rattle.oas_info.proofs.CountingLemmas.{of_cell_room}
 use Rattle.oas_info.proofs.counting.count_cell.Goals as goal
 
 pub count_elements-requires-clause-room : goal.count_elements-requires-clause-room

@@ -1,5 +1,5 @@
 use Rattle.std.proofs.Common.{◌≡◌, rules}
-use Rattle.oas_info.proofs.NameLemmas.{naming, cells_begin, cell_named, cell_added, defined_done}
+use Rattle.oas_info.proofs.NameLemmas.{naming, cells_begin, cell_added, defined_done}
 use Rattle.oas_info.proofs.names.defined_names.Goals as goal
 
 pub loop-name-init : goal.loop-name-init

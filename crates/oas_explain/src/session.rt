@@ -1,10 +1,16 @@
-//! What each run is given in addition to its files: limits, what is left out, progress, and how messages are printed.
+//! What each run is given in addition to its files: limits, progress, and how messages are printed.
 
-use oas_files::{Input, Output, Printed, is_input_marked};
-use oas_preparing::oas_canon::{Limits, ReaderSource, Refusal, Why, open_source};
-use oas_preparing::oas_explain::oas_progress::{Meter, Reading, Style, Writing};
-use oas_preparing::oas_explain::{Asked, Recorded, Voice, advise};
-use oas_preparing::oas_narrow::Dropping;
+ghost use Rattle.std.specs.Prelude.{IfOk};
+ghost use Rattle.oas_command.specs.oas_canon.Opening.{IsOpened};
+ghost use Rattle.oas_files.specs.Creating.{IsOutput};
+
+use crate::advice::{Asked, advise};
+use crate::recording::Recorded;
+use crate::voice::Voice;
+use oas_command::limits_of;
+use oas_command::oas_canon::{Limits, ReaderSource, Refusal, Why, open_source};
+use oas_files::{Existing, Input, Output, Printed, is_input_marked};
+use oas_progress::{Meter, Reading, Style, Writing};
 use std::io;
 use std::io::{ErrorKind, IsTerminal, Stderr};
 
@@ -15,21 +21,16 @@ pub type Incoming<'a> = ReaderSource<Reading<'a, Input, Stderr>>;
 pub type Outgoing<'a> = Recorded<Writing<'a, Output<'a>, Stderr>>;
 
 /// The name of standard output in messages.
-const STANDARD_OUTPUT: &str = "standard output";
-
-/// As much as two lines of what was left out may have in addition to names: each five phrases with numbers of 64 bits.
-const LINES: usize = 512;
+pub const STANDARD_OUTPUT: &str = "standard output";
 
 /// How the line of an input without bytes ends.
 const NOTHING_CAME: &[u8] = b": refused 2 at 0\n";
 
 /// What holds for all runs of a command line.
-#[derive(Clone, Copy)]
+#[derive(Drop)]
 pub struct Session<'a> {
     pub rt: &'a HostRuntime,
     pub limits: Limits,
-    /// What is to be left out.
-    pub dropping: Dropping,
     /// Whether refusals are explained.
     pub explains: bool,
     /// Whether long work shows how far it is.
@@ -37,6 +38,25 @@ pub struct Session<'a> {
 }
 
 impl<'a> Session<'a> {
+    ghost use Rattle.oas_explain.specs.Session.{HoldsFor};
+
+    /// What holds for the runs of a command line with these flags. Refusals are explained on a terminal too.
+    pub fn new(
+        rt: &'a HostRuntime,
+        is_large: bool,
+        explains: bool,
+        shows_progress: bool,
+    ) -> Session<'a>
+        ensures { HoldsFor is_large explains shows_progress result }
+    {
+        Session {
+            rt,
+            limits: limits_of(is_large),
+            explains: explains || rt.stderr().is_terminal(),
+            shows_progress,
+        }
+    }
+
     /// Where messages are printed.
     pub fn voice(&self) -> Voice<Stderr> {
         let is_over = self.shows_progress && self.style() == Style::Over;
@@ -51,8 +71,7 @@ impl<'a> Session<'a> {
     /// Room for what a run says about files whose names have this many bytes, or the status if out of memory, which is said
     /// under this name.
     pub fn room(&self, name: &str, bytes: usize) -> Result<Vec<u8>, u8> {
-        self.voice()
-            .room(self.rt.alloc(), name, bytes.saturating_add(LINES))
+        self.voice().room(self.rt.alloc(), name, bytes)
     }
 
     /// The status of a run that is out of memory, after its line on standard error under this name.
@@ -62,7 +81,9 @@ impl<'a> Session<'a> {
     }
 
     /// The source of an input, or the status where there is none, after its line on standard error under this name.
-    pub fn source<'n>(&self, input: Option<&str>, name: &'n str) -> Result<Incoming<'n>, u8> {
+    pub fn source<'n>(&self, input: Option<&str>, name: &'n str) -> Result<Incoming<'n>, u8>
+        ensures { IfOk result (λ source. IsOpened self.now.limits source.script) }
+    {
         match Input::open(self.rt, input) {
             Ok(opened) => self.source_of(opened, name),
             Err(error) => Err(self.voice().unopened(name, &error)),
@@ -70,19 +91,15 @@ impl<'a> Session<'a> {
     }
 
     /// The source of what was opened, or the status if out of memory.
-    fn source_of<'n>(&self, opened: Input, name: &'n str) -> Result<Incoming<'n>, u8> {
+    fn source_of<'n>(&self, opened: Input, name: &'n str) -> Result<Incoming<'n>, u8>
+        ensures { IfOk result (λ source. IsOpened self.now.limits source.script) }
+    {
         let meter = self.meter_of_read(name, opened.size());
         let reader = Reading::new(opened, meter);
         match open_source(self.rt.alloc(), reader, self.limits) {
             Ok(source) => Ok(source),
             Err(_) => Err(self.unbegun(name)),
         }
-    }
-
-    /// The output with this name, or standard output.
-    pub fn output(&self, path: Option<&'a str>) -> Outgoing<'a> {
-        let meter = self.meter_of_written(path.unwrap_or(STANDARD_OUTPUT));
-        Recorded::new(Writing::new(Output::new(self.rt, path), meter))
     }
 
     /// How the lines of long work are shown.
@@ -110,6 +127,18 @@ impl<'a> Session<'a> {
         } else {
             None
         }
+    }
+
+    /// The output with this name, which does this to a file that is there; or standard output.
+    pub fn output(&self, path: Option<&'a str>, existing: Existing) -> Outgoing<'a>
+        ensures { IsOutput path.entry existing result.inner.inner }
+    {
+        let output = match existing {
+            Existing::Replaced => Output::new(self.rt, path),
+            Existing::Kept => Output::keeping_old(self.rt, path),
+        };
+        let meter = self.meter_of_written(path.unwrap_or(STANDARD_OUTPUT));
+        Recorded::new(Writing::new(output, meter))
     }
 
     /// Prints what a run said. Where refusals are explained, why its output failed comes after it, and what to try below.
