@@ -14,4 +14,3 @@ mod rekeying;
 mod rows;
 mod runs;
 mod table;
-mod unopened;

@@ -52,8 +52,7 @@
 //! `limits_table.rt` have rows that each rule out a wrong reading of the rules; rows that need no limits are in tests/rows,
 //! which costs the prover nothing. `rows.rt` and `readings.rt` read the tables. `runs.rt` reads rows of any command:
 //! `answers.rt` has a table of those whose output is text, `rekeying.rt` one of `rekey`. `devices.rt` has the readers and
-//! writers, which `faults.rt`, `marking.rt` and `memory.rt` use. `unopened.rt` has inputs that can't be opened, `by_name.rt`
-//! runs over files by name.
+//! writers, which `faults.rt`, `marking.rt` and `memory.rt` use, and `by_name.rt` runs over files by name.
 #![tactic(auto)]
 
 mod keeping;

@@ -8,7 +8,7 @@
 //! - [`run_explain`] writes the text of the reason with this number or name, or of all without a word, and returns status 0;
 //!   or 1, where the output failed after a prefix of it; or 2 where no reason has that number or name, and then it writes
 //!   nothing (`Explains`, specs/Texts.antt).
-//! - [`tell`] writes the line that a run said on its error output, or a prefix of it where that fails. [`print_explained`]
+//! - [`Voice`] writes the line that a run said on its error output, or a prefix of it where that fails. [`print_explained`]
 //!   writes the same, and after it, where it is the line of a refusal, the lines that explain its reason, with the advice
 //!   that it is given (`IsExplanation`, specs/Telling.antt). What [`advise`] advises is tested.
 //! - [`Recorded`] writes what is below it, and keeps why that failed.
@@ -52,6 +52,6 @@ pub use outcome::{Outcome, ended};
 pub use reasons::all_reasons;
 pub use recording::Recorded;
 pub use session::{Incoming, Outgoing, STANDARD_OUTPUT, Session};
-pub use telling::{print_explained, tell};
+pub use telling::print_explained;
 pub use voice::Voice;
 pub use words::{BINARY, ended_by_text, misused, words_of};

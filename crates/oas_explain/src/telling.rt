@@ -12,7 +12,7 @@ use oas_num::{Outlet, Reason, Sink, SinkFault, Why};
 use std::io::Write;
 
 /// Writes what a run said to `err`. A fault of `err` changes nothing.
-pub fn tell<E: Write>(said: &[u8], err: &mut E)
+pub(crate) fn tell<E: Write>(said: &[u8], err: &mut E)
     ensures { AppendsPrefix (E.contents err.old) (E.contents err.new) said.now }
 {
     let mut told = Outlet::new(err);

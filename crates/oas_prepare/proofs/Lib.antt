@@ -24,3 +24,4 @@ pub mod Ends
 pub mod Inner
 pub mod InnerStops
 pub mod BlockEnds
+pub use Rattle.oas_canon.proofs as oas_canon_proofs

@@ -13,3 +13,4 @@ pub mod Units
 pub mod Laws
 pub use Rattle.oas_narrow.specs as oas_narrow
 pub use Rattle.oas_narrow.specs.oas_wide
+pub use Rattle.oas_canon.specs as oas_canon

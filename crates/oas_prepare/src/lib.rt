@@ -51,6 +51,7 @@ mod taking;
 mod units;
 
 // The crates below, for those above.
+pub use oas_canon;
 pub use oas_narrow;
 pub use oas_narrow::oas_wide;
 pub use preparing::{prepare, read_prepared};

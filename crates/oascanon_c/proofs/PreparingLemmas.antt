@@ -8,10 +8,10 @@ use Rattle.oas_layout.specs.declared.limits.Limits.{Limits}
 use Rattle.oas_layout.specs.declared.profile.Profile.{Profile}
 use Rattle.oas_layout.specs.declared.profile.Profile.TheVariants.{Two}
 use Rattle.oas_layout.specs.Contents.{Contents, IsLayout, meaning_of}
-use Rattle.oas_canon.specs.oas_form.Bytes.{canonical_bytes}
-use Rattle.oas_canon.specs.oas_form.Canonical.{CanonicalForm}
-use Rattle.oas_canon.proofs.oas_form_proofs.Written.{canonical_form}
-use Rattle.oas_canon.proofs.Whole.{all_given, Cause, Bytes, End, Device, Limit, Writer, Room, cause_of, within_not}
+use Rattle.oas_prepare.specs.oas_canon.oas_form.Bytes.{canonical_bytes}
+use Rattle.oas_prepare.specs.oas_canon.oas_form.Canonical.{CanonicalForm}
+use Rattle.oas_prepare.proofs.oas_canon_proofs.oas_form_proofs.Written.{canonical_form}
+use Rattle.oas_prepare.proofs.oas_canon_proofs.Whole.{all_given, Cause, Bytes, End, Device, Limit, Writer, Room, cause_of, within_not}
 use Rattle.oas_prepare.specs.oas_narrow.declared.dropping.Dropping.{Dropping}
 use Rattle.oas_prepare.specs.oas_narrow.declared.dropping.Report.{Report}
 use Rattle.oas_prepare.specs.oas_narrow.declared.places.Rejection.{Rejection}

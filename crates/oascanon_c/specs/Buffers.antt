@@ -10,12 +10,12 @@ use Rattle.oas_layout.specs.Limits.{IsLimits, AreLimits}
 use Rattle.oas_layout.specs.Contents.{Contents, IsLayout, meaning_of}
 use Rattle.oas_layout.specs.Meaning.{Meaning, SameLayout}
 use Rattle.oas_listing.specs.Listing.{listing}
-use Rattle.oas_canon.specs.CellKeys.{cell_key_lines}
-use Rattle.oas_canon.specs.oas_file.Acceptance.{Accepted, Means}
-use Rattle.oas_canon.specs.oas_file.Deciding.{IsReasoned}
-use Rattle.oas_canon.specs.oas_file.Reading.{IsRefused, IsPlaced}
-use Rattle.oas_canon.specs.oas_form.Canonical.{CanonicalForm, IsCanonicalOf}
-use Rattle.oas_canon.specs.declared.sameness.Which.TheVariants.{First, Second}
+use Rattle.oas_prepare.specs.oas_canon.CellKeys.{cell_key_lines}
+use Rattle.oas_prepare.specs.oas_canon.oas_file.Acceptance.{Accepted, Means}
+use Rattle.oas_prepare.specs.oas_canon.oas_file.Deciding.{IsReasoned}
+use Rattle.oas_prepare.specs.oas_canon.oas_file.Reading.{IsRefused, IsPlaced}
+use Rattle.oas_prepare.specs.oas_canon.oas_form.Canonical.{CanonicalForm, IsCanonicalOf}
+use Rattle.oas_prepare.specs.oas_canon.declared.sameness.Which.TheVariants.{First, Second}
 use Rattle.oascanon_c.specs.declared.answers.Answer.{Answer}
 use Rattle.oascanon_c.specs.declared.answers.Answer.TheVariants.{Done, No, TooSmall, NotLimits, Refused}
 use Rattle.oascanon_c.specs.declared.bounds.Bounds.{Bounds}

@@ -10,7 +10,7 @@ use Rattle.oas_difference.specs.Difference.{difference}
 use Rattle.oas_info.specs.declared.info.Info.{Info}
 use Rattle.oas_info.specs.Info.{IsInfo}
 use Rattle.oas_info.specs.Json.{info_json}
-use Rattle.oas_canon.specs.declared.sameness.Which.TheVariants.{First, Second}
+use Rattle.oas_prepare.specs.oas_canon.declared.sameness.Which.TheVariants.{First, Second}
 use Rattle.oascanon_c.specs.declared.answers.Answer.{Answer}
 use Rattle.oascanon_c.specs.declared.answers.Answer.TheVariants.{Done, No, TooSmall, NotLimits, Refused}
 use Rattle.oascanon_c.specs.declared.bounds.Bounds.{Bounds}

@@ -1,15 +1,15 @@
 //! The calls about the canonical file, over bytes and room.
 ghost use Rattle.std.specs.Prelude.{◌≡◌, IfOk, IfErr};
 ghost use Rattle.oas_layout.specs.Contents.{IsLayout, meaning_of};
-ghost use Rattle.oas_canon.specs.oas_form.Bytes.{canonical_bytes};
+ghost use Rattle.oas_prepare.specs.oas_canon.oas_form.Bytes.{canonical_bytes};
 ghost use Rattle.oascanon_c.specs.Buffers.{answered, Canonicalizes, Compares, IsReadFrom, IsRefusedFor, Judges, Keys};
 ghost use Rattle.oascanon_c.specs.Rooms.{Puts};
 
 use crate::answers::Answer;
 use crate::bounds::Bounds;
 use crate::filling::Filler;
-use oas_canon::oas_form::has_canonical_bytes;
-use oas_canon::{
+use oas_prepare::oas_canon::oas_form::has_canonical_bytes;
+use oas_prepare::oas_canon::{
     ByProfile, CompactLayout, Layout, Limits, PROFILE, Refusal, SliceSource, Which, put_canonical,
     read_compact, read_layout,
 };
@@ -88,7 +88,7 @@ pub(crate) fn key(alloc: Global, bytes: &[u8], bounds: &Bounds, digest: &mut [u8
         return Answer::NotLimits;
     };
     let mut source = SliceSource::new(bytes, limits.input());
-    match oas_canon::key(alloc, &mut source, limits) {
+    match oas_prepare::oas_canon::key(alloc, &mut source, limits) {
         Ok(found) => {
             *digest = found;
             Answer::Done(32)

@@ -5,7 +5,7 @@ ghost use Rattle.oascanon_c.specs.Preparing.{IsPreparedFrom, IsStoppedFor, Prepa
 use crate::bounds::Bounds;
 use crate::buffers::put_form;
 use crate::wide_answers::WideAnswer;
-use oas_canon::{Layout, Limits, PROFILE, SliceSource};
+use oas_prepare::oas_canon::{Layout, Limits, PROFILE, SliceSource};
 use oas_prepare::oas_narrow::{Dropping, Rejection, Report};
 use oas_prepare::read_prepared;
 use std::alloc::Global;

@@ -7,7 +7,7 @@ ghost use Rattle.oas_listing.specs.Listing.{listing};
 ghost use Rattle.oas_difference.specs.Difference.{difference};
 ghost use Rattle.oas_info.specs.Info.{IsInfo};
 ghost use Rattle.oas_info.specs.Json.{info_json};
-ghost use Rattle.oas_canon.specs.CellKeys.{cell_key_lines};
+ghost use Rattle.oas_prepare.specs.oas_canon.CellKeys.{cell_key_lines};
 ghost use Rattle.oascanon_c.specs.Buffers.{Lists, ListsKeys};
 ghost use Rattle.oascanon_c.specs.Reports.{Differs, Informs, line_of};
 ghost use Rattle.oascanon_c.specs.Rooms.{Puts};
@@ -16,10 +16,12 @@ use crate::answers::Answer;
 use crate::bounds::Bounds;
 use crate::buffers::{read, read_runs};
 use crate::filling::Filler;
-use oas_canon::{CompactLayout, Layout, Refusal, Sink, SinkFault, Which, Why, put_cell_keys};
 use oas_difference::{Detail, put_difference};
 use oas_info::{Info, info_of, json_of};
 use oas_listing::put_listing;
+use oas_prepare::oas_canon::{
+    CompactLayout, Layout, Refusal, Sink, SinkFault, Which, Why, put_cell_keys,
+};
 use std::alloc::{AllocError, Global};
 
 /// Puts the listing of a layout into the room, as far as it fits.

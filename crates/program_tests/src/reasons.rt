@@ -1,7 +1,7 @@
 //! What no contract says: the names and numbers of all reasons, and the lines as they are printed.
 
 use oas_explain::oas_command::{run_refused, run_unopened};
-use oas_explain::{Reason, Recorded, Voice, all_reasons, print_explained, run_explain, tell};
+use oas_explain::{Reason, Recorded, Voice, all_reasons, print_explained, run_explain};
 use oas_num::{Refusal, Why};
 use std::alloc::Global;
 use std::io;
@@ -154,7 +154,7 @@ fn line_of_an_explanation(rt: HostRuntime) {
 /// Whether what was said is printed unchanged where explanations are requested, and where they aren't.
 fn told(alloc: Global, said: &[u8]) -> [bool; 2] {
     let mut plain: Vec<u8> = Vec::new(alloc);
-    tell(said, &mut plain);
+    Voice::new(&mut plain, false, false).tell(said, "", "");
     [
         is_explained_by(alloc, said, "", "", said),
         plain.as_slice() == said,

@@ -1,7 +1,6 @@
 //! The commands whose output is text, and that text: each through memory, to writers that fail, and with its file refused.
 
 use super::runs::{expect_faults, expect_runs};
-use oas_command::worse;
 use std::test::Fail;
 
 /// The rows, as in `runs`. Keys are what `sha256sum` prints for the canonical files.
@@ -77,11 +76,4 @@ fn writers_that_fail(rt: HostRuntime) -> Result<(), Fail> {
 #[test]
 fn writers_that_fail_by_name(rt: HostRuntime) -> Result<(), Fail> {
     expect_faults(&rt, rt.alloc(), NAMED)
-}
-
-#[test]
-fn status_of_two(rt: HostRuntime) {
-    for (a, b, both) in [(0u8, 0u8, 0u8), (0, 3, 3), (3, 0, 3), (3, 1, 1), (1, 3, 1)] {
-        assert!(rt; worse(a, b) == both);
-    }
 }

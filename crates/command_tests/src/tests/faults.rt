@@ -4,9 +4,9 @@ use super::devices::{After, Full, Reader, Writer};
 use super::rows::{RECTANGLE, front_of, outcome, record_at};
 use super::runs::{Outcome, run_work, unrefused};
 use file_pieces::bytes_of;
+use oas_command::Work;
 use oas_command::oas_canon::Limits;
-use oas_command::{Work, run_refused};
-use oas_num::{INPUT_MAX, ReaderSource, Refusal, SliceSource, Why};
+use oas_num::{INPUT_MAX, ReaderSource, SliceSource};
 use std::alloc::Global;
 use std::test::Fail;
 
@@ -127,20 +127,4 @@ fn error_outputs_that_fail(rt: HostRuntime) -> Result<(), Fail> {
         assert!(rt; refused_within(rt.alloc(), room)? == (1, true), "at {room}");
     }
     Ok(())
-}
-
-/// The message of a run that cannot begin, and its status.
-fn unbegun(alloc: Global) -> (u8, bool) {
-    let mut err: Vec<u8> = Vec::new(alloc);
-    let why = Why::Memory;
-    let status = run_refused("standard input", Refusal { at: 0, why }, &mut err);
-    (
-        status,
-        err.as_slice() == "standard input: refused 34 at 0\n".as_bytes(),
-    )
-}
-
-#[test]
-fn run_that_cannot_begin(rt: HostRuntime) {
-    assert!(rt; unbegun(rt.alloc()) == (1, true));
 }
