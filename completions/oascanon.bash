@@ -14,7 +14,7 @@ _oascanon() {
       check) flags+=' --names --files0-from' ;;
       key) flags+=' --names --files0-from --check --quiet --zero' ;;
       info) flags+=' --json' ;;
-      diff) flags+=' --cell --layer --brief --limit --markers --markers-limit' ;;
+      diff) flags+=' --cell --layer --brief --json --unit --limit --markers --markers-limit' ;;
       explain) flags='--help' ;;
     esac
     mapfile -t COMPREPLY < <(compgen -W "$flags" -- "$word")
@@ -24,6 +24,8 @@ _oascanon() {
     mapfile -t COMPREPLY < <(compgen -W "$(seq 34; seq 101 113)" -- "$word")
   elif [[ ${COMP_WORDS[1]} == diff && $before == --*limit ]]; then
     mapfile -t COMPREPLY < <(compgen -W '10 100 1000 10000' -- "$word")
+  elif [[ ${COMP_WORDS[1]} == diff && $before == --unit ]]; then
+    mapfile -t COMPREPLY < <(compgen -W 'grid um' -- "$word")
   else
     mapfile -t COMPREPLY < <(compgen -f -- "$word")
   fi

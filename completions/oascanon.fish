@@ -23,6 +23,8 @@ complete -c oascanon -n '__fish_seen_subcommand_from key' -r -l check -d 'Says w
 complete -c oascanon -n '__fish_seen_subcommand_from key' -s q -l quiet -d 'Says only which keys changed'
 complete -c oascanon -n '__fish_seen_subcommand_from key' -s z -l zero -d 'Ends lines by a zero byte'
 complete -c oascanon -n '__fish_seen_subcommand_from info' -l json -d 'Prints a JSON object'
+complete -c oascanon -n '__fish_seen_subcommand_from diff' -l json -d 'Prints a JSON object in place of each line'
+complete -c oascanon -n '__fish_seen_subcommand_from diff' -x -l unit -a 'grid um' -d 'Prints coordinates in this unit'
 complete -c oascanon -n '__fish_seen_subcommand_from diff' -x -l cell -d 'Compares this cell alone'
 complete -c oascanon -n '__fish_seen_subcommand_from diff' -x -l layer -d 'Compares this layer alone'
 complete -c oascanon -n '__fish_seen_subcommand_from diff' -l brief -d 'Counts the elements of each cell'

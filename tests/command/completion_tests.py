@@ -17,5 +17,7 @@ def test_bash(program, folder):
     assert offered_by_bash(folder, ["oascanon", "explain", "11"]) == ["11", "110", "111", "112", "113"]
     for words in (["--limit", ""], ["--limit", "="], ["--limit", "=", ""]):
         assert offered_by_bash(folder, ["oascanon", "diff", *words]) == ["10", "100", "1000", "10000"], words
+    for words in (["--unit", ""], ["--unit", "="], ["--unit", "=", ""]):
+        assert offered_by_bash(folder, ["oascanon", "diff", *words]) == ["grid", "um"], words
     for words in (["--files0-from", "chi"], ["--files0-from", "=", "chi"], ["--files0-from", "="]):
         assert offered_by_bash(folder, ["oascanon", "key", *words]) == ["chip.list"], words

@@ -1,5 +1,6 @@
 """What differs between two files."""
-import subprocess, time
+import json, subprocess, time
+from decimal import Decimal
 from xml.etree import ElementTree
 
 from layouts import RESPELLED, SMALL, cell, file_of, large, rectangle
@@ -140,6 +141,62 @@ def test_layers_of_each_kind(program, folder):
     for layers, lines in ((["1"], text + one + five), (["1/5"], text + five), (["2", "1/0"], one + other), (["5"], ""), (["0"], "")):
         words = [word for layer in layers for word in ("--layer", layer)]
         assert answer(program, folder, KINDS, file_of(cell(b"A")), *words) == ((3, "@ cell A\n" + lines) if lines else (0, "")), layers
+
+
+def test_json(program, folder):
+    code, text = answer(program, folder, BEFORE, AFTER, "--json")
+    assert code == 3 and text.splitlines()[0] == (
+        '{"kind":"rectangle","sign":"-","count":2,"cell":"A","layer":1,"datatype":0,"width":10,"height":20,"x":0,"y":0}')
+    assert [tuple(json.loads(line).values())[:4] for line in text.splitlines()] == [
+        ("rectangle", "-", 2, "A"), ("rectangle", "+", 1, "A"), ("cell", "-", 1, "B"), ("cell", "+", 1, "C"), ("rectangle", "+", 1, "C")]
+    assert answer(program, folder, SMALL, RESPELLED, "--json") == (0, "")
+
+
+def test_json_has_the_fields_of_the_lines(program, folder):
+    before = file_of(cell(b"A") + bytes.fromhex("11b001420406" "135b02225c03040709" "153b01000402012829000000" "16fb0100050f050604000608" "1b3b0100050709"))
+    fields = []
+    for line in answer(program, folder, before, file_of(cell(b"A")), "--json")[1].splitlines():
+        kind, sign, count, name, *rest = json.loads(line).values()
+        words = (" ".join(",".join(map(str, point)) for point in each) if isinstance(each, list) else str(each) for each in rest)
+        fields.append(" ".join([sign, str(count), kind, *words]))
+        assert name == "A"
+    assert fields == answer(program, folder, before, file_of(cell(b"A")))[1].splitlines()[1:]
+
+
+def test_json_of_counts_and_of_a_limit(program, folder):
+    assert answer(program, folder, BEFORE, AFTER, "--json", "--brief", "--limit", "1") == (
+        3, '{"kind":"cell","sign":"@","cell":"A","removed":2,"added":1}\n{"kind":"more"}\n')
+    assert answer(program, folder, BEFORE, AFTER, "--json", "--limit", "0") == (3, '{"kind":"more"}\n')
+
+
+def test_microns(program, folder):
+    assert answer(program, folder, BEFORE, AFTER, "--unit", "um", "--cell", "A") == (
+        3, "@ cell A\n- 2 rectangle 1 0 0.01 0.02 0 0\n+ 1 rectangle 4 0 0.001 0.001 0.007 0.008\n")
+    assert answer(program, folder, BEFORE, AFTER, "--unit=grid") == answer(program, folder, BEFORE, AFTER)
+    assert answer(program, folder, BEFORE, AFTER, "--unit=um", "--brief") == answer(program, folder, BEFORE, AFTER, "--brief")
+
+
+def test_microns_of_json_are_exact(program, folder):
+    words = "--json", "--layer", "1", "--layer", "4"
+    steps, microns = (answer(program, folder, BEFORE, AFTER, *words, "--unit", unit)[1].splitlines() for unit in ("grid", "um"))
+    for one, other in zip(steps, microns, strict=True):
+        one, other = (json.loads(line, parse_float=Decimal) for line in (one, other))
+        for name in ("width", "height", "x", "y"):
+            assert other.pop(name) * 1000 == one.pop(name)
+        assert one == other
+
+
+def test_a_unit_that_is_none(program, folder):
+    for words in (["--unit"], ["--unit", "mm"], ["--unit="], ["--unit", "um", "--unit", "um"]):
+        done = diff(program, folder, SMALL, SMALL, *words)
+        assert (done.returncode, done.stdout) == (2, b"") and b"--unit <UNIT>" in done.stderr, words
+
+
+def test_json_of_many(program, folder):
+    begun = time.monotonic()
+    code, text = answer(program, folder, large(200_000), file_of(cell(b"A")), "--json", "--unit", "um")
+    assert code == 3 and text.count("\n") == 200_000 and all(line.startswith('{"kind":"rectangle",') for line in text.splitlines())
+    assert time.monotonic() - begun < 40
 
 
 def test_a_layer_that_is_none(program, folder):

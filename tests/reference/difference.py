@@ -1,6 +1,7 @@
 """What one layout has more often than another: docs/LISTING.md, "The difference", read aloud."""
 
 from canonical import line
+from formats import entries
 
 
 def of_units(one, other):
@@ -85,7 +86,11 @@ def diff(layouts, options):
         one, other = with_empty(one, other), with_empty(other, one)
     lines = difference(one, other, "--brief" in options)
     status = 3 if lines else 0
+    is_json, units = "--json" in options, [layout[0] for layout in layouts] if "um" in given(options, "--unit") else None
+    if is_json or units:
+        lines = entries(lines, units, is_json)
     if "--limit" in options:
         most = int(options[options.index("--limit") + 1])
-        lines = lines[:most] + ["..."] * (len(lines) > most)
+        more = '{"kind":"more"}' if is_json else "..."
+        lines = lines[:most] + [more] * (len(lines) > most)
     return status, "".join(each + "\n" for each in lines).encode()

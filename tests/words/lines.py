@@ -14,7 +14,9 @@ WORDS = {
     "canon": ("--no-clobber", "a", "o", "-"),
     "check": ("--names", "--files0-from=n", "a", "b", "-"),
     "same": ("a", "b", "-"),
-    "diff": ("--cell=B", "--layer=2", "--brief", "--limit=2", "--markers=m", "--markers-limit=1", "a", "b", "-"),
+    "diff": (
+        "--cell=B", "--layer=2", "--brief", "--json", "--unit=um", "--limit=2", "--markers=m", "--markers-limit=1", "a", "b", "-",
+    ),
     "show": ("a", "-"),
     "key": ("--names", "--zero", "--quiet", "--files0-from=n", "--check=l", "a", "b", "-"),
     "keys": ("a", "-"),
@@ -31,6 +33,7 @@ SPELLED = (
     ("--cell=C",), ("--cell=b",), ("--cell=",), ("--cell", "B"), ("--cell", "-"), ("--cell",),
     ("--layer=1/1",), ("--layer=2/1",), ("--layer=1/",), ("--layer=2/1/1",), (f"--layer={2**64}",), ("--layer=x",),
     ("--layer=",), ("--layer", "2"), ("--layer", "-1"), ("--layer",),
+    ("--unit=grid",), ("--unit=mm",), ("--unit=",), ("--unit", "um"), ("--unit", "-"), ("--unit",),
     ("--limit=0",), ("--limit=1",), (f"--limit={2**64 - 1}",), (f"--limit={2**64}",), ("--limit=x",), ("--limit=-1",),
     ("--limit=",),
     ("--limit", "2"), ("--limit", "x"), ("--limit", "-1"), ("--limit", "-"), ("--limit",),

@@ -153,8 +153,10 @@ def of_two(run):
     files = run.two_layouts()
     if files is None:
         return
-    limited = "" if request.limit is None else f" --limit {request.limit}"
-    out = run.answer(compared + " --brief" * ("brief" in request.flags) + limited, *files)
+    flags = "".join(f" --{name}" for name in ("brief", "json") if name in request.flags)
+    options = (("unit", request.unit), ("limit", request.limit))
+    valued = "".join(f" --{name} {value}" for name, value in options if value is not None)
+    out = run.answer(compared + flags + valued, *files)
     if out is not None and request.markers is not None:
         _, lines, _ = answered(compared, files, run.is_large)
         run.writes(request.markers, markers_of(lines.decode().splitlines(), request.most))

@@ -23,7 +23,7 @@ COMMANDS = {
     "canon": Command((*COMMON, "no-clobber"), (), 0, 2),
     "check": Command((*COMMON, "names"), ("files0-from",), 0, MANY),
     "same": Command(COMMON, (), 2, 2),
-    "diff": Command((*COMMON, "brief"), ("cell", "layer", "limit", "markers", "markers-limit"), 2, 2),
+    "diff": Command((*COMMON, "brief", "json"), ("cell", "layer", "unit", "limit", "markers", "markers-limit"), 2, 2),
     "show": Command(COMMON, (), 0, 1),
     "key": Command((*COMMON, "names", "zero", "quiet"), ("files0-from", "check"), 0, MANY),
     "keys": Command(COMMON, (), 0, 1),
@@ -31,10 +31,11 @@ COMMANDS = {
     "rekey": Command(COMMON, (), 2, 2),
     "explain": Command((), (), 0, 1),
 }
-# The options that may be repeated, those whose value may be any word, and the words for that of `oasprep`.
+# The options that may be repeated, those whose value may be any word, the words for that of `oasprep`, and those for a unit.
 REPEATED = ("drop", "cell", "layer")
 ANY = ("cell", "layer")
 DROPPED = ("properties", "layer-names", "extensions")
+UNITS = ("grid", "um")
 LETTERS = {"h": "help", "V": "version", "q": "quiet", "z": "zero"}
 # What the help calls the files that have to be there.
 NEEDED = {"same": ("<A>", "<B>"), "diff": ("<A>", "<B>"), "rekey": ("<OLD>", "<NEW>")}
@@ -43,10 +44,10 @@ FILES, NAMES, KEYS = "files", "names", "keys"
 
 # The run of a command. `reads` is one of the three kinds, and `inputs` are the names of these files, or of the one list; None
 # is standard input. The output is None where it is standard output. `flags` are those that matter. For `diff` there are the
-# cells and the layers to which it is limited, its limit, the file for markers and how many these may be; None where there is
-# none. `explain` has a number.
-FIELDS = "command reads inputs output flags cells layers limit markers most number"
-Request = namedtuple("Request", FIELDS, defaults=(None, frozenset(), *(None,) * 6))
+# cells and the layers to which it is limited, its unit, its limit, the file for markers and how many these may be; None where
+# there is none, and for grid steps. `explain` has a number.
+FIELDS = "command reads inputs output flags cells layers unit limit markers most number"
+Request = namedtuple("Request", FIELDS, defaults=(None, frozenset(), *(None,) * 7))
 # The help of a command, or of the program where it is None.
 Help = namedtuple("Help", "command")
 Version = namedtuple("Version", "")
@@ -83,6 +84,8 @@ def no_values(name, value):
     """The parts of an option's value that it can't have."""
     if name in ("limit", "markers-limit"):
         return [] if is_number(value) else [value]
+    if name == "unit":
+        return [] if value in UNITS else [value]
     return [word for word in value.split(",") if word not in DROPPED] if name == "drop" else []
 
 
@@ -188,11 +191,12 @@ def layers_of(given):
 
 
 def difference_of(given):
-    """The fields of a request that `diff` has. A cell that no file has is the same as none."""
+    """The fields of a request that `diff` has. A cell that no file has is the same as none, and counts have no unit."""
     limit, most = int(given.get("limit", NO_LIMIT)), int(given.get("markers-limit", MOST_MARKERS))
     return {
         "cells": frozenset(given["cell"].split(",")) & {*CELLS} if "cell" in given else None,
         "layers": layers_of(given),
+        "unit": None if given.get("unit") == "grid" or "brief" in given else given.get("unit"),
         "limit": None if limit == NO_LIMIT else limit,
         "markers": given.get("markers"),
         "most": None if most >= MOST_MARKERS else most,

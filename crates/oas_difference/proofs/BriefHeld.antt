@@ -23,14 +23,18 @@ use Rattle.oas_difference.specs.declared.options.Detail.{Detail}
 use Rattle.oas_difference.specs.declared.options.Detail.TheVariants.{Elements, Counts}
 use Rattle.oas_difference.specs.Ascending.{ascending}
 use Rattle.oas_difference.specs.Pairs.{found}
+use Rattle.oas_difference.specs.Changed.{change_at, changed}
 use Rattle.oas_difference.specs.Difference.{unit_changes}
-use Rattle.oas_difference.specs.Brief.{change_at, changed, only_first, only_second, brief_of, cell_brief}
-use Rattle.oas_difference.specs.Held.{pair_changed, held_changed, counted_to, held_brief, held_lines}
+use Rattle.oas_difference.specs.Format.{notation_of}
+use Rattle.oas_difference.specs.Brief.{only_first, only_second, brief_of, cell_brief}
+use Rattle.oas_difference.specs.Held.{pair_changed, held_changed, held_brief, held_lines, cell_pairs}
+use Rattle.oas_difference.specs.Microns.{counted_to}
+use Rattle.oas_difference.specs.declared.format.Syntax.{Syntax}
+use Rattle.oas_difference.specs.declared.format.Format.{Format}
 use Rattle.oas_difference.specs.Options.{detailed}
 use Rattle.oas_difference.specs.Choice.{or_empty}
 use Rattle.oas_difference.specs.declared.choice.ChosenLayer.{ChosenLayer}
-use Rattle.oas_difference.proofs.Ascending.{all_append, all_ascending, items_keys}
-use Rattle.oas_difference.proofs.Held.{keys_normal, count_held, there, the_items, bag_of, or_bag, bag_at, or_items, elements_found, keys_held, pairs_are, difference_held}
+use Rattle.oas_difference.proofs.Held.{changed_held, there, the_items, bag_of, or_bag, bag_at, or_items, elements_found, keys_held, pairs_are, difference_held}
 use Rattle.oas_difference.proofs.Sums.{sorted_ascending, weight_if, sum_found}
 use Rattle.oas_difference.proofs.Lengths.{unwrapped, held_length}
 
@@ -119,31 +123,13 @@ module _ (es fs : List (Element × ℕ)) where
 
 -- ---- the elements of a cell
 
-map_lists : {A B : Type 0} (f g : A → List B) (xs : List A) → AllByRecursion (λ x. f x ≡ g x) xs → flat_map f xs ≡ flat_map g xs
-map_lists f g [] h = refl
-map_lists f g (x ∷ xs) h = λ i. h.0 i ++ map_lists f g xs h.1 i
-
 module _ (profile : Profile) (es fs : List (Element × ℕ)) (b : IsBag profile es) (c : IsBag profile fs) where
-  entry_held : (xs : List Element) → AllByRecursion (IsNormal profile) xs →
-      AllByRecursion (λ e. change_at e (count_of profile e (items es)) (count_of profile e (items fs)) ≡ pair_changed (e, (found element_cmp es e, found element_cmp fs e))) xs
-  entry_held [] h = tt
-  entry_held (x ∷ xs) h = (λ i. change_at x (count_held profile es fs b c es x b h.0 i) (count_held profile es fs b c fs x c h.0 i), entry_held xs h.1)
-
-  pub changed_held : changed profile (items es) (items fs) ≡ held_changed es fs
-  changed_held =
-      let ks = ascending element_cmp (keys_of es ++ keys_of fs) in
-      ap (flat_map (λ e. change_at e (count_of profile e (items es)) (count_of profile e (items fs)))) (items_keys element_total es fs b.tally.positive c.tally.positive)
-      ∙ map_lists _ (λ e. pair_changed (e, (found element_cmp es e, found element_cmp fs e))) ks
-      (entry_held ks (all_ascending (IsNormal profile) element_cmp (keys_of es ++ keys_of fs)
-      (all_append (IsNormal profile) (keys_of es) (keys_of fs) (keys_normal profile es b.normal) (keys_normal profile fs c.normal))))
-      ∙ sym (flat_map-map pair_changed (λ e. (e, (found element_cmp es e, found element_cmp fs e))) ks)
-
   module _ (few : length (items es) < 2 ^ 64) (less : length (items fs) < 2 ^ 64) where
     first_held : only_first (changed profile (items es) (items fs)) ≡ counted_to (only_first (held_changed es fs))
-    first_held = ap only_first changed_held ∙ fits_first es fs few
+    first_held = ap only_first (changed_held profile es fs b c) ∙ fits_first es fs few
 
     second_held : only_second (changed profile (items es) (items fs)) ≡ counted_to (only_second (held_changed es fs))
-    second_held = ap only_second changed_held ∙ fits_second es fs less
+    second_held = ap only_second (changed_held profile es fs b c) ∙ fits_second es fs less
 
 -- ---- a cell
 
@@ -168,44 +154,45 @@ unfolding IsFew
 all_few [] h = tt
 all_few (c ∷ cs) h = (omega (arith, h), all_few cs (omega (arith, h)))
 
-brief_held : (profile : Profile) (name : List ℕ) (o p : Option (List (Element × ℕ))) → IfSome o (IsBag profile) → IfSome p (IsBag profile) → IfSome o IsFew →
-    IfSome p IsFew → cell_brief profile name (option_map items o) (option_map items p) ≡ held_brief (name, (o, p))
+brief_held : (syntax : Syntax) (profile : Profile) (name : List ℕ) (o p : Option (List (Element × ℕ))) → IfSome o (IsBag profile) → IfSome p (IsBag profile) → IfSome o IsFew →
+    IfSome p IsFew → cell_brief syntax profile name (option_map items o) (option_map items p) ≡ held_brief syntax (name, (o, p))
 unfolding IsFew
-brief_held profile name o p b c few less =
+brief_held syntax profile name o p b c few less =
     let es = unwrap_or o [] in
     let fs = unwrap_or p [] in
     let d = bag_of profile o b in
     let e = bag_of profile p c in
-    (λ i. brief_of (there profile o i) (there profile p i) name (only_first (changed profile (the_items profile o i) (the_items profile p i)))
+    (λ i. brief_of syntax (there profile o i) (there profile p i) name (only_first (changed profile (the_items profile o i) (the_items profile p i)))
     (only_second (changed profile (the_items profile o i) (the_items profile p i))))
-    ∙ (λ i. brief_of (is_some o) (is_some p) name (first_held profile es fs d e (few_of o few) (few_of p less) i) (second_held profile es fs d e (few_of o few) (few_of p less) i))
+    ∙ (λ i. brief_of syntax (is_some o) (is_some p) name (first_held profile es fs d e (few_of o few) (few_of p less) i) (second_held profile es fs d e (few_of o few) (few_of p less) i))
 
 -- ---- the cells
 
-module _ (profile : Profile) (layers : Option (Bor (List ChosenLayer))) (cs ds : List Cell) (p : AllByRecursion (IsCell profile) cs) (q : AllByRecursion (IsCell profile) ds)
+module _ (syntax : Syntax) (profile : Profile) (layers : Option (Bor (List ChosenLayer))) (cs ds : List Cell) (p : AllByRecursion (IsCell profile) cs) (q : AllByRecursion (IsCell profile) ds)
     (few : AllByRecursion (λ c. IsFew c.1) cs) (less : AllByRecursion (λ c. IsFew c.1) ds) where
-  line_held : (name : List ℕ) → cell_brief profile name (or_empty layers (elements_of name (expanded cs))) (or_empty layers (elements_of name (expanded ds)))
-      ≡ held_brief (name, (or_empty layers (found (slice_cmp nat_cmp) cs name), or_empty layers (found (slice_cmp nat_cmp) ds name)))
+  line_held : (name : List ℕ) → cell_brief syntax profile name (or_empty layers (elements_of name (expanded cs))) (or_empty layers (elements_of name (expanded ds)))
+      ≡ held_brief syntax (name, (or_empty layers (found (slice_cmp nat_cmp) cs name), or_empty layers (found (slice_cmp nat_cmp) ds name)))
   line_held name =
       let at = is_at (slice_cmp nat_cmp name) in
       let o = found (slice_cmp nat_cmp) cs name in
       let r = found (slice_cmp nat_cmp) ds name in
-      (λ i. cell_brief profile name (or_empty layers (elements_found name cs i)) (or_empty layers (elements_found name ds i)))
-      ∙ (λ i. cell_brief profile name (or_items layers o i) (or_items layers r i))
-      ∙ brief_held profile name (or_empty layers o) (or_empty layers r) (or_bag profile layers o (bag_at profile at cs p)) (or_bag profile layers r (bag_at profile at ds q))
+      (λ i. cell_brief syntax profile name (or_empty layers (elements_found name cs i)) (or_empty layers (elements_found name ds i)))
+      ∙ (λ i. cell_brief syntax profile name (or_items layers o i) (or_items layers r i))
+      ∙ brief_held syntax profile name (or_empty layers o) (or_empty layers r) (or_bag profile layers o (bag_at profile at cs p)) (or_bag profile layers r (bag_at profile at ds q))
       (or_few layers o (few_at at cs few)) (or_few layers r (few_at at ds less))
 
-  lines_held : flat_map (λ name. cell_brief profile name (or_empty layers (elements_of name (expanded cs))) (or_empty layers (elements_of name (expanded ds))))
-      (ascending (slice_cmp nat_cmp) (keys_of (expanded cs) ++ keys_of (expanded ds))) ≡ held_lines layers Counts cs ds
+  lines_held : flat_map (λ name. cell_brief syntax profile name (or_empty layers (elements_of name (expanded cs))) (or_empty layers (elements_of name (expanded ds))))
+      (ascending (slice_cmp nat_cmp) (keys_of (expanded cs) ++ keys_of (expanded ds))) ≡ flat_map (held_brief syntax) (cell_pairs layers cs ds)
   lines_held =
       (λ i. flat_map (λ name. line_held name i) (ascending (slice_cmp nat_cmp) (keys_held cs i ++ keys_held ds i)))
-      ∙ sym (pairs_are layers held_brief cs ds)
+      ∙ sym (pairs_are layers (held_brief syntax) cs ds)
 
--- the lines of the units, and then those of the cells that are held
-pub detailed_held : (layers : Option (Bor (List ChosenLayer))) (detail : Detail) (a b : Contents) → IsLayout a → IsLayout b → a.profile ≡ b.profile →
-    detailed layers detail a.profile (meaning_of a) (meaning_of b) ≡ unit_changes a.unit b.unit ++ held_lines layers detail a.cells b.cells
-detailed_held layers Elements a b k l alike = difference_held layers a b k l alike
-detailed_held layers Counts a b k l alike =
+-- the entries of the units, and then those of the cells that are held
+pub detailed_held : (layers : Option (Bor (List ChosenLayer))) (detail : Detail) (format : Format) (a b : Contents) → IsLayout a → IsLayout b → a.profile ≡ b.profile →
+    detailed layers detail format a.profile (meaning_of a) (meaning_of b)
+    ≡ unit_changes format.syntax a.unit b.unit ++ held_lines layers detail (notation_of format a.unit b.unit) a.cells b.cells
+detailed_held layers Elements format a b k l alike = difference_held layers format a b k l alike
+detailed_held layers Counts format a b k l alike =
     let cells = subst (λ p. AllByRecursion (IsCell p) b.cells) (sym alike) l.cells in
-    ap (λ (text : List ℕ). unit_changes a.unit b.unit ++ text)
-    (lines_held a.profile layers a.cells b.cells k.cells cells (all_few a.cells (omega (arith, k.few, k.limits.few))) (all_few b.cells (omega (arith, l.few, l.limits.few))))
+    ap (λ (text : List ℕ). unit_changes format.syntax a.unit b.unit ++ text)
+    (lines_held format.syntax a.profile layers a.cells b.cells k.cells cells (all_few a.cells (omega (arith, k.few, k.limits.few))) (all_few b.cells (omega (arith, l.few, l.limits.few))))

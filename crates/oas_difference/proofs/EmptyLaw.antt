@@ -22,9 +22,16 @@ use Rattle.oas_layout.specs.Same.{same_element, normal}
 use Rattle.oas_layout.specs.Laws.ElementLaws.{exact_elements}
 use Rattle.oas_layout.specs.Laws.SameLaws.{same_element-is, same_element-Decides, normal-alike}
 use Rattle.oas_layout.specs.Meaning.{Meaning, SameLayout, elements_of, count_of}
-use Rattle.oas_listing.specs.Listing.{element_line}
 use Rattle.oas_difference.specs.Ascending.{ascending}
-use Rattle.oas_difference.specs.Difference.{change, signed, unit_line, same_ratio, unit_changes, element_changes, below_name, cell_changes, difference}
+use Rattle.oas_difference.specs.Changed.{change_at, changed}
+use Rattle.oas_difference.specs.Entries.{unit_entry, cell_entry}
+use Rattle.oas_difference.specs.Format.{notation_of}
+use Rattle.oas_difference.specs.Difference.{same_ratio, unit_changes, change_entry, element_changes, below_name, cell_changes, difference}
+use Rattle.oas_difference.specs.declared.format.Syntax.{Syntax}
+use Rattle.oas_difference.specs.declared.format.Syntax.TheVariants.{Lines, Json}
+use Rattle.oas_difference.specs.declared.format.Format.{Format}
+use Rattle.oas_difference.specs.declared.format.Notation.{Notation}
+use Rattle.oas_difference.proofs.Steps.{change_first}
 use Rattle.oas_difference.specs.Laws.DifferenceLaws.{EmptyIfSame}
 use Rattle.oas_difference.specs.Laws.OptionLaws.{SameElements}
 use Rattle.oas_difference.specs.declared.choice.ChosenLayer.{ChosenLayer}
@@ -32,11 +39,11 @@ use Rattle.std.specs.Borrow.{Bor}
 
 -- ---- lists without a line
 
-pub none_twice : (xs ys : List ℕ) → xs ++ ys ≡ [] → (xs ≡ []) × (ys ≡ [])
+pub none_twice : {A : Type 0} (xs ys : List A) → xs ++ ys ≡ [] → (xs ≡ []) × (ys ≡ [])
 none_twice [] ys e = (refl, e)
 none_twice (x ∷ xs) ys e = let no : ⊥ = cc in absurd no
 
-module _ {K : Type 0} (f : K → List ℕ) where
+module _ {K A : Type 0} (f : K → List A) where
   none_of_all : ((x : K) → f x ≡ []) → (xs : List K) → flat_map f xs ≡ []
   none_of_all h [] = refl
   none_of_all h (x ∷ xs) = λ i. h x i ++ none_of_all h xs i
@@ -65,25 +72,22 @@ all_front P (x ∷ xs) ys h = let rest = all_front P xs ys h.1 in ((h.0, rest.0)
 
 -- ---- a change
 
-not_below_itself : (n : ℕ) → nat_lt n n ≡ false
-not_below_itself n = by_cases (nat_lt n n) refl where
-  by_cases : (b : Bool) → nat_lt n n ≡ b → nat_lt n n ≡ false
-  by_cases true e = absurd (omega (arith, ltb-true n n e))
-  by_cases false e = e
+pub same_count : (e : Element) (n m : ℕ) → n ≡ m → change_at e n m ≡ []
+same_count e n m h = ap (λ (b : Bool). if b then [] else (e, (n, m)) ∷ []) (eq-eqb n m h)
 
-pub same_count : (n m : ℕ) (text : List ℕ) → n ≡ m → change n m text ≡ []
-same_count n m text e =
-    ap (λ (k : ℕ). change n k text) (sym e) ∙ ap (λ b. if b then signed 45 (n - n) text else if b then signed 43 (n - n) text else []) (not_below_itself n)
+pub counts_alike : (e : Element) (n m : ℕ) → change_at e n m ≡ [] → n ≡ m
+counts_alike e n m h = by_cases (n == m) refl h where
+  by_cases : (b : Bool) → (n == m) ≡ b → if◌then◌else◌ {A = List (Element × (ℕ × ℕ))} b [] ((e, (n, m)) ∷ []) ≡ [] → n ≡ m
+  by_cases true p k = eqb-true n m p
+  by_cases false p k = let no : ⊥ = cc in absurd no
 
-pub neither_below : (n m : ℕ) → nat_lt m n ≡ false → nat_lt n m ≡ false → n ≡ m
-neither_below n m e f = grind (arith, nat_tests)
-
-pub counts_alike : (n m : ℕ) (text : List ℕ) → change n m text ≡ [] → n ≡ m
-counts_alike n m text e = by_cases (nat_lt m n) (nat_lt n m) refl refl e where
-  by_cases : (a b : Bool) → nat_lt m n ≡ a → nat_lt n m ≡ b → (if a then signed 45 (n - m) text else if b then signed 43 (m - n) text else []) ≡ [] → n ≡ m
-  by_cases true b p q h = let no : ⊥ = cc in absurd no
-  by_cases false true p q h = let no : ⊥ = cc in absurd no
-  by_cases false false p q h = neither_below n m p q
+-- each change has an entry
+pub none_written : (notation : Notation) (name : List ℕ) (cs : List (Element × (ℕ × ℕ))) → flat_map (change_entry notation name) cs ≡ [] → cs ≡ []
+none_written notation name [] e = refl
+none_written notation name (c ∷ cs) e =
+    let some = change_first notation name c in
+    let none : some.0 ∷ some.1 ≡ [] = sym some.2 ∙ (none_twice (change_entry notation name c) (flat_map (change_entry notation name) cs) e).0 in
+    let no : ⊥ = cc in absurd no
 
 -- ---- the unit
 
@@ -96,14 +100,19 @@ ratios_alike u v e = by_cases (u.num == v.num) refl e where
   by_cases true p h = λ i. record { num = eqb-true u.num v.num p i; den = eqb-true u.den v.den h i }
   by_cases false p h = let no : ⊥ = cc in absurd no
 
-units_alike : (u v : Ratio) → unit_changes u v ≡ [] → u ≡ v
-units_alike u v e = by_cases (same_ratio u v) refl e where
-  by_cases : (b : Bool) → same_ratio u v ≡ b → (if b then [] else change 1 0 (unit_line u) ++ change 0 1 (unit_line v)) ≡ [] → u ≡ v
-  by_cases true p h = ratios_alike u v p
-  by_cases false p h = let no : ⊥ = cc in absurd no
+units_alike : (syntax : Syntax) (u v : Ratio) → unit_changes syntax u v ≡ [] → u ≡ v
+units_alike syntax u v e = by_cases (same_ratio u v) refl e where
+  some : (syntax : Syntax) → unit_entry syntax 45 u ++ unit_entry syntax 43 v ≡ [] → u ≡ v
+  some Lines h = let no : ⊥ = cc in absurd no
+  some Json h = let no : ⊥ = cc in absurd no
 
-pub one_unit : (u v : Ratio) → u ≡ v → unit_changes u v ≡ []
-one_unit u v e = ap (λ w. unit_changes u w) (sym e) ∙ ap (λ b. if b then [] else change 1 0 (unit_line u) ++ change 0 1 (unit_line u)) (one_ratio u)
+  by_cases : (b : Bool) → same_ratio u v ≡ b → (if b then [] else unit_entry syntax 45 u ++ unit_entry syntax 43 v) ≡ [] → u ≡ v
+  by_cases true p h = ratios_alike u v p
+  by_cases false p h = some syntax h
+
+pub one_unit : (syntax : Syntax) (u v : Ratio) → u ≡ v → unit_changes syntax u v ≡ []
+one_unit syntax u v e =
+    ap (λ w. unit_changes syntax u w) (sym e) ∙ ap (λ b. if b then [] else unit_entry syntax 45 u ++ unit_entry syntax 43 u) (one_ratio u)
 
 -- ---- elements
 
@@ -148,42 +157,51 @@ module _ (profile : Profile) where
           ]
         ]
 
-    each_alike : (es : List Element) → AllByRecursion (λ e. change (count_of profile e xs) (count_of profile e ys) (element_line e) ≡ []) es → AllByRecursion AreAlike es
+    each_alike : (es : List Element) → AllByRecursion (λ e. change_at e (count_of profile e xs) (count_of profile e ys) ≡ []) es → AllByRecursion AreAlike es
     unfolding AreAlike
     each_alike [] h = tt
-    each_alike (e ∷ es) h = (counts_alike _ _ (element_line e) h.0, each_alike es h.1)
+    each_alike (e ∷ es) h = (counts_alike e _ _ h.0, each_alike es h.1)
 
-    elements_alike : element_changes profile xs ys ≡ [] → (e : Element) → count_of profile e xs ≡ count_of profile e ys
+    pub elements_alike : changed profile xs ys ≡ [] → (e : Element) → count_of profile e xs ≡ count_of profile e ys
     unfolding AreAlike
-    elements_alike h = all_alike (each_alike (xs ++ ys) (none_of_each (λ e. change (count_of profile e xs) (count_of profile e ys) (element_line e)) element_cmp exact_elements (xs ++ ys) h))
+    elements_alike h = all_alike (each_alike (xs ++ ys) (none_of_each (λ e. change_at e (count_of profile e xs) (count_of profile e ys)) element_cmp exact_elements (xs ++ ys) h))
 
-    same_elements : ((e : Element) → count_of profile e xs ≡ count_of profile e ys) → element_changes profile xs ys ≡ []
-    same_elements h = none_of_all (λ e. change (count_of profile e xs) (count_of profile e ys) (element_line e)) (λ e. same_count _ _ (element_line e) (h e)) (ascending element_cmp (xs ++ ys))
+    pub same_elements : ((e : Element) → count_of profile e xs ≡ count_of profile e ys) → changed profile xs ys ≡ []
+    same_elements h = none_of_all (λ e. change_at e (count_of profile e xs) (count_of profile e ys)) (λ e. same_count e _ _ (h e)) (ascending element_cmp (xs ++ ys))
 
   -- ---- cells
 
-  record OneCell (o p : Option (List Element)) : Type 0 where
+  pub record OneCell (o p : Option (List Element)) : Type 0 where
     both : is_some o ≡ is_some p
     counts : (e : Element) → count_of profile e (unwrap_or o []) ≡ count_of profile e (unwrap_or p [])
 
-  no_line : (name changes : List ℕ) → below_name true true name changes ≡ [] → changes ≡ []
-  no_line name [] h = refl
-  no_line name (b ∷ bs) h = let no : ⊥ = cc in absurd no
+  module _ (notation : Notation) where
+    no_line : (syntax : Syntax) (name changes : List ℕ) → below_name syntax true true name changes ≡ [] → changes ≡ []
+    no_line syntax name [] h = refl
+    no_line Lines name (b ∷ bs) h = let no : ⊥ = cc in absurd no
+    no_line Json name (b ∷ bs) h = let no : ⊥ = cc in absurd no
 
-  cell_alike : (name : List ℕ) (o p : Option (List Element)) → cell_changes profile name o p ≡ [] → OneCell o p
-  cell_alike name None None h = record { both = refl; counts = λ e. refl }
-  cell_alike name (Some xs) None h = let no : ⊥ = cc in absurd no
-  cell_alike name None (Some ys) h = let no : ⊥ = cc in absurd no
-  cell_alike name (Some xs) (Some ys) h = record { both = refl; counts = elements_alike xs ys (no_line name (element_changes profile xs ys) h) }
+    pub some_cell : (syntax : Syntax) (sign : ℕ) (name changes : List ℕ) → cell_entry syntax sign name ++ changes ≡ [] → ⊥
+    some_cell Lines sign name changes h = cc
+    some_cell Json sign name changes h = cc
 
-  nothing_below : (b : Bool) (name : List ℕ) → below_name b b name [] ≡ []
-  nothing_below true name = refl
-  nothing_below false name = refl
+    pub none_changed : (name : List ℕ) (xs ys : List Element) → below_name notation.syntax true true name (element_changes notation name profile xs ys) ≡ [] → changed profile xs ys ≡ []
+    none_changed name xs ys h = none_written notation name (changed profile xs ys) (no_line notation.syntax name (element_changes notation name profile xs ys) h)
 
-  same_cell : (name : List ℕ) (o p : Option (List Element)) → OneCell o p → cell_changes profile name o p ≡ []
-  same_cell name o p one =
-      ap (below_name (is_some o) (is_some p) name) (same_elements (unwrap_or o []) (unwrap_or p []) one.counts)
-      ∙ ap (λ b. below_name (is_some o) b name []) (sym one.both) ∙ nothing_below (is_some o) name
+    pub cell_alike : (name : List ℕ) (o p : Option (List Element)) → cell_changes notation profile name o p ≡ [] → OneCell o p
+    cell_alike name None None h = record { both = refl; counts = λ e. refl }
+    cell_alike name (Some xs) None h = absurd (some_cell notation.syntax 45 name (element_changes notation name profile xs []) h)
+    cell_alike name None (Some ys) h = absurd (some_cell notation.syntax 43 name (element_changes notation name profile [] ys) h)
+    cell_alike name (Some xs) (Some ys) h = record { both = refl; counts = elements_alike xs ys (none_changed name xs ys h) }
+
+    nothing_below : (b : Bool) (name : List ℕ) → below_name notation.syntax b b name [] ≡ []
+    nothing_below true name = refl
+    nothing_below false name = refl
+
+    same_cell : (name : List ℕ) (o p : Option (List Element)) → OneCell o p → cell_changes notation profile name o p ≡ []
+    same_cell name o p one =
+        ap (λ (cs : List (Element × (ℕ × ℕ))). below_name notation.syntax (is_some o) (is_some p) name (flat_map (change_entry notation name) cs)) (same_elements (unwrap_or o []) (unwrap_or p []) one.counts)
+        ∙ ap (λ b. below_name notation.syntax (is_some o) b name []) (sym one.both) ∙ nothing_below (is_some o) name
 
   -- a name is in the list, and P holds for it, or it has no elements there
   named : (P : List ℕ → Type 0) (name : List ℕ) (cs : List (List ℕ × List Element)) → AllByRecursion P (keys_of cs) → P name ⊎ (elements_of name cs ≡ None)
@@ -193,14 +211,14 @@ module _ (profile : Profile) where
     by_cases true q later = inl (subst P (sym (exact_bytes name c.0 ((Equal-is (slice_cmp nat_cmp name c.0)).0 (sym (texts_ties name c.0) ∙ q)))) h.0)
     by_cases false q later = later
 
-  module _ (a b : Meaning) where
+  module _ (format : Format) (a b : Meaning) where
     OneOf : List ℕ → Type 0
     OneOf name = OneCell (elements_of name a.cells) (elements_of name b.cells)
 
-    of_each : (names : List (List ℕ)) → AllByRecursion (λ name. cell_changes profile name (elements_of name a.cells) (elements_of name b.cells) ≡ []) names → AllByRecursion OneOf names
+    of_each : (names : List (List ℕ)) → AllByRecursion (λ name. cell_changes (notation_of format a.unit b.unit) profile name (elements_of name a.cells) (elements_of name b.cells) ≡ []) names → AllByRecursion OneOf names
     unfolding OneOf
     of_each [] h = tt
-    of_each (name ∷ names) h = (cell_alike name _ _ h.0, of_each names h.1)
+    of_each (name ∷ names) h = (cell_alike (notation_of format a.unit b.unit) name _ _ h.0, of_each names h.1)
 
     in_neither : (o p : Option (List Element)) → o ≡ None → p ≡ None → OneCell o p
     in_neither o p e f = record { both = ap is_some e ∙ sym (ap is_some f); counts = λ x. ap (λ q. count_of profile x (unwrap_or q [])) e ∙ sym (ap (λ q. count_of profile x (unwrap_or q [])) f) }
@@ -218,21 +236,21 @@ module _ (profile : Profile) where
         ]
 
     lines_of : List ℕ → List ℕ
-    lines_of name = cell_changes profile name (elements_of name a.cells) (elements_of name b.cells)
+    lines_of name = cell_changes (notation_of format a.unit b.unit) profile name (elements_of name a.cells) (elements_of name b.cells)
 
     -- if there is no line, they are the same
-    same_from_none : difference None profile a b ≡ [] → SameLayout profile a b
+    same_from_none : difference None format profile a b ≡ [] → SameLayout profile a b
     unfolding OneOf lines_of
     same_from_none h =
-        let parts = none_twice (unit_changes a.unit b.unit) _ h in
+        let parts = none_twice (unit_changes format.syntax a.unit b.unit) _ h in
         let one = of_all (of_each (keys_of a.cells ++ keys_of b.cells) (none_of_each lines_of (slice_cmp nat_cmp) exact_bytes (keys_of a.cells ++ keys_of b.cells) parts.1)) in
-        record { unit = units_alike a.unit b.unit parts.0; cells = λ name. (one name).both; counts = λ name. (one name).counts }
+        record { unit = units_alike format.syntax a.unit b.unit parts.0; cells = λ name. (one name).both; counts = λ name. (one name).counts }
 
     -- and if they are the same, there is no line
-    none_from_same : SameLayout profile a b → difference None profile a b ≡ []
+    none_from_same : SameLayout profile a b → difference None format profile a b ≡ []
     unfolding lines_of
     none_from_same s =
-        λ i. one_unit a.unit b.unit s.unit i ++ none_of_all lines_of (λ name. same_cell name _ _ (record { both = s.cells name; counts = s.counts name }))
+        λ i. one_unit format.syntax a.unit b.unit s.unit i ++ none_of_all lines_of (λ name. same_cell (notation_of format a.unit b.unit) name _ _ (record { both = s.cells name; counts = s.counts name }))
         (ascending (slice_cmp nat_cmp) (keys_of a.cells ++ keys_of b.cells)) i
 
     -- ---- where only elements are compared
@@ -241,12 +259,12 @@ module _ (profile : Profile) where
     CountsOf name = (e : Element) → count_of profile e (unwrap_or (elements_of name a.cells) []) ≡ count_of profile e (unwrap_or (elements_of name b.cells) [])
 
     elements_line : List ℕ → List ℕ
-    elements_line name = cell_changes profile name (Some (unwrap_or (elements_of name a.cells) [])) (Some (unwrap_or (elements_of name b.cells) []))
+    elements_line name = cell_changes (notation_of format a.unit b.unit) profile name (Some (unwrap_or (elements_of name a.cells) [])) (Some (unwrap_or (elements_of name b.cells) []))
 
     counts_of : (names : List (List ℕ)) → AllByRecursion (λ name. elements_line name ≡ []) names → AllByRecursion CountsOf names
     unfolding CountsOf elements_line
     counts_of [] h = tt
-    counts_of (name ∷ names) h = ((cell_alike name (Some (unwrap_or (elements_of name a.cells) [])) (Some (unwrap_or (elements_of name b.cells) [])) h.0).counts, counts_of names h.1)
+    counts_of (name ∷ names) h = ((cell_alike (notation_of format a.unit b.unit) name (Some (unwrap_or (elements_of name a.cells) [])) (Some (unwrap_or (elements_of name b.cells) [])) h.0).counts, counts_of names h.1)
 
     counts_of_all : AllByRecursion CountsOf (keys_of a.cells ++ keys_of b.cells) → (name : List ℕ) → CountsOf name
     unfolding CountsOf
@@ -260,18 +278,18 @@ module _ (profile : Profile) where
           ]
         ]
 
-    pub elements_from_none : (layers : Bor (List ChosenLayer)) → difference (Some layers) profile a b ≡ [] → SameElements profile a b
+    pub elements_from_none : (layers : Bor (List ChosenLayer)) → difference (Some layers) format profile a b ≡ [] → SameElements profile a b
     unfolding CountsOf elements_line
     elements_from_none layers h =
-        let parts = none_twice (unit_changes a.unit b.unit) _ h in
+        let parts = none_twice (unit_changes format.syntax a.unit b.unit) _ h in
         let counts = counts_of_all (counts_of (keys_of a.cells ++ keys_of b.cells) (none_of_each elements_line (slice_cmp nat_cmp) exact_bytes (keys_of a.cells ++ keys_of b.cells) parts.1)) in
-        record { unit = units_alike a.unit b.unit parts.0; counts = counts }
+        record { unit = units_alike format.syntax a.unit b.unit parts.0; counts = counts }
 
-    pub none_from_elements : (layers : Bor (List ChosenLayer)) → SameElements profile a b → difference (Some layers) profile a b ≡ []
+    pub none_from_elements : (layers : Bor (List ChosenLayer)) → SameElements profile a b → difference (Some layers) format profile a b ≡ []
     unfolding elements_line
     none_from_elements layers s =
-        λ i. one_unit a.unit b.unit s.unit i ++ none_of_all elements_line (λ name. same_cell name (Some (unwrap_or (elements_of name a.cells) [])) (Some (unwrap_or (elements_of name b.cells) [])) (record { both = refl; counts = s.counts name }))
+        λ i. one_unit format.syntax a.unit b.unit s.unit i ++ none_of_all elements_line (λ name. same_cell (notation_of format a.unit b.unit) name (Some (unwrap_or (elements_of name a.cells) [])) (Some (unwrap_or (elements_of name b.cells) [])) (record { both = refl; counts = s.counts name }))
         (ascending (slice_cmp nat_cmp) (keys_of a.cells ++ keys_of b.cells)) i
 
-pub empty_if_same : (profile : Profile) → EmptyIfSame profile
-empty_if_same profile a b = (same_from_none profile a b, none_from_same profile a b)
+pub empty_if_same : (format : Format) (profile : Profile) → EmptyIfSame format profile
+empty_if_same format profile a b = (same_from_none profile format a b, none_from_same profile format a b)

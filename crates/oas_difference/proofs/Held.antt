@@ -18,18 +18,21 @@ use Rattle.oas_layout.specs.Bag.{items, count_at, IsBag}
 use Rattle.oas_layout.specs.Meaning.{elements_of, count_of}
 use Rattle.oas_layout.specs.Contents.{Cell, Contents, expanded, meaning_of, IsCell, IsLayout}
 use Rattle.oas_layout.proofs.LawProofs.{held}
-use Rattle.oas_listing.specs.Listing.{element_line}
 use Rattle.oas_difference.specs.Ascending.{ascending}
 use Rattle.oas_difference.specs.Pairs.{found, side_by_side}
 use Rattle.oas_difference.specs.Choice.{or_empty}
 use Rattle.oas_difference.specs.declared.choice.ChosenLayer.{ChosenLayer}
-use Rattle.oas_difference.specs.Difference.{change, unit_changes, element_changes, below_name, cell_changes, difference}
-use Rattle.oas_difference.specs.Held.{pair_line, held_changes, held_cell, with_empty, cell_pairs}
+use Rattle.oas_difference.specs.Changed.{change_at, changed}
+use Rattle.oas_difference.specs.Format.{notation_of}
+use Rattle.oas_difference.specs.Difference.{unit_changes, change_entry, below_name, cell_changes, difference}
+use Rattle.oas_difference.specs.Held.{pair_changed, held_changed, held_cell, with_empty, cell_pairs}
+use Rattle.oas_difference.specs.declared.format.Format.{Format}
+use Rattle.oas_difference.specs.declared.format.Notation.{Notation}
 use Rattle.oas_difference.proofs.Ascending.{all_append, all_ascending, items_keys}
 
-pub flat_map_alike : {A : Type 0} (f g : A → List ℕ) (xs : List A) → AllByRecursion (λ x. f x ≡ g x) xs → flat_map f xs ≡ flat_map g xs
-flat_map_alike f g [] h = refl
-flat_map_alike f g (x ∷ xs) h = λ i. h.0 i ++ flat_map_alike f g xs h.1 i
+map_lists : {A B : Type 0} (f g : A → List B) (xs : List A) → AllByRecursion (λ x. f x ≡ g x) xs → flat_map f xs ≡ flat_map g xs
+map_lists f g [] h = refl
+map_lists f g (x ∷ xs) h = λ i. h.0 i ++ map_lists f g xs h.1 i
 
 module _ (profile : Profile) where
   pub keys_normal : (es : List (Element × ℕ)) → AllByRecursion (λ p. IsNormal profile p.0) es → AllByRecursion (IsNormal profile) (keys_of es)
@@ -39,26 +42,22 @@ module _ (profile : Profile) where
   -- ---- the elements of a cell
 
   module _ (es fs : List (Element × ℕ)) (b : IsBag profile es) (c : IsBag profile fs) where
-    both : List Element
-    both = ascending element_cmp (keys_of es ++ keys_of fs)
-
     pub count_held : (gs : List (Element × ℕ)) (e : Element) → IsBag profile gs → IsNormal profile e → count_of profile e (items gs) ≡ unwrap_or (found element_cmp gs e) 0
     count_held gs e g n = held profile gs e g ∙ ap (count_at gs) n
 
-    line_held : (xs : List Element) → AllByRecursion (IsNormal profile) xs →
-        AllByRecursion (λ e. change (count_of profile e (items es)) (count_of profile e (items fs)) (element_line e)
-        ≡ pair_line (e, (found element_cmp es e, found element_cmp fs e))) xs
-    line_held [] h = tt
-    line_held (x ∷ xs) h = (λ i. change (count_held es x b h.0 i) (count_held fs x c h.0 i) (element_line x), line_held xs h.1)
+    entry_held : (xs : List Element) → AllByRecursion (IsNormal profile) xs →
+        AllByRecursion (λ e. change_at e (count_of profile e (items es)) (count_of profile e (items fs)) ≡ pair_changed (e, (found element_cmp es e, found element_cmp fs e))) xs
+    entry_held [] h = tt
+    entry_held (x ∷ xs) h = (λ i. change_at x (count_held es x b h.0 i) (count_held fs x c h.0 i), entry_held xs h.1)
 
-    changes_held : element_changes profile (items es) (items fs) ≡ held_changes es fs
-    unfolding both
-    changes_held =
-        ap (flat_map (λ e. change (count_of profile e (items es)) (count_of profile e (items fs)) (element_line e))) (items_keys element_total es fs b.tally.positive c.tally.positive)
-        ∙ flat_map_alike _ (λ e. pair_line (e, (found element_cmp es e, found element_cmp fs e))) both
-        (line_held both (all_ascending (IsNormal profile) element_cmp (keys_of es ++ keys_of fs)
+    pub changed_held : changed profile (items es) (items fs) ≡ held_changed es fs
+    changed_held =
+        let ks = ascending element_cmp (keys_of es ++ keys_of fs) in
+        ap (flat_map (λ e. change_at e (count_of profile e (items es)) (count_of profile e (items fs)))) (items_keys element_total es fs b.tally.positive c.tally.positive)
+        ∙ map_lists _ (λ e. pair_changed (e, (found element_cmp es e, found element_cmp fs e))) ks
+        (entry_held ks (all_ascending (IsNormal profile) element_cmp (keys_of es ++ keys_of fs)
         (all_append (IsNormal profile) (keys_of es) (keys_of fs) (keys_normal es b.normal) (keys_normal fs c.normal))))
-        ∙ sym (flat_map-map pair_line (λ e. (e, (found element_cmp es e, found element_cmp fs e))) both)
+        ∙ sym (flat_map-map pair_changed (λ e. (e, (found element_cmp es e, found element_cmp fs e))) ks)
 
   -- ---- a cell
 
@@ -78,11 +77,12 @@ module _ (profile : Profile) where
   the_items None = refl
   the_items (Some es) = refl
 
-  cell_held : (name : List ℕ) (o p : Option (List (Element × ℕ))) → IfSome o (IsBag profile) → IfSome p (IsBag profile) →
-      cell_changes profile name (option_map items o) (option_map items p) ≡ held_cell (name, (o, p))
-  cell_held name o p b c =
-      (λ i. below_name (there o i) (there p i) name (element_changes profile (the_items o i) (the_items p i)))
-      ∙ ap (below_name (is_some o) (is_some p) name) (changes_held (unwrap_or o []) (unwrap_or p []) (bag_of o b) (bag_of p c))
+  cell_held : (notation : Notation) (name : List ℕ) (o p : Option (List (Element × ℕ))) → IfSome o (IsBag profile) → IfSome p (IsBag profile) →
+      cell_changes notation profile name (option_map items o) (option_map items p) ≡ held_cell notation (name, (o, p))
+  cell_held notation name o p b c =
+      (λ i. below_name notation.syntax (there o i) (there p i) name (flat_map (change_entry notation name) (changed profile (the_items o i) (the_items p i))))
+      ∙ ap (λ (cs : List (Element × (ℕ × ℕ))). below_name notation.syntax (is_some o) (is_some p) name (flat_map (change_entry notation name) cs))
+      (changed_held (unwrap_or o []) (unwrap_or p []) (bag_of o b) (bag_of p c))
 
   pub or_bag : (layers : Option (Bor (List ChosenLayer))) (o : Option (List (Element × ℕ))) → IfSome o (IsBag profile) → IfSome (or_empty layers o) (IsBag profile)
   or_bag None o b = b
@@ -122,25 +122,27 @@ pairs_are layers f cs ds =
     flat_map-map f (with_empty layers) (side_by_side (slice_cmp nat_cmp) cs ds)
     ∙ flat_map-map (λ p. f (with_empty layers p)) (λ name. (name, (found (slice_cmp nat_cmp) cs name, found (slice_cmp nat_cmp) ds name))) names
 
-module _ (profile : Profile) (layers : Option (Bor (List ChosenLayer))) (cs ds : List Cell) (p : AllByRecursion (IsCell profile) cs) (q : AllByRecursion (IsCell profile) ds) where
-  name_held : (name : List ℕ) → cell_changes profile name (or_empty layers (elements_of name (expanded cs))) (or_empty layers (elements_of name (expanded ds)))
-      ≡ held_cell (name, (or_empty layers (found (slice_cmp nat_cmp) cs name), or_empty layers (found (slice_cmp nat_cmp) ds name)))
+module _ (notation : Notation) (profile : Profile) (layers : Option (Bor (List ChosenLayer))) (cs ds : List Cell) (p : AllByRecursion (IsCell profile) cs) (q : AllByRecursion (IsCell profile) ds) where
+  name_held : (name : List ℕ) → cell_changes notation profile name (or_empty layers (elements_of name (expanded cs))) (or_empty layers (elements_of name (expanded ds)))
+      ≡ held_cell notation (name, (or_empty layers (found (slice_cmp nat_cmp) cs name), or_empty layers (found (slice_cmp nat_cmp) ds name)))
   name_held name =
       let o = found (slice_cmp nat_cmp) cs name in
       let r = found (slice_cmp nat_cmp) ds name in
-      (λ i. cell_changes profile name (or_empty layers (elements_found name cs i)) (or_empty layers (elements_found name ds i)))
-      ∙ (λ i. cell_changes profile name (or_items layers o i) (or_items layers r i))
-      ∙ cell_held profile name (or_empty layers o) (or_empty layers r) (or_bag profile layers o (bag_at profile (is_at (slice_cmp nat_cmp name)) cs p))
+      (λ i. cell_changes notation profile name (or_empty layers (elements_found name cs i)) (or_empty layers (elements_found name ds i)))
+      ∙ (λ i. cell_changes notation profile name (or_items layers o i) (or_items layers r i))
+      ∙ cell_held profile notation name (or_empty layers o) (or_empty layers r) (or_bag profile layers o (bag_at profile (is_at (slice_cmp nat_cmp name)) cs p))
       (or_bag profile layers r (bag_at profile (is_at (slice_cmp nat_cmp name)) ds q))
 
-  cells_held : flat_map (λ name. cell_changes profile name (or_empty layers (elements_of name (expanded cs))) (or_empty layers (elements_of name (expanded ds))))
-      (ascending (slice_cmp nat_cmp) (keys_of (expanded cs) ++ keys_of (expanded ds))) ≡ flat_map held_cell (cell_pairs layers cs ds)
+  cells_held : flat_map (λ name. cell_changes notation profile name (or_empty layers (elements_of name (expanded cs))) (or_empty layers (elements_of name (expanded ds))))
+      (ascending (slice_cmp nat_cmp) (keys_of (expanded cs) ++ keys_of (expanded ds))) ≡ flat_map (held_cell notation) (cell_pairs layers cs ds)
   cells_held =
       (λ i. flat_map (λ name. name_held name i) (ascending (slice_cmp nat_cmp) (keys_held cs i ++ keys_held ds i)))
-      ∙ sym (pairs_are layers held_cell cs ds)
+      ∙ sym (pairs_are layers (held_cell notation) cs ds)
 
--- the lines of the units, and then those of the cells that are held
-pub difference_held : (layers : Option (Bor (List ChosenLayer))) (a b : Contents) → IsLayout a → IsLayout b → a.profile ≡ b.profile →
-    difference layers a.profile (meaning_of a) (meaning_of b) ≡ unit_changes a.unit b.unit ++ flat_map held_cell (cell_pairs layers a.cells b.cells)
-difference_held layers a b k l alike =
-    ap (λ (text : List ℕ). unit_changes a.unit b.unit ++ text) (cells_held a.profile layers a.cells b.cells k.cells (subst (λ p. AllByRecursion (IsCell p) b.cells) (sym alike) l.cells))
+-- the entries of the units, and then those of the cells that are held
+pub difference_held : (layers : Option (Bor (List ChosenLayer))) (format : Format) (a b : Contents) → IsLayout a → IsLayout b → a.profile ≡ b.profile →
+    difference layers format a.profile (meaning_of a) (meaning_of b)
+    ≡ unit_changes format.syntax a.unit b.unit ++ flat_map (held_cell (notation_of format a.unit b.unit)) (cell_pairs layers a.cells b.cells)
+difference_held layers format a b k l alike =
+    ap (λ (text : List ℕ). unit_changes format.syntax a.unit b.unit ++ text)
+    (cells_held (notation_of format a.unit b.unit) a.profile layers a.cells b.cells k.cells (subst (λ p. AllByRecursion (IsCell p) b.cells) (sym alike) l.cells))

@@ -4,9 +4,11 @@ pub mod Chosen
 pub mod Compared
 pub mod EmptyLaw
 pub mod EmptyOptions
+pub mod EntryLengths
 pub mod Held
 pub mod Lengths
 pub mod LimitLemmas
+pub mod MicronLemmas
 pub mod Pairs
 pub mod Steps
 pub mod Sums

@@ -8,6 +8,8 @@ use Rattle.oas_num.specs.Outlets.{Opens}
 use Rattle.oas_num.specs.Writing.{Puts, PutsPrefix}
 use Rattle.oas_num.proofs.WritingLemmas.{Puts-none, Puts-then}
 use Rattle.oas_num.proofs.PuttingLemmas.{PutSoFar}
+use Rattle.oas_difference.specs.declared.format.Syntax.{Syntax}
+use Rattle.oas_difference.specs.declared.format.Syntax.TheVariants.{Lines, Json}
 use Rattle.oas_difference.specs.declared.limiting.Limited.{Limited}
 use Rattle.oas_difference.specs.Limited.{first_lines, is_longer, more_line, limited}
 use Rattle.oas_difference.specs.Limiting.{lines_left, Passes}
@@ -61,24 +63,25 @@ whole_longer zero (b ∷ bs) h = absurd (omega (arith, h))
 whole_longer (suc n) [] h = refl
 whole_longer (suc n) (b ∷ bs) h = whole_longer (if b == 10 then n else suc n) bs (omega (arith, h, one_fewer b n))
 
-pub limited_is : (o : Option ℕ) (text : List ℕ) → length text < 2 ^ 63 → limited o text ≡ first_lines (unwrap_or o (2 ^ 64 - 1)) text ++ more_line (is_longer (unwrap_or o (2 ^ 64 - 1)) text)
-limited_is None text h =
+pub limited_is : (s : Syntax) (o : Option ℕ) (text : List ℕ) → length text < 2 ^ 63 → limited s o text ≡ first_lines (unwrap_or o (2 ^ 64 - 1)) text ++ more_line s (is_longer (unwrap_or o (2 ^ 64 - 1)) text)
+limited_is s None text h =
     let first : first_lines (2 ^ 64 - 1) text ≡ text = whole_first (2 ^ 64 - 1) text (omega (arith, h)) in
     let none : is_longer (2 ^ 64 - 1) text ≡ false = whole_longer (2 ^ 64 - 1) text (omega (arith, h)) in
-    sym ((λ i. first i ++ more_line (none i)) ∙ append-nil text)
-limited_is (Some n) text h = refl
+    sym ((λ i. first i ++ more_line s (none i)) ∙ append-nil text)
+limited_is s (Some n) text h = refl
 
 -- and of this many lines, as the limit says
-pub limited_by : (o : Option ℕ) (n : ℕ) (text : List ℕ) → n ≡ unwrap_or o (2 ^ 64 - 1) → length text < 2 ^ 63 → limited o text ≡ first_lines n text ++ more_line (is_longer n text)
-limited_by o n text is h = limited_is o text h ∙ ap (λ (k : ℕ). first_lines k text ++ more_line (is_longer k text)) (sym is)
+pub limited_by : (s : Syntax) (o : Option ℕ) (n : ℕ) (text : List ℕ) → n ≡ unwrap_or o (2 ^ 64 - 1) → length text < 2 ^ 63 → limited s o text ≡ first_lines n text ++ more_line s (is_longer n text)
+limited_by s o n text is h = limited_is s o text h ∙ ap (λ (k : ℕ). first_lines k text ++ more_line s (is_longer k text)) (sym is)
 
-length-more : (b : Bool) → length (more_line b) ≤ 4
-length-more true = omega arith
-length-more false = omega arith
+length-more : (s : Syntax) (b : Bool) → length (more_line s b) ≤ 16
+length-more s false = omega arith
+length-more Lines true = omega arith
+length-more Json true = omega arith
 
-pub limited_short : (o : Option ℕ) (text : List ℕ) → length text < 2 ^ 63 → length (limited o text) < 2 ^ 64
-limited_short None text h = omega (arith, h)
-limited_short (Some n) text h = omega (arith, h, length-append (first_lines n text) (more_line (is_longer n text)), first-length n text, length-more (is_longer n text))
+pub limited_short : (s : Syntax) (o : Option ℕ) (text : List ℕ) → length text < 2 ^ 63 → length (limited s o text) < 2 ^ 64
+limited_short s None text h = omega (arith, h)
+limited_short s (Some n) text h = omega (arith, h, length-append (first_lines n text) (more_line s (is_longer n text)), first-length n text, length-more s (is_longer n text))
 
 -- ---- the sink
 
@@ -211,13 +214,13 @@ module _ {W : Type 0} (given : Outlet W → List ℕ → Outlet W → Type 0) (f
     cut_is p whole fine = (has_passed text p).cut fine ∙ ap (λ (b : Bool). b || is_longer old.left text) whole
 
     -- the last line of the whole is left
-    pub lines_so_far : {whole : List ℕ} → whole ≡ first_lines old.left text ++ more_line (is_longer old.left text) →
+    pub lines_so_far : (s : Syntax) {whole : List ℕ} → whole ≡ first_lines old.left text ++ more_line s (is_longer old.left text) →
         Puts (Passes given failures) faults old text mid → old.is_cut ≡ false → mid.failed ≡ false
-        → PutSoFar given failures whole (more_line mid.is_cut ++ []) old.sink mid.sink
-    lines_so_far is p whole fine = record {
+        → PutSoFar given failures whole (more_line s mid.is_cut ++ []) old.sink mid.sink
+    lines_so_far s is p whole fine = record {
       front = first_lines old.left text;
-      joined = is ∙ ap (λ (b : Bool). first_lines old.left text ++ more_line b) (sym (cut_is p whole fine))
-          ∙ ap (λ (t : List ℕ). first_lines old.left text ++ t) (sym (append-nil (more_line mid.is_cut)));
+      joined = is ∙ ap (λ (b : Bool). first_lines old.left text ++ more_line s b) (sym (cut_is p whole fine))
+          ∙ ap (λ (t : List ℕ). first_lines old.left text ++ t) (sym (append-nil (more_line s mid.is_cut)));
       puts = lines_put p;
     }
 

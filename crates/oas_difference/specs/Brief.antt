@@ -6,22 +6,18 @@ use Rattle.std.specs.Cmp.Lexicographic.{slice_cmp}
 use Rattle.std.specs.Map.{keys_of}
 use Rattle.oas_layout.specs.declared.profile.Profile.{Profile}
 use Rattle.oas_layout.specs.declared.element.Element.{Element}
-use Rattle.oas_layout.specs.Element.{element_cmp}
-use Rattle.oas_layout.specs.Meaning.{Meaning, elements_of, count_of}
+use Rattle.oas_layout.specs.Meaning.{Meaning, elements_of}
 use Rattle.oas_difference.specs.Ascending.{ascending}
+use Rattle.oas_difference.specs.Changed.{changed}
 use Rattle.oas_difference.specs.Choice.{or_empty}
 use Rattle.oas_difference.specs.Difference.{unit_changes}
+use Rattle.oas_difference.specs.Entries.{object}
+use Rattle.oas_difference.specs.Fields.{quoted}
 use Rattle.oas_difference.specs.declared.choice.ChosenLayer.{ChosenLayer}
+use Rattle.oas_difference.specs.declared.format.Syntax.{Syntax}
+use Rattle.oas_difference.specs.declared.format.Syntax.TheVariants.{Lines, Json}
 
 -- ---- the elements of a cell
-
--- an element that is there n times before and m times after, where that is a change
-abbrev pub change_at : Element → ℕ → ℕ → List (Element × (ℕ × ℕ))
-change_at e n m = if n == m then [] else (e, (n, m)) ∷ []
-
--- each element that is not as often in both lists, with how often it is in either
-abbrev pub changed : Profile → List Element → List Element → List (Element × (ℕ × ℕ))
-changed profile xs ys = flat_map (λ e. change_at e (count_of profile e xs) (count_of profile e ys)) (ascending element_cmp (xs ++ ys))
 
 -- how many elements only the first list has
 abbrev pub only_first : List (Element × (ℕ × ℕ)) → ℕ
@@ -37,6 +33,12 @@ only_second cs = sum_by (λ c. c.1.1 - c.1.0) cs
 abbrev pub brief_line : ℕ → List ℕ → ℕ → ℕ → List ℕ
 brief_line sign name n m = sign ∷ (codes " cell " ++ (name ++ ((codes " - " ++ decimal n) ++ ((codes " + " ++ decimal m) ++ 10 ∷ []))))
 
+-- the line, or the object with the same fields
+abbrev pub brief_entry : Syntax → ℕ → List ℕ → ℕ → ℕ → List ℕ
+brief_entry Lines sign name n m = brief_line sign name n m
+brief_entry Json sign name n m =
+    object (codes "cell") ((codes "sign", quoted (sign ∷ [])) ∷ (codes "cell", quoted name) ∷ (codes "removed", decimal n) ∷ (codes "added", decimal m) ∷ [])
+
 -- - for a cell that is only there before, + for one that is only there after, @ for one in which something has changed
 abbrev pub brief_sign : Bool → Bool → ℕ → ℕ → Option ℕ
 brief_sign true true n m = if (n == 0) && (m == 0) then None else Some 64
@@ -44,25 +46,25 @@ brief_sign true false n m = Some 45
 brief_sign false true n m = Some 43
 brief_sign false false n m = None
 
-abbrev pub signed_brief : Option ℕ → List ℕ → ℕ → ℕ → List ℕ
-signed_brief None name n m = []
-signed_brief (Some sign) name n m = brief_line sign name n m
+abbrev pub signed_brief : Syntax → Option ℕ → List ℕ → ℕ → ℕ → List ℕ
+signed_brief syntax None name n m = []
+signed_brief syntax (Some sign) name n m = brief_entry syntax sign name n m
 
-abbrev pub brief_of : Bool → Bool → List ℕ → ℕ → ℕ → List ℕ
-brief_of before after name n m = signed_brief (brief_sign before after n m) name n m
+abbrev pub brief_of : Syntax → Bool → Bool → List ℕ → ℕ → ℕ → List ℕ
+brief_of syntax before after name n m = signed_brief syntax (brief_sign before after n m) name n m
 
--- the line of a cell; its elements are given where it is there
-abbrev pub cell_brief : Profile → List ℕ → Option (List Element) → Option (List Element) → List ℕ
-cell_brief profile name before after =
-    brief_of (is_some before) (is_some after) name
+-- the entry of a cell; its elements are given where it is there
+abbrev pub cell_brief : Syntax → Profile → List ℕ → Option (List Element) → Option (List Element) → List ℕ
+cell_brief syntax profile name before after =
+    brief_of syntax (is_some before) (is_some after) name
     (only_first (changed profile (unwrap_or before []) (unwrap_or after [])))
     (only_second (changed profile (unwrap_or before []) (unwrap_or after [])))
 
 -- ---- the layouts
 
--- the changes of the unit, and then the line of each cell that differs
-abbrev pub brief : Option (Bor (List ChosenLayer)) → Profile → Meaning → Meaning → List ℕ
-brief layers profile a b =
-    unit_changes a.unit b.unit
-    ++ flat_map (λ name. cell_brief profile name (or_empty layers (elements_of name a.cells)) (or_empty layers (elements_of name b.cells)))
+-- the changes of the unit, and then the entry of each cell that differs
+abbrev pub brief : Option (Bor (List ChosenLayer)) → Syntax → Profile → Meaning → Meaning → List ℕ
+brief layers syntax profile a b =
+    unit_changes syntax a.unit b.unit
+    ++ flat_map (λ name. cell_brief syntax profile name (or_empty layers (elements_of name a.cells)) (or_empty layers (elements_of name b.cells)))
     (ascending (slice_cmp nat_cmp) (keys_of a.cells ++ keys_of b.cells))

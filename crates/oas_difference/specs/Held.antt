@@ -1,5 +1,5 @@
 -- The difference of what two layouts hold: cells and elements with their counts.
-use Rattle.std.specs.Prelude.{◌≡◌, ℕ, ◌-◌, ◌^◌, min, true, List, [], ◌∷◌, map, flat_map, cond, slice_get, Option, None, Some, is_some, unwrap_or, IfSome}
+use Rattle.std.specs.Prelude.{◌≡◌, ℕ, true, List, [], ◌∷◌, map, flat_map, cond, slice_get, Option, None, Some, is_some, unwrap_or, IfSome}
 use Rattle.std.specs.Borrow.{Bor}
 use Rattle.std.specs.List.{filter}
 use Rattle.std.specs.Ordering.{nat_cmp}
@@ -8,13 +8,16 @@ use Rattle.oas_layout.specs.declared.element.Element.{Element}
 use Rattle.oas_layout.specs.Element.{element_cmp}
 use Rattle.oas_layout.specs.Bag.{counted}
 use Rattle.oas_layout.specs.Contents.{Cell, Contents, names}
-use Rattle.oas_listing.specs.Listing.{element_line}
+use Rattle.oas_difference.specs.Microns.{counted_to}
 use Rattle.oas_difference.specs.Pairs.{side_by_side}
-use Rattle.oas_difference.specs.Difference.{change, below_name}
-use Rattle.oas_difference.specs.Brief.{change_at, only_first, only_second, brief_of}
+use Rattle.oas_difference.specs.Changed.{change_at}
+use Rattle.oas_difference.specs.Difference.{change_entry, below_name}
+use Rattle.oas_difference.specs.Brief.{only_first, only_second, brief_of}
 use Rattle.oas_difference.specs.Choice.{is_named, is_shown, or_empty}
 use Rattle.oas_difference.specs.declared.choice.Choice.{Choice}
 use Rattle.oas_difference.specs.declared.choice.ChosenLayer.{ChosenLayer}
+use Rattle.oas_difference.specs.declared.format.Syntax.{Syntax}
+use Rattle.oas_difference.specs.declared.format.Notation.{Notation}
 use Rattle.oas_difference.specs.declared.options.Detail.{Detail}
 use Rattle.oas_difference.specs.declared.options.Detail.TheVariants.{Elements, Counts}
 
@@ -23,14 +26,17 @@ abbrev pub in_hand : Option (Bor Element × ℕ) → List (Element × ℕ) → L
 in_hand None rest = []
 in_hand (Some p) rest = counted p ∷ rest
 
-abbrev pub pair_line : Element × (Option ℕ × Option ℕ) → List ℕ
-pair_line p = change (unwrap_or p.1.0 0) (unwrap_or p.1.1 0) (element_line p.0)
+abbrev pub pair_changed : Element × (Option ℕ × Option ℕ) → List (Element × (ℕ × ℕ))
+pair_changed p = change_at p.0 (unwrap_or p.1.0 0) (unwrap_or p.1.1 0)
 
-abbrev pub held_changes : List (Element × ℕ) → List (Element × ℕ) → List ℕ
-held_changes es fs = flat_map pair_line (side_by_side element_cmp es fs)
+abbrev pub held_changed : List (Element × ℕ) → List (Element × ℕ) → List (Element × (ℕ × ℕ))
+held_changed es fs = flat_map pair_changed (side_by_side element_cmp es fs)
 
-abbrev pub held_cell : List ℕ × (Option (List (Element × ℕ)) × Option (List (Element × ℕ))) → List ℕ
-held_cell p = below_name (is_some p.1.0) (is_some p.1.1) p.0 (held_changes (unwrap_or p.1.0 []) (unwrap_or p.1.1 []))
+abbrev pub held_changes : Notation → List ℕ → List (Element × ℕ) → List (Element × ℕ) → List ℕ
+held_changes notation name es fs = flat_map (change_entry notation name) (held_changed es fs)
+
+abbrev pub held_cell : Notation → List ℕ × (Option (List (Element × ℕ)) × Option (List (Element × ℕ))) → List ℕ
+held_cell notation p = below_name notation.syntax (is_some p.1.0) (is_some p.1.1) p.0 (held_changes notation p.0 (unwrap_or p.1.0 []) (unwrap_or p.1.1 []))
 
 -- a pair of cells as they are compared: where layers are named, a cell that is not there has no elements
 abbrev pub with_empty : Option (Bor (List ChosenLayer)) → List ℕ × (Option (List (Element × ℕ)) × Option (List (Element × ℕ))) → List ℕ × (Option (List (Element × ℕ)) × Option (List (Element × ℕ)))
@@ -42,30 +48,20 @@ cell_pairs layers cs ds = map (with_empty layers) (side_by_side (slice_cmp nat_c
 
 -- ---- in brief
 
-abbrev pub pair_changed : Element × (Option ℕ × Option ℕ) → List (Element × (ℕ × ℕ))
-pair_changed p = change_at p.0 (unwrap_or p.1.0 0) (unwrap_or p.1.1 0)
-
-abbrev pub held_changed : List (Element × ℕ) → List (Element × ℕ) → List (Element × (ℕ × ℕ))
-held_changed es fs = flat_map pair_changed (side_by_side element_cmp es fs)
-
--- capped to 64 bits
-abbrev pub counted_to : ℕ → ℕ
-counted_to n = min n (2 ^ 64 - 1)
-
-abbrev pub held_brief : List ℕ × (Option (List (Element × ℕ)) × Option (List (Element × ℕ))) → List ℕ
-held_brief p =
-    brief_of (is_some p.1.0) (is_some p.1.1) p.0
+abbrev pub held_brief : Syntax → List ℕ × (Option (List (Element × ℕ)) × Option (List (Element × ℕ))) → List ℕ
+held_brief syntax p =
+    brief_of syntax (is_some p.1.0) (is_some p.1.1) p.0
     (counted_to (only_first (held_changed (unwrap_or p.1.0 []) (unwrap_or p.1.1 []))))
     (counted_to (only_second (held_changed (unwrap_or p.1.0 []) (unwrap_or p.1.1 []))))
 
 -- ---- by detail
 
-abbrev pub held_by : Detail → List ℕ × (Option (List (Element × ℕ)) × Option (List (Element × ℕ))) → List ℕ
-held_by Elements p = held_cell p
-held_by Counts p = held_brief p
+abbrev pub held_by : Detail → Notation → List ℕ × (Option (List (Element × ℕ)) × Option (List (Element × ℕ))) → List ℕ
+held_by Elements notation p = held_cell notation p
+held_by Counts notation p = held_brief notation.syntax p
 
-abbrev pub held_lines : Option (Bor (List ChosenLayer)) → Detail → List Cell → List Cell → List ℕ
-held_lines layers detail cs ds = flat_map (held_by detail) (cell_pairs layers cs ds)
+abbrev pub held_lines : Option (Bor (List ChosenLayer)) → Detail → Notation → List Cell → List Cell → List ℕ
+held_lines layers detail notation cs ds = flat_map (held_by detail notation) (cell_pairs layers cs ds)
 
 -- ---- what is compared of what a layout holds
 

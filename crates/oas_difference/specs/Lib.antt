@@ -1,5 +1,10 @@
 pub mod Ascending
 pub mod Pairs
+pub mod Microns
+pub mod Format
+pub mod Fields
+pub mod Entries
+pub mod Changed
 pub mod Difference
 pub mod Brief
 pub mod Limited

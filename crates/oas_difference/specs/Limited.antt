@@ -1,5 +1,7 @@
 -- The first lines of a text.
 use Rattle.std.specs.Prelude.{ℕ, zero, suc, ◌==◌, Bool, true, false, List, [], ◌∷◌, ◌++◌, codes, Option, None, Some, if◌then◌else◌}
+use Rattle.oas_difference.specs.declared.format.Syntax.{Syntax}
+use Rattle.oas_difference.specs.declared.format.Syntax.TheVariants.{Lines, Json}
 
 -- the first n lines
 abbrev pub first_lines : ℕ → List ℕ → List ℕ
@@ -15,11 +17,12 @@ is_longer (suc n) [] = false
 is_longer (suc n) (b ∷ bs) = is_longer (if b == 10 then n else suc n) bs
 
 -- the line that says so
-abbrev pub more_line : Bool → List ℕ
-more_line true = codes "...\n"
-more_line false = []
+abbrev pub more_line : Syntax → Bool → List ℕ
+more_line syntax false = []
+more_line Lines true = codes "...\n"
+more_line Json true = codes "{\"kind\":\"more\"}\n"
 
--- The text; or this many of its first lines, followed by the line `...` where it has more.
-abbrev pub limited : Option ℕ → List ℕ → List ℕ
-limited None text = text
-limited (Some n) text = first_lines n text ++ more_line (is_longer n text)
+-- The text; or this many of its first lines, followed by a line that says so where it has more.
+abbrev pub limited : Syntax → Option ℕ → List ℕ → List ℕ
+limited syntax None text = text
+limited syntax (Some n) text = first_lines n text ++ more_line syntax (is_longer n text)

@@ -4,6 +4,7 @@ use Rattle.std.specs.Borrow.{Bor}
 use Rattle.oas_layout.specs.declared.profile.Profile.{Profile}
 use Rattle.oas_layout.specs.Meaning.{Meaning}
 use Rattle.oas_difference.specs.declared.choice.ChosenLayer.{ChosenLayer}
+use Rattle.oas_difference.specs.declared.format.Format.{Format}
 use Rattle.oas_difference.specs.declared.options.Detail.{Detail}
 use Rattle.oas_difference.specs.declared.options.Detail.TheVariants.{Elements, Counts}
 use Rattle.oas_difference.specs.declared.options.Options.{Options}
@@ -13,14 +14,14 @@ use Rattle.oas_difference.specs.Choice.{chosen}
 use Rattle.oas_difference.specs.Limited.{limited}
 
 -- each element, or their counts alone
-abbrev pub detailed : Option (Bor (List ChosenLayer)) → Detail → Profile → Meaning → Meaning → List ℕ
-detailed layers Elements profile a b = difference layers profile a b
-detailed layers Counts profile a b = brief layers profile a b
+abbrev pub detailed : Option (Bor (List ChosenLayer)) → Detail → Format → Profile → Meaning → Meaning → List ℕ
+detailed layers Elements format profile a b = difference layers format profile a b
+detailed layers Counts format profile a b = brief layers format.syntax profile a b
 
 -- of what is compared of two layouts
 abbrev pub compared : Options → Profile → Meaning → Meaning → List ℕ
-compared options profile a b = detailed options.choice.layers options.detail profile (chosen options.choice a) (chosen options.choice b)
+compared options profile a b = detailed options.choice.layers options.detail options.format profile (chosen options.choice a) (chosen options.choice b)
 
 -- and of that the first lines
 abbrev pub difference_by : Options → Profile → Meaning → Meaning → List ℕ
-difference_by options profile a b = limited options.limit (compared options profile a b)
+difference_by options profile a b = limited options.format.syntax options.limit (compared options profile a b)

@@ -10,18 +10,19 @@ ghost use Rattle.oas_num.specs.Writing.{Writes};
 ghost use Rattle.oas_layout.specs.Bag.{IsTally};
 ghost use Rattle.oas_layout.specs.Contents.{IsLayout};
 ghost use Rattle.oas_layout.specs.Element.{element_cmp};
-ghost use Rattle.oas_difference.specs.Difference.{cell_line, place_line, signed, below_name};
+ghost use Rattle.oas_difference.specs.Difference.{below_name};
 ghost use Rattle.oas_difference.specs.Pairs.{head_key, least, taken};
 ghost use Rattle.oas_difference.specs.Held.{cell_pairs, held_by, held_cell, held_changes, held_lines, cells_chosen, IsNamedAt};
 
 use crate::brief::put_brief_cell;
-use crate::changes::{next_change, put_change, put_changes, put_sign};
+use crate::changes::{next_change, put_change, put_changes};
 use crate::choice::{Choice, ChosenLayer, is_named};
 use crate::elements::Side;
+use crate::entries::{put_cell_entry, put_place_entry};
+use crate::format::Notation;
 use crate::options::Detail;
 use crate::shown::{Shown, or_empty};
 use oas_layout::Layout;
-use oas_listing::put_name;
 use oas_num::{Name, Sink, SinkFault};
 use std::cmp::Ordering;
 use std::marker::Model;
@@ -156,64 +157,50 @@ pub fn next_cell<'a>(
     })
 }
 
-/// Puts the line of a cell that only one layout has.
-fn put_alone<K: Sink>(sink: &mut K, sign: u8, name: &Name) -> Result<(), SinkFault>
-    ensures { Writes K.given K.failures sink.old (signed sign 1 (cell_line name.now)) result sink.new }
-{
-    put_sign(sink, sign, 1)?;
-    put_name(sink, name.as_bytes())
-}
-
-/// Puts the line above the changes of a cell that both layouts have.
-fn put_place<K: Sink>(sink: &mut K, name: &Name) -> Result<(), SinkFault>
-    ensures { Writes K.given K.failures sink.old (place_line name.now) result sink.new }
-{
-    sink.put_all(b"@ ")?;
-    put_name(sink, name.as_bytes())
-}
-
 /// Puts what has changed in a cell that both layouts have, below its name if that is anything.
 fn put_both<'a, K: Sink>(
     sink: &mut K,
+    notation: &Notation,
     name: &Name,
     mut before: Side<'a>,
     mut after: Side<'a>,
 ) -> Result<(), SinkFault>
     requires before { IsStrictlySortedBy element_cmp (keys_of before) }
     requires after { IsStrictlySortedBy element_cmp (keys_of after) }
-    ensures { Writes K.given K.failures sink.old (below_name true true name.now (held_changes before.entry after.entry)) result sink.new }
+    ensures { Writes K.given K.failures sink.old (below_name notation.now.syntax true true name.now (held_changes notation.now name.now before.entry after.entry)) result sink.new }
 {
     let Some(first) = next_change(&mut before, &mut after) else {
         return Ok(());
     };
-    put_place(sink, name)?;
-    put_change(sink, first)?;
-    put_changes(sink, before, after)
+    put_place_entry(sink, notation.syntax, name)?;
+    put_change(sink, notation, name, first)?;
+    put_changes(sink, notation, name, before, after)
 }
 
 /// Puts what has changed in a cell; its elements are given where it is there.
 fn put_cell<'a, K: Sink>(
     sink: &mut K,
+    notation: &Notation,
     name: &Name,
     before: Option<Shown<'a>>,
     after: Option<Shown<'a>>,
 ) -> Result<(), SinkFault>
     requires before { IfSome before IsTally }
     requires after { IfSome after IsTally }
-    ensures { Writes K.given K.failures sink.old (held_cell (name.now, (before.entry, after.entry))) result sink.new }
+    ensures { Writes K.given K.failures sink.old (held_cell notation.now (name.now, (before.entry, after.entry))) result sink.new }
 {
     let there = (before.is_some(), after.is_some());
     let before = Side::new(before);
     let after = Side::new(after);
     match there {
-        (true, true) => put_both(sink, name, before, after),
+        (true, true) => put_both(sink, notation, name, before, after),
         (true, false) => {
-            put_alone(sink, b'-', name)?;
-            put_changes(sink, before, after)
+            put_cell_entry(sink, notation.syntax, b'-', name)?;
+            put_changes(sink, notation, name, before, after)
         }
         (false, true) => {
-            put_alone(sink, b'+', name)?;
-            put_changes(sink, before, after)
+            put_cell_entry(sink, notation.syntax, b'+', name)?;
+            put_changes(sink, notation, name, before, after)
         }
         (false, false) => Ok(()),
     }
@@ -226,14 +213,15 @@ fn put_cell_by<'a, K: Sink>(
     before: Option<Shown<'a>>,
     after: Option<Shown<'a>>,
     detail: Detail,
+    notation: &Notation,
 ) -> Result<(), SinkFault>
     requires before { IfSome before IsTally }
     requires after { IfSome after IsTally }
-    ensures { Writes K.given K.failures sink.old (held_by detail (name.now, (before.entry, after.entry))) result sink.new }
+    ensures { Writes K.given K.failures sink.old (held_by detail notation.now (name.now, (before.entry, after.entry))) result sink.new }
 {
     match detail {
-        Detail::Elements => put_cell(sink, name, before, after),
-        Detail::Counts => put_brief_cell(sink, name, before, after),
+        Detail::Elements => put_cell(sink, notation, name, before, after),
+        Detail::Counts => put_brief_cell(sink, notation.syntax, name, before, after),
     }
 }
 
@@ -244,13 +232,14 @@ pub(crate) fn put_cells<'a, K: Sink>(
     mut after: Cells<'a>,
     layers: Option<&[ChosenLayer]>,
     detail: Detail,
+    notation: &Notation,
 ) -> Result<(), SinkFault>
     requires before { IsStrictlySortedBy (slice_cmp nat_cmp) (keys_of before) }
     requires after { IsStrictlySortedBy (slice_cmp nat_cmp) (keys_of after) }
-    ensures { Writes K.given K.failures sink.old (held_lines layers.entry detail before.entry after.entry) result sink.new }
+    ensures { Writes K.given K.failures sink.old (held_lines layers.entry detail notation.now before.entry after.entry) result sink.new }
 {
     while let Some(pair) = next_cell(&mut before, &mut after, layers) {
-        put_cell_by(sink, pair.name, pair.before, pair.after, detail)?;
+        put_cell_by(sink, pair.name, pair.before, pair.after, detail, notation)?;
     }
     Ok(())
 }

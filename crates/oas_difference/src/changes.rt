@@ -1,20 +1,19 @@
 //! What has changed in a cell.
 
-ghost use Rattle.std.specs.Prelude.{◌≡◌, ◌≢◌, ◌+◌, ◌<◌, ◌++◌, ◌∷◌, [], length, decimal, MatchOption, IfSome};
+ghost use Rattle.std.specs.Prelude.{◌≡◌, ◌≢◌, ◌+◌, ◌<◌, ◌++◌, [], length, MatchOption, IfSome};
 ghost use Rattle.std.specs.List.Sorted.{IsStrictlySortedBy};
 ghost use Rattle.std.specs.Map.{keys_of};
 ghost use Rattle.oas_num.specs.Writing.{Writes};
 ghost use Rattle.oas_layout.specs.Element.{element_cmp};
-ghost use Rattle.oas_listing.specs.Listing.{element_line};
-ghost use Rattle.oas_difference.specs.Difference.{signed, change};
-ghost use Rattle.oas_difference.specs.Brief.{change_at};
+ghost use Rattle.oas_difference.specs.Changed.{change_at};
+ghost use Rattle.oas_difference.specs.Difference.{change_entry};
 ghost use Rattle.oas_difference.specs.Held.{held_changed, held_changes};
 
 use crate::elements::{Side, first_element};
-use itoa::Buffer;
+use crate::entries::put_element_entry;
+use crate::format::Notation;
 use oas_layout::Element;
-use oas_listing::put_element;
-use oas_num::{Sink, SinkFault};
+use oas_num::{Name, Sink, SinkFault};
 
 /// An element that is not there as often after as before.
 #[derive(Clone, Copy)]
@@ -28,8 +27,6 @@ pub struct Change<'a> {
 pub fn next_change<'a>(before: &mut Side<'a>, after: &mut Side<'a>) -> Option<Change<'a>>
     requires before { IsStrictlySortedBy element_cmp (keys_of before.old) }
     requires after { IsStrictlySortedBy element_cmp (keys_of after.old) }
-    ensures change { MatchOption result (held_changes before.old after.old ≡ [])
-        (λ c. held_changes before.old after.old ≡ change c.before c.after (element_line c.element.now) ++ held_changes before.new after.new) }
     ensures changed { MatchOption result (held_changed before.old after.old ≡ [])
         (λ c. held_changed before.old after.old ≡ change_at c.element.now c.before c.after ++ held_changed before.new after.new) }
     ensures unlike { IfSome result (λ c. c.before ≢ c.after) }
@@ -50,54 +47,40 @@ pub fn next_change<'a>(before: &mut Side<'a>, after: &mut Side<'a>) -> Option<Ch
     None
 }
 
-/// Puts a sign and a count, with a space after each.
-pub(crate) fn put_sign<K: Sink>(sink: &mut K, sign: u8, count: u64) -> Result<(), SinkFault>
-    ensures { Writes K.given K.failures sink.old (sign ∷ 32 ∷ (decimal count ++ 32 ∷ [])) result sink.new }
-{
-    sink.put(sign)?;
-    sink.put(b' ')?;
-    sink.put_all(Buffer::new().format(count).as_bytes())?;
-    sink.put(b' ')
-}
-
-/// Puts the line of an element that is there this many more times.
-fn put_signed<K: Sink>(
+/// Puts the entry of a change of that cell.
+pub(crate) fn put_change<K: Sink>(
     sink: &mut K,
-    sign: u8,
-    count: u64,
-    element: &Element,
+    notation: &Notation,
+    name: &Name,
+    found: Change<'_>,
 ) -> Result<(), SinkFault>
-    ensures { Writes K.given K.failures sink.old (signed sign count (element_line element.now)) result sink.new }
+    ensures { Writes K.given K.failures sink.old
+        (change_entry notation.now name.now (found.entry.element.now, (found.entry.before, found.entry.after))) result sink.new }
 {
-    put_sign(sink, sign, count)?;
-    put_element(sink, element)
-}
-
-/// Puts the line of a change.
-pub(crate) fn put_change<K: Sink>(sink: &mut K, found: Change<'_>) -> Result<(), SinkFault>
-    ensures { Writes K.given K.failures sink.old (change found.entry.before found.entry.after (element_line found.entry.element.now)) result sink.new }
-{
+    let (syntax, element) = (notation.syntax, found.element);
     if found.after < found.before {
-        put_signed(sink, b'-', found.before - found.after, found.element)
-    } else if found.before < found.after {
-        put_signed(sink, b'+', found.after - found.before, found.element)
+        let count = found.before - found.after;
+        put_element_entry(sink, syntax, &notation.before, name, b'-', count, element)
     } else {
-        Ok(())
+        let count = found.after - found.before;
+        put_element_entry(sink, syntax, &notation.after, name, b'+', count, element)
     }
 }
 
-/// Puts the lines of what has changed.
+/// Puts the entries of what has changed in that cell.
 pub(crate) fn put_changes<'a, K: Sink>(
     sink: &mut K,
+    notation: &Notation,
+    name: &Name,
     mut before: Side<'a>,
     mut after: Side<'a>,
 ) -> Result<(), SinkFault>
     requires before { IsStrictlySortedBy element_cmp (keys_of before) }
     requires after { IsStrictlySortedBy element_cmp (keys_of after) }
-    ensures { Writes K.given K.failures sink.old (held_changes before.entry after.entry) result sink.new }
+    ensures { Writes K.given K.failures sink.old (held_changes notation.now name.now before.entry after.entry) result sink.new }
 {
     while let Some(change) = next_change(&mut before, &mut after) {
-        put_change(sink, change)?;
+        put_change(sink, notation, name, change)?;
     }
     Ok(())
 }

@@ -1,12 +1,13 @@
 //! The laws of differences, the contracts of functions that do nothing.
 ghost use Rattle.oas_layout.specs.declared.profile.Profile.{Profile};
+ghost use Rattle.oas_difference.specs.declared.format.Format.{Format};
 ghost use Rattle.oas_difference.specs.declared.options.Options.{Options};
 ghost use Rattle.oas_difference.specs.Laws.DifferenceLaws.{EmptyIfSame};
 ghost use Rattle.oas_difference.specs.Laws.OptionLaws.{EmptyByOptions, AllByDefault};
 
-/// The difference of two layouts has no line exactly if they are the same under their profile.
+/// In each format the difference of two layouts has no line exactly if they are the same under their profile.
 pub fn empty_if_same()
-    ensures { (profile : Profile) → EmptyIfSame profile }
+    ensures { (format : Format) (profile : Profile) → EmptyIfSame format profile }
 {}
 
 /// What is written by any options is empty exactly if what they compare of the layouts is the same.

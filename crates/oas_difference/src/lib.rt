@@ -24,6 +24,10 @@
 //! layers are named, only elements are compared: a cell that only one layout has is as one without elements in the other
 //! (`or_empty`), so each line of an element is below a line `@ cell NAME`.
 //!
+//! [`Format`] says how each entry is written: a line or a JSON object in a line, and lengths in grid steps or in microns
+//! (specs/Entries.antt). What is compared doesn't depend on it. [`put_length`] and [`put_microns`] put grid steps as a decimal
+//! number of microns (specs/Microns.antt).
+//!
 //! For other texts of a difference [`next_cell`] goes over the cells of two layouts, and [`next_change`] over the elements
 //! that are not as often in both.
 //!
@@ -34,9 +38,12 @@
 //! options it is empty exactly if what they compare is the same, which holds of all meanings, in whatever order and form
 //! their elements are.
 //!
-//! - specs/Ascending.antt: what is in a list, ascending, each once. specs/Difference.antt: for each element of either list
-//!   how often it is in both (`count_of`, which also defines sameness), and one line where that differs; for each name of
-//!   either layout the same for its cells. No loop is in it.
+//! - specs/Ascending.antt: what is in a list, ascending, each once. specs/Changed.antt: for each element of either list how
+//!   often it is in both (`count_of`, which also defines sameness), where that differs. specs/Difference.antt: an entry for
+//!   each of these, and for each name of either layout the same for its cells. No loop is in it.
+//! - specs/Entries.antt: an entry, given its format; specs/Fields.antt: its fields by name, as words or as members of an
+//!   object. src/entries.rt, kinds.rt, fields.rt, json.rt and microns.rt put them, each over any sink, and know nothing of
+//!   the walk.
 //! - src/elements.rt: the elements of a cell with the first at hand (`Side`); the lesser of two firsts is taken from both
 //!   sides (`take`). changes.rt: goes on to the next element that is not as often on both sides, so a cell without a change
 //!   gets no line. cells.rt: the same over names. writing.rt: the outlet.
@@ -49,10 +56,11 @@
 //! How the proof goes. The keys of two ascending lists in order begin with the lesser of their first keys
 //! (proofs/Ascending.antt), so the entries side by side do (`take_least`, proofs/Pairs.antt); each loop is that step, under
 //! `PutSoFar` as in oas_listing. What is held means what is listed by proofs/Held.antt: in a layout each element is in its
-//! kept form, and the number beside it is its count (`held` of oas_layout). proofs/Lengths.antt bounds the length, for
-//! which no element may be weighed twice (`sum_once`). The law (proofs/EmptyLaw.antt) needs no order: no line for any
-//! element of either list says that all counts are equal, since one that is the same as none of them counts 0 on both
-//! sides.
+//! kept form, and the number beside it is its count (`held` of oas_layout). proofs/EntryLengths.antt and Lengths.antt bound
+//! the length, for which no element may be weighed twice (`sum_once`); an object has its cell's name, which is shorter than
+//! a layout's weight. The law (proofs/EmptyLaw.antt) needs no order: no entry for any element of either list says that all
+//! counts are equal, since one that is the same as none of them counts 0 on both sides; and whatever the format, each entry
+//! has a byte (`change_first`, proofs/Steps.antt).
 #![tactic(auto)]
 
 mod brief;
@@ -60,8 +68,14 @@ mod cells;
 mod changes;
 mod choice;
 mod elements;
+mod entries;
+mod fields;
+mod format;
+mod json;
+mod kinds;
 pub mod laws;
 mod limiting;
+mod microns;
 mod options;
 mod shown;
 mod writing;
@@ -70,6 +84,9 @@ pub use cells::{CellPair, Cells, next_cell};
 pub use changes::{Change, next_change};
 pub use choice::{Choice, ChosenLayer, layer_of};
 pub use elements::Side;
+pub use entries::kind_name;
+pub use format::{Format, Measure, PLAIN, Syntax};
+pub use microns::{put_length, put_microns};
 pub use options::{Detail, Options};
 pub use shown::Shown;
 pub use writing::{put_difference, write_difference};

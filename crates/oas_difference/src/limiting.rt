@@ -5,6 +5,7 @@ ghost use Rattle.oas_num.specs.Writing.{Writes};
 ghost use Rattle.oas_num.specs.Outlets.{IsGiven, failures_of};
 ghost use Rattle.oas_difference.specs.Limited.{more_line};
 
+use crate::format::Syntax;
 use oas_num::{Outlet, Sink, SinkFault};
 use std::io::Write;
 
@@ -38,13 +39,13 @@ impl<'a, W: Write> Limited<'a, W> {
     }
 
     /// Puts a last line into the sink below where something was dropped.
-    pub(crate) fn put_more(&mut self) -> Result<(), SinkFault>
-        ensures { Writes (IsGiven W.contents) failures_of self.old.sink (more_line self.old.is_cut) result self.new.sink }
+    pub(crate) fn put_more(&mut self, syntax: Syntax) -> Result<(), SinkFault>
+        ensures { Writes (IsGiven W.contents) failures_of self.old.sink (more_line syntax self.old.is_cut) result self.new.sink }
     {
-        if self.is_cut {
-            self.sink.put_all(b"...\n")
-        } else {
-            Ok(())
+        match (self.is_cut, syntax) {
+            (false, _) => Ok(()),
+            (true, Syntax::Lines) => self.sink.put_all(b"...\n"),
+            (true, Syntax::Json) => self.sink.put_all(b"{\"kind\":\"more\"}\n"),
         }
     }
 }

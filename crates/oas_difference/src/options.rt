@@ -1,13 +1,14 @@
 //! What is written of a difference.
 
 use crate::choice::Choice;
+use crate::format::Format;
 
 /// What is said of each cell that differs.
 #[derive(Clone, Copy, Debug, PartialEq, Eq)]
 pub enum Detail {
-    /// Each element that is not as often in both layouts, a line each.
+    /// Each element that is not as often in both layouts.
     Elements,
-    /// How many elements only one of the layouts has: one line `SIGN cell NAME - N + M`.
+    /// How many elements only one of the layouts has.
     Counts,
 }
 
@@ -16,6 +17,7 @@ pub enum Detail {
 pub struct Options<'a> {
     pub choice: Choice<'a>,
     pub detail: Detail,
-    /// At most this many lines, and where there are more a last line `...`; without it all of them.
+    pub format: Format,
+    /// At most this many lines, and where there are more a last line that says so; without it all of them.
     pub limit: Option<u64>,
 }

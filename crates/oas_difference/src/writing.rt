@@ -7,28 +7,32 @@ ghost use Rattle.oas_num.specs.Written.{IsWritten, IsCutOff};
 ghost use Rattle.oas_layout.specs.Contents.{meaning_of};
 ghost use Rattle.oas_difference.specs.Difference.{unit_changes};
 ghost use Rattle.oas_difference.specs.Options.{compared, detailed, difference_by};
+ghost use Rattle.oas_difference.specs.declared.format.TheConstants.{PLAIN};
 
 use crate::cells::{Cells, put_cells};
-use crate::changes::put_sign;
 use crate::choice::Choice;
+use crate::entries::put_unit_entry;
+use crate::format::{Notation, PLAIN, Syntax};
 use crate::limiting::Limited;
 use crate::options::{Detail, Options};
 use oas_layout::Layout;
-use oas_listing::put_unit;
 use oas_num::{Fraction, Outlet, Refusal, Sink, SinkFault, Why};
 use std::io::Write;
 
-/// Puts the lines of two units that differ.
-fn put_units<K: Sink>(sink: &mut K, before: Fraction, after: Fraction) -> Result<(), SinkFault>
-    ensures { Writes K.given K.failures sink.old (unit_changes before after) result sink.new }
+/// Puts the entries of two units that differ.
+fn put_units<K: Sink>(
+    sink: &mut K,
+    syntax: Syntax,
+    before: Fraction,
+    after: Fraction,
+) -> Result<(), SinkFault>
+    ensures { Writes K.given K.failures sink.old (unit_changes syntax before after) result sink.new }
 {
     if before == after {
         return Ok(());
     }
-    put_sign(sink, b'-', 1)?;
-    put_unit(sink, before)?;
-    put_sign(sink, b'+', 1)?;
-    put_unit(sink, after)
+    put_unit_entry(sink, syntax, b'-', before)?;
+    put_unit_entry(sink, syntax, b'+', after)
 }
 
 /// Puts the difference of what the options compare of two layouts, without a limit.
@@ -44,11 +48,20 @@ fn put_compared<'a, K: Sink>(
 {
     let left = Cells::new(before, options.choice);
     let right = Cells::new(after, options.choice);
-    put_units(sink, before.unit(), after.unit())?;
-    put_cells(sink, left, right, options.choice.layers, options.detail)
+    let notation = Notation::new(options.format, before.unit(), after.unit());
+    put_units(sink, options.format.syntax, before.unit(), after.unit())?;
+    put_cells(
+        sink,
+        left,
+        right,
+        options.choice.layers,
+        options.detail,
+        &notation,
+    )
 }
 
-/// Puts the difference of two layouts of one profile into a sink, in that detail and with all its lines. It allocates nothing.
+/// Puts the difference of two layouts of one profile into a sink, in that detail and with all its lines, in grid steps. It
+/// allocates nothing.
 pub fn put_difference<'a, K: Sink>(
     before: &'a Layout,
     after: &'a Layout,
@@ -56,12 +69,13 @@ pub fn put_difference<'a, K: Sink>(
     sink: &mut K,
 ) -> Result<(), SinkFault>
     requires { before.now.profile ≡ after.now.profile }
-    ensures writes { Writes K.given K.failures sink.old (detailed None detail before.now.profile (meaning_of before.now) (meaning_of after.now)) result sink.new }
-    ensures short { length (detailed None detail before.now.profile (meaning_of before.now) (meaning_of after.now)) < 2 ^ 63 }
+    ensures writes { Writes K.given K.failures sink.old (detailed None detail PLAIN before.now.profile (meaning_of before.now) (meaning_of after.now)) result sink.new }
+    ensures short { length (detailed None detail PLAIN before.now.profile (meaning_of before.now) (meaning_of after.now)) < 2 ^ 63 }
 {
     let options = Options {
         choice: Choice::all(),
         detail,
+        format: PLAIN,
         limit: None,
     };
     put_compared(sink, before, after, options)
@@ -86,7 +100,7 @@ fn put_and_close<W: Write>(
     if lines.has_failed() {
         return Err(SinkFault::Device);
     }
-    lines.put_more()?;
+    lines.put_more(options.format.syntax)?;
     lines.sink.close()
 }
 

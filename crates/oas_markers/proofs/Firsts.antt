@@ -6,7 +6,7 @@ use Rattle.oas_num.specs.Ratio.{Ratio}
 use Rattle.oas_layout.specs.declared.element.Element.{Element}
 use Rattle.oas_difference.specs.Held.{held_changed}
 use Rattle.oas_markers.specs.Markers.{alone, change_item, first_items}
-use Rattle.oas_markers.specs.Numbers.{counted}
+use Rattle.oas_difference.specs.Microns.{counted_to}
 use Rattle.oas_markers.specs.Held.{Pair, held_item}
 
 pub none_first : (n : ℕ) → first_items n [] ≡ []
@@ -56,9 +56,9 @@ item_count u v p =
 
 -- what was counted of a cell
 pub cell_count : (u v : Ratio) (p : Pair) (es fs : List (Element × ℕ)) (b c : Bool) (changes alone_count sum : ℕ) → es ≡ unwrap_or p.1.0 [] → fs ≡ unwrap_or p.1.1 []
-    → b ≡ is_some p.1.0 → c ≡ is_some p.1.1 → changes ≡ counted (length (held_changed es fs)) → alone_count ≡ length (alone b c p.0)
-    → sum ≡ counted (changes + alone_count) → sum ≡ counted (length (held_item u v p))
+    → b ≡ is_some p.1.0 → c ≡ is_some p.1.1 → changes ≡ counted_to (length (held_changed es fs)) → alone_count ≡ length (alone b c p.0)
+    → sum ≡ counted_to (changes + alone_count) → sum ≡ counted_to (length (held_item u v p))
 cell_count u v p es fs b c changes alone_count sum he hf hb hc hn ha hs =
-    let few : changes ≡ counted (length (held_changed (unwrap_or p.1.0 []) (unwrap_or p.1.1 []))) = hn ∙ (λ i. counted (length (held_changed (he i) (hf i)))) in
+    let few : changes ≡ counted_to (length (held_changed (unwrap_or p.1.0 []) (unwrap_or p.1.1 []))) = hn ∙ (λ i. counted_to (length (held_changed (he i) (hf i)))) in
     let one : alone_count ≡ length (alone (is_some p.1.0) (is_some p.1.1) p.0) = ha ∙ (λ i. length (alone (hb i) (hc i) p.0)) in
     omega (arith, few, one, hs, item_count u v p)

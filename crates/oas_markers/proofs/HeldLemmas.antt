@@ -14,17 +14,16 @@ use Rattle.oas_layout.specs.Meaning.{elements_of}
 use Rattle.oas_layout.specs.Contents.{Cell, Contents, expanded, meaning_of, IsCell, IsLayout}
 use Rattle.oas_difference.specs.Ascending.{ascending}
 use Rattle.oas_difference.specs.Pairs.{found}
-use Rattle.oas_difference.specs.Brief.{changed}
+use Rattle.oas_difference.specs.Changed.{changed}
 use Rattle.oas_difference.specs.Choice.{chosen, or_empty}
 use Rattle.oas_difference.specs.Held.{cells_chosen, contents_chosen}
 use Rattle.oas_difference.specs.declared.choice.Choice.{Choice}
 use Rattle.oas_difference.specs.declared.choice.ChosenLayer.{ChosenLayer}
 use Rattle.std.specs.Borrow.{Bor}
 use Rattle.oas_difference.proofs.Chosen.{layout_chosen, meaning_chosen}
-use Rattle.oas_difference.proofs.Held.{there, the_items, bag_of, or_bag, bag_at, or_items, elements_found, keys_held, pairs_are}
-use Rattle.oas_difference.proofs.BriefHeld.{changed_held}
+use Rattle.oas_difference.proofs.Held.{changed_held, there, the_items, bag_of, or_bag, bag_at, or_items, elements_found, keys_held, pairs_are}
 use Rattle.oas_markers.specs.Markers.{head, cell_entry, change_item, alone, cell_items, first_items, markers}
-use Rattle.oas_markers.specs.Numbers.{counted}
+use Rattle.oas_difference.specs.Microns.{counted_to}
 use Rattle.oas_markers.specs.Held.{held_entry, held_entries, held_item, held_items}
 
 module _ (u v : Ratio) (profile : Profile) where
@@ -65,17 +64,17 @@ abbrev pub foot : List ℕ
 foot = codes " </items>\n</report-database>\n"
 
 markers_held : (layers : Option (Bor (List ChosenLayer))) (most : ℕ) (a b : Contents) → IsLayout a → IsLayout b → a.profile ≡ b.profile → markers most layers a.profile (meaning_of a) (meaning_of b)
-    ≡ head a.unit b.unit most (counted (length (held_items layers a.unit b.unit a.cells b.cells)))
+    ≡ head a.unit b.unit most (counted_to (length (held_items layers a.unit b.unit a.cells b.cells)))
     ++ (held_entries layers a.cells b.cells ++ (between ++ (first_items most (held_items layers a.unit b.unit a.cells b.cells) ++ foot)))
 markers_held layers most a b k l alike =
     let cells = subst (λ p. AllByRecursion (IsCell p) b.cells) (sym alike) l.cells in
     let listed = items_held a.unit b.unit a.profile layers a.cells b.cells k.cells cells in
-    λ i. head a.unit b.unit most (counted (length (listed i))) ++ (entries_held layers a.cells b.cells i ++ (between ++ (first_items most (listed i) ++ foot)))
+    λ i. head a.unit b.unit most (counted_to (length (listed i))) ++ (entries_held layers a.cells b.cells i ++ (between ++ (first_items most (listed i) ++ foot)))
 
 -- the same of what is compared of them
 pub chosen_markers : (choice : Choice) (most : ℕ) (a b : Contents) → IsLayout a → IsLayout b → a.profile ≡ b.profile →
     markers most choice.layers a.profile (chosen choice (meaning_of a)) (chosen choice (meaning_of b))
-    ≡ head a.unit b.unit most (counted (length (held_items choice.layers a.unit b.unit (cells_chosen choice a.cells) (cells_chosen choice b.cells))))
+    ≡ head a.unit b.unit most (counted_to (length (held_items choice.layers a.unit b.unit (cells_chosen choice a.cells) (cells_chosen choice b.cells))))
     ++ (held_entries choice.layers (cells_chosen choice a.cells) (cells_chosen choice b.cells)
     ++ (between ++ (first_items most (held_items choice.layers a.unit b.unit (cells_chosen choice a.cells) (cells_chosen choice b.cells)) ++ foot)))
 chosen_markers choice most a b k l alike =

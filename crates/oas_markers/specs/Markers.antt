@@ -10,14 +10,15 @@ use Rattle.oas_layout.specs.declared.element.Element.{Element}
 use Rattle.oas_layout.specs.Meaning.{Meaning, elements_of}
 use Rattle.oas_difference.specs.Ascending.{ascending}
 use Rattle.oas_difference.specs.Difference.{same_ratio}
+use Rattle.oas_difference.specs.Entries.{kind_name}
 use Rattle.oas_difference.specs.Choice.{layer_of, or_empty}
 use Rattle.oas_difference.specs.declared.choice.ChosenLayer.{ChosenLayer}
-use Rattle.oas_difference.specs.Brief.{changed}
+use Rattle.oas_difference.specs.Changed.{changed}
 use Rattle.oas_markers.specs.declared.items.Way.{Way}
 use Rattle.oas_markers.specs.declared.items.Way.TheVariants.{Removed, Added}
-use Rattle.oas_markers.specs.Numbers.{counted}
+use Rattle.oas_difference.specs.Microns.{counted_to}
 use Rattle.oas_markers.specs.Texts.{escaped}
-use Rattle.oas_markers.specs.Shapes.{kind_name, shape, layer_value}
+use Rattle.oas_markers.specs.Shapes.{shape, layer_value}
 
 -- ---- categories
 
@@ -111,7 +112,7 @@ first_items (suc n) (item ∷ items) = item ++ first_items n items
 -- How many items there are, the cells' names, and then at most this many items.
 abbrev pub markers : ℕ → Option (Bor (List ChosenLayer)) → Profile → Meaning → Meaning → List ℕ
 markers most layers profile a b =
-    head a.unit b.unit most (counted (length (all_items layers profile a b)))
+    head a.unit b.unit most (counted_to (length (all_items layers profile a b)))
     ++ (flat_map cell_entry (all_names a b)
     ++ (codes " </cells>\n <items>\n"
     ++ (first_items most (all_items layers profile a b) ++ codes " </items>\n</report-database>\n")))

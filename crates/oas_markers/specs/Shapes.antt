@@ -7,7 +7,8 @@ use Rattle.oas_layout.specs.declared.element.Element.TheVariants.{Placement, Tex
 use Rattle.oas_layout.specs.declared.element.Turns.{Turns}
 use Rattle.oas_layout.specs.declared.element.Turns.TheVariants.{T0, T1, T2, T3}
 use Rattle.oas_markers.specs.Texts.{quoted}
-use Rattle.oas_markers.specs.Numbers.{length_in, microns, place, places}
+use Rattle.oas_difference.specs.Microns.{length_in, microns}
+use Rattle.oas_markers.specs.Numbers.{place, places}
 
 -- turns after a flip, as KLayout names them
 abbrev pub turn_code : Turns → Bool → List ℕ
@@ -19,14 +20,6 @@ turn_code T0 true = codes "m0"
 turn_code T1 true = codes "m45"
 turn_code T2 true = codes "m90"
 turn_code T3 true = codes "m135"
-
-abbrev pub kind_name : Element → List ℕ
-kind_name (Placement cell x y turns flip) = codes "placement"
-kind_name (Text string textlayer texttype x y) = codes "text"
-kind_name (Rectangle layer datatype width height x y) = codes "rectangle"
-kind_name (Polygon layer datatype points) = codes "polygon"
-kind_name (Path layer datatype half_width start end points) = codes "path"
-kind_name (Circle layer datatype radius x y) = codes "circle"
 
 -- ---- shapes
 

@@ -10,7 +10,7 @@ ghost use Rattle.oas_layout.specs.Bag.{IsTally};
 ghost use Rattle.oas_layout.specs.Element.{element_cmp};
 ghost use Rattle.oas_difference.specs.Held.{held_changed};
 ghost use Rattle.oas_markers.specs.Markers.{alone};
-ghost use Rattle.oas_markers.specs.Numbers.{counted};
+ghost use Rattle.oas_difference.specs.Microns.{counted_to};
 ghost use Rattle.oas_markers.specs.Held.{held_item, held_items};
 
 use oas_difference::{CellPair, Cells, ChosenLayer, Side, next_cell, next_change};
@@ -19,7 +19,7 @@ use oas_difference::{CellPair, Cells, ChosenLayer, Side, next_cell, next_change}
 fn count_changes<'a>(mut before: Side<'a>, mut after: Side<'a>) -> u64
     requires before { IsStrictlySortedBy element_cmp (keys_of before) }
     requires after { IsStrictlySortedBy element_cmp (keys_of after) }
-    ensures { result ≡ counted (length (held_changed before.entry after.entry)) }
+    ensures { result ≡ counted_to (length (held_changed before.entry after.entry)) }
 {
     let mut count = 0u64;
     while let Some(change) = next_change(&mut before, &mut after) {
@@ -43,7 +43,7 @@ fn count_alone(is_before: bool, is_after: bool) -> u64
 fn count_cell<'a>(pair: CellPair<'a>) -> u64
     requires before { IfSome pair.before IsTally }
     requires after { IfSome pair.after IsTally }
-    ensures { (u v : Ratio) → result ≡ counted (length (held_item u v (pair.entry.name.now, (pair.entry.before, pair.entry.after)))) }
+    ensures { (u v : Ratio) → result ≡ counted_to (length (held_item u v (pair.entry.name.now, (pair.entry.before, pair.entry.after)))) }
 {
     let alone = count_alone(pair.before.is_some(), pair.after.is_some());
     count_changes(Side::new(pair.before), Side::new(pair.after)).saturating_add(alone)
@@ -57,7 +57,7 @@ pub(crate) fn count_items<'a>(
 ) -> u64
     requires before { IsStrictlySortedBy (slice_cmp nat_cmp) (keys_of before) }
     requires after { IsStrictlySortedBy (slice_cmp nat_cmp) (keys_of after) }
-    ensures { (u v : Ratio) → result ≡ counted (length (held_items layers.entry u v before.entry after.entry)) }
+    ensures { (u v : Ratio) → result ≡ counted_to (length (held_items layers.entry u v before.entry after.entry)) }
 {
     let mut count = 0u64;
     while let Some(pair) = next_cell(&mut before, &mut after, layers) {

@@ -8,9 +8,9 @@ ghost use Rattle.oas_markers.specs.declared.items.Way.TheVariants.{Removed, Adde
 ghost use Rattle.oas_markers.specs.Markers.{way_name, way_file, category, about, note, head, cell_entry, item, change_item, cell_item};
 
 use crate::numbers::put_number;
-use crate::shapes::{kind_name, put_layer, put_shape};
+use crate::shapes::{put_layer, put_shape};
 use crate::texts::put_escaped;
-use oas_difference::Change;
+use oas_difference::{Change, kind_name};
 use oas_layout::Element;
 use oas_num::{Fraction, Name, Sink, SinkFault};
 

@@ -19,9 +19,8 @@
 //! oas_markers stands on oas_difference, whose walks over cells and over elements it uses (`next_cell`, `next_change`).
 //! Promise upwards: `write_markers`, whose clauses speak of `markers`, a function of what two layouts mean.
 //! specs/Markers.antt has the text: categories, then the cells by name, then the first of the items (`first_items`), which are
-//! counted before (counting.rt); specs/Shapes.antt an element as a
-//! value, specs/Numbers.antt grid steps in microns, specs/Texts.antt names in XML. src/numbers.rt divides digit by digit,
-//! so a finite decimal number stands as it is. specs/Held.antt is the word between, as that of oas_difference.
+//! counted before (counting.rt); specs/Shapes.antt an element as a value, specs/Numbers.antt its points in microns (Microns of
+//! oas_difference), specs/Texts.antt names in XML. specs/Held.antt is the word between, as that of oas_difference.
 #![tactic(auto)]
 
 mod cells;

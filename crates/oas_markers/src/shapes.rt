@@ -3,7 +3,7 @@
 ghost use Rattle.std.specs.Prelude.{◌≡◌, Some};
 ghost use Rattle.oas_num.specs.Writing.{Writes};
 ghost use Rattle.oas_difference.specs.Choice.{layer_of};
-ghost use Rattle.oas_markers.specs.Shapes.{label, box, polygon, path, circle, shape, layer_value, turn_code, kind_name};
+ghost use Rattle.oas_markers.specs.Shapes.{label, box, polygon, path, circle, shape, layer_value, turn_code};
 
 use crate::numbers::{
     put_coordinate, put_double, put_far, put_number, put_place, put_places, put_steps,
@@ -27,20 +27,6 @@ fn turn_code(turns: Turns, flip: bool) -> &'static [u8]
         (true, Turns::T1) => b"m45",
         (true, Turns::T2) => b"m90",
         (true, Turns::T3) => b"m135",
-    }
-}
-
-/// The name of an element's kind.
-pub(crate) fn kind_name(element: &Element) -> &'static [u8]
-    ensures { result.now ≡ kind_name element.now }
-{
-    match element {
-        Element::Placement { .. } => b"placement",
-        Element::Text { .. } => b"text",
-        Element::Rectangle { .. } => b"rectangle",
-        Element::Polygon { .. } => b"polygon",
-        Element::Path { .. } => b"path",
-        Element::Circle { .. } => b"circle",
     }
 }
 

@@ -12,7 +12,7 @@ ghost use Rattle.oas_layout.specs.Contents.{meaning_of};
 ghost use Rattle.oas_difference.specs.Choice.{chosen};
 ghost use Rattle.oas_difference.specs.Held.{cells_chosen};
 ghost use Rattle.oas_markers.specs.Markers.{first_items, markers};
-ghost use Rattle.oas_markers.specs.Numbers.{counted};
+ghost use Rattle.oas_difference.specs.Microns.{counted_to};
 ghost use Rattle.oas_markers.specs.Held.{held_items};
 ghost use Rattle.oas_markers.specs.Written.{IsMarked, IsMarkedUpTo};
 
@@ -45,7 +45,7 @@ fn put_body<'a, K: Sink>(
 
 /// How many markers there are of what is compared of two layouts; the count stops at `u64::MAX`.
 fn count_markers<'a>(before: &'a Layout, after: &'a Layout, choice: Choice<'a>) -> u64
-    ensures { (u v : Ratio) → result ≡ counted (length (held_items choice.entry.layers u v (cells_chosen choice.entry before.now.cells) (cells_chosen choice.entry after.now.cells))) }
+    ensures { (u v : Ratio) → result ≡ counted_to (length (held_items choice.entry.layers u v (cells_chosen choice.entry before.now.cells) (cells_chosen choice.entry after.now.cells))) }
 {
     let cells_before = Cells::new(before, choice);
     let cells_after = Cells::new(after, choice);

@@ -32,6 +32,8 @@ enum Kind<'a> {
     Number(&'a str),
     /// Such an option, which is allowed only with this one.
     NumberOf(&'a str, &'a str),
+    /// An option whose value is one of these words.
+    OneOf(&'a str, &'a [&'a str]),
     /// An option in place of the words `IN`.
     InPlaceOfInputs(&'a str),
     /// An option in place of these words and of the option for their list.
@@ -164,6 +166,18 @@ pub const JSON: Argument<'static> = Argument {
     help: "Prints a JSON object in place of lines",
 };
 
+pub const JSON_LINES: Argument<'static> = Argument {
+    name: "json",
+    kind: Kind::Flag,
+    help: "Prints a JSON object in place of each line",
+};
+
+pub const UNIT: Argument<'static> = Argument {
+    name: "unit",
+    kind: Kind::OneOf("UNIT", &["grid", "um"]),
+    help: "Prints coordinates in grid steps or in microns [default: grid]",
+};
+
 pub const OLD: Argument<'static> = Argument {
     name: "OLD",
     kind: Kind::Required,
@@ -212,20 +226,11 @@ fn argument_of<'a>(alloc: Global, argument: &Argument<'a>) -> Result<Arg<'a>, Al
             flag.requires_arg(needed)?
                 .conflicts_with_all(&[IN.name, LIST.name])
         }
-        Kind::Option(value) => Ok(word.long(option).value_name(value)),
-        Kind::Repeated(value) => {
-            let option = word.long(option).value_name(value);
-            Ok(option.action(ArgAction::Append))
-        }
-        Kind::Number(value) => {
-            let number = value_parser!(u64);
-            Ok(word.long(option).value_name(value).value_parser(number))
-        }
-        Kind::NumberOf(value, needed) => {
-            let number = value_parser!(u64);
-            let option = word.long(option).value_name(value);
-            option.value_parser(number).requires_arg(needed)
-        }
+        Kind::Option(value)
+        | Kind::Repeated(value)
+        | Kind::Number(value)
+        | Kind::NumberOf(value, _)
+        | Kind::OneOf(value, _) => valued_of(word.long(option).value_name(value), argument.kind),
         Kind::InPlaceOfInputs(value) => {
             word.long(option).value_name(value).conflicts_with(IN.name)
         }
@@ -233,5 +238,16 @@ fn argument_of<'a>(alloc: Global, argument: &Argument<'a>) -> Result<Arg<'a>, Al
             let option = word.long(option).value_name(value);
             option.conflicts_with_all(&[IN.name, LIST.name])
         }
+    }
+}
+
+/// The option with what its kind says of its value.
+fn valued_of<'a>(option: Arg<'a>, kind: Kind<'a>) -> Result<Arg<'a>, AllocError> {
+    match kind {
+        Kind::Repeated(_) => Ok(option.action(ArgAction::Append)),
+        Kind::Number(_) => Ok(option.value_parser(value_parser!(u64))),
+        Kind::NumberOf(_, needed) => option.value_parser(value_parser!(u64)).requires_arg(needed),
+        Kind::OneOf(_, words) => Ok(option.value_parser(words)),
+        _ => Ok(option),
     }
 }

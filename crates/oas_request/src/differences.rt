@@ -4,7 +4,7 @@ ghost use Rattle.std.specs.Prelude.{◌≡◌, option_copied, option_map, vec_it
 
 use crate::commands::{Task, two_of};
 use clap::ArgMatches;
-use oas_difference::{Choice, ChosenLayer, Detail, Options};
+use oas_difference::{Choice, ChosenLayer, Detail, Format, Measure, Options, Syntax};
 use oas_files::file_of_word;
 use std::alloc::{AllocError, Global};
 
@@ -16,6 +16,7 @@ pub struct Asked<'a> {
     /// The layers; without it all elements.
     pub layers: Option<Vec<ChosenLayer>>,
     pub detail: Detail,
+    pub format: Format,
     /// At most this many lines; without it all.
     pub limit: Option<u64>,
 }
@@ -33,6 +34,7 @@ impl Asked<'_> {
                 layers: slice_of(&self.layers),
             },
             detail: self.detail,
+            format: self.format,
             limit: self.limit,
         }
     }
@@ -97,8 +99,24 @@ fn asked_of<'a>(alloc: Global, found: &ArgMatches<'a>) -> Result<Asked<'a>, Allo
         cells: cells_of(alloc, found)?,
         layers: layers_of(alloc, found)?,
         detail,
+        format: format_of(found),
         limit: found.get_one::<u64>("limit"),
     })
+}
+
+/// How it is printed.
+fn format_of(found: &ArgMatches<'_>) -> Format {
+    let syntax = if found.get_flag("json") {
+        Syntax::Json
+    } else {
+        Syntax::Lines
+    };
+    let measure = if found.get_str("unit") == Some("um") {
+        Measure::Microns
+    } else {
+        Measure::Grid
+    };
+    Format { syntax, measure }
 }
 
 /// The names of the cells, where there is one.

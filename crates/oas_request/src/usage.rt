@@ -1,9 +1,9 @@
 //! The command line: its commands and the help on them, by `clap`.
 
 use crate::arguments::{
-    A, Argument, B, BRIEF, CELL, CHECK, EXPLAIN, IN, INPUTS, JSON, LARGE, LAYER, LIMIT, LIST,
-    MARKERS, MARKERS_LIMIT, NAMES, NEW, NO_CLOBBER, NUMBER, OLD, OUT, PROGRESS, QUIET, ZERO,
-    put_arguments,
+    A, Argument, B, BRIEF, CELL, CHECK, EXPLAIN, IN, INPUTS, JSON, JSON_LINES, LARGE, LAYER, LIMIT,
+    LIST, MARKERS, MARKERS_LIMIT, NAMES, NEW, NO_CLOBBER, NUMBER, OLD, OUT, PROGRESS, QUIET, UNIT,
+    ZERO, put_arguments,
 };
 use clap::{Command, Error};
 use std::alloc::Global;
@@ -62,6 +62,7 @@ const AFTER_DIFF: &str = "Example:
   oascanon diff --brief before.oas after.oas
   oascanon diff --markers changes.lyrdb before.oas after.oas
   oascanon diff --cell TOP --layer 5 --layer 7/1 before.oas after.oas
+  oascanon diff --json --unit um before.oas after.oas
 
 With --cell or --layer all else is left out of both files before they are
 compared, and the status is that of what is left. Placements and cells are on
@@ -161,6 +162,8 @@ const COMMANDS: [Described<'static>; 10] = [
             CELL,
             LAYER,
             BRIEF,
+            JSON_LINES,
+            UNIT,
             LIMIT,
             MARKERS,
             MARKERS_LIMIT,

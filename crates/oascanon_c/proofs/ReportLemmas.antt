@@ -6,6 +6,7 @@ use Rattle.oas_layout.specs.declared.profile.Profile.{Profile}
 use Rattle.oas_layout.specs.Contents.{Contents, meaning_of}
 use Rattle.oas_layout.specs.Limits.{AreLimits}
 use Rattle.oas_difference.specs.Difference.{difference}
+use Rattle.oas_difference.specs.declared.format.TheConstants.{PLAIN}
 use Rattle.oas_info.specs.declared.info.Info.{Info}
 use Rattle.oas_info.specs.Info.{IsInfo}
 use Rattle.oas_info.specs.Json.{info_json}
@@ -43,10 +44,10 @@ nothing_put old xs e = ap (filled_with old) e ∙ ap (λ (front : List ℕ). fro
 
 module _ {limits : Limits} {one other : List ℕ} {l k : Contents} (first : IsReadFrom limits one l) (second : IsReadFrom limits other k) where
   abbrev lines : List ℕ
-  lines = difference None l.profile (meaning_of l) (meaning_of k)
+  lines = difference None PLAIN l.profile (meaning_of l) (meaning_of k)
 
   differences : Differences limits one other lines
-  differences = record { before = l; after = k; first = first; second = second; is = ap (λ (p : Profile). difference None p (meaning_of l) (meaning_of k)) first.by }
+  differences = record { before = l; after = k; first = first; second = second; is = ap (λ (p : Profile). difference None PLAIN p (meaning_of l) (meaning_of k)) first.by }
 
   pub changes_told : (b : Bounds) → AreLimits limits b.elements b.weight b.input → (old new : List ℕ) (a : Answer) → Puts lines old a new → Differs b one other old (answer_by_lines a) new
   changes_told b are old new (Done zero) p =

@@ -7,6 +7,7 @@ use Rattle.oas_layout.specs.declared.profile.Profile.TheVariants.{Two}
 use Rattle.oas_layout.specs.Contents.{Contents, meaning_of}
 use Rattle.oas_layout.specs.Limits.{IsLimits}
 use Rattle.oas_difference.specs.Difference.{difference}
+use Rattle.oas_difference.specs.declared.format.TheConstants.{PLAIN}
 use Rattle.oas_info.specs.declared.info.Info.{Info}
 use Rattle.oas_info.specs.Info.{IsInfo}
 use Rattle.oas_info.specs.Json.{info_json}
@@ -47,7 +48,7 @@ pub record Differences (limits : Limits) (one other lines : List ℕ) : Type 0 w
   pub after : Contents
   pub first : IsReadFrom limits one before
   pub second : IsReadFrom limits other after
-  pub is : lines ≡ difference None Two (meaning_of before) (meaning_of after)
+  pub is : lines ≡ difference None PLAIN Two (meaning_of before) (meaning_of after)
 
 abbrev pub Differing : Bounds → List ℕ → List ℕ → (List ℕ → Type 0) → Type 0
 Differing b one other P = Within b (λ limits. (lines : List ℕ) × Differences limits one other lines × P lines)

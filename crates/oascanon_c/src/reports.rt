@@ -5,6 +5,7 @@ ghost use Rattle.oas_num.specs.Writing.{Writes};
 ghost use Rattle.oas_layout.specs.Contents.{meaning_of};
 ghost use Rattle.oas_listing.specs.Listing.{listing};
 ghost use Rattle.oas_difference.specs.Difference.{difference};
+ghost use Rattle.oas_difference.specs.declared.format.TheConstants.{PLAIN};
 ghost use Rattle.oas_info.specs.Info.{IsInfo};
 ghost use Rattle.oas_info.specs.Json.{info_json};
 ghost use Rattle.oas_prepare.specs.oas_canon.CellKeys.{cell_key_lines};
@@ -45,7 +46,7 @@ fn put_keys(layout: &Layout, room: &mut [u8]) -> Answer
 /// Puts the lines of what differs between two layouts into the room, as far as they fit.
 fn put_changes(before: &Layout, after: &Layout, room: &mut [u8]) -> Answer
     requires { before.now.profile ≡ after.now.profile }
-    ensures { Puts (difference None before.now.profile (meaning_of before.now) (meaning_of after.now)) room.old result room.new }
+    ensures { Puts (difference None PLAIN before.now.profile (meaning_of before.now) (meaning_of after.now)) room.old result room.new }
 {
     let mut filler = Filler::new(room);
     let _ = put_difference(before, after, Detail::Elements, &mut filler);

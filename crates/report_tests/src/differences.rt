@@ -3,12 +3,13 @@
 mod brief;
 mod chosen;
 mod faults;
+mod formats;
 mod layouts;
 mod limited;
 
 use layouts::{Sketch, layout};
 use oas_layout::Layout;
-use oas_markers::oas_difference::{Choice, Detail, Options, write_difference};
+use oas_markers::oas_difference::{Choice, Detail, Options, PLAIN, write_difference};
 use std::test::Fail;
 
 /// All cells, with all their elements.
@@ -21,6 +22,7 @@ const WHOLE: Choice<'static> = Choice {
 const ALL: Options<'static> = Options {
     choice: WHOLE,
     detail: Detail::Elements,
+    format: PLAIN,
     limit: None,
 };
 

@@ -1,7 +1,7 @@
 //! Listings with texts from outside.
 
 mod faults;
-mod layouts;
+pub mod layouts;
 
 use layouts::{backwards, empty, kinds, rectangles};
 use oas_layout::{Layout, Profile};

@@ -1,6 +1,6 @@
 //! Markers with texts from what KLayout writes.
 
-mod layouts;
+pub mod layouts;
 
 use layouts::{Sketch, kinds, rectangles};
 use oas_layout::Layout;

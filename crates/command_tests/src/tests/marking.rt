@@ -5,7 +5,7 @@ use super::runs::refusal_of;
 use file_pieces::bytes_of;
 use oas_command::marking_telling;
 use oas_command::oas_canon::Limits;
-use oas_command::oas_difference::{Choice, Detail, Options};
+use oas_command::oas_difference::{Choice, Detail, Options, PLAIN};
 use oas_num::{INPUT_MAX, Outlet, SliceSource};
 use std::alloc::Global;
 use std::test::Fail;
@@ -33,6 +33,7 @@ fn run(
     let options = Options {
         choice: Choice::all(),
         detail: Detail::Elements,
+        format: PLAIN,
         limit: None,
     };
     let a = bytes_of(alloc, "HEAD CELL RECT TAIL")?;

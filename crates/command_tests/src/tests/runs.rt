@@ -8,7 +8,8 @@ use super::devices::{Full, Writer};
 use file_pieces::bytes_of;
 use oas_command::oas_canon::Limits;
 use oas_command::{
-    Choice, Detail, End, Form, Label, Options, PairWork, Work, pair_work_telling, work_telling,
+    Choice, Detail, End, Form, Label, Options, PairWork, Work, oas_difference, pair_work_telling,
+    work_telling,
 };
 use oas_num::{INPUT_MAX, Outlet, SliceSource, Source};
 use std::alloc::Global;
@@ -53,6 +54,7 @@ const ALL_LINES: Options<'static> = Options {
         layers: None,
     },
     detail: Detail::Elements,
+    format: oas_difference::PLAIN,
     limit: None,
 };
 

@@ -1,7 +1,7 @@
 //! Command lines with options: what they request.
 
 use super::words::{asks, plain};
-use oas_request::oas_difference::{ChosenLayer, Detail};
+use oas_request::oas_difference::{ChosenLayer, Detail, Format, Measure, PLAIN, Syntax};
 use oas_request::{Asked, Markers, Task};
 use std::alloc::{AllocError, Global};
 use std::test::Fail;
@@ -20,6 +20,7 @@ fn asks_diff(
         cells: None,
         layers: None,
         detail,
+        format: PLAIN,
         limit,
     };
     let task = Task::Diff {
@@ -93,6 +94,7 @@ fn asks_for(
         cells: Some(cells.split_whitespace().collect(alloc)?),
         layers: Some(layers_of(alloc, layers)?),
         detail: Detail::Elements,
+        format: PLAIN,
         limit: None,
     };
     let task = Task::Diff {
@@ -109,6 +111,50 @@ fn cells_and_layers_of_diff(rt: HostRuntime) -> Result<(), Fail> {
     let line = "oascanon diff --cell B a --cell=A --layer 5 b --layer=0/18446744073709551615";
     let layers = [(5, None), (0, Some(u64::MAX))];
     assert_eq!(rt; asks_for(rt.alloc(), line, "B A", &layers)?, Ok(true));
+    Ok(())
+}
+
+/// Whether the words of a line request `diff a b` in this format, or with which status they end.
+fn asks_in(alloc: Global, line: &str, format: Format) -> Result<Result<bool, i32>, AllocError> {
+    let asked = Asked {
+        cells: None,
+        layers: None,
+        detail: Detail::Elements,
+        format,
+        limit: None,
+    };
+    let task = Task::Diff {
+        first: Some("a"),
+        second: Some("b"),
+        asked,
+        markers: None,
+    };
+    asks(alloc, line, plain(task, false))
+}
+
+#[test]
+fn formats_of_diff(rt: HostRuntime) -> Result<(), Fail> {
+    for (line, syntax, measure) in [
+        ("oascanon diff --json a b", Syntax::Json, Measure::Grid),
+        (
+            "oascanon diff --unit=um a b",
+            Syntax::Lines,
+            Measure::Microns,
+        ),
+        (
+            "oascanon diff a b --unit grid",
+            Syntax::Lines,
+            Measure::Grid,
+        ),
+        (
+            "oascanon diff a --unit um --json b",
+            Syntax::Json,
+            Measure::Microns,
+        ),
+    ] {
+        let found = asks_in(rt.alloc(), line, Format { syntax, measure })?;
+        assert_eq!(rt; found, Ok(true), "at {line}");
+    }
     Ok(())
 }
 

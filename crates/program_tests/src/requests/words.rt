@@ -229,6 +229,12 @@ oascanon diff a b --markers m --markers-limit
 oascanon diff a b --markers m --markers-limit x
 oascanon diff a b --markers m --markers-limit=-1
 oascanon diff a b --markers-limit 7
+oascanon diff a b --unit
+oascanon diff a b --unit mm
+oascanon diff a b --unit=
+oascanon diff a b --unit um --unit grid
+oascanon diff a b --json --json
+oascanon same --json a b
 oascanon same --brief a b
 oascanon same --markers m a b
 oascanon rekey

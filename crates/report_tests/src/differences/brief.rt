@@ -1,12 +1,13 @@
 //! Differences in brief.
 
 use super::{WHOLE, differ_by};
-use oas_markers::oas_difference::{Detail, Options};
+use oas_markers::oas_difference::{Detail, Options, PLAIN};
 use std::test::Fail;
 
 const BRIEF: Options<'static> = Options {
     choice: WHOLE,
     detail: Detail::Counts,
+    format: PLAIN,
     limit: None,
 };
 

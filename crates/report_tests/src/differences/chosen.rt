@@ -2,7 +2,7 @@
 
 use super::differ_by;
 use super::layouts::Sketch;
-use oas_markers::oas_difference::{Choice, ChosenLayer, Detail, Options};
+use oas_markers::oas_difference::{Choice, ChosenLayer, Detail, Options, PLAIN};
 use std::test::Fail;
 
 /// Three cells, of which each layout has two.
@@ -33,6 +33,7 @@ fn differ(rt: &HostRuntime, choice: Choice<'_>, detail: Detail, text: &str) -> R
     let options = Options {
         choice,
         detail,
+        format: PLAIN,
         limit: None,
     };
     differ_by(rt, BEFORE, AFTER, options, text)

@@ -1,7 +1,7 @@
 //! The first lines of a difference.
 
 use super::{WHOLE, differ_by};
-use oas_markers::oas_difference::{Detail, Options};
+use oas_markers::oas_difference::{Detail, Options, PLAIN};
 use std::test::Fail;
 
 /// How many lines there may be, and what is then written.
@@ -21,6 +21,7 @@ fn first(lines: u64) -> Options<'static> {
     Options {
         choice: WHOLE,
         detail: Detail::Elements,
+        format: PLAIN,
         limit: Some(lines),
     }
 }
@@ -58,6 +59,7 @@ fn lines_of_counts_are_counted_too(rt: HostRuntime) -> Result<(), Fail> {
     let options = Options {
         choice: WHOLE,
         detail: Detail::Counts,
+        format: PLAIN,
         limit: Some(1),
     };
     let text = "- cell A - 2 + 0\n...\n";

@@ -19,7 +19,7 @@ pub returns-in-Some : goal.returns-in-Some
 returns-in-Some g c =
     let excess = c.count_changes-excess in
     subst (λ (bs : List ℕ). Writes g.K.Sink.given g.K.Sink.failures c.args.sink.now bs c.put_brief.result c.put_brief.new.sink)
-    (brief_is c.args.name.now c.args.before c.args.after c.new.result c.new-2.result c.is_some-is_before.result c.is_some-is_after.result excess.result.before
+    (brief_is c.args.syntax c.args.name.now c.args.before c.args.after c.new.result c.new-2.result c.is_some-is_before.result c.is_some-is_after.result excess.result.before
     excess.result.after c.in-Some.sign c.is_some-is_before.ensures c.is_some-is_after.ensures c.new.ensures c.new-2.ensures excess.ensures.before
     excess.ensures.after c.in-Some.ensures)
     c.put_brief.ensures

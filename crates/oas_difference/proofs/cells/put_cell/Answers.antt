@@ -5,7 +5,7 @@ use Rattle.std.proofs.lemmas.Result.{err_from_is_err_and}
 use Rattle.oas_num.proofs.PuttingLemmas.{begins, fails_at, ends, ◌▸◌}
 use Rattle.oas_layout.specs.declared.element.Element.{Element}
 use Rattle.oas_layout.specs.Element.{element_cmp}
-use Rattle.oas_difference.specs.Difference.{signed, cell_line}
+use Rattle.oas_difference.specs.Entries.{cell_entry}
 use Rattle.oas_difference.specs.Held.{held_changes, held_cell}
 use Rattle.oas_difference.proofs.Steps.{sorted_of, only_before, only_after, left_is}
 use Rattle.oas_difference.proofs.cells.put_cell.Goals as goal
@@ -18,40 +18,40 @@ pub put_changes-requires-in-false-true-clause-before : goal.put_changes-requires
 put_changes-requires-in-false-true-clause-before g c =
     subst (λ (es : List (Element × ℕ)). IsStrictlySortedBy element_cmp (keys_of es)) (sym c.new-before.ensures) (sorted_of c.args.before c.requires.before)
 
-pub returns-in_err-put_alone-in-true-false : goal.returns-in_err-put_alone-in-true-false
-returns-in_err-put_alone-in-true-false g c =
+pub returns-in_err-put_cell_entry-in-true-false : goal.returns-in_err-put_cell_entry-in-true-false
+returns-in_err-put_cell_entry-in-true-false g c =
     let p = err_from_is_err_and c.from_residual.result c.from_residual.ensures.1 in
     let here : is_some c.args.before ≡ true = search rules in
     let there : is_some c.args.after ≡ false = search rules in
-    let whole : held_cell (c.args.name.now, (c.args.before, c.args.after)) ≡ signed 45 1 (cell_line c.args.name.now)
-    ++ held_changes c.new-before.result c.new-after.result = only_before c.args.name.now c.args.before c.args.after here there
-    ∙ (λ i. signed 45 1 (cell_line c.args.name.now) ++ held_changes (sym c.new-before.ensures i) (sym c.new-after.ensures i)) in
-    rw p.1 (fails_at _ (left_is (begins _ _) whole) c.in_err-put_alone-in-true-false.ensures)
+    let whole : held_cell c.args.notation.now (c.args.name.now, (c.args.before, c.args.after)) ≡ cell_entry c.args.notation.now.syntax 45 c.args.name.now
+    ++ held_changes c.args.notation.now c.args.name.now c.new-before.result c.new-after.result = only_before c.args.notation.now c.args.name.now c.args.before c.args.after here there
+    ∙ (λ i. cell_entry c.args.notation.now.syntax 45 c.args.name.now ++ held_changes c.args.notation.now c.args.name.now (sym c.new-before.ensures i) (sym c.new-after.ensures i)) in
+    rw p.1 (fails_at _ (left_is (begins _ _) whole) c.in_err-put_cell_entry-in-true-false.ensures)
 
-pub returns-in_ok-put_alone-in-true-false : goal.returns-in_ok-put_alone-in-true-false
-returns-in_ok-put_alone-in-true-false g c =
+pub returns-in_ok-put_cell_entry-in-true-false : goal.returns-in_ok-put_cell_entry-in-true-false
+returns-in_ok-put_cell_entry-in-true-false g c =
     let here : is_some c.args.before ≡ true = search rules in
     let there : is_some c.args.after ≡ false = search rules in
-    let whole : held_cell (c.args.name.now, (c.args.before, c.args.after)) ≡ signed 45 1 (cell_line c.args.name.now)
-    ++ held_changes c.new-before.result c.new-after.result = only_before c.args.name.now c.args.before c.args.after here there
-    ∙ (λ i. signed 45 1 (cell_line c.args.name.now) ++ held_changes (sym c.new-before.ensures i) (sym c.new-after.ensures i)) in
-    ends _ _ (left_is (begins _ _) whole ▸ c.in_ok-put_alone-in-true-false.ensures) c.put_changes.ensures
+    let whole : held_cell c.args.notation.now (c.args.name.now, (c.args.before, c.args.after)) ≡ cell_entry c.args.notation.now.syntax 45 c.args.name.now
+    ++ held_changes c.args.notation.now c.args.name.now c.new-before.result c.new-after.result = only_before c.args.notation.now c.args.name.now c.args.before c.args.after here there
+    ∙ (λ i. cell_entry c.args.notation.now.syntax 45 c.args.name.now ++ held_changes c.args.notation.now c.args.name.now (sym c.new-before.ensures i) (sym c.new-after.ensures i)) in
+    ends _ _ (left_is (begins _ _) whole ▸ c.in_ok-put_cell_entry-in-true-false.ensures) c.put_changes.ensures
 
-pub returns-in_err-put_alone-in-false-true : goal.returns-in_err-put_alone-in-false-true
-returns-in_err-put_alone-in-false-true g c =
-    let p = err_from_is_err_and c.from_residual-in_err-put_alone-in-false-true.result c.from_residual-in_err-put_alone-in-false-true.ensures.1 in
+pub returns-in_err-put_cell_entry-in-false-true : goal.returns-in_err-put_cell_entry-in-false-true
+returns-in_err-put_cell_entry-in-false-true g c =
+    let p = err_from_is_err_and c.from_residual-in_err-put_cell_entry-in-false-true.result c.from_residual-in_err-put_cell_entry-in-false-true.ensures.1 in
     let here : is_some c.args.before ≡ false = search rules in
     let there : is_some c.args.after ≡ true = search rules in
-    let whole : held_cell (c.args.name.now, (c.args.before, c.args.after)) ≡ signed 43 1 (cell_line c.args.name.now)
-    ++ held_changes c.new-before.result c.new-after.result = only_after c.args.name.now c.args.before c.args.after here there
-    ∙ (λ i. signed 43 1 (cell_line c.args.name.now) ++ held_changes (sym c.new-before.ensures i) (sym c.new-after.ensures i)) in
-    rw p.1 (fails_at _ (left_is (begins _ _) whole) c.in_err-put_alone-in-false-true.ensures)
+    let whole : held_cell c.args.notation.now (c.args.name.now, (c.args.before, c.args.after)) ≡ cell_entry c.args.notation.now.syntax 43 c.args.name.now
+    ++ held_changes c.args.notation.now c.args.name.now c.new-before.result c.new-after.result = only_after c.args.notation.now c.args.name.now c.args.before c.args.after here there
+    ∙ (λ i. cell_entry c.args.notation.now.syntax 43 c.args.name.now ++ held_changes c.args.notation.now c.args.name.now (sym c.new-before.ensures i) (sym c.new-after.ensures i)) in
+    rw p.1 (fails_at _ (left_is (begins _ _) whole) c.in_err-put_cell_entry-in-false-true.ensures)
 
-pub returns-in_ok-put_alone-in-false-true : goal.returns-in_ok-put_alone-in-false-true
-returns-in_ok-put_alone-in-false-true g c =
+pub returns-in_ok-put_cell_entry-in-false-true : goal.returns-in_ok-put_cell_entry-in-false-true
+returns-in_ok-put_cell_entry-in-false-true g c =
     let here : is_some c.args.before ≡ false = search rules in
     let there : is_some c.args.after ≡ true = search rules in
-    let whole : held_cell (c.args.name.now, (c.args.before, c.args.after)) ≡ signed 43 1 (cell_line c.args.name.now)
-    ++ held_changes c.new-before.result c.new-after.result = only_after c.args.name.now c.args.before c.args.after here there
-    ∙ (λ i. signed 43 1 (cell_line c.args.name.now) ++ held_changes (sym c.new-before.ensures i) (sym c.new-after.ensures i)) in
-    ends _ _ (left_is (begins _ _) whole ▸ c.in_ok-put_alone-in-false-true.ensures) c.put_changes-in-false-true.ensures
+    let whole : held_cell c.args.notation.now (c.args.name.now, (c.args.before, c.args.after)) ≡ cell_entry c.args.notation.now.syntax 43 c.args.name.now
+    ++ held_changes c.args.notation.now c.args.name.now c.new-before.result c.new-after.result = only_after c.args.notation.now c.args.name.now c.args.before c.args.after here there
+    ∙ (λ i. cell_entry c.args.notation.now.syntax 43 c.args.name.now ++ held_changes c.args.notation.now c.args.name.now (sym c.new-before.ensures i) (sym c.new-after.ensures i)) in
+    ends _ _ (left_is (begins _ _) whole ▸ c.in_ok-put_cell_entry-in-false-true.ensures) c.put_changes-in-false-true.ensures

@@ -9,7 +9,7 @@ use Rattle.oas_difference.proofs.cells.put_cells.Given as goal
 
 abbrev pub invariant-loop-pair : goal.invariant-loop-pair
 invariant-loop-pair g l = record {
-  put : PutSoFar g.K.Sink.given g.K.Sink.failures (held_lines l.layers l.detail l.fn.before l.fn.after) (held_lines l.layers l.detail l.before l.after) l.fn.sink l.sink;
+  put : PutSoFar g.K.Sink.given g.K.Sink.failures (held_lines l.layers l.detail l.notation l.fn.before l.fn.after) (held_lines l.layers l.detail l.notation l.before l.after) l.fn.sink l.sink;
   before : IsStrictlySortedBy (slice_cmp nat_cmp) (keys_of l.before);
   after : IsStrictlySortedBy (slice_cmp nat_cmp) (keys_of l.after);
 }

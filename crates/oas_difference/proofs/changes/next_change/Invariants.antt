@@ -2,12 +2,11 @@ use Rattle.std.proofs.Common.{◌≡◌, ◌+◌, ◌≤◌, length}
 use Rattle.std.specs.List.Sorted.{IsStrictlySortedBy}
 use Rattle.std.specs.Map.{keys_of}
 use Rattle.oas_layout.specs.Element.{element_cmp}
-use Rattle.oas_difference.specs.Held.{held_changed, held_changes}
+use Rattle.oas_difference.specs.Held.{held_changed}
 use Rattle.oas_difference.proofs.changes.next_change.Given as goal
 
 abbrev pub invariant-loop-element : goal.invariant-loop-element
 invariant-loop-element l = record {
-  same : held_changes l.fn.before l.fn.after ≡ held_changes l.before l.after;
   listed : held_changed l.fn.before l.fn.after ≡ held_changed l.before l.after;
   before : IsStrictlySortedBy element_cmp (keys_of l.before);
   after : IsStrictlySortedBy element_cmp (keys_of l.after);

@@ -8,7 +8,7 @@ use Rattle.oas_difference.proofs.changes.put_changes.Given as goal
 
 abbrev pub invariant-loop-change : goal.invariant-loop-change
 invariant-loop-change g l = record {
-  put : PutSoFar g.K.Sink.given g.K.Sink.failures (held_changes l.fn.before l.fn.after) (held_changes l.before l.after) l.fn.sink l.sink;
+  put : PutSoFar g.K.Sink.given g.K.Sink.failures (held_changes l.notation l.name l.fn.before l.fn.after) (held_changes l.notation l.name l.before l.after) l.fn.sink l.sink;
   before : IsStrictlySortedBy element_cmp (keys_of l.before);
   after : IsStrictlySortedBy element_cmp (keys_of l.after);
 }

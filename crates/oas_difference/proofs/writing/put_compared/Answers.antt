@@ -7,6 +7,7 @@ use Rattle.std.specs.List.Sorted.{IsStrictlySortedBy}
 use Rattle.std.specs.Map.{keys_of}
 use Rattle.oas_layout.specs.Contents.{Cell, meaning_of}
 use Rattle.oas_difference.specs.Difference.{unit_changes}
+use Rattle.oas_difference.specs.Format.{notation_of}
 use Rattle.oas_difference.specs.Options.{compared}
 use Rattle.oas_difference.specs.Held.{held_lines}
 use Rattle.oas_difference.proofs.Chosen.{sorted_cells}
@@ -26,22 +27,28 @@ pub returns-clause-writes : goal.returns-clause-writes
 returns-clause-writes g c =
     let a = c.args.before.now in
     let b = c.args.after.now in
-    let detail = c.args.options.detail in
-    let whole : compared c.args.options a.profile (meaning_of a) (meaning_of b) ≡ unit_changes c.unit.result c.unit-2.result
-    ++ held_lines c.args.options.choice.layers detail c.new-left.result c.new-right.result =
-    compared_held c.args.options a b c.new-left.ensures.layout c.new-right.ensures.layout c.requires
-    ∙ (λ i. unit_changes (sym c.unit.ensures i) (sym c.unit-2.ensures i) ++ held_lines c.args.options.choice.layers detail (sym c.new-left.ensures.cells i) (sym c.new-right.ensures.cells i)) in
+    let o = c.args.options in
+    let notation : notation_of o.format a.unit b.unit ≡ c.new-notation.result =
+    (λ i. notation_of o.format (sym c.unit.ensures i) (sym c.unit-2.ensures i)) ∙ sym c.new-notation.ensures in
+    let whole : compared o a.profile (meaning_of a) (meaning_of b) ≡ unit_changes o.format.syntax c.unit-3.result c.unit-4.result
+    ++ held_lines o.choice.layers o.detail c.new-notation.result c.new-left.result c.new-right.result =
+    compared_held o a b c.new-left.ensures.layout c.new-right.ensures.layout c.requires
+    ∙ (λ i. unit_changes o.format.syntax (sym c.unit-3.ensures i) (sym c.unit-4.ensures i)
+    ++ held_lines o.choice.layers o.detail (notation i) (sym c.new-left.ensures.cells i) (sym c.new-right.ensures.cells i)) in
     ends _ _ (left_is (begins _ _) whole ▸ c.in_ok-put_units.ensures) c.put_cells.ensures
 
 pub returns-in_err-put_units-clause-writes : goal.returns-in_err-put_units-clause-writes
 returns-in_err-put_units-clause-writes g c =
     let a = c.args.before.now in
     let b = c.args.after.now in
-    let detail = c.args.options.detail in
-    let whole : compared c.args.options a.profile (meaning_of a) (meaning_of b) ≡ unit_changes c.unit.result c.unit-2.result
-    ++ held_lines c.args.options.choice.layers detail c.new-left.result c.new-right.result =
-    compared_held c.args.options a b c.new-left.ensures.layout c.new-right.ensures.layout c.requires
-    ∙ (λ i. unit_changes (sym c.unit.ensures i) (sym c.unit-2.ensures i) ++ held_lines c.args.options.choice.layers detail (sym c.new-left.ensures.cells i) (sym c.new-right.ensures.cells i)) in
+    let o = c.args.options in
+    let notation : notation_of o.format a.unit b.unit ≡ c.new-notation.result =
+    (λ i. notation_of o.format (sym c.unit.ensures i) (sym c.unit-2.ensures i)) ∙ sym c.new-notation.ensures in
+    let whole : compared o a.profile (meaning_of a) (meaning_of b) ≡ unit_changes o.format.syntax c.unit-3.result c.unit-4.result
+    ++ held_lines o.choice.layers o.detail c.new-notation.result c.new-left.result c.new-right.result =
+    compared_held o a b c.new-left.ensures.layout c.new-right.ensures.layout c.requires
+    ∙ (λ i. unit_changes o.format.syntax (sym c.unit-3.ensures i) (sym c.unit-4.ensures i)
+    ++ held_lines o.choice.layers o.detail (notation i) (sym c.new-left.ensures.cells i) (sym c.new-right.ensures.cells i)) in
     let p = err_from_is_err_and c.from_residual.result c.from_residual.ensures.1 in
     rw p.1 (fails_at _ (left_is (begins _ _) whole) c.in_err-put_units.ensures)
 

@@ -9,7 +9,7 @@ use Rattle.oas_difference.proofs.Steps.{sorted_of}
 use Rattle.oas_markers.specs.Markers.{alone}
 use Rattle.oas_markers.specs.Held.{held_item, change_items}
 use Rattle.oas_markers.proofs.Firsts.{first_then, on_ok}
-use Rattle.oas_markers.proofs.Steps.{left_is}
+use Rattle.oas_difference.proofs.Steps.{left_is}
 use Rattle.oas_markers.proofs.cells.put_cell.Goals as goal
 
 pub put_changes-requires-clause-before : goal.put_changes-requires-clause-before

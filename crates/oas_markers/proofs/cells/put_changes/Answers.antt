@@ -4,7 +4,8 @@ use Rattle.oas_num.proofs.PuttingLemmas.{fails_at, all_put, ◌▸◌}
 use Rattle.oas_markers.specs.Markers.{change_item, first_items}
 use Rattle.oas_markers.specs.Held.{change_items}
 use Rattle.oas_markers.proofs.Firsts.{none_first, first_then}
-use Rattle.oas_markers.proofs.Steps.{left_is, first_item}
+use Rattle.oas_difference.proofs.Steps.{left_is}
+use Rattle.oas_markers.proofs.Steps.{first_item}
 use Rattle.oas_markers.proofs.cells.put_changes.Goals as goal
 
 pub loop-change-preserved : goal.loop-change-preserved

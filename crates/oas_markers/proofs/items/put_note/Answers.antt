@@ -1,6 +1,7 @@
 use Rattle.std.proofs.lemmas.Result.{err_from_is_err_and}
 use Rattle.oas_num.proofs.PuttingLemmas.{begins, fails_at, ends, ◌▸◌}
-use Rattle.oas_markers.proofs.Steps.{left_is, note_parts}
+use Rattle.oas_difference.proofs.Steps.{left_is}
+use Rattle.oas_markers.proofs.Steps.{note_parts}
 use Rattle.oas_markers.proofs.items.put_note.Goals as goal
 
 pub returns-in_err-put_all : goal.returns-in_err-put_all

@@ -1,7 +1,7 @@
 use Rattle.std.proofs.Common.{ℕ, List, subst, rules, SFits}
 use Rattle.std.specs.Int.{w128}
 use Rattle.oas_num.specs.Writing.{Writes}
-use Rattle.oas_markers.proofs.NumberLemmas.{coordinate_of}
+use Rattle.oas_difference.proofs.MicronLemmas.{coordinate_of}
 use Rattle.oas_markers.proofs.numbers.put_coordinate.Goals as goal
 
 pub returns : goal.returns

@@ -3,7 +3,7 @@ use Rattle.std.proofs.lemmas.Int.{to_z-of_z}
 use Rattle.std.proofs.lemmas.Result.{err_from_is_err_and}
 use Rattle.oas_num.proofs.PuttingLemmas.{begins, fails_at, ends, ◌▸◌}
 use Rattle.oas_markers.specs.Numbers.{places}
-use Rattle.oas_markers.proofs.Steps.{left_is}
+use Rattle.oas_difference.proofs.Steps.{left_is}
 use Rattle.oas_markers.proofs.numbers.put_places.Goals as goal
 
 pub returns-in_err-put_place : goal.returns-in_err-put_place

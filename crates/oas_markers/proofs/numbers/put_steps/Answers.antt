@@ -1,6 +1,6 @@
 use Rattle.std.proofs.Common.{ℕ, List, subst, ap}
 use Rattle.oas_num.specs.Writing.{Writes}
-use Rattle.oas_markers.specs.Numbers.{length_in}
+use Rattle.oas_difference.specs.Microns.{length_in}
 use Rattle.oas_markers.proofs.numbers.put_steps.Goals as goal
 
 pub returns : goal.returns

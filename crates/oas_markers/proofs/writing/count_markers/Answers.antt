@@ -6,7 +6,7 @@ use Rattle.std.specs.Map.{keys_of}
 use Rattle.std.proofs.Common.{List}
 use Rattle.oas_layout.specs.Contents.{Cell}
 use Rattle.oas_difference.proofs.Chosen.{sorted_cells}
-use Rattle.oas_markers.specs.Numbers.{counted}
+use Rattle.oas_difference.specs.Microns.{counted_to}
 use Rattle.oas_markers.specs.Held.{held_items}
 use Rattle.oas_markers.proofs.writing.count_markers.Goals as goal
 
@@ -21,4 +21,4 @@ count_items-requires-clause-after c =
     (sorted_cells c.args.choice c.args.after.now c.new-cells_after.ensures.layout)
 
 pub returns : goal.returns
-returns c = λ u v. c.count_items.ensures u v ∙ (λ i. counted (length (held_items c.args.choice.layers u v (c.new-cells_before.ensures.cells i) (c.new-cells_after.ensures.cells i))))
+returns c = λ u v. c.count_items.ensures u v ∙ (λ i. counted_to (length (held_items c.args.choice.layers u v (c.new-cells_before.ensures.cells i) (c.new-cells_after.ensures.cells i))))

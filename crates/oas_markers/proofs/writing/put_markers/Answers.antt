@@ -11,7 +11,7 @@ use Rattle.oas_difference.proofs.Chosen.{sorted_cells}
 use Rattle.oas_markers.specs.Markers.{head, first_items, markers}
 use Rattle.oas_markers.specs.Held.{held_entries, held_items}
 use Rattle.oas_markers.proofs.HeldLemmas.{between, foot, chosen_markers}
-use Rattle.oas_markers.proofs.Steps.{left_is}
+use Rattle.oas_difference.proofs.Steps.{left_is}
 use Rattle.oas_markers.proofs.writing.put_markers.Goals as goal
 
 pub put_entries-requires-clause-before : goal.put_entries-requires-clause-before
