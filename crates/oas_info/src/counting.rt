@@ -26,14 +26,23 @@ struct Aspects {
     weight: u64,
 }
 
-/// The layer of a shape.
-fn layer_group(layer: u64, datatype: u64) -> Option<Group>
-    ensures { result ≡ Some (Layer layer datatype) }
-{
-    Some(Group::Layer { layer, datatype })
+impl Aspects {
+    /// Of a shape with this many points.
+    fn of_shape(kind: Group, layer: u64, datatype: u64, points: usize) -> Aspects
+        requires { 1 + points < 2 ^ 64 }
+        ensures kind { result.kind ≡ kind }
+        ensures layer { result.layer ≡ Some (Layer layer datatype) }
+        ensures weight { result.weight ≡ 1 + points }
+    {
+        Aspects {
+            kind,
+            layer: Some(Group::Layer { layer, datatype }),
+            weight: 1 + points as u64,
+        }
+    }
 }
 
-/// Its kind, the layer that it has, if any, and its weight, read from its key.
+/// What an element is counted by, read from its key.
 fn aspects_of(element: &KeyedElement<'_>) -> Aspects
     requires { weight_of element.now < 2 ^ 64 }
     ensures kind { result.kind ≡ kind_of element.now }
@@ -63,39 +72,23 @@ fn aspects_of(element: &KeyedElement<'_>) -> Aspects
             layer,
             datatype,
             ..
-        } => Aspects {
-            kind: Group::Rectangles,
-            layer: layer_group(layer, datatype),
-            weight: 1,
-        },
+        } => Aspects::of_shape(Group::Rectangles, layer, datatype, 0),
         ShownElement::Polygon {
             layer,
             datatype,
             points,
-        } => Aspects {
-            kind: Group::Polygons,
-            layer: layer_group(layer, datatype),
-            weight: 1 + points.len() as u64,
-        },
+        } => Aspects::of_shape(Group::Polygons, layer, datatype, points.len()),
         ShownElement::Path {
             layer,
             datatype,
             points,
             ..
-        } => Aspects {
-            kind: Group::Paths,
-            layer: layer_group(layer, datatype),
-            weight: 1 + points.len() as u64,
-        },
+        } => Aspects::of_shape(Group::Paths, layer, datatype, points.len()),
         ShownElement::Circle {
             layer,
             datatype,
             ..
-        } => Aspects {
-            kind: Group::Circles,
-            layer: layer_group(layer, datatype),
-            weight: 1,
-        },
+        } => Aspects::of_shape(Group::Circles, layer, datatype, 0),
     }
 }
 

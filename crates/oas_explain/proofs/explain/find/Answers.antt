@@ -1,7 +1,5 @@
-use Rattle.std.proofs.Common.{◌≡◌, ℕ, ◌+◌, ◌<◌, take, drop, arith, rules, get_or}
-use Rattle.std.specs.Fmt.{decimal}
-use Rattle.oas_num.specs.declared.sentences.Reason.{Reason}
-use Rattle.oas_explain.proofs.FindLemmas.{parts, one_more}
+use Rattle.std.proofs.Common.{◌+◌, take, drop, arith, rules}
+use Rattle.oas_explain.proofs.FindLemmas.{parts}
 use Rattle.oas_explain.proofs.explain.find.Goals as goal
 
 pub returns-then-is_called-clause-found : goal.returns-then-is_called-clause-found

@@ -1,4 +1,4 @@
-use Rattle.oas_explain.proofs.HearingLemmas.{next_heard, refusal_named, unopened_named, not_profile_1_named, nothing_named}
+use Rattle.oas_explain.proofs.HearingLemmas.{refusal_named, unopened_named, not_profile_1_named}
 use Rattle.oas_explain.proofs.hearing.number_recognized.Goals as goal
 
 pub returns-clause-refused : goal.returns-clause-refused

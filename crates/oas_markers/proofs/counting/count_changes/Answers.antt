@@ -1,7 +1,7 @@
 use Rattle.std.proofs.Common.{◌≡◌, ◌++◌, ◌∙◌, ℕ, suc, List, length, ap, arith}
 use Rattle.oas_layout.specs.declared.element.Element.{Element}
 use Rattle.oas_difference.specs.Held.{held_changed}
-use Rattle.oas_markers.proofs.Steps.{one_change}
+use Rattle.oas_difference.proofs.Steps.{one_change}
 use Rattle.oas_markers.proofs.counting.count_changes.Goals as goal
 
 pub loop-change-preserved : goal.loop-change-preserved
