@@ -9,3 +9,4 @@ pub mod Unopened
 pub mod Rekeying
 pub mod Work
 pub use Rattle.oas_canon.specs as oas_canon
+pub use Rattle.oas_info.specs as oas_info

@@ -30,7 +30,8 @@
 //!   specs/Unopened.antt), or a prefix of it (`AppendsPrefix`).
 //! - [`limits_of`] returns the limits with the flag `--large` and without it.
 //! - [`write_line`] writes a line to an output, or a prefix of it (`IsWritten`, `IsCutOff`), [`write_named_key`] that of a key
-//!   and a name, and [`write_sameness`] that of a comparison. `oas_preparing` writes its answers by them.
+//!   and a name, [`write_named_check`] that of a check with a name, and [`write_sameness`] that of a comparison.
+//!   `oas_preparing` writes its answers by them.
 //!
 //! A caller needs `oas_canon` in addition to this crate, for sources and limits.
 //!
@@ -72,8 +73,8 @@ pub use oas_info::Form;
 pub use oas_markers::oas_difference;
 pub use oas_markers::oas_difference::{Choice, ChosenLayer, Detail, Options};
 pub use runs::{
-    kept_telling, marking_telling, run_refused, status_of_verdict, worse, write_named_key,
-    write_sameness,
+    kept_telling, marking_telling, run_refused, status_of_verdict, worse, write_named_check,
+    write_named_key, write_sameness,
 };
 pub use unopened::{name_of, run_unopened};
 pub use work::{PairWork, Work, pair_work_telling, work_telling};

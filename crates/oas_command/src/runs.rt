@@ -14,6 +14,7 @@ mod same;
 mod show;
 
 pub(crate) use canon::canon_telling;
+pub use check::write_named_check;
 pub(crate) use check::{check_telling, named_check_telling};
 pub(crate) use diff::diff_telling;
 pub use ends::{run_refused, status_of_verdict, worse};

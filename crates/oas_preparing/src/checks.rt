@@ -34,8 +34,7 @@ pub fn prepared_check<S: Source>(
 ) -> Result<(bool, Report), Rejection>
     ensures { ChecksPrepared limits dropping (S.script from.old) result (S.script from.new) }
 {
-    let (read, kept) = read_kept(alloc, from, limits, dropping);
-    let (layout, report) = read?;
+    let (layout, report, kept) = read_kept(alloc, from, limits, dropping)?;
     match kept {
         Some(bytes) => Ok((has_canonical_bytes(&layout, &bytes), report)),
         None => Err(unkept(from.at())),

@@ -1,9 +1,10 @@
 //! A file that is read, with its bytes.
 
-ghost use Rattle.std.specs.Prelude.{◌≡◌, ◌++◌, ◌∷◌, [], IfSome, IsSomeAnd, option_map};
+ghost use Rattle.std.specs.Prelude.{◌≡◌, ◌++◌, ◌∷◌, [], IfOk, IfErr, IfSome, IsSomeAnd, option_map};
 ghost use Rattle.oas_num.specs.Script.{Consumed};
 ghost use Rattle.oas_explain.specs.oas_command.oas_canon.declared.profile.TheConstants.{PROFILE as OfProgram};
-ghost use Rattle.oas_prepare.specs.Finishing.{ReadsPrepared};
+ghost use Rattle.oas_prepare.specs.Finishing.{IsReadPrepared};
+ghost use Rattle.oas_prepare.specs.Run.{Stops};
 ghost use Rattle.oas_preparing.specs.Keeping.{IsKept, IsKept-prop};
 
 use oas_explain::oas_command::oas_canon::PROFILE;
@@ -83,19 +84,20 @@ impl<'a, S: Source, K: Start> Source for KeptSource<'a, S, K> {
     fn skip(&mut self, _count: usize) {}
 }
 
-/// What [`read_prepared`] returns, by the profile of the program, and all bytes that were taken; None in place of these where
+/// What [`read_prepared`] returns, by the profile of the program, with all bytes that were taken; None in place of these where
 /// there was no memory to keep them, which changes nothing else.
 pub(crate) fn read_kept<S: Source>(
     alloc: Global,
     from: &mut S,
     limits: Limits,
     dropping: Dropping,
-) -> (Result<(Layout, Report), Rejection>, Option<Vec<u8>>)
-    ensures reads { ReadsPrepared limits OfProgram dropping (S.script from.old) result.0 (S.script from.new) }
-    ensures kept { IfSome result.1 (λ bytes. Consumed (S.script from.old) bytes.items (S.script from.new)) }
+) -> Result<(Layout, Report, Option<Vec<u8>>), Rejection>
+    ensures read { IfOk result (λ read. IsReadPrepared limits OfProgram dropping (S.script from.old) read.0 read.1 (S.script from.new)) }
+    ensures kept { IfOk result (λ read. IfSome read.2 (λ bytes. Consumed (S.script from.old) bytes.items (S.script from.new))) }
+    ensures stops { IfErr result (λ e. Stops limits dropping (S.script from.old) e (S.script from.new)) }
 {
-    let (read, kept, _from) = read_named::<S, Brand>(alloc, from, limits, dropping);
-    (read, kept)
+    let (read, _from) = read_named::<S, Brand>(alloc, from, limits, dropping);
+    read
 }
 
 /// The same, for the source that is named. It hands the borrow back, so that its lender knows it as its own.
@@ -105,26 +107,30 @@ fn read_named<'a, S: Source, K: Start>(
     limits: Limits,
     dropping: Dropping,
 ) -> (
-    Result<(Layout, Report), Rejection>,
-    Option<Vec<u8>>,
+    Result<(Layout, Report, Option<Vec<u8>>), Rejection>,
     &'a mut S,
 )
     requires named { from.ghost_name ≡ K.name }
     requires starts { S.script from.old ≡ K.script }
-    ensures same { result.2.ghost_name ≡ from.entry.ghost_name }
-    ensures reads { ReadsPrepared limits OfProgram dropping (S.script from.old) result.0 (S.script result.2.now) }
-    ensures kept { IfSome result.1 (λ bytes. Consumed (S.script from.old) bytes.items (S.script result.2.now)) }
+    ensures same { result.1.ghost_name ≡ from.entry.ghost_name }
+    ensures read { IfOk result.0 (λ read. IsReadPrepared limits OfProgram dropping (S.script from.old) read.0 read.1 (S.script result.1.now)) }
+    ensures kept { IfOk result.0 (λ read. IfSome read.2 (λ bytes. Consumed (S.script from.old) bytes.items (S.script result.1.now))) }
+    ensures stops { IfErr result.0 (λ e. Stops limits dropping (S.script from.old) e (S.script result.1.now)) }
 {
     let mut keeping: KeptSource<'a, S, K> = KeptSource {
         source: from,
         kept: Some(Vec::new(alloc)),
         start: PhantomData,
     };
-    let read = read_prepared(alloc, &mut keeping, limits, PROFILE, dropping);
+    let outcome = read_prepared(alloc, &mut keeping, limits, PROFILE, dropping);
     let KeptSource {
         source,
         kept,
         start: _,
     } = keeping;
-    (read, kept, source)
+    let read = match outcome {
+        Ok((layout, report)) => Ok((layout, report, kept)),
+        Err(rejection) => Err(rejection),
+    };
+    (read, source)
 }

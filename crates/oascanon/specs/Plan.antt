@@ -6,8 +6,8 @@ use Rattle.oas_explain.specs.oas_command.declared.work.Work.{Work}
 use Rattle.oas_explain.specs.oas_command.declared.work.Work.TheVariants as work
 use Rattle.oas_explain.specs.oas_command.declared.work.PairWork.{PairWork}
 use Rattle.oas_explain.specs.oas_command.declared.work.PairWork.TheVariants as pair
-use Rattle.oas_info.specs.declared.form.Form.{Form}
-use Rattle.oas_info.specs.declared.form.Form.TheVariants.{Text, Json}
+use Rattle.oas_explain.specs.oas_command.oas_info.declared.form.Form.{Form}
+use Rattle.oas_explain.specs.oas_command.oas_info.declared.form.Form.TheVariants.{Text, Json}
 use Rattle.oas_request.specs.oas_difference.declared.options.Options.{Options}
 use Rattle.oas_explain.specs.oas_files.declared.replacing.Existing.{Existing}
 use Rattle.oas_explain.specs.oas_files.declared.replacing.Existing.TheVariants.{Replaced, Kept}

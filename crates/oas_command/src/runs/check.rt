@@ -63,9 +63,9 @@ pub(crate) fn named_check_telling<S: Source, W: Write, K: Sink>(
     }
 }
 
-/// Writes the line of a result after the name of this label, as [`named_check_telling`] does, and returns how many bytes that is.
+/// Writes the line of a result after the name of this label, as `Work::NamedCheck` does, and returns how many bytes that is.
 /// A fault of the writer is `Why::Write`, after as many bytes of the line as its place says.
-fn write_named_check<W: Write>(out: &mut W, label: Label<'_>, yes: bool) -> Result<u64, Refusal>
+pub fn write_named_check<W: Write>(out: &mut W, label: Label<'_>, yes: bool) -> Result<u64, Refusal>
     ensures written { IfOk result (IsWritten W.contents out.old (named_check_line label.entry yes) out.new) }
     ensures refused { IfErr result (IsCutOff W.contents out.old (named_check_line label.entry yes) out.new) }
 {
