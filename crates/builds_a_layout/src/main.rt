@@ -2,7 +2,8 @@
 #![tactic(auto)]
 
 use oas_canon::{
-    Draft, Element, Fraction, Layout, Limits, Name, PROFILE, Turns, Why, write_canonical,
+    Draft, Element, Fraction, Layout, Limits, Name, NotedWriter, PROFILE, Turns, Why,
+    write_canonical,
 };
 use std::alloc::Global;
 
@@ -40,6 +41,6 @@ fn build(alloc: Global) -> Result<Layout, Why> {
 
 fn main(rt: HostRuntime) -> anyhow::Result<()> {
     let layout = build(rt.alloc())?;
-    write_canonical(&layout, &mut rt.stdout())?;
+    write_canonical(&layout, &mut NotedWriter::new(rt.stdout()))?;
     Ok(())
 }

@@ -5,8 +5,8 @@ mod cell_keys;
 mod memory;
 
 use oas_canon::{
-    Limits, ReaderSource, Refusal, SliceSource, Source, Which, Why, canonicalize, is_canonical,
-    key, same_files,
+    Limits, NotedWriter, ReaderSource, Refusal, SliceSource, Source, Which, Why, canonicalize,
+    is_canonical, key, same_files,
 };
 use std::alloc::Global;
 use std::io;
@@ -72,7 +72,12 @@ fn written(alloc: Global) -> Option<(Result<u64, Refusal>, bool)> {
     let file = file_of(alloc, &[])?;
     let mut out: Vec<u8> = Vec::new(alloc);
     let mut from = SliceSource::new(&file, 301);
-    let count = canonicalize(alloc, &mut from, &mut out, Limits::standard());
+    let count = canonicalize(
+        alloc,
+        &mut from,
+        &mut NotedWriter::new(&mut out),
+        Limits::standard(),
+    );
     Some((count, out.as_slice() == file.as_slice()))
 }
 

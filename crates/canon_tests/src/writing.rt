@@ -4,7 +4,7 @@ use crate::elements::{Plain, add_cell};
 use file_pieces::put_pieces;
 use oas_judge::oas_form::{has_canonical_bytes, put_canonical, write_canonical};
 use oas_layout::{Draft, Layout, Limits, Profile, Turns};
-use oas_num::{Counter, Fraction, Refusal, Why};
+use oas_num::{Counter, Fraction, NotedWriter, Refusal, Why};
 use std::alloc::Global;
 use std::io;
 use std::io::Write;
@@ -186,7 +186,7 @@ fn answers(alloc: Global, layout: &Layout, wanted: &[u8]) -> Answers {
     let mut counter = Counter::new();
     let put = put_canonical(layout, &mut counter).unwrap_or(0);
     let mut written = Vec::new(alloc);
-    let length = write_canonical(layout, &mut written).unwrap_or(0);
+    let length = write_canonical(layout, &mut NotedWriter::new(&mut written)).unwrap_or(0);
     let is_written = written.as_slice() == wanted;
     let is_known = has_canonical_bytes(layout, wanted);
     (
@@ -221,7 +221,7 @@ fn each_layout_has_its_bytes(rt: HostRuntime) {
 /// Writes the layout of one rectangle, and returns where and why that failed.
 fn refusal(alloc: Global, writer: &mut Narrow) -> Option<Refusal> {
     let layout = ONE.layout(alloc)?;
-    write_canonical(&layout, writer).err()
+    write_canonical(&layout, &mut NotedWriter::new(writer)).err()
 }
 
 /// Whether the bytes are the first ones of the layout of one rectangle.

@@ -15,7 +15,9 @@ use itoa::Buffer;
 use oas_layout::{Elements, Layout, Limits, Profile};
 use oas_listing::{put_element, put_name, put_unit};
 use oas_modal::Reader;
-use oas_num::{Fraction, INPUT_MAX, Outlet, Refusal, Sink, SinkFault, SliceSource, Source, Why};
+use oas_num::{
+    Fraction, INPUT_MAX, NotedWriter, Outlet, Refusal, Sink, SinkFault, SliceSource, Source, Why,
+};
 use oas_record::{CellRef, Record};
 use std::alloc::Global;
 use std::process::Abort;
@@ -97,7 +99,8 @@ fn put_layout<K: Sink>(sink: &mut K, layout: &Layout) -> Result<(), SinkFault> {
 
 /// Writes it after the bytes that are there.
 fn write_layout(bytes: &mut Vec<u8>, layout: &Layout) -> Result<(), SinkFault> {
-    let mut out = Outlet::new(bytes);
+    let mut writer = NotedWriter::new(bytes);
+    let mut out = Outlet::new(&mut writer);
     let put = put_layout(&mut out, layout);
     out.close()?;
     put

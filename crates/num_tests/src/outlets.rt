@@ -1,9 +1,9 @@
 //! Writers below an outlet that take a few bytes a call, or fail.
 ghost use Rattle.std.specs.Prelude.{OnOk, IfErr};
-ghost use Rattle.std.specs.Io.KnownBytes.{Appends};
+ghost use Rattle.oas_bytes.specs.Devices.{TakesAll};
 ghost use Rattle.oas_bytes.specs.Outlets.{ConsumesPrefix};
 
-use oas_bytes::{Outlet, Sink, SinkFault};
+use oas_bytes::{Device, NotedWriter, Outlet, Sink, SinkFault};
 use std::io;
 use std::io::Write;
 
@@ -87,7 +87,8 @@ fn are_first(bytes: &[u8]) -> bool {
 /// outlet closed, and whether the bytes came in order.
 fn ends_of(rt: &HostRuntime, most: usize) -> ([u64; 5], [bool; 2]) {
     let mut writer = Narrow::new(rt, most, usize::MAX);
-    let mut outlet = Outlet::new(&mut writer);
+    let mut noted = NotedWriter::new(&mut writer);
+    let mut outlet = Outlet::new(&mut noted);
     let put = put_bytes(&mut outlet, 20000) as u64;
     let closes = outlet.close().is_ok();
     let taken = outlet.taken();
@@ -119,7 +120,7 @@ fn a_writer_gets_all_in_order_however_it_takes_it(rt: HostRuntime) {
 }
 
 /// Whether a byte, a piece and the end each fail.
-fn refuses_each<W: Write>(outlet: &mut Outlet<W>, byte: u8) -> bool {
+fn refuses_each<W: Device>(outlet: &mut Outlet<W>, byte: u8) -> bool {
     let puts = outlet.put(byte).is_ok();
     let puts_all = outlet.put_all(&[byte]).is_ok();
     let closes = outlet.close().is_ok();
@@ -127,7 +128,7 @@ fn refuses_each<W: Write>(outlet: &mut Outlet<W>, byte: u8) -> bool {
 }
 
 /// How many of nine bytes fail; also a piece after each, and the end.
-fn refusals_of<W: Write>(outlet: &mut Outlet<W>) -> u64 {
+fn refusals_of<W: Device>(outlet: &mut Outlet<W>) -> u64 {
     let mut refusals = 0u64;
     for byte in 0..9u8 {
         if refuses_each(outlet, byte) {
@@ -142,7 +143,8 @@ fn refusals_of<W: Write>(outlet: &mut Outlet<W>) -> u64 {
 fn ends_within(rt: &HostRuntime, room: usize, most: usize, refuses: bool) -> ([u64; 3], [bool; 2]) {
     let mut writer = Narrow::new(rt, most, room);
     writer.refuses = refuses;
-    let mut outlet = Outlet::new(&mut writer);
+    let mut noted = NotedWriter::new(&mut writer);
+    let mut outlet = Outlet::new(&mut noted);
     let puts_all = put_bytes(&mut outlet, 20000) == 20000 && outlet.close().is_ok();
     let refusals = refusals_of(&mut outlet);
     let taken = outlet.taken();
@@ -169,7 +171,8 @@ fn a_fault_ends_the_writing(rt: HostRuntime) {
 fn ends_unflushed(rt: &HostRuntime) -> ([u64; 4], [Result<(), SinkFault>; 3]) {
     let mut writer = Narrow::new(rt, usize::MAX, usize::MAX);
     writer.flushes = false;
-    let mut outlet = Outlet::new(&mut writer);
+    let mut noted = NotedWriter::new(&mut writer);
+    let mut outlet = Outlet::new(&mut noted);
     let put = put_bytes(&mut outlet, 100) as u64;
     let before = outlet.taken();
     let first = outlet.close();
@@ -188,7 +191,8 @@ fn a_failed_flush_is_a_fault(rt: HostRuntime) {
 /// What an outlet to which nothing is put returns for two ends, and how often its writer is called.
 fn ends_empty(rt: &HostRuntime) -> ([Result<(), SinkFault>; 2], u64) {
     let mut writer = Narrow::new(rt, 1, 0);
-    let mut outlet = Outlet::new(&mut writer);
+    let mut noted = NotedWriter::new(&mut writer);
+    let mut outlet = Outlet::new(&mut noted);
     let answers = [outlet.close(), outlet.close()];
     (answers, writer.calls)
 }
@@ -199,10 +203,10 @@ fn an_empty_outlet_flushes(rt: HostRuntime) {
     assert!(rt; found == ([Ok(()); 2], 2), "two flushes");
 }
 
-/// A writer over an outlet: what the caller's own writer took, whether it succeeds or fails.
-fn write_bytes<W: Write>(writer: &mut W, bytes: &[u8]) -> Result<u64, u64>
-    ensures ok { OnOk result (Appends (W.contents writer.old) (W.contents writer.new) bytes.now) }
-    ensures err { IfErr result (λ taken. ConsumesPrefix W.contents writer.old writer.new bytes.now taken) }
+/// A device over an outlet: what the caller's own device took, whether it succeeds or fails.
+fn write_bytes<W: Device>(writer: &mut W, bytes: &[u8]) -> Result<u64, u64>
+    ensures ok { OnOk result (TakesAll (W.calls writer.old) bytes.now (W.calls writer.new)) }
+    ensures err { IfErr result (λ taken. ConsumesPrefix W.calls writer.old writer.new bytes.now taken) }
 {
     let mut outlet = Outlet::new(writer);
     let Ok(()) = outlet.put_all(bytes) else {
@@ -218,8 +222,8 @@ fn write_bytes<W: Write>(writer: &mut W, bytes: &[u8]) -> Result<u64, u64>
 fn appended(rt: &HostRuntime) -> ([Result<u64, u64>; 2], bool) {
     let mut bytes = Vec::new(rt.alloc());
     let answers = [
-        write_bytes(&mut bytes, &[7, 8]),
-        write_bytes(&mut bytes, &[9]),
+        write_bytes(&mut NotedWriter::new(&mut bytes), &[7, 8]),
+        write_bytes(&mut NotedWriter::new(&mut bytes), &[9]),
     ];
     (answers, bytes.as_slice() == [7, 8, 9].as_slice())
 }
@@ -227,7 +231,7 @@ fn appended(rt: &HostRuntime) -> ([Result<u64, u64>; 2], bool) {
 /// What a writer with room for one byte returns for two, and whether it took only the first.
 fn appended_within(rt: &HostRuntime) -> (Result<u64, u64>, bool) {
     let mut writer = Narrow::new(rt, 1, 1);
-    let answer = write_bytes(&mut writer, &[7, 8]);
+    let answer = write_bytes(&mut NotedWriter::new(&mut writer), &[7, 8]);
     (answer, writer.took.as_slice() == [7].as_slice())
 }
 

@@ -1,6 +1,8 @@
 //! The bytes of numbers.
 
-use oas_num::{Counter, Outlet, Sink, put_gdelta, put_signed, put_unsigned, unsigned_len};
+use oas_num::{
+    Counter, NotedWriter, Outlet, Sink, put_gdelta, put_signed, put_unsigned, unsigned_len,
+};
 use std::alloc::Global;
 
 /// A number, a signed number, or a step that is put.
@@ -26,7 +28,8 @@ fn is_put<K: Sink>(sink: &mut K, what: Put, count: u64) -> bool {
 /// Whether it is put, the outlet closes, and these are the bytes.
 fn is_put_as(alloc: Global, what: Put, bytes: &[u8]) -> [bool; 3] {
     let mut written = Vec::new(alloc);
-    let mut outlet = Outlet::new(&mut written);
+    let mut writer = NotedWriter::new(&mut written);
+    let mut outlet = Outlet::new(&mut writer);
     let put = is_put(&mut outlet, what, bytes.len() as u64);
     let closes = outlet.close().is_ok();
     [put, closes, written.as_slice() == bytes]

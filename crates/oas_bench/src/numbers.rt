@@ -2,7 +2,8 @@
 
 use crate::generator::Numbers;
 use oas_num::{
-    Outlet, ReaderSource, Sink, SinkFault, SliceSource, Source, Why, put_unsigned, read_unsigned,
+    NotedWriter, Outlet, ReaderSource, Sink, SinkFault, SliceSource, Source, Why, put_unsigned,
+    read_unsigned,
 };
 use std::alloc::{AllocError, Global};
 use std::io;
@@ -102,7 +103,8 @@ impl Write for Tally {
 
 /// Puts the numbers through an outlet.
 fn put<W: Write>(numbers: &[u64], times: u64, writer: &mut W) -> io::Result<()> {
-    let mut outlet = Outlet::new(writer);
+    let mut noted = NotedWriter::new(writer);
+    let mut outlet = Outlet::new(&mut noted);
     if put_numbers(numbers, times, &mut outlet).is_err() || outlet.close().is_err() {
         return Err(io::Error::from(io::ErrorKind::Other));
     }

@@ -8,9 +8,11 @@
 //! - A [`SliceSource`] reads no device and can't fail. A [`ReaderSource`] gives the bytes of a reader, however the reader
 //!   cuts them (specs/Readers.antt).
 //! - A [`Sink`] takes bytes. `Writes` (specs/Writing.antt) says which; where it failed, they are a prefix of what was put.
-//! - An [`Outlet`] is a sink over a borrowed writer. What the writer took is a prefix of what was put; after `close` it is
-//!   all of it, followed by a flush. See `IsGiven`, `ConsumesPrefix` and `IsSent` (specs/Outlets.antt), with their laws in
-//!   specs/Laws/OutletLaws.antt.
+//! - A [`Device`] is what bytes are written to. Its clauses say which of them it took, and how many of its calls failed
+//!   (specs/Devices.antt). [`NotedWriter`] makes one of any writer.
+//! - An [`Outlet`] is a sink over a borrowed device. What the device took is a prefix of what was put; after `close` it is
+//!   all of it, followed by a flush. Where the outlet failed, one call of the device did. See `IsGiven`, `ConsumesPrefix` and
+//!   `IsSent` (specs/Outlets.antt), with their laws in specs/Laws/OutletLaws.antt.
 //!
 //! # How it is built
 //!
@@ -23,7 +25,9 @@
 //!   the sink has failed), `Writes` (by cases on the result). `Puts.after` says: whatever was given from a state to the old
 //!   one was given to the new one, followed by these bytes. So writers compose without any law of the sink: `Puts-none`,
 //!   `Puts-then`, `PutsPrefix-then`, `front_fails`, `Writes-then` (proofs/WritingLemmas.antt).
-//! - src/flushing.rt: all calls of a writer (the loop over `write` in `send`, and `flush`), with the record of whether a
+//! - src/noted.rt: a call of a reader or a writer, with what it did: the bytes are in a history, which is there for clauses
+//!   alone, and a call that failed is a byte of another.
+//! - src/flushing.rt: all calls of a device (the loop over `write` in `send`, and `flush`), with the record of whether a
 //!   flush came after the last byte. src/windows.rt: the buffered bytes, seen as a list (`impl Model`). src/outlets.rt: the
 //!   outlet. After a fault its window counts as full, so `put` needs one test only; a full window leads to the cold
 //!   `put_after_spill`.
@@ -32,6 +36,7 @@
 //!   writer afterwards.
 #![tactic(auto)]
 
+mod devices;
 mod flushing;
 mod history;
 mod noted;
@@ -42,6 +47,7 @@ mod slices;
 mod sources;
 mod windows;
 
+pub use devices::Device;
 pub use history::History;
 pub use noted::NotedWriter;
 pub use outlets::Outlet;

@@ -1,12 +1,12 @@
-//! A sink over a writer.
+//! A sink over a device.
 ghost use Rattle.std.specs.Prelude.{◌≡◌, ◌≤◌, ◌-◌, ◌^◌, true, false, length, [], ◌∷◌, OnOk};
 
+use crate::devices::Device;
 use crate::flushing::FlushRecord;
 use crate::sinks::{Sink, SinkFault};
 use crate::windows::Window;
-use std::io::Write;
 
-/// A sink over a borrowed writer. It buffers bytes in a window of its own and allocates nothing, so single bytes don't each
+/// A sink over a borrowed device, its writer. It buffers bytes in a window of its own and allocates nothing, so single bytes don't each
 /// cost a call of the writer.
 ///
 /// What the writer took is always a prefix of what was put, and once `close` has returned Ok it is all of it. Each of these
@@ -25,7 +25,7 @@ pub struct Outlet<'a, W> {
     ghost full: { failed ≡ true → length window ≡ 8192 },
 }
 
-impl<'a, W: Write> Outlet<'a, W> {
+impl<'a, W: Device> Outlet<'a, W> {
     ghost use Rattle.oas_bytes.specs.Outlets.{Opens, IsGiven, NoneWaits, IsSent, Answers, failures_of};
     ghost use Rattle.oas_bytes.specs.Writing.{Writes};
 
@@ -52,7 +52,7 @@ impl<'a, W: Write> Outlet<'a, W> {
     /// Sends the rest to the writer, and flushes it.
     #[tactic(auto, using(crate::proofs::OutletLemmas::writes_after))]
     pub fn close(&mut self) -> Result<(), SinkFault>
-        ensures writes { Writes (IsGiven W.contents) failures_of self.old [] result self.new }
+        ensures writes { Writes (IsGiven W.calls) failures_of self.old [] result self.new }
         ensures all { OnOk result (IsSent self.new) }
         ensures settled { Answers self.old result self.new }
     {
@@ -62,7 +62,7 @@ impl<'a, W: Write> Outlet<'a, W> {
 
     /// Sends the bytes of the window to the writer.
     fn spill(&mut self) -> Result<(), SinkFault>
-        ensures writes { Writes (IsGiven W.contents) failures_of self.old [] result self.new }
+        ensures writes { Writes (IsGiven W.calls) failures_of self.old [] result self.new }
         ensures all { OnOk result (NoneWaits self.new) }
         ensures unflushed { OnOk result (self.new.flush_record.flushed ≡ false) }
         ensures settled { Answers self.old result self.new }
@@ -87,7 +87,7 @@ impl<'a, W: Write> Outlet<'a, W> {
     /// Flushes the writer.
     fn flush(&mut self) -> Result<(), SinkFault>
         requires { NoneWaits self.old }
-        ensures writes { Writes (IsGiven W.contents) failures_of self.old [] result self.new }
+        ensures writes { Writes (IsGiven W.calls) failures_of self.old [] result self.new }
         ensures all { OnOk result (IsSent self.new) }
         ensures settled { Answers self.old result self.new }
     {
@@ -105,7 +105,7 @@ impl<'a, W: Write> Outlet<'a, W> {
     #[cold]
     #[inline(never)]
     fn put_after_spill(&mut self, byte: u8) -> Result<(), SinkFault>
-        ensures writes { Writes (IsGiven W.contents) failures_of self.old (byte ∷ []) result self.new }
+        ensures writes { Writes (IsGiven W.calls) failures_of self.old (byte ∷ []) result self.new }
         ensures settled { Answers self.old result self.new }
     {
         self.spill()?;
@@ -114,20 +114,20 @@ impl<'a, W: Write> Outlet<'a, W> {
     }
 }
 
-impl<'a, W: Write> Sink for Outlet<'a, W> {
+impl<'a, W: Device> Sink for Outlet<'a, W> {
     ghost use Rattle.oas_bytes.specs.Laws.OutletLaws.{IsGiven-none};
     ghost use Rattle.oas_bytes.specs.Outlets.{IsGiven, Answers, failures_of};
     ghost use Rattle.oas_bytes.specs.Writing.{Writes};
 
-    ghost given = { IsGiven W.contents };
+    ghost given = { IsGiven W.calls };
 
     ghost failures = { failures_of };
 
-    ghost none_given = { IsGiven-none W.contents };
+    ghost none_given = { IsGiven-none W.calls };
 
     #[inline]
     fn put(&mut self, byte: u8) -> Result<(), SinkFault>
-        ensures writes { Writes (IsGiven W.contents) failures_of self.old (byte ∷ []) result self.new }
+        ensures writes { Writes (IsGiven W.calls) failures_of self.old (byte ∷ []) result self.new }
         ensures settled { Answers self.old result self.new }
     {
         if self.window.is_full() {

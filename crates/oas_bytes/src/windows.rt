@@ -1,9 +1,9 @@
 //! Bytes that are buffered for a writer.
 ghost use Rattle.std.specs.Prelude.{◌≡◌, ◌≤◌, ◌<◌, true, false, length, take, [], ◌∷◌, ◌++◌, IfOk, IfErr};
-ghost use Rattle.std.specs.Io.KnownBytes.{Appends};
+ghost use Rattle.oas_bytes.specs.Devices.{TakesAll, FailsAfter};
 
+use crate::devices::Device;
 use crate::flushing::FlushRecord;
-use std::io::Write;
 use std::marker::Model;
 
 /// How many bytes are buffered before the writer is called.
@@ -80,15 +80,15 @@ impl Window {
 
     /// Sends the bytes to a writer, and then drops them. Where the writer fails it returns how many were taken, and the bytes
     /// stay.
-    pub(crate) fn send_to<W: Write>(
+    pub(crate) fn send_to<W: Device>(
         &mut self,
         writer: &mut W,
         flush_record: &mut FlushRecord,
     ) -> Result<u64, u64>
         ensures ok { IfOk result (λ count. (self.new ≡ []) × (count ≡ length self.old)
-            × Appends (W.contents writer.old) (W.contents writer.new) self.old) }
+            × TakesAll (W.calls writer.old) self.old (W.calls writer.new)) }
         ensures err { IfErr result (λ count. (self.new ≡ self.old) × (count < length self.old)
-            × Appends (W.contents writer.old) (W.contents writer.new) (take count self.old)) }
+            × FailsAfter (W.calls writer.old) (take count self.old) (W.calls writer.new)) }
         ensures unflushed { flush_record.new.flushed ≡ false }
     {
         match flush_record.send(writer, self.as_slice()) {

@@ -1,4 +1,5 @@
 -- A whole run, from its parts.
+use Rattle.oas_num.specs.Devices.{Calls}
 use Rattle.std.proofs.Common.{◌≡◌, ℕ, ◌⊎◌, inl, inr, Bool, true, false, List, ◌++◌, Option, Some, None, Result, Ok, Err, IfOk, IfErr, IsTrue, ◌↔◌, refl, sym, ◌∙◌, ap, subst, arith}
 use Rattle.std.proofs.lemmas.List.{append-nil}
 use Rattle.sha2.specs.Sha256.{sha256}
@@ -32,9 +33,9 @@ module _ {limits : Limits} {profile : Profile} {old new : Script} {l : Contents}
   pub is_form : IsLayout l → IsCanonicalOf limits profile read.bytes (canonical_bytes (meaning_of l))
   is_form held = record { form = form held; source = read.meaning; target = meaning_of l; means = read.means; becomes = (canonical_form l held).1; same = read.same }
 
-  pub done : {W : Type 0} (contents : W → Option (List ℕ)) (before after : W) (r : Result ℕ Refusal) → IsLayout l →
-      IfOk r (IsWritten contents before (canonical_bytes (meaning_of l)) after) → IfOk r (λ n. IsDone limits profile old new (contents before) (contents after) n)
-  done contents before after (Ok n) held written =
+  pub done : {W : Type 0} (calls : W → Calls) (before after : W) (r : Result ℕ Refusal) → IsLayout l →
+      IfOk r (IsWritten calls before (canonical_bytes (meaning_of l)) after) → IfOk r (λ n. IsDone limits profile old new (calls before) (calls after) n)
+  done calls before after (Ok n) held written =
       record {
         bytes = read.bytes;
         taken = taken;
@@ -43,13 +44,13 @@ module _ {limits : Limits} {profile : Profile} {old new : Script} {l : Contents}
         count = written.count_is;
         written = written.took;
       }
-  done contents before after (Err refusal) held written = tt
+  done calls before after (Err refusal) held written = tt
 
-  pub cut : {W : Type 0} (contents : W → Option (List ℕ)) (before after : W) (r : Result ℕ Refusal) → IsLayout l →
-      IfErr r (IsCutOff contents before (canonical_bytes (meaning_of l)) after) →
-      IfErr r (λ refusal. refusal.why ≡ Write → IsCut limits profile old new (contents before) (contents after) refusal.at)
-  cut contents before after (Ok n) held h = tt
-  cut contents before after (Err refusal) held h = λ _. record {
+  pub cut : {W : Type 0} (calls : W → Calls) (before after : W) (r : Result ℕ Refusal) → IsLayout l →
+      IfErr r (IsCutOff calls before (canonical_bytes (meaning_of l)) after) →
+      IfErr r (λ refusal. refusal.why ≡ Write → IsCut limits profile old new (calls before) (calls after) refusal.at)
+  cut calls before after (Ok n) held h = tt
+  cut calls before after (Err refusal) held h = λ _. record {
     bytes = read.bytes;
     taken = taken;
     canonical = canonical_bytes (meaning_of l);
@@ -65,10 +66,10 @@ module _ {limits : Limits} {profile : Profile} {old new : Script} {l : Contents}
   keyed digest held is = record { bytes = read.bytes; taken = taken; canonical = canonical_bytes (meaning_of l); is = is_form held; hashed = is }
 
 -- what is cut off is the writer's fault
-pub unwritten : {W : Type 0} (contents : W → Option (List ℕ)) (before after : W) (bytes : List ℕ) (Other : Refusal → Type 0) (r : Result ℕ Refusal) →
-    IfErr r (IsCutOff contents before bytes after) → IfErr r (λ refusal. (refusal.why ≡ Write) ⊎ Other refusal)
-unwritten contents before after bytes Other (Ok n) h = tt
-unwritten contents before after bytes Other (Err refusal) h = inl h.reason
+pub unwritten : {W : Type 0} (calls : W → Calls) (before after : W) (bytes : List ℕ) (Other : Refusal → Type 0) (r : Result ℕ Refusal) →
+    IfErr r (IsCutOff calls before bytes after) → IfErr r (λ refusal. (refusal.why ≡ Write) ⊎ Other refusal)
+unwritten calls before after bytes Other (Ok n) h = tt
+unwritten calls before after bytes Other (Err refusal) h = inl h.reason
 
 -- ---- one file against its canonical form
 
@@ -162,10 +163,10 @@ exactly_unwritten T limits old new refusal e = by_rest old.rest where
   by_rest None w z = tt
   by_rest (Some rest) w z = inl e
 
-pub exactly_written : {limits : Limits} {profile : Profile} {old new : Script} {l : Contents} {W : Type 0} (contents : W → Option (List ℕ)) (before after : W)
-    (r : Result ℕ Refusal) → IsRead limits profile old l new → IfErr r (IsCutOff contents before (canonical_bytes (meaning_of l)) after) → Exactly limits old r new
-exactly_written contents before after (Ok n) read h = exactly_taken n (taken read)
-exactly_written {limits = limits} {old = old} {new = new} contents before after (Err refusal) read h = exactly_unwritten ℕ limits old new refusal h.reason
+pub exactly_written : {limits : Limits} {profile : Profile} {old new : Script} {l : Contents} {W : Type 0} (calls : W → Calls) (before after : W)
+    (r : Result ℕ Refusal) → IsRead limits profile old l new → IfErr r (IsCutOff calls before (canonical_bytes (meaning_of l)) after) → Exactly limits old r new
+exactly_written calls before after (Ok n) read h = exactly_taken n (taken read)
+exactly_written {limits = limits} {old = old} {new = new} calls before after (Err refusal) read h = exactly_unwritten ℕ limits old new refusal h.reason
 
 -- ---- what a judge returns
 

@@ -1,6 +1,6 @@
 -- What a run over sources and a writer does.
 use Rattle.std.specs.Prelude.{◌≡◌, ℕ, Bool, false, List, ◌++◌, length, Option, Some, None, Result, Ok, Err, IsTrue, ◌⊎◌, ◌↔◌}
-use Rattle.std.specs.Io.KnownBytes.{Appends}
+use Rattle.oas_num.specs.Devices.{Calls, TakesAll, FailsAfter}
 use Rattle.sha2.specs.Sha256.{sha256}
 use Rattle.oas_num.specs.declared.refusals.Refusal.{Refusal}
 use Rattle.oas_num.specs.declared.refusals.Why.TheVariants.{Write, Memory}
@@ -22,16 +22,16 @@ pub record IsTaken (limits : Limits) (old : Script) (bytes : List ℕ) (new : Sc
 -- ---- to a writer
 
 -- a file was taken, and its canonical form was written, with this many bytes
-pub record IsDone (limits : Limits) (profile : Profile) (old new : Script) (before after : Option (List ℕ)) (n : ℕ) : Type 0 where
+pub record IsDone (limits : Limits) (profile : Profile) (old new : Script) (before after : Calls) (n : ℕ) : Type 0 where
   pub bytes : List ℕ
   pub taken : IsTaken limits old bytes new
   pub canonical : List ℕ
   pub is : IsCanonicalOf limits profile bytes canonical
   pub count : n ≡ length canonical
-  pub written : Appends before after canonical
+  pub written : TakesAll before canonical after
 
 -- a file was taken, and the writer failed after it took this many bytes of its canonical form
-pub record IsCut (limits : Limits) (profile : Profile) (old new : Script) (before after : Option (List ℕ)) (at : ℕ) : Type 0 where
+pub record IsCut (limits : Limits) (profile : Profile) (old new : Script) (before after : Calls) (at : ℕ) : Type 0 where
   pub bytes : List ℕ
   pub taken : IsTaken limits old bytes new
   pub canonical : List ℕ
@@ -39,7 +39,7 @@ pub record IsCut (limits : Limits) (profile : Profile) (old new : Script) (befor
   pub front : List ℕ
   pub back : List ℕ
   pub joined : canonical ≡ front ++ back
-  pub took : Appends before after front
+  pub took : FailsAfter before front after
   pub place : at ≡ length front
 
 -- ---- to a result

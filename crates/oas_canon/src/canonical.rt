@@ -8,10 +8,9 @@ ghost use Rattle.oas_canon.specs.Run.{IsDone, IsCut, Exactly};
 use crate::profile::{ByProfile, PROFILE};
 use oas_judge::oas_runs::read_compact;
 use oas_layout::Limits;
-use oas_num::{Refusal, Source};
+use oas_num::{Device, Refusal, Source};
 use oas_run_form::write_compact;
 use std::alloc::Global;
-use std::io::Write;
 
 /// Writes the canonical file of what a source gives, and returns how many bytes it has.
 ///
@@ -19,18 +18,18 @@ use std::io::Write;
 ///
 /// Nothing is written before the whole file was accepted. After `Why::Write` the writer took the first bytes of the canonical
 /// file, as many as the refusal's place says.
-pub fn canonicalize<S: Source, W: Write>(
+pub fn canonicalize<S: Source, W: Device>(
     alloc: Global,
     from: &mut S,
     to: &mut W,
     limits: Limits,
 ) -> Result<u64, Refusal>
-    ensures done { IfOk result (λ n. IsDone limits PROFILE (S.script from.old) (S.script from.new) (W.contents to.old) (W.contents to.new) n) }
+    ensures done { IfOk result (λ n. IsDone limits PROFILE (S.script from.old) (S.script from.new) (W.calls to.old) (W.calls to.new) n) }
     ensures refused { IfErr result (λ refusal. (refusal.why ≡ NotWritten) ⊎ IsRefused limits (S.script from.old) refusal.why (S.script from.new)) }
     ensures placed { IfErr result (λ refusal. (refusal.why ≡ NotWritten) ⊎ IsPlaced limits (S.script from.old) refusal (S.script from.new)) }
     ensures decided { IfErr result (λ refusal. (refusal.why ≡ NotWritten) ⊎ IsReasoned limits (S.script from.old) refusal (S.script from.new)) }
     ensures nothing { IfErr result (λ refusal. (refusal.why ≡ NotWritten) ⊎ (to.new ≡ to.old)) }
-    ensures cut { IfErr result (λ refusal. refusal.why ≡ NotWritten → IsCut limits PROFILE (S.script from.old) (S.script from.new) (W.contents to.old) (W.contents to.new) refusal.at) }
+    ensures cut { IfErr result (λ refusal. refusal.why ≡ NotWritten → IsCut limits PROFILE (S.script from.old) (S.script from.new) (W.calls to.old) (W.calls to.new) refusal.at) }
     ensures exactly { Exactly limits (S.script from.old) result (S.script from.new) }
 {
     let layout = read_compact::<S, ByProfile>(alloc, from, limits)?;

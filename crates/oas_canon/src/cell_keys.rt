@@ -13,8 +13,7 @@ use crate::hashing::Hasher;
 use crate::named_keys::put_named_key;
 use oas_judge::oas_form::{put_canonical, put_cell_alone};
 use oas_layout::Layout;
-use oas_num::{Outlet, Refusal, Sink, SinkFault, Why};
-use std::io::Write;
+use oas_num::{Device, Outlet, Refusal, Sink, SinkFault, Why};
 
 /// The key of a layout: the SHA-256 of its canonical file. That isn't held or written anywhere, and it takes no memory.
 pub fn layout_key(layout: &Layout) -> [u8; 32]
@@ -60,8 +59,8 @@ pub fn put_cell_keys<K: Sink>(layout: &Layout, sink: &mut K) -> Result<(), SinkF
 }
 
 /// Puts these lines into an outlet, and sends all of them to the writer.
-fn put_and_close<W: Write>(layout: &Layout, outlet: &mut Outlet<'_, W>) -> Result<(), SinkFault>
-    ensures writes { Writes (IsGiven W.contents) failures_of outlet.old (cell_key_lines (meaning_of layout.now)) result outlet.new }
+fn put_and_close<W: Device>(layout: &Layout, outlet: &mut Outlet<'_, W>) -> Result<(), SinkFault>
+    ensures writes { Writes (IsGiven W.calls) failures_of outlet.old (cell_key_lines (meaning_of layout.now)) result outlet.new }
     ensures all { OnOk result (IsSent outlet.new) }
     ensures short { length (cell_key_lines (meaning_of layout.now)) ≤ 67 * 2 ^ 30 }
 {
@@ -74,9 +73,9 @@ fn put_and_close<W: Write>(layout: &Layout, outlet: &mut Outlet<'_, W>) -> Resul
 ///
 /// A fault of the writer is `Why::Write`. Its place is the number of bytes that the writer took: the first ones of the lines.
 /// Where it is the number of all of them, the flush failed.
-pub fn write_cell_keys<W: Write>(layout: &Layout, writer: &mut W) -> Result<u64, Refusal>
-    ensures written { IfOk result (IsWritten W.contents writer.old (cell_key_lines (meaning_of layout.now)) writer.new) }
-    ensures refused { IfErr result (IsCutOff W.contents writer.old (cell_key_lines (meaning_of layout.now)) writer.new) }
+pub fn write_cell_keys<W: Device>(layout: &Layout, writer: &mut W) -> Result<u64, Refusal>
+    ensures written { IfOk result (IsWritten W.calls writer.old (cell_key_lines (meaning_of layout.now)) writer.new) }
+    ensures refused { IfErr result (IsCutOff W.calls writer.old (cell_key_lines (meaning_of layout.now)) writer.new) }
 {
     let mut outlet = Outlet::new(writer);
     match put_and_close(layout, &mut outlet) {

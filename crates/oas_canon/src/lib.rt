@@ -102,8 +102,8 @@ pub use oas_layout::{
 };
 pub use oas_listing::write_listing;
 pub use oas_num::{
-    Counter, Fraction, INPUT_MAX, Label, Name, Outlet, ReaderSource, Reason, Refusal, Sink,
-    SinkFault, SliceSource, Source, SourceFault, Why, profile_reasons,
+    Counter, Device, Fraction, INPUT_MAX, Label, Name, NotedWriter, Outlet, ReaderSource, Reason,
+    Refusal, Sink, SinkFault, SliceSource, Source, SourceFault, Why, profile_reasons,
 };
 pub use oas_ring::{Point, Points};
 pub use opening::open_source;

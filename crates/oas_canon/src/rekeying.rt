@@ -10,10 +10,9 @@ ghost use Rattle.oas_canon.specs.Run.{Exactly};
 use oas_judge::oas_compact::ByProfileTwo;
 use oas_judge::read_judged;
 use oas_layout::{Limits, Profile};
-use oas_num::{Refusal, Source};
+use oas_num::{Device, Refusal, Source};
 use oas_run_form::write_compact;
 use std::alloc::Global;
-use std::io::Write;
 
 /// The result for an accepted file that should be re-keyed.
 #[derive(Clone, Copy, Debug, PartialEq, Eq)]
@@ -31,20 +30,20 @@ pub enum Rekeyed {
 ///
 /// A file is refused as by [`canonicalize`](crate::canonicalize), except that memory may run out at any byte. Each record is
 /// judged as it is read, and nothing is written before the whole file was found to be canonical.
-pub fn rekey<S: Source, W: Write>(
+pub fn rekey<S: Source, W: Device>(
     alloc: Global,
     from: &mut S,
     to: &mut W,
     limits: Limits,
 ) -> Result<Rekeyed, Refusal>
-    ensures rekeyed { IfOk result (λ rekeyed. Rekeys limits (S.script from.old) (S.script from.new) (W.contents to.old) (W.contents to.new) rekeyed) }
-    ensures again { IfOk result (λ rekeyed. StaysSo limits (S.script from.old).rest (W.contents to.old) (W.contents to.new) rekeyed) }
+    ensures rekeyed { IfOk result (λ rekeyed. Rekeys limits (S.script from.old) (S.script from.new) (W.calls to.old) (W.calls to.new) rekeyed) }
+    ensures again { IfOk result (λ rekeyed. StaysSo limits (S.script from.old).rest (W.calls to.old) (W.calls to.new) rekeyed) }
     ensures unwritten { IfOk result (λ rekeyed. rekeyed ≡ IsNotProfile1 → to.new ≡ to.old) }
     ensures refused { IfErr result (λ refusal. (refusal.why ≡ NotWritten) ⊎ IsRefused limits (S.script from.old) refusal.why (S.script from.new)) }
     ensures placed { IfErr result (λ refusal. (refusal.why ≡ NotWritten) ⊎ IsPlaced limits (S.script from.old) refusal (S.script from.new)) }
     ensures decided { IfErr result (λ refusal. (refusal.why ≡ NotWritten) ⊎ (HasNoMemory limits (S.script from.old) refusal (S.script from.new) ⊎ IsReasoned limits (S.script from.old) refusal (S.script from.new))) }
     ensures nothing { IfErr result (λ refusal. (refusal.why ≡ NotWritten) ⊎ (to.new ≡ to.old)) }
-    ensures cut { IfErr result (λ refusal. refusal.why ≡ NotWritten → IsRekeyedInPart limits (S.script from.old) (S.script from.new) (W.contents to.old) (W.contents to.new) refusal.at) }
+    ensures cut { IfErr result (λ refusal. refusal.why ≡ NotWritten → IsRekeyedInPart limits (S.script from.old) (S.script from.new) (W.calls to.old) (W.calls to.new) refusal.at) }
     ensures exactly { Exactly limits (S.script from.old) result (S.script from.new) }
 {
     let (layout, own) = read_judged::<S, ByProfileTwo>(alloc, from, limits, Profile::One)?;

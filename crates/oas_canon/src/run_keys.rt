@@ -11,9 +11,8 @@ ghost use Rattle.oas_canon.specs.CellKeys.{cell_key, cell_key_line, cell_key_lin
 use crate::hashing::Hasher;
 use crate::named_keys::put_named_key;
 use oas_judge::oas_runs::{CompactLayout, KeyedElements};
-use oas_num::{Fraction, Outlet, Refusal, Sink, SinkFault, Why};
+use oas_num::{Device, Fraction, Outlet, Refusal, Sink, SinkFault, Why};
 use oas_run_form::put_elements_alone;
-use std::io::Write;
 
 /// The key of a cell, by its name and its elements.
 fn elements_key(unit: Fraction, name: &[u8], elements: KeyedElements<'_>) -> [u8; 32]
@@ -53,11 +52,11 @@ fn put_lines<K: Sink>(layout: &CompactLayout, sink: &mut K) -> Result<(), SinkFa
 }
 
 /// Puts these lines into an outlet, and sends all of them to the writer.
-fn put_and_close<W: Write>(
+fn put_and_close<W: Device>(
     layout: &CompactLayout,
     outlet: &mut Outlet<'_, W>,
 ) -> Result<(), SinkFault>
-    ensures writes { Writes (IsGiven W.contents) failures_of outlet.old (cell_key_lines (meaning_of layout.now)) result outlet.new }
+    ensures writes { Writes (IsGiven W.calls) failures_of outlet.old (cell_key_lines (meaning_of layout.now)) result outlet.new }
     ensures all { OnOk result (IsSent outlet.new) }
     ensures layout { IsLayout layout.now }
 {
@@ -67,12 +66,12 @@ fn put_and_close<W: Write>(
 
 /// Writes what [`write_cell_keys`](crate::write_cell_keys) writes, for a layout that is held as keys of elements. It
 /// allocates nothing either, and its faults are the same.
-pub fn write_compact_cell_keys<W: Write>(
+pub fn write_compact_cell_keys<W: Device>(
     layout: &CompactLayout,
     writer: &mut W,
 ) -> Result<u64, Refusal>
-    ensures written { IfOk result (IsWritten W.contents writer.old (cell_key_lines (meaning_of layout.now)) writer.new) }
-    ensures refused { IfErr result (IsCutOff W.contents writer.old (cell_key_lines (meaning_of layout.now)) writer.new) }
+    ensures written { IfOk result (IsWritten W.calls writer.old (cell_key_lines (meaning_of layout.now)) writer.new) }
+    ensures refused { IfErr result (IsCutOff W.calls writer.old (cell_key_lines (meaning_of layout.now)) writer.new) }
 {
     let mut outlet = Outlet::new(writer);
     match put_and_close(layout, &mut outlet) {

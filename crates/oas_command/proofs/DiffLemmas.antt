@@ -1,4 +1,5 @@
 -- A run that wrote a difference.
+use Rattle.oas_num.specs.Devices.{Calls}
 use Rattle.std.specs.Prelude.{IfOk}
 use Rattle.std.proofs.Common.{◌≡◌, ℕ, List, [], ◌∷◌, length, Option, Result, Ok, Err, refl, ap, ◌∙◌}
 use Rattle.oas_num.specs.declared.refusals.Refusal.{Refusal}
@@ -14,8 +15,8 @@ length_says [] = refl
 length_says (b ∷ bs) = refl
 
 -- its status
-pub differs : (options : Options) {W : Type 0} (contents : W → Option (List ℕ)) (before after : W) (found : Contents × Contents) (written : Result ℕ Refusal)
-    (status r : ℕ) → IfOk written (IsWritten contents before (diff_text options found) after) → IfOk written (λ n. status ≡ length_status n) → r
+pub differs : (options : Options) {W : Type 0} (calls : W → Calls) (before after : W) (found : Contents × Contents) (written : Result ℕ Refusal)
+    (status r : ℕ) → IfOk written (IsWritten calls before (diff_text options found) after) → IfOk written (λ n. status ≡ length_status n) → r
     ≡ status_after status written → r ≡ diff_status options (result_after found written)
-differs options contents before after found (Ok n) status r whole says ends = ends ∙ says ∙ ap length_status whole.count_is ∙ length_says (diff_text options found)
-differs options contents before after found (Err refusal) status r whole says ends = ends
+differs options calls before after found (Ok n) status r whole says ends = ends ∙ says ∙ ap length_status whole.count_is ∙ length_says (diff_text options found)
+differs options calls before after found (Err refusal) status r whole says ends = ends

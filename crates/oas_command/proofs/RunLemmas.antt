@@ -1,4 +1,5 @@
 -- A run with a result whose text has to be written.
+use Rattle.oas_num.specs.Devices.{Calls}
 use Rattle.std.specs.Prelude.{IfOk, IfErr}
 use Rattle.std.proofs.Common.{◌≡◌, ℕ, Bool, List, Option, Result, Ok, Err, refl, ◌∙◌}
 use Rattle.oas_num.specs.declared.refusals.Refusal.{Refusal}
@@ -15,11 +16,11 @@ module _ {T : Type 0} (value : T) where
   done (Ok count) r same = same
   done (Err refusal) r same = same
 
-  pub delivers : {W : Type 0} (contents : W → Option (List ℕ)) (text : T → List ℕ) (written : Result ℕ Refusal) (before after : W) →
-      IfOk written (IsWritten contents before (text value) after) → IfErr written (IsCutOff contents before (text value) after) →
-      Delivers contents text before (Ok value) (result_after written) after
-  delivers contents text (Ok count) before after whole cut = (refl, whole.took)
-  delivers contents text (Err refusal) before after whole cut = cut
+  pub delivers : {W : Type 0} (calls : W → Calls) (text : T → List ℕ) (written : Result ℕ Refusal) (before after : W) →
+      IfOk written (IsWritten calls before (text value) after) → IfErr written (IsCutOff calls before (text value) after) →
+      Delivers calls text before (Ok value) (result_after written) after
+  delivers calls text (Ok count) before after whole cut = (refl, whole.took)
+  delivers calls text (Err refusal) before after whole cut = cut
 
   pub tells : {K : Type 0} (given : K → List ℕ → K → Type 0) (failures : K → ℕ) (name : List ℕ) (old : K) (written : Result ℕ Refusal) (new : K) →
       Ends given failures name old written new → Ends given failures name old (result_after written) new

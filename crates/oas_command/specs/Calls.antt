@@ -1,4 +1,5 @@
 -- What the calls that a run makes promise for their results, clause by clause, each for one or two sources.
+use Rattle.oas_num.specs.Devices.{Calls}
 use Rattle.std.specs.Prelude.{◌≡◌, ℕ, Bool, List, Option, Result, IfOk, IfErr, ◌⊎◌}
 use Rattle.oas_num.specs.declared.refusals.Refusal.{Refusal}
 use Rattle.oas_num.specs.declared.refusals.Why.TheVariants.{Write}
@@ -17,13 +18,13 @@ use Rattle.oas_canon.specs.Run.{IsTaken, IsDone, IsCut, IsJudged, IsKeyed, IsCom
 -- `canonicalize`: all was read, and the canonical file of it was written; or it is refused, at an offset and for a reason
 -- that the bytes taken decide, and nothing was written; or the writer failed, and took a prefix of the canonical file. It is
 -- refused exactly where it isn't accepted.
-pub record Canonicalizes {W : Type 0} (contents : W → Option (List ℕ)) (limits : Limits) (old : Script) (before : W) (answer : Result ℕ Refusal) (new : Script) (after : W) : Type 0 where
-  pub done : IfOk answer (λ n. IsDone limits PROFILE old new (contents before) (contents after) n)
+pub record Canonicalizes {W : Type 0} (calls : W → Calls) (limits : Limits) (old : Script) (before : W) (answer : Result ℕ Refusal) (new : Script) (after : W) : Type 0 where
+  pub done : IfOk answer (λ n. IsDone limits PROFILE old new (calls before) (calls after) n)
   pub refused : IfErr answer (λ refusal. (refusal.why ≡ Write) ⊎ IsRefused limits old refusal.why new)
   pub placed : IfErr answer (λ refusal. (refusal.why ≡ Write) ⊎ IsPlaced limits old refusal new)
   pub decided : IfErr answer (λ refusal. (refusal.why ≡ Write) ⊎ IsReasoned limits old refusal new)
   pub nothing : IfErr answer (λ refusal. (refusal.why ≡ Write) ⊎ (after ≡ before))
-  pub cut : IfErr answer (λ refusal. refusal.why ≡ Write → IsCut limits PROFILE old new (contents before) (contents after) refusal.at)
+  pub cut : IfErr answer (λ refusal. refusal.why ≡ Write → IsCut limits PROFILE old new (calls before) (calls after) refusal.at)
   pub exactly : Exactly limits old answer new
 
 -- `is_canonical`: all was read, and the result is whether it is canonical; or it is refused, as above or out of memory at the
@@ -57,13 +58,13 @@ pub record Compares {T : Type 0} (script : T → Script) (limits : Limits) (old 
 -- where it was that already; or it isn't canonical by profile one, and nothing was written; or it is refused, as above, and
 -- nothing was written; or the writer failed, and took a prefix of the canonical file by profile two. It is refused exactly
 -- where it isn't accepted.
-pub record RekeysFile {W : Type 0} (contents : W → Option (List ℕ)) (limits : Limits) (old : Script) (before : W) (answer : Result Rekeyed Refusal) (new : Script) (after : W) : Type 0 where
-  pub rekeyed : IfOk answer (λ rekeyed. Rekeys limits old new (contents before) (contents after) rekeyed)
-  pub again : IfOk answer (λ rekeyed. StaysSo limits old.rest (contents before) (contents after) rekeyed)
+pub record RekeysFile {W : Type 0} (calls : W → Calls) (limits : Limits) (old : Script) (before : W) (answer : Result Rekeyed Refusal) (new : Script) (after : W) : Type 0 where
+  pub rekeyed : IfOk answer (λ rekeyed. Rekeys limits old new (calls before) (calls after) rekeyed)
+  pub again : IfOk answer (λ rekeyed. StaysSo limits old.rest (calls before) (calls after) rekeyed)
   pub unwritten : IfOk answer (λ rekeyed. rekeyed ≡ NotProfile1 → after ≡ before)
   pub refused : IfErr answer (λ refusal. (refusal.why ≡ Write) ⊎ IsRefused limits old refusal.why new)
   pub placed : IfErr answer (λ refusal. (refusal.why ≡ Write) ⊎ IsPlaced limits old refusal new)
   pub decided : IfErr answer (λ refusal. (refusal.why ≡ Write) ⊎ (HasNoMemory limits old refusal new ⊎ IsReasoned limits old refusal new))
   pub nothing : IfErr answer (λ refusal. (refusal.why ≡ Write) ⊎ (after ≡ before))
-  pub cut : IfErr answer (λ refusal. refusal.why ≡ Write → IsRekeyedInPart limits old new (contents before) (contents after) refusal.at)
+  pub cut : IfErr answer (λ refusal. refusal.why ≡ Write → IsRekeyedInPart limits old new (calls before) (calls after) refusal.at)
   pub exactly : Exactly limits old answer new

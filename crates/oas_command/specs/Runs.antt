@@ -1,6 +1,6 @@
 -- How a run ends: its status, what it writes, and what it puts on its error output.
 use Rattle.std.specs.Prelude.{◌≡◌, ℕ, Bool, true, false, List, ◌++◌, Option, Result, Ok, Err, ◌⊎◌}
-use Rattle.std.specs.Io.KnownBytes.{Appends}
+use Rattle.oas_num.specs.Devices.{Calls, TakesAll, FailsAfter}
 use Rattle.oas_num.specs.declared.refusals.Refusal.{Refusal}
 use Rattle.oas_num.specs.Refusals.{number_of}
 use Rattle.oas_num.specs.Writing.{Puts, PutsPrefix}
@@ -30,10 +30,10 @@ verdict_status (Err refusal) = 1
 
 -- The text of the result was written, or the writer failed and took a prefix of it, as long as the place of the refusal says.
 -- Without a result nothing was written.
-abbrev pub Delivers : {T W : Type 0} → (W → Option (List ℕ)) → (T → List ℕ) → W → Result T Refusal → Result T Refusal → W → Type 0
-Delivers contents text before (Ok value) (Ok answer) after = (answer ≡ value) × Appends (contents before) (contents after) (text value)
-Delivers contents text before (Ok value) (Err refusal) after = IsCutOff contents before (text value) after refusal
-Delivers contents text before (Err refusal) answer after = (answer ≡ Err refusal) × (after ≡ before)
+abbrev pub Delivers : {T W : Type 0} → (W → Calls) → (T → List ℕ) → W → Result T Refusal → Result T Refusal → W → Type 0
+Delivers calls text before (Ok value) (Ok answer) after = (answer ≡ value) × TakesAll (calls before) (text value) (calls after)
+Delivers calls text before (Ok value) (Err refusal) after = IsCutOff calls before (text value) after refusal
+Delivers calls text before (Err refusal) answer after = (answer ≡ Err refusal) × (after ≡ before)
 
 -- ---- its error output
 
@@ -46,12 +46,16 @@ abbrev pub Ends : {K T : Type 0} → (K → List ℕ → K → Type 0) → (K �
 Ends given failures name old (Ok value) new = new ≡ old
 Ends given failures name old (Err refusal) new = Tells given failures old (refusal_line name (number_of refusal.why) refusal.at) new
 
--- known bytes grow by a prefix of these
-pub record AppendsPrefix (old new : Option (List ℕ)) (bytes : List ℕ) : Type 0 where
+-- it took a prefix of these bytes, and then a call failed
+pub record BreaksOff (old : Calls) (bytes : List ℕ) (new : Calls) : Type 0 where
   pub front : List ℕ
   pub back : List ℕ
   pub joined : bytes ≡ front ++ back
-  pub appends : Appends old new front
+  pub took : FailsAfter old front new
+
+-- it took all of these bytes, or a prefix of them, and then a call failed
+abbrev pub Says : Calls → List ℕ → Calls → Type 0
+Says old bytes new = TakesAll old bytes new ⊎ BreaksOff old bytes new
 
 -- ---- for two files
 

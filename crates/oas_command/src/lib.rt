@@ -27,7 +27,7 @@
 //!   the markers' own name.
 //! - [`run_refused`] and [`run_unopened`] end a run that could not begin: the error output took the line
 //!   `NAME: refused N at OFFSET` (`refusal_line`, specs/Lines.antt) or `NAME: cannot be opened` (`unopened_line`,
-//!   specs/Unopened.antt), or a prefix of it (`AppendsPrefix`).
+//!   specs/Unopened.antt), or fails after a prefix of it (`Says`).
 //! - [`limits_of`] returns the limits with the flag `--large` and without it.
 //! - [`write_line`] writes a line to an output, or a prefix of it (`IsWritten`, `IsCutOff`), [`write_named_key`] that of a key
 //!   and a name, [`write_named_check`] that of a check with a name, and [`write_sameness`] that of a comparison.

@@ -6,8 +6,7 @@ ghost use Rattle.oas_num.specs.Writing.{Writes};
 ghost use Rattle.oas_num.specs.Written.{IsWritten, IsCutOff};
 ghost use Rattle.oas_command.specs.Lines.{end_byte, line_of, line_of_pieces};
 
-use oas_num::{Outlet, Refusal, Sink, SinkFault, Why};
-use std::io::Write;
+use oas_num::{Device, Outlet, Refusal, Sink, SinkFault, Why};
 
 /// What ends a line.
 #[derive(Clone, Copy, Debug, PartialEq, Eq)]
@@ -51,8 +50,8 @@ pub struct Pieces<'a> {
 }
 
 /// Puts the pieces of a line and its end into an outlet, and sends all of it to the writer.
-fn put_and_close<W: Write>(outlet: &mut Outlet<'_, W>, pieces: Pieces<'_>) -> Result<(), SinkFault>
-    ensures writes { Writes (IsGiven W.contents) failures_of outlet.old (line_of_pieces pieces.entry) result outlet.new }
+fn put_and_close<W: Device>(outlet: &mut Outlet<'_, W>, pieces: Pieces<'_>) -> Result<(), SinkFault>
+    ensures writes { Writes (IsGiven W.calls) failures_of outlet.old (line_of_pieces pieces.entry) result outlet.new }
     ensures all { OnOk result (IsSent outlet.new) }
 {
     outlet.put_all(pieces.first)?;
@@ -67,9 +66,9 @@ fn put_and_close<W: Write>(outlet: &mut Outlet<'_, W>, pieces: Pieces<'_>) -> Re
 ///
 /// A fault of the writer is `Why::Write`. Its place is the number of bytes that the writer took: the first ones of the line.
 /// Where it is the number of all of them, the flush failed.
-pub fn write_line<W: Write>(writer: &mut W, text: &[u8]) -> Result<u64, Refusal>
-    ensures written { IfOk result (IsWritten W.contents writer.old (line_of text.now) writer.new) }
-    ensures refused { IfErr result (IsCutOff W.contents writer.old (line_of text.now) writer.new) }
+pub fn write_line<W: Device>(writer: &mut W, text: &[u8]) -> Result<u64, Refusal>
+    ensures written { IfOk result (IsWritten W.calls writer.old (line_of text.now) writer.new) }
+    ensures refused { IfErr result (IsCutOff W.calls writer.old (line_of text.now) writer.new) }
 {
     let pieces = Pieces {
         first: text,
@@ -82,10 +81,10 @@ pub fn write_line<W: Write>(writer: &mut W, text: &[u8]) -> Result<u64, Refusal>
 }
 
 /// Like `write_line`, for a text in pieces.
-pub(crate) fn write_pieces<W: Write>(writer: &mut W, pieces: Pieces<'_>) -> Result<u64, Refusal>
+pub(crate) fn write_pieces<W: Device>(writer: &mut W, pieces: Pieces<'_>) -> Result<u64, Refusal>
     requires short { length (line_of_pieces pieces) < 2 ^ 64 }
-    ensures written { IfOk result (IsWritten W.contents writer.old (line_of_pieces pieces.entry) writer.new) }
-    ensures refused { IfErr result (IsCutOff W.contents writer.old (line_of_pieces pieces.entry) writer.new) }
+    ensures written { IfOk result (IsWritten W.calls writer.old (line_of_pieces pieces.entry) writer.new) }
+    ensures refused { IfErr result (IsCutOff W.calls writer.old (line_of_pieces pieces.entry) writer.new) }
 {
     let mut outlet = Outlet::new(writer);
     match put_and_close(&mut outlet, pieces) {

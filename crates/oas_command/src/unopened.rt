@@ -2,10 +2,9 @@
 ghost use Rattle.std.specs.Prelude.{◌≡◌};
 ghost use Rattle.oas_num.specs.Writing.{Writes};
 ghost use Rattle.oas_command.specs.Unopened.{input_name, unopened_line};
-ghost use Rattle.oas_command.specs.Runs.{Tells, AppendsPrefix};
+ghost use Rattle.oas_command.specs.Runs.{Tells, Says};
 
-use oas_num::{Outlet, Sink, SinkFault};
-use std::io::Write;
+use oas_num::{Device, Outlet, Sink, SinkFault};
 
 /// The status of a run that could not open its input.
 const UNOPENED: u8 = 1;
@@ -21,9 +20,9 @@ pub fn name_of<'a>(path: Option<&'a str>) -> &'a str
 }
 
 /// Ends a run whose input can't be opened: says so on `err`, and returns its status.
-pub fn run_unopened<E: Write>(name: &str, err: &mut E) -> u8
+pub fn run_unopened<E: Device>(name: &str, err: &mut E) -> u8
     ensures status { result ≡ 1 }
-    ensures tells { AppendsPrefix (E.contents err.old) (E.contents err.new) (unopened_line name.now) }
+    ensures tells { Says (E.calls err.old) (unopened_line name.now) (E.calls err.new) }
 {
     let mut told = Outlet::new(err);
     let status = unopened(name, &mut told);

@@ -10,9 +10,8 @@ use crate::runs::{
 use oas_canon::Limits;
 use oas_info::Form;
 use oas_markers::oas_difference::Options;
-use oas_num::{Sink, Source};
+use oas_num::{Device, Sink, Source};
 use std::alloc::Global;
-use std::io::Write;
 
 /// What is asked of one file.
 #[derive(Clone, Copy)]
@@ -39,7 +38,7 @@ pub enum PairWork<'a> {
 
 /// Does the work on all that `from` gives, and returns the status of the command. What it has to say is told under this
 /// name.
-pub fn work_telling<S: Source, W: Write, K: Sink>(
+pub fn work_telling<S: Source, W: Device, K: Sink>(
     alloc: Global,
     work: Work<'_>,
     name: &str,
@@ -48,7 +47,7 @@ pub fn work_telling<S: Source, W: Write, K: Sink>(
     told: &mut K,
     limits: Limits,
 ) -> u8
-    ensures { DoesWork W.contents K.given K.failures limits name.now (S.script from.old) out.old told.old work.entry result (S.script from.new) out.new told.new }
+    ensures { DoesWork W.calls K.given K.failures limits name.now (S.script from.old) out.old told.old work.entry result (S.script from.new) out.new told.new }
 {
     match work {
         Work::Canon => canon_telling(alloc, name, from, out, told, limits),
@@ -67,7 +66,7 @@ pub fn work_telling<S: Source, W: Write, K: Sink>(
 
 /// Does the work on all that the two sources give, and returns the status of the command. What it has to say is told under
 /// the name of the file of which it is said.
-pub fn pair_work_telling<S: Source, T: Source, W: Write, K: Sink>(
+pub fn pair_work_telling<S: Source, T: Source, W: Device, K: Sink>(
     alloc: Global,
     work: PairWork<'_>,
     name_a: &str,
@@ -78,7 +77,7 @@ pub fn pair_work_telling<S: Source, T: Source, W: Write, K: Sink>(
     told: &mut K,
     limits: Limits,
 ) -> u8
-    ensures { DoesPairWork W.contents K.given K.failures limits T.script name_a.now name_b.now (S.script a.old) b.old out.old told.old work.entry result (S.script a.new) b.new out.new told.new }
+    ensures { DoesPairWork W.calls K.given K.failures limits T.script name_a.now name_b.now (S.script a.old) b.old out.old told.old work.entry result (S.script a.new) b.new out.new told.new }
 {
     match work {
         PairWork::Same => same_telling(alloc, name_a, a, name_b, b, out, told, limits),

@@ -6,8 +6,7 @@ ghost use Rattle.oas_num.specs.Outlets.{IsGiven, failures_of};
 ghost use Rattle.oas_difference.specs.Limited.{more_line};
 
 use crate::format::Syntax;
-use oas_num::{Outlet, Sink, SinkFault};
-use std::io::Write;
+use oas_num::{Device, Outlet, Sink, SinkFault};
 
 /// Passes on the first lines that it is given to a sink, and drops what follows them.
 #[derive(Drop)]
@@ -18,7 +17,7 @@ pub(crate) struct Limited<'a, W> {
     failed: bool,
 }
 
-impl<'a, W: Write> Limited<'a, W> {
+impl<'a, W: Device> Limited<'a, W> {
     /// A sink that passes on this many lines.
     pub(crate) fn new(sink: Outlet<'a, W>, lines: u64) -> Limited<'a, W>
         ensures { result ≡ record { sink = sink.entry; left = lines; is_cut = false; failed = false } }
@@ -40,7 +39,7 @@ impl<'a, W: Write> Limited<'a, W> {
 
     /// Puts a last line into the sink below where something was dropped.
     pub(crate) fn put_more(&mut self, syntax: Syntax) -> Result<(), SinkFault>
-        ensures { Writes (IsGiven W.contents) failures_of self.old.sink (more_line syntax self.old.is_cut) result self.new.sink }
+        ensures { Writes (IsGiven W.calls) failures_of self.old.sink (more_line syntax self.old.is_cut) result self.new.sink }
     {
         match (self.is_cut, syntax) {
             (false, _) => Ok(()),
@@ -50,17 +49,17 @@ impl<'a, W: Write> Limited<'a, W> {
     }
 }
 
-impl<W: Write> Sink for Limited<'_, W> {
+impl<W: Device> Sink for Limited<'_, W> {
     ghost use Rattle.oas_num.specs.Outlets.{IsGiven, failures_of};
     ghost use Rattle.oas_difference.specs.Limiting.{Passes};
     ghost use Rattle.oas_difference.specs.Laws.LimitingLaws.{Passes-none};
     ghost use Rattle.std.specs.Prelude.{if◌then◌else◌};
 
-    ghost given = { Passes (IsGiven W.contents) failures_of };
+    ghost given = { Passes (IsGiven W.calls) failures_of };
 
     ghost failures = { λ s. if s.failed then 1 else 0 };
 
-    ghost none_given = { Passes-none (IsGiven W.contents) failures_of };
+    ghost none_given = { Passes-none (IsGiven W.calls) failures_of };
 
     fn put(&mut self, byte: u8) -> Result<(), SinkFault> {
         if self.failed {

@@ -16,8 +16,7 @@ use crate::format::{Notation, PLAIN, Syntax};
 use crate::limiting::Limited;
 use crate::options::{Detail, Options};
 use oas_layout::Layout;
-use oas_num::{Fraction, Outlet, Refusal, Sink, SinkFault, Why};
-use std::io::Write;
+use oas_num::{Device, Fraction, Outlet, Refusal, Sink, SinkFault, Why};
 
 /// Puts the entries of two units that differ.
 fn put_units<K: Sink>(
@@ -82,7 +81,7 @@ pub fn put_difference<'a, K: Sink>(
 }
 
 /// Puts the first lines of the difference of two layouts into an outlet, and sends all of it to the writer.
-fn put_and_close<W: Write>(
+fn put_and_close<W: Device>(
     before: &Layout,
     after: &Layout,
     options: Options<'_>,
@@ -92,7 +91,7 @@ fn put_and_close<W: Write>(
     requires left { lines.old.left ≡ unwrap_or options.limit (2 ^ 64 - 1) }
     requires whole { lines.old.is_cut ≡ false }
     requires works { lines.old.failed ≡ false }
-    ensures writes { Writes (IsGiven W.contents) failures_of lines.old.sink (difference_by options.entry before.now.profile (meaning_of before.now) (meaning_of after.now)) result lines.new.sink }
+    ensures writes { Writes (IsGiven W.calls) failures_of lines.old.sink (difference_by options.entry before.now.profile (meaning_of before.now) (meaning_of after.now)) result lines.new.sink }
     ensures all { OnOk result (IsSent lines.new.sink) }
     ensures short { length (difference_by options.entry before.now.profile (meaning_of before.now) (meaning_of after.now)) < 2 ^ 64 }
 {
@@ -109,15 +108,15 @@ fn put_and_close<W: Write>(
 ///
 /// A fault of the writer is `Why::Write`. Its place is the number of bytes that the writer took: the first ones of the
 /// difference. Where it is the number of all of them, the flush failed.
-pub fn write_difference<W: Write>(
+pub fn write_difference<W: Device>(
     before: &Layout,
     after: &Layout,
     options: Options<'_>,
     writer: &mut W,
 ) -> Result<u64, Refusal>
     requires { before.now.profile ≡ after.now.profile }
-    ensures written { IfOk result (IsWritten W.contents writer.old (difference_by options.entry before.now.profile (meaning_of before.now) (meaning_of after.now)) writer.new) }
-    ensures refused { IfErr result (IsCutOff W.contents writer.old (difference_by options.entry before.now.profile (meaning_of before.now) (meaning_of after.now)) writer.new) }
+    ensures written { IfOk result (IsWritten W.calls writer.old (difference_by options.entry before.now.profile (meaning_of before.now) (meaning_of after.now)) writer.new) }
+    ensures refused { IfErr result (IsCutOff W.calls writer.old (difference_by options.entry before.now.profile (meaning_of before.now) (meaning_of after.now)) writer.new) }
 {
     let mut lines = Limited::new(Outlet::new(writer), options.limit.unwrap_or(u64::MAX));
     match put_and_close(before, after, options, &mut lines) {

@@ -51,7 +51,7 @@ pub use oas_progress;
 pub use outcome::{Outcome, ended};
 pub use reasons::all_reasons;
 pub use recording::Recorded;
-pub use session::{Incoming, Outgoing, STANDARD_OUTPUT, Session};
+pub use session::{Incoming, Outgoing, STANDARD_OUTPUT, Said, Session};
 pub use telling::print_explained;
 pub use voice::Voice;
 pub use words::{BINARY, ended_by_text, misused, words_of};

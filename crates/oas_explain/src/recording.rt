@@ -1,23 +1,30 @@
-//! A writer that keeps why it failed.
+//! A device over a writer, which keeps why it failed.
 
-ghost use Rattle.std.specs.Prelude.{◌≡◌, None};
+ghost use Rattle.std.specs.Prelude.{◌≡◌, [], None};
 
+use oas_num::{Device, History};
 use std::io;
 use std::io::Write;
 
-/// A writer that writes what is below it, and keeps why that failed the last time.
+/// A device that writes what is below it, counts its failures, and keeps why it failed the last time.
 #[derive(Drop)]
 pub struct Recorded<W> {
     inner: W,
     fault: Option<io::Error>,
+    // A byte for each call that failed.
+    failed: History,
 }
 
 impl<W: Write> Recorded<W> {
     /// One over this writer, which has not failed yet.
     pub fn new(inner: W) -> Recorded<W>
-        ensures { (result.inner ≡ inner) × (result.fault ≡ None) }
+        ensures { (result.inner ≡ inner) × (result.fault ≡ None) × (result.failed.bytes ≡ []) }
     {
-        Recorded { inner, fault: None }
+        Recorded {
+            inner,
+            fault: None,
+            failed: History::new(),
+        }
     }
 
     /// Why it failed, if it did.
@@ -28,33 +35,38 @@ impl<W: Write> Recorded<W> {
     }
 }
 
-impl<W: Write> Write for Recorded<W> {
+impl<W: Write> Device for Recorded<W> {
     ghost use Rattle.std.specs.Prelude.{◌≡◌, Some, IfErr, OnOk};
-    ghost use Rattle.std.specs.Io.{WritesAtMost};
-    ghost use Rattle.std.specs.Io.KnownBytes.{Keeps, WriteAppends};
+    ghost use Rattle.oas_num.specs.Devices.{Wrote, Flushed};
+    ghost use Rattle.oas_explain.specs.Recording.{calls_recorded};
 
-    ghost contents = { λ w. W.contents w.inner };
+    ghost calls = { calls_recorded W.contents };
 
     fn write(&mut self, buf: &[u8]) -> io::Result<usize>
-        ensures bound { WritesAtMost result buf.now }
-        ensures bytes { WriteAppends (W.contents self.old.inner) (W.contents self.new.inner) result buf.now }
+        ensures wrote { Wrote (calls_recorded W.contents self.old) buf.now result (calls_recorded W.contents self.new) }
         ensures fault { IfErr result (λ error. self.new.fault ≡ Some error) }
         ensures as_before { OnOk result (self.new.fault ≡ self.old.fault) }
     {
         let written = self.inner.write(buf);
-        if let Err(error) = written {
-            self.fault = Some(error);
+        match written {
+            Ok(0) if !buf.is_empty() => self.failed.note(&[0]),
+            Ok(_) => {}
+            Err(error) => {
+                self.failed.note(&[0]);
+                self.fault = Some(error);
+            }
         }
         written
     }
 
     fn flush(&mut self) -> io::Result<()>
-        ensures bytes { Keeps (W.contents self.old.inner) (W.contents self.new.inner) }
+        ensures flushed { Flushed (calls_recorded W.contents self.old) result (calls_recorded W.contents self.new) }
         ensures fault { IfErr result (λ error. self.new.fault ≡ Some error) }
         ensures as_before { OnOk result (self.new.fault ≡ self.old.fault) }
     {
         let flushed = self.inner.flush();
         if let Err(error) = flushed {
+            self.failed.note(&[0]);
             self.fault = Some(error);
         }
         flushed

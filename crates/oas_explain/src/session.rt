@@ -10,6 +10,7 @@ use crate::voice::Voice;
 use oas_command::limits_of;
 use oas_command::oas_canon::{Limits, ReaderSource, Refusal, Why, open_source};
 use oas_files::{Existing, Input, Output, Printed, is_input_marked};
+use oas_num::NotedWriter;
 use oas_progress::{Meter, Reading, Style, Writing};
 use std::io;
 use std::io::{ErrorKind, IsTerminal, Stderr};
@@ -19,6 +20,9 @@ pub type Incoming<'a> = ReaderSource<Reading<'a, Input, Stderr>>;
 
 /// The output of a run.
 pub type Outgoing<'a> = Recorded<Writing<'a, Output<'a>, Stderr>>;
+
+/// What a run says, in memory.
+pub type Said = NotedWriter<Vec<u8>>;
 
 /// The name of standard output in messages.
 pub const STANDARD_OUTPUT: &str = "standard output";
@@ -58,9 +62,9 @@ impl<'a> Session<'a> {
     }
 
     /// Where messages are printed.
-    pub fn voice(&self) -> Voice<Stderr> {
+    pub fn voice(&self) -> Voice<NotedWriter<Stderr>> {
         let is_over = self.shows_progress && self.style() == Style::Over;
-        Voice::new(self.rt.stderr(), self.explains, is_over)
+        Voice::new(NotedWriter::new(self.rt.stderr()), self.explains, is_over)
     }
 
     /// A name as it is printed, or the status if out of memory.
@@ -70,8 +74,9 @@ impl<'a> Session<'a> {
 
     /// Room for what a run says about files whose names have this many bytes, or the status if out of memory, which is said
     /// under this name.
-    pub fn room(&self, name: &str, bytes: usize) -> Result<Vec<u8>, u8> {
-        self.voice().room(self.rt.alloc(), name, bytes)
+    pub fn room(&self, name: &str, bytes: usize) -> Result<Said, u8> {
+        let room = self.voice().room(self.rt.alloc(), name, bytes)?;
+        Ok(NotedWriter::new(room))
     }
 
     /// The status of a run that is out of memory, after its line on standard error under this name.

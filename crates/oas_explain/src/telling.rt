@@ -3,17 +3,16 @@
 ghost use Rattle.std.specs.Prelude.{◌≡◌, ℕ, List, [], ◌++◌, slice_get};
 ghost use Rattle.oas_num.specs.Refusals.{number_of};
 ghost use Rattle.oas_num.specs.Writing.{Writes};
-ghost use Rattle.oas_command.specs.Runs.{AppendsPrefix, Tells};
+ghost use Rattle.oas_command.specs.Runs.{Says, Tells};
 ghost use Rattle.oas_explain.specs.Telling.{explanation, explanation_for, place_of, IsExplanation};
 
 use crate::hearing::number_recognized;
 use crate::texts::put_explanation;
-use oas_num::{Outlet, Reason, Sink, SinkFault, Why};
-use std::io::Write;
+use oas_num::{Device, Outlet, Reason, Sink, SinkFault, Why};
 
 /// Writes what a run said to `err`. A fault of `err` changes nothing.
-pub(crate) fn tell<E: Write>(said: &[u8], err: &mut E)
-    ensures { AppendsPrefix (E.contents err.old) (E.contents err.new) said.now }
+pub(crate) fn tell<E: Device>(said: &[u8], err: &mut E)
+    ensures { Says (E.calls err.old) said.now (E.calls err.new) }
 {
     let mut told = Outlet::new(err);
     told_plainly(said, &mut told);
@@ -29,7 +28,7 @@ fn told_plainly<K: Sink>(said: &[u8], told: &mut K)
 
 /// Like `tell`, and after the line of a refusal comes a line `  = NAME: MEANING` of its reason, with these words at its end,
 /// one `  = REMEDY`, and this advice, each line of which begins with the end of the one before.
-pub fn print_explained<E: Write>(
+pub fn print_explained<E: Device>(
     reasons: &[Reason<'_>],
     words: &str,
     advice: &str,
@@ -37,7 +36,7 @@ pub fn print_explained<E: Write>(
     err: &mut E,
 )
     ensures { (text : List ℕ) × IsExplanation reasons.now words.now advice.now said.now text
-        × AppendsPrefix (E.contents err.old) (E.contents err.new) (said.now ++ text) }
+        × Says (E.calls err.old) (said.now ++ text) (E.calls err.new) }
 {
     let mut told = Outlet::new(err);
     told_explained(reasons, words, advice, said, &mut told);
@@ -105,9 +104,9 @@ fn place_of(number: u8) -> usize
 }
 
 /// Explains a reason in a line `  = NAME: MEANING` and one `  = REMEDY`. A fault of `err` changes nothing.
-pub(crate) fn explain_reason<E: Write>(reasons: &[Reason<'_>], why: Why, err: &mut E)
-    ensures { AppendsPrefix (E.contents err.old) (E.contents err.new)
-        (explanation [] [] (slice_get reasons.now (place_of (number_of why)))) }
+pub(crate) fn explain_reason<E: Device>(reasons: &[Reason<'_>], why: Why, err: &mut E)
+    ensures { Says (E.calls err.old)
+        (explanation [] [] (slice_get reasons.now (place_of (number_of why)))) (E.calls err.new) }
 {
     let mut told = Outlet::new(err);
     told_reason(reasons, why, &mut told);

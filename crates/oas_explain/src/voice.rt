@@ -4,12 +4,12 @@ ghost use Rattle.std.specs.Prelude.{◌≡◌, false, IfOk, IfErr, []};
 ghost use Rattle.oas_num.specs.Refusals.{number_of};
 ghost use Rattle.oas_command.specs.Lines.{refusal_line};
 ghost use Rattle.oas_command.specs.Unopened.{unopened_line};
-ghost use Rattle.oas_command.specs.Runs.{AppendsPrefix};
+ghost use Rattle.oas_command.specs.Runs.{Says};
 
 use crate::reasons::all_reasons;
 use crate::telling::{explain_reason, print_explained, tell};
 use oas_command::{run_refused, run_unopened};
-use oas_num::{Refusal, Why};
+use oas_num::{Device, Refusal, Why};
 use oas_progress::clear;
 use std::alloc::Global;
 use std::io;
@@ -26,7 +26,7 @@ pub struct Voice<E> {
     shows_progress: bool,
 }
 
-impl<E: Write> Voice<E> {
+impl<E: Device + Write> Voice<E> {
     /// One on this error output, which explains refusals, and removes the line of a meter before it speaks, if asked to.
     pub fn new(err: E, explains: bool, shows_progress: bool) -> Voice<E>
         ensures { (result.err ≡ err) × (result.explains ≡ explains) × (result.shows_progress ≡ shows_progress) }
@@ -57,7 +57,7 @@ impl<E: Write> Voice<E> {
     /// its remedy.
     pub fn tell(&mut self, said: &[u8], words: &str, advice: &str)
         ensures plain { self.old.explains ≡ false → self.old.shows_progress ≡ false
-            → AppendsPrefix (E.contents self.old.err) (E.contents self.new.err) said.now }
+            → Says (E.calls self.old.err) said.now (E.calls self.new.err) }
     {
         self.begin();
         if self.explains {
@@ -71,7 +71,7 @@ impl<E: Write> Voice<E> {
     pub fn refused(&mut self, name: &str, refusal: Refusal) -> u8
         ensures status { result ≡ 1 }
         ensures plain { self.old.explains ≡ false → self.old.shows_progress ≡ false
-            → AppendsPrefix (E.contents self.old.err) (E.contents self.new.err) (refusal_line name.now (number_of refusal.why) refusal.at) }
+            → Says (E.calls self.old.err) (refusal_line name.now (number_of refusal.why) refusal.at) (E.calls self.new.err) }
     {
         self.begin();
         let status = run_refused(name, refusal, &mut self.err);
@@ -86,7 +86,7 @@ impl<E: Write> Voice<E> {
     pub fn unopened(&mut self, name: &str, error: &io::Error) -> u8
         ensures status { result ≡ 1 }
         ensures plain { self.old.explains ≡ false → self.old.shows_progress ≡ false
-            → AppendsPrefix (E.contents self.old.err) (E.contents self.new.err) (unopened_line name.now) }
+            → Says (E.calls self.old.err) (unopened_line name.now) (E.calls self.new.err) }
     {
         self.begin();
         let status = run_unopened(name, &mut self.err);

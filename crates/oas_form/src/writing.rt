@@ -13,8 +13,7 @@ ghost use Rattle.oas_form.specs.Putting.{Counts};
 use crate::cells::put_cells;
 use crate::frames::{put_end, put_head};
 use oas_layout::Layout;
-use oas_num::{Outlet, Refusal, Sink, SinkFault, Why};
-use std::io::Write;
+use oas_num::{Device, Outlet, Refusal, Sink, SinkFault, Why};
 
 /// Puts the canonical bytes of a layout, and returns how many they are. After a fault a prefix of them was put.
 ///
@@ -37,8 +36,8 @@ pub fn put_canonical<K: Sink>(layout: &Layout, sink: &mut K) -> Result<u64, Sink
 }
 
 /// Puts the canonical bytes of a layout into an outlet, sends all of them to its writer, and flushes it.
-fn put_and_close<W: Write>(layout: &Layout, outlet: &mut Outlet<'_, W>) -> Result<u64, SinkFault>
-    ensures counts { Counts (IsGiven W.contents) failures_of outlet.old (canonical_bytes (meaning_of layout.now)) result outlet.new }
+fn put_and_close<W: Device>(layout: &Layout, outlet: &mut Outlet<'_, W>) -> Result<u64, SinkFault>
+    ensures counts { Counts (IsGiven W.calls) failures_of outlet.old (canonical_bytes (meaning_of layout.now)) result outlet.new }
     ensures all { OnOk result (IsSent outlet.new) }
     ensures layout { IsLayout layout.now }
 {
@@ -53,9 +52,9 @@ fn put_and_close<W: Write>(layout: &Layout, outlet: &mut Outlet<'_, W>) -> Resul
 /// place is the number of bytes that the writer took: the first ones of these. Where it is the number of all of them, the
 /// flush failed.
 #[tactic(auto, using(crate::proofs::LayoutForms::layout_form, crate::proofs::LayoutForms::layout_means, crate::proofs::LayoutForms::layout_short))]
-pub fn write_canonical<W: Write>(layout: &Layout, writer: &mut W) -> Result<u64, Refusal>
-    ensures written { IfOk result (IsWritten W.contents writer.old (canonical_bytes (meaning_of layout.now)) writer.new) }
-    ensures refused { IfErr result (IsCutOff W.contents writer.old (canonical_bytes (meaning_of layout.now)) writer.new) }
+pub fn write_canonical<W: Device>(layout: &Layout, writer: &mut W) -> Result<u64, Refusal>
+    ensures written { IfOk result (IsWritten W.calls writer.old (canonical_bytes (meaning_of layout.now)) writer.new) }
+    ensures refused { IfErr result (IsCutOff W.calls writer.old (canonical_bytes (meaning_of layout.now)) writer.new) }
     ensures form { CanonicalForm layout.now.limits layout.now.profile (canonical_bytes (meaning_of layout.now)) }
     ensures means { Means (canonical_bytes (meaning_of layout.now)) (meaning_of layout.now) }
     ensures short { length (canonical_bytes (meaning_of layout.now)) ≤ 320 + 64 * cells_weight (expanded layout.now.cells) }

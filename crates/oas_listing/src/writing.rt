@@ -9,12 +9,11 @@ ghost use Rattle.oas_listing.specs.Listing.{listing};
 
 use crate::cells::put_listing;
 use oas_layout::Layout;
-use oas_num::{Outlet, Refusal, SinkFault, Why};
-use std::io::Write;
+use oas_num::{Device, Outlet, Refusal, SinkFault, Why};
 
 /// Puts the listing of a layout into an outlet, and sends all of it to the writer.
-fn put_and_close<W: Write>(layout: &Layout, outlet: &mut Outlet<'_, W>) -> Result<(), SinkFault>
-    ensures writes { Writes (IsGiven W.contents) failures_of outlet.old (listing (meaning_of layout.now)) result outlet.new }
+fn put_and_close<W: Device>(layout: &Layout, outlet: &mut Outlet<'_, W>) -> Result<(), SinkFault>
+    ensures writes { Writes (IsGiven W.calls) failures_of outlet.old (listing (meaning_of layout.now)) result outlet.new }
     ensures all { OnOk result (IsSent outlet.new) }
     ensures short { length (listing (meaning_of layout.now)) ≤ 136 + 512 * 2 ^ 30 }
 {
@@ -26,9 +25,9 @@ fn put_and_close<W: Write>(layout: &Layout, outlet: &mut Outlet<'_, W>) -> Resul
 ///
 /// A fault of the writer is `Why::Write`. Its place is the number of bytes that the writer took: the first ones of the
 /// listing. Where it is the number of all of them, the flush failed.
-pub fn write_listing<W: Write>(layout: &Layout, writer: &mut W) -> Result<u64, Refusal>
-    ensures written { IfOk result (IsWritten W.contents writer.old (listing (meaning_of layout.now)) writer.new) }
-    ensures refused { IfErr result (IsCutOff W.contents writer.old (listing (meaning_of layout.now)) writer.new) }
+pub fn write_listing<W: Device>(layout: &Layout, writer: &mut W) -> Result<u64, Refusal>
+    ensures written { IfOk result (IsWritten W.calls writer.old (listing (meaning_of layout.now)) writer.new) }
+    ensures refused { IfErr result (IsCutOff W.calls writer.old (listing (meaning_of layout.now)) writer.new) }
 {
     let mut outlet = Outlet::new(writer);
     match put_and_close(layout, &mut outlet) {

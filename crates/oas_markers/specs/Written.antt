@@ -1,20 +1,20 @@
 -- What a writer took of a text of any length.
 use Rattle.std.specs.Prelude.{◌≡◌, ℕ, List, ◌++◌, length, Option}
-use Rattle.std.specs.Io.KnownBytes.{Appends}
+use Rattle.oas_num.specs.Devices.{Calls, TakesAll, FailsAfter}
 use Rattle.oas_num.specs.declared.refusals.Refusal.{Refusal}
 use Rattle.oas_num.specs.declared.refusals.Why.TheVariants.{Write as NotWritten}
 use Rattle.oas_difference.specs.Microns.{counted_to}
 
 -- it took all of the bytes, this many, capped to 64 bits
-pub record IsMarked {W : Type 0} (contents : W → Option (List ℕ)) (old : W) (bytes : List ℕ) (new : W) (count : ℕ) : Type 0 where
+pub record IsMarked {W : Type 0} (calls : W → Calls) (old : W) (bytes : List ℕ) (new : W) (count : ℕ) : Type 0 where
   pub count_is : count ≡ counted_to (length bytes)
-  pub took : Appends (contents old) (contents new) bytes
+  pub took : TakesAll (calls old) bytes (calls new)
 
 -- it failed after it took a prefix of the bytes, as long as the refusal's place says, capped to 64 bits
-pub record IsMarkedUpTo {W : Type 0} (contents : W → Option (List ℕ)) (old : W) (bytes : List ℕ) (new : W) (refusal : Refusal) : Type 0 where
+pub record IsMarkedUpTo {W : Type 0} (calls : W → Calls) (old : W) (bytes : List ℕ) (new : W) (refusal : Refusal) : Type 0 where
   pub reason : refusal.why ≡ NotWritten
   pub front : List ℕ
   pub back : List ℕ
   pub joined : bytes ≡ front ++ back
-  pub took : Appends (contents old) (contents new) front
+  pub took : FailsAfter (calls old) front (calls new)
   pub place : refusal.at ≡ counted_to (length front)

@@ -21,8 +21,7 @@ use crate::counting::count_items;
 use crate::items::put_head;
 use oas_difference::{Cells, Choice, ChosenLayer};
 use oas_layout::Layout;
-use oas_num::{Fraction, Outlet, Refusal, Sink, SinkFault, Why};
-use std::io::Write;
+use oas_num::{Device, Fraction, Outlet, Refusal, Sink, SinkFault, Why};
 
 /// Puts the items of all cells, at most this many, and what surrounds them.
 fn put_body<'a, K: Sink>(
@@ -84,7 +83,7 @@ fn put_markers<'a, K: Sink>(
 }
 
 /// Puts the markers of two layouts into an outlet, and sends all of them to its writer.
-fn put_and_close<W: Write>(
+fn put_and_close<W: Device>(
     before: &Layout,
     after: &Layout,
     choice: Choice<'_>,
@@ -92,7 +91,7 @@ fn put_and_close<W: Write>(
     outlet: &mut Outlet<'_, W>,
 ) -> Result<(), SinkFault>
     requires { before.now.profile ≡ after.now.profile }
-    ensures writes { Writes (IsGiven W.contents) failures_of outlet.old (markers most choice.entry.layers before.now.profile (chosen choice.entry (meaning_of before.now)) (chosen choice.entry (meaning_of after.now))) result outlet.new }
+    ensures writes { Writes (IsGiven W.calls) failures_of outlet.old (markers most choice.entry.layers before.now.profile (chosen choice.entry (meaning_of before.now)) (chosen choice.entry (meaning_of after.now))) result outlet.new }
     ensures all { OnOk result (IsSent outlet.new) }
 {
     put_markers(outlet, before, after, choice, most)?;
@@ -105,7 +104,7 @@ fn put_and_close<W: Write>(
 ///
 /// A fault of the writer is `Why::Write`. Its place is the number of bytes that the writer took: the first ones of the
 /// markers. Where it is the number of all of them, the flush failed.
-pub fn write_markers<W: Write>(
+pub fn write_markers<W: Device>(
     before: &Layout,
     after: &Layout,
     choice: Choice<'_>,
@@ -113,8 +112,8 @@ pub fn write_markers<W: Write>(
     writer: &mut W,
 ) -> Result<u64, Refusal>
     requires { before.now.profile ≡ after.now.profile }
-    ensures written { IfOk result (IsMarked W.contents writer.old (markers most choice.entry.layers before.now.profile (chosen choice.entry (meaning_of before.now)) (chosen choice.entry (meaning_of after.now))) writer.new) }
-    ensures refused { IfErr result (IsMarkedUpTo W.contents writer.old (markers most choice.entry.layers before.now.profile (chosen choice.entry (meaning_of before.now)) (chosen choice.entry (meaning_of after.now))) writer.new) }
+    ensures written { IfOk result (IsMarked W.calls writer.old (markers most choice.entry.layers before.now.profile (chosen choice.entry (meaning_of before.now)) (chosen choice.entry (meaning_of after.now))) writer.new) }
+    ensures refused { IfErr result (IsMarkedUpTo W.calls writer.old (markers most choice.entry.layers before.now.profile (chosen choice.entry (meaning_of before.now)) (chosen choice.entry (meaning_of after.now))) writer.new) }
 {
     let mut outlet = Outlet::new(writer);
     match put_and_close(before, after, choice, most, &mut outlet) {

@@ -1,6 +1,7 @@
 pub use Rattle.oas_bytes.specs.Script
 pub use Rattle.oas_bytes.specs.Readers
 pub use Rattle.oas_bytes.specs.Outlets
+pub use Rattle.oas_bytes.specs.Devices
 pub use Rattle.oas_bytes.specs.Laws.OutletLaws
 pub use Rattle.oas_bytes.specs.declared.sources.SourceFault
 pub use Rattle.oas_bytes.specs.declared.readers.Ending

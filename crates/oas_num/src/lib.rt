@@ -81,8 +81,8 @@ pub use integers::{Signed, Unsigned, read_signed_if, read_unsigned, read_unsigne
 pub use labels::Label;
 pub use names::Name;
 pub use oas_bytes::{
-    Counter, Ending, INPUT_MAX, Outlet, ReaderSource, Sink, SinkFault, SliceSource, Source,
-    SourceFault,
+    Counter, Device, Ending, History, INPUT_MAX, NotedWriter, Outlet, ReaderSource, Sink,
+    SinkFault, SliceSource, Source, SourceFault,
 };
 pub use padding::Padding;
 pub use reals::Real;

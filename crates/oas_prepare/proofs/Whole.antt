@@ -1,4 +1,5 @@
 -- A whole file, from what was gathered to what was written.
+use Rattle.oas_num.specs.Devices.{Calls}
 use Rattle.std.proofs.Common.{◌≡◌, ℕ, ◌⊎◌, inl, inr, List, ◌++◌, Option, Some, None, Result, Ok, Err, IsTrue, refl, sym, ◌∙◌, ap, subst, arith}
 use Rattle.oas_sums.specs.oas_checksum.Signed.{signed}
 use Rattle.oas_sums.specs.Sums.{AreSums}
@@ -95,13 +96,13 @@ module _ {limits : Limits} {profile : Profile} {dropping : Dropping} {old new : 
   unfolding prepared_as
   taken = record { bytes = read.bytes; takes = read.takes; ended = read.ended; is = prepared_as; valid = read.valid }
 
-  pub done : {W : Type 0} (contents : W → Option (List ℕ)) (before after : W) (n : ℕ) → IsWritten contents before (canonical_bytes (meaning_of l)) after n →
-      IsDone limits profile dropping old new (contents before) (contents after) report
-  done contents before after n written = record { canonical = canonical_bytes (meaning_of l); taken = taken; written = written.took }
+  pub done : {W : Type 0} (calls : W → Calls) (before after : W) (n : ℕ) → IsWritten calls before (canonical_bytes (meaning_of l)) after n →
+      IsDone limits profile dropping old new (calls before) (calls after) report
+  done calls before after n written = record { canonical = canonical_bytes (meaning_of l); taken = taken; written = written.took }
 
-  pub cut : {W : Type 0} (contents : W → Option (List ℕ)) (before after : W) (refusal : Refusal) → IsCutOff contents before (canonical_bytes (meaning_of l)) after refusal →
-      IsCut limits profile dropping old new (contents before) (contents after) (refused refusal)
-  cut contents before after refusal h = record {
+  pub cut : {W : Type 0} (calls : W → Calls) (before after : W) (refusal : Refusal) → IsCutOff calls before (canonical_bytes (meaning_of l)) after refusal →
+      IsCut limits profile dropping old new (calls before) (calls after) (refused refusal)
+  cut calls before after refusal h = record {
     canonical = canonical_bytes (meaning_of l);
     report = report;
     taken = taken;

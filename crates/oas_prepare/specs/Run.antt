@@ -1,6 +1,6 @@
 -- What preparing a file does.
 use Rattle.std.specs.Prelude.{◌≡◌, ◌≢◌, ℕ, false, List, [], ◌++◌, length, Option, Some, None, Result, Ok, Err, IsTrue, ◌⊎◌}
-use Rattle.std.specs.Io.KnownBytes.{Appends}
+use Rattle.oas_num.specs.Devices.{Calls, TakesAll, FailsAfter}
 use Rattle.oas_num.specs.declared.refusals.Why.TheVariants.{Truncated, Read, InputTooLong, Write, Memory}
 use Rattle.oas_num.specs.Script.{Script, Rest, Consumed, IsAtEnd, HasFailed, IsTooLong}
 use Rattle.oas_layout.specs.declared.limits.Limits.{Limits}
@@ -41,20 +41,20 @@ pub record IsTaken (limits : Limits) (profile : Profile) (dropping : Dropping) (
   pub valid : IsValid is.formed.end.validation bytes
 
 -- a file was taken, and its canonical form was written
-pub record IsDone (limits : Limits) (profile : Profile) (dropping : Dropping) (old new : Script) (before after : Option (List ℕ)) (report : Report) : Type 0 where
+pub record IsDone (limits : Limits) (profile : Profile) (dropping : Dropping) (old new : Script) (before after : Calls) (report : Report) : Type 0 where
   pub canonical : List ℕ
   pub taken : IsTaken limits profile dropping old new canonical report
-  pub written : Appends before after canonical
+  pub written : TakesAll before canonical after
 
 -- a file was taken, and the writer failed after it took this many bytes of its canonical form
-pub record IsCut (limits : Limits) (profile : Profile) (dropping : Dropping) (old new : Script) (before after : Option (List ℕ)) (rejection : Rejection) : Type 0 where
+pub record IsCut (limits : Limits) (profile : Profile) (dropping : Dropping) (old new : Script) (before after : Calls) (rejection : Rejection) : Type 0 where
   pub canonical : List ℕ
   pub report : Report
   pub taken : IsTaken limits profile dropping old new canonical report
   pub front : List ℕ
   pub back : List ℕ
   pub joined : canonical ≡ front ++ back
-  pub took : Appends before after front
+  pub took : FailsAfter before front after
   pub place : rejection.place ≡ File (length front)
 
 -- No file that is prepared begins with what was taken, or the source has ended and what was taken is none, or a device or the

@@ -13,10 +13,9 @@ use oas_canon::oas_form::write_canonical;
 use oas_layout::{Layout, Limits, Profile};
 use oas_narrow::oas_wide::WideWhy;
 use oas_narrow::{Dropping, Place, Rejection, Report};
-use oas_num::Source;
+use oas_num::{Device, Source};
 use oas_sums::{Start, SummedSource, Sums};
 use std::alloc::Global;
-use std::io::Write;
 use std::marker::Brand;
 
 /// The layout of all that was gathered, and what was left out. The sums are those of the file's bytes before its signature.
@@ -83,7 +82,7 @@ fn read_named<'a, S: Source, K: Start>(
 ///
 /// Only what is named is left out. Nothing is written before the whole file was read. After `Why::Write` the writer took the
 /// first bytes of the canonical file, as many as the rejection's place says.
-pub fn prepare<S: Source, W: Write>(
+pub fn prepare<S: Source, W: Device>(
     alloc: Global,
     from: &mut S,
     to: &mut W,
@@ -91,12 +90,12 @@ pub fn prepare<S: Source, W: Write>(
     profile: Profile,
     dropping: Dropping,
 ) -> Result<Report, Rejection>
-    ensures done { IfOk result (λ report. IsDone limits profile dropping (S.script from.old) (S.script from.new) (W.contents to.old) (W.contents to.new) report) }
+    ensures done { IfOk result (λ report. IsDone limits profile dropping (S.script from.old) (S.script from.new) (W.calls to.old) (W.calls to.new) report) }
     ensures stopped { IfErr result (λ e. (e.why ≡ ByProfile NotWritten) ⊎ IsStopped limits dropping (S.script from.old) e.why (S.script from.new)) }
     ensures placed { IfErr result (λ e. (e.why ≡ ByProfile NotWritten) ⊎ IsPlaced limits dropping (S.script from.old) e (S.script from.new)) }
     ensures reasoned { IfErr result (λ e. (e.why ≡ ByProfile NotWritten) ⊎ IsReasoned limits dropping (S.script from.old) e (S.script from.new)) }
     ensures nothing { IfErr result (λ e. (e.why ≡ ByProfile NotWritten) ⊎ (to.new ≡ to.old)) }
-    ensures cut { IfErr result (λ e. e.why ≡ ByProfile NotWritten → IsCut limits profile dropping (S.script from.old) (S.script from.new) (W.contents to.old) (W.contents to.new) e) }
+    ensures cut { IfErr result (λ e. e.why ≡ ByProfile NotWritten → IsCut limits profile dropping (S.script from.old) (S.script from.new) (W.calls to.old) (W.calls to.new) e) }
     ensures exactly { Exactly limits dropping (S.script from.old) result (S.script from.new) }
 {
     let (layout, report) = read_prepared(alloc, from, limits, profile, dropping)?;

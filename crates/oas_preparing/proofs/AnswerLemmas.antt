@@ -1,4 +1,5 @@
 -- Runs that answer a question about what a file is prepared to.
+use Rattle.oas_num.specs.Devices.{Calls}
 use Rattle.std.specs.Prelude.{IfOk, IfErr}
 use Rattle.std.proofs.Common.{◌≡◌, ℕ, List, Option, Result, Ok, Err, refl}
 use Rattle.sha2.specs.Sha256.{sha256}
@@ -19,9 +20,9 @@ use Rattle.oas_preparing.specs.Answers.{reported, answered, Delivers, KeysPrepar
 
 -- ---- what was found, and whether it was written
 
-module _ {T : Type 0} (found : T) {W : Type 0} (contents : W → Option (List ℕ)) (text : T → List ℕ) where
-  pub delivers : (written : Result ℕ Refusal) (before after : W) → IfOk written (IsWritten contents before (text found) after) →
-      IfErr written (IsCutOff contents before (text found) after) → Delivers contents text before (Ok found) (answered found written) after
+module _ {T : Type 0} (found : T) {W : Type 0} (calls : W → Calls) (text : T → List ℕ) where
+  pub delivers : (written : Result ℕ Refusal) (before after : W) → IfOk written (IsWritten calls before (text found) after) →
+      IfErr written (IsCutOff calls before (text found) after) → Delivers calls text before (Ok found) (answered found written) after
   delivers (Ok count) before after whole cut = (refl, whole.took)
   delivers (Err refusal) before after whole cut = record { refusal = refusal; is = refl; cut = cut }
 

@@ -1,6 +1,6 @@
 -- Questions about what a file is prepared to: what each call finds, and how its run ends.
 use Rattle.std.specs.Prelude.{◌≡◌, ℕ, List, Option, Result, Ok, Err, IfOk, IfErr}
-use Rattle.std.specs.Io.KnownBytes.{Appends}
+use Rattle.oas_num.specs.Devices.{Calls, TakesAll}
 use Rattle.sha2.specs.Sha256.{sha256}
 use Rattle.oas_num.specs.declared.refusals.Refusal.{Refusal}
 use Rattle.oas_num.specs.Script.{Script}
@@ -28,17 +28,17 @@ answered found (Ok count) = Ok found
 answered found (Err refusal) = Err (refused refusal)
 
 -- the writer failed, and took a prefix of the text, as long as the rejection's place says
-pub record IsUndelivered {W : Type 0} (contents : W → Option (List ℕ)) (before : W) (text : List ℕ) (after : W) (rejection : Rejection) : Type 0 where
+pub record IsUndelivered {W : Type 0} (calls : W → Calls) (before : W) (text : List ℕ) (after : W) (rejection : Rejection) : Type 0 where
   pub refusal : Refusal
   pub is : rejection ≡ refused refusal
-  pub cut : IsCutOff contents before text after refusal
+  pub cut : IsCutOff calls before text after refusal
 
 -- The text of what was found was written, or the writer failed after a prefix of it. Where nothing was found nothing was
 -- written.
-abbrev pub Delivers : {T W : Type 0} → (W → Option (List ℕ)) → (T → List ℕ) → W → Result T Rejection → Result T Rejection → W → Type 0
-Delivers contents text before (Ok found) (Ok answer) after = (answer ≡ found) × Appends (contents before) (contents after) (text found)
-Delivers contents text before (Ok found) (Err rejection) after = IsUndelivered contents before (text found) after rejection
-Delivers contents text before (Err rejection) answer after = (answer ≡ Err rejection) × (after ≡ before)
+abbrev pub Delivers : {T W : Type 0} → (W → Calls) → (T → List ℕ) → W → Result T Rejection → Result T Rejection → W → Type 0
+Delivers calls text before (Ok found) (Ok answer) after = (answer ≡ found) × TakesAll (calls before) (text found) (calls after)
+Delivers calls text before (Ok found) (Err rejection) after = IsUndelivered calls before (text found) after rejection
+Delivers calls text before (Err rejection) answer after = (answer ≡ Err rejection) × (after ≡ before)
 
 -- ---- its key
 

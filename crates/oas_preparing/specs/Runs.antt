@@ -1,4 +1,5 @@
 -- How a run ends: what was read and written, its status, and what it puts on its error output.
+use Rattle.oas_num.specs.Devices.{Calls}
 use Rattle.std.specs.Prelude.{◌≡◌, ℕ, List, Option, Result, Ok, Err, IfOk, IfErr, ◌⊎◌}
 use Rattle.oas_num.specs.declared.refusals.Why.TheVariants.{Write as NotWritten}
 use Rattle.oas_num.specs.Script.{Script}
@@ -17,13 +18,13 @@ use Rattle.oas_preparing.specs.Lines.{report_line, rejection_line}
 -- `prepare`: all was read, and the canonical file of what its records are translated to was written; or it stops, at a place
 -- and for a reason that the bytes taken decide, and nothing was written; or the writer failed, and took a prefix of the
 -- canonical file. It stops exactly where the file isn't prepared.
-pub record Prepares {W : Type 0} (contents : W → Option (List ℕ)) (limits : Limits) (dropping : Dropping) (old : Script) (before : W) (answer : Result Report Rejection) (new : Script) (after : W) : Type 0 where
-  pub done : IfOk answer (λ report. IsDone limits PROFILE dropping old new (contents before) (contents after) report)
+pub record Prepares {W : Type 0} (calls : W → Calls) (limits : Limits) (dropping : Dropping) (old : Script) (before : W) (answer : Result Report Rejection) (new : Script) (after : W) : Type 0 where
+  pub done : IfOk answer (λ report. IsDone limits PROFILE dropping old new (calls before) (calls after) report)
   pub stopped : IfErr answer (λ e. (e.why ≡ ByProfile NotWritten) ⊎ IsStopped limits dropping old e.why new)
   pub placed : IfErr answer (λ e. (e.why ≡ ByProfile NotWritten) ⊎ IsPlaced limits dropping old e new)
   pub reasoned : IfErr answer (λ e. (e.why ≡ ByProfile NotWritten) ⊎ IsReasoned limits dropping old e new)
   pub nothing : IfErr answer (λ e. (e.why ≡ ByProfile NotWritten) ⊎ (after ≡ before))
-  pub cut : IfErr answer (λ e. e.why ≡ ByProfile NotWritten → IsCut limits PROFILE dropping old new (contents before) (contents after) e)
+  pub cut : IfErr answer (λ e. e.why ≡ ByProfile NotWritten → IsCut limits PROFILE dropping old new (calls before) (calls after) e)
   pub exactly : Exactly limits dropping old answer new
 
 -- 0 after a result, 1 after a rejection

@@ -14,10 +14,9 @@ use crate::lines::put_report;
 use oas_explain::oas_command::oas_canon::oas_form::has_canonical_bytes;
 use oas_explain::oas_command::{Label, status_of_verdict, write_named_check};
 use oas_layout::Limits;
-use oas_num::{Refusal, Sink, Source, Why};
+use oas_num::{Device, Refusal, Sink, Source, Why};
 use oas_prepare::oas_narrow::{Dropping, Rejection, Report};
 use std::alloc::Global;
-use std::io::Write;
 
 /// How many bytes END has.
 const END_LENGTH: u64 = 256;
@@ -55,7 +54,7 @@ fn unkept(length: u64) -> Rejection
 /// named to be left out, as a line `NAME: canonical` or `NAME: not canonical` with this label to `out`. Returns the status of
 /// the command: 0 or 3, or 1 after a refusal. What was left out, or the refusal, is put into `told` in a line that begins with
 /// `name`. A fault of `out` is the refusal `Why::Write`; a fault of `told` changes nothing.
-pub fn check_telling<S: Source, W: Write, K: Sink>(
+pub fn check_telling<S: Source, W: Device, K: Sink>(
     alloc: Global,
     name: &str,
     label: Label<'_>,
@@ -67,7 +66,7 @@ pub fn check_telling<S: Source, W: Write, K: Sink>(
 ) -> u8
     ensures { (found : Result (Bool × LeftOut) Rejected) × (answer : Result (Bool × LeftOut) Rejected) × (result ≡ check_status answer)
         × ChecksPrepared limits dropping (S.script from.old) found (S.script from.new)
-        × Delivers W.contents (check_text label.entry) out.old found answer out.new
+        × Delivers W.calls (check_text label.entry) out.old found answer out.new
         × Ends K.given K.failures name.now told.old (reported answer) told.new }
 {
     match prepared_check(alloc, from, limits, dropping) {

@@ -10,11 +10,10 @@ use crate::ends::{answered, conclude, reject};
 use oas_explain::oas_command::oas_canon::{PROFILE, layout_key};
 use oas_explain::oas_command::{Label, write_named_key};
 use oas_layout::Limits;
-use oas_num::{Sink, Source};
+use oas_num::{Device, Sink, Source};
 use oas_prepare::oas_narrow::{Dropping, Rejection, Report};
 use oas_prepare::read_prepared;
 use std::alloc::Global;
-use std::io::Write;
 
 /// The key of the canonical file that [`prepare`](oas_prepare::prepare) writes for all that `from` gives, and what was left
 /// out of it. That file isn't held or written anywhere. It stops exactly where `prepare` does before it writes, at the same
@@ -37,7 +36,7 @@ pub fn prepared_key<S: Source>(
 /// out, as a line `KEY  NAME` with this label to `out`. Returns the status of the command: 0, or 1 after a refusal. What was
 /// left out, or the refusal, is put into `told` in a line that begins with `name`. A fault of `out` is the refusal
 /// `Why::Write`; a fault of `told` changes nothing.
-pub fn key_telling<S: Source, W: Write, K: Sink>(
+pub fn key_telling<S: Source, W: Device, K: Sink>(
     alloc: Global,
     name: &str,
     label: Label<'_>,
@@ -49,7 +48,7 @@ pub fn key_telling<S: Source, W: Write, K: Sink>(
 ) -> u8
     ensures { (found : Result (List ℕ × LeftOut) Rejected) × (answer : Result (List ℕ × LeftOut) Rejected) × (result ≡ status_of (reported answer))
         × KeysPrepared limits dropping (S.script from.old) found (S.script from.new)
-        × Delivers W.contents (key_text label.entry) out.old found answer out.new
+        × Delivers W.calls (key_text label.entry) out.old found answer out.new
         × Ends K.given K.failures name.now told.old (reported answer) told.new }
 {
     match prepared_key(alloc, from, limits, dropping) {

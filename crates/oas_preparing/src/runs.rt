@@ -3,22 +3,21 @@
 ghost use Rattle.std.specs.Prelude.{◌≡◌, Result};
 ghost use Rattle.oas_prepare.specs.oas_narrow.declared.dropping.Report.{Report as LeftOut};
 ghost use Rattle.oas_prepare.specs.oas_narrow.declared.places.Rejection.{Rejection as Rejected};
-ghost use Rattle.oas_explain.specs.oas_command.Runs.{AppendsPrefix};
+ghost use Rattle.oas_explain.specs.oas_command.Runs.{Says};
 ghost use Rattle.oas_preparing.specs.Runs.{Prepares, status_of, said, Ends};
 
 use crate::ends::conclude;
 use oas_explain::oas_command::oas_canon::PROFILE;
 use oas_layout::Limits;
-use oas_num::{Outlet, Sink, Source};
+use oas_num::{Device, Outlet, Sink, Source};
 use oas_prepare::oas_narrow::Dropping;
 use oas_prepare::prepare;
 use std::alloc::Global;
-use std::io::Write;
 
 /// Writes the canonical bytes of what the records of all that `from` gives are translated to, within these limits and without
 /// what is named to be left out, to `out`. Returns the status of the command: 0, or 1 after a refusal. What was left out, or
 /// the refusal, is named on `err` in a line that begins with `name`. A fault of `err` changes nothing.
-pub fn run_prepare<S: Source, W: Write, E: Write>(
+pub fn run_prepare<S: Source, W: Device, E: Device>(
     alloc: Global,
     name: &str,
     from: &mut S,
@@ -28,8 +27,8 @@ pub fn run_prepare<S: Source, W: Write, E: Write>(
     dropping: Dropping,
 ) -> u8
     ensures { (answer : Result LeftOut Rejected) × (result ≡ status_of answer)
-        × Prepares W.contents limits dropping (S.script from.old) out.old answer (S.script from.new) out.new
-        × AppendsPrefix (E.contents err.old) (E.contents err.new) (said name.now answer) }
+        × Prepares W.calls limits dropping (S.script from.old) out.old answer (S.script from.new) out.new
+        × Says (E.calls err.old) (said name.now answer) (E.calls err.new) }
 {
     let mut told = Outlet::new(err);
     let status = prepare_telling(alloc, name, from, out, &mut told, limits, dropping);
@@ -38,7 +37,7 @@ pub fn run_prepare<S: Source, W: Write, E: Write>(
 }
 
 /// Like `run_prepare`, with a sink for the line.
-pub fn prepare_telling<S: Source, W: Write, K: Sink>(
+pub fn prepare_telling<S: Source, W: Device, K: Sink>(
     alloc: Global,
     name: &str,
     from: &mut S,
@@ -48,7 +47,7 @@ pub fn prepare_telling<S: Source, W: Write, K: Sink>(
     dropping: Dropping,
 ) -> u8
     ensures { (answer : Result LeftOut Rejected) × (result ≡ status_of answer)
-        × Prepares W.contents limits dropping (S.script from.old) out.old answer (S.script from.new) out.new
+        × Prepares W.calls limits dropping (S.script from.old) out.old answer (S.script from.new) out.new
         × Ends K.given K.failures name.now told.old answer told.new }
 {
     let answer = prepare(alloc, from, out, limits, PROFILE, dropping);

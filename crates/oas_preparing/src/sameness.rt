@@ -14,11 +14,10 @@ use crate::lines::put_report;
 use oas_explain::oas_command::oas_canon::{PROFILE, Which};
 use oas_explain::oas_command::{status_of_verdict, write_sameness};
 use oas_layout::{Layout, Limits};
-use oas_num::{Refusal, Sink, SinkFault, Source};
+use oas_num::{Device, Refusal, Sink, SinkFault, Source};
 use oas_prepare::oas_narrow::{Dropping, Rejection, Report};
 use oas_prepare::read_prepared;
 use std::alloc::Global;
-use std::io::Write;
 
 /// Whether two files mean the same layout, and what was left out of each.
 #[derive(Clone, Copy, Debug, PartialEq, Eq)]
@@ -81,7 +80,7 @@ pub fn prepared_same<S: Source, T: Source>(
 /// and without what is named to be left out, as a line to `out`, `same` or `different`. Returns the status of the command: 0
 /// or 3, or 1 after a refusal. What was left out of each, or the refusal, is put into `told` in lines that begin with the name
 /// of its file. A fault of `out` is the refusal `Why::Write`, under the name of `a`; a fault of `told` changes nothing.
-pub fn same_telling<S: Source, T: Source, W: Write, K: Sink>(
+pub fn same_telling<S: Source, T: Source, W: Device, K: Sink>(
     alloc: Global,
     name_a: &str,
     a: &mut S,
@@ -94,7 +93,7 @@ pub fn same_telling<S: Source, T: Source, W: Write, K: Sink>(
 ) -> u8
     ensures { (found : Result Compared (WhichFile × Rejected)) × (answer : Result Compared Rejected) × (result ≡ comparison_status answer)
         × ComparesPrepared T.script limits dropping (S.script a.old) (S.script a.new) b.old b.new found
-        × Delivers W.contents sameness_text out.old (found_in found) answer out.new
+        × Delivers W.calls sameness_text out.old (found_in found) answer out.new
         × EndsBoth K.given K.failures name_a.now name_b.now (blamed name_a.now name_b.now found) told.old answer told.new }
 {
     match prepared_same(alloc, a, b, limits, dropping) {

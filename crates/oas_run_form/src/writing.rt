@@ -8,10 +8,9 @@ ghost use Rattle.oas_runs.specs.oas_form.Bytes.{canonical_bytes};
 ghost use Rattle.oas_runs.specs.oas_form.Putting.{Counts};
 
 use crate::cells::put_cells;
-use oas_num::{Outlet, Refusal, Sink, SinkFault, Why};
+use oas_num::{Device, Outlet, Refusal, Sink, SinkFault, Why};
 use oas_runs::CompactLayout;
 use oas_runs::oas_form::{put_end, put_head};
-use std::io::Write;
 
 /// Puts the canonical bytes of a layout, and returns how many they are. After a fault a prefix of them was put. It allocates
 /// nothing.
@@ -28,11 +27,11 @@ pub fn put_compact<K: Sink>(layout: &CompactLayout, sink: &mut K) -> Result<u64,
 }
 
 /// Puts the canonical bytes of a layout into an outlet, sends all of them to its writer, and flushes it.
-fn put_and_close<W: Write>(
+fn put_and_close<W: Device>(
     layout: &CompactLayout,
     outlet: &mut Outlet<'_, W>,
 ) -> Result<u64, SinkFault>
-    ensures counts { Counts (IsGiven W.contents) failures_of outlet.old (canonical_bytes (meaning_of layout.now)) result outlet.new }
+    ensures counts { Counts (IsGiven W.calls) failures_of outlet.old (canonical_bytes (meaning_of layout.now)) result outlet.new }
     ensures all { OnOk result (IsSent outlet.new) }
     ensures layout { IsLayout layout.now }
 {
@@ -45,9 +44,9 @@ fn put_and_close<W: Write>(
 ///
 /// A fault of the writer is `Why::Write`. Its place is the number of bytes that the writer took: the first ones of these.
 /// Where it is the number of all of them, the flush failed.
-pub fn write_compact<W: Write>(layout: &CompactLayout, writer: &mut W) -> Result<u64, Refusal>
-    ensures written { IfOk result (IsWritten W.contents writer.old (canonical_bytes (meaning_of layout.now)) writer.new) }
-    ensures refused { IfErr result (IsCutOff W.contents writer.old (canonical_bytes (meaning_of layout.now)) writer.new) }
+pub fn write_compact<W: Device>(layout: &CompactLayout, writer: &mut W) -> Result<u64, Refusal>
+    ensures written { IfOk result (IsWritten W.calls writer.old (canonical_bytes (meaning_of layout.now)) writer.new) }
+    ensures refused { IfErr result (IsCutOff W.calls writer.old (canonical_bytes (meaning_of layout.now)) writer.new) }
 {
     let mut outlet = Outlet::new(writer);
     match put_and_close(layout, &mut outlet) {

@@ -9,9 +9,8 @@ ghost use Rattle.oas_listing.specs.Listing.{listing};
 
 use crate::cells::put_cells;
 use oas_listing::put_unit;
-use oas_num::{Outlet, Refusal, Sink, SinkFault, Why};
+use oas_num::{Device, Outlet, Refusal, Sink, SinkFault, Why};
 use oas_runs::CompactLayout;
-use std::io::Write;
 
 /// Puts the listing of a layout. After a fault a prefix of it was put. It allocates nothing.
 pub fn put_compact_listing<K: Sink>(layout: &CompactLayout, sink: &mut K) -> Result<(), SinkFault>
@@ -24,11 +23,11 @@ pub fn put_compact_listing<K: Sink>(layout: &CompactLayout, sink: &mut K) -> Res
 }
 
 /// Puts the listing of a layout into an outlet, and sends all of it to the writer.
-fn put_and_close<W: Write>(
+fn put_and_close<W: Device>(
     layout: &CompactLayout,
     outlet: &mut Outlet<'_, W>,
 ) -> Result<(), SinkFault>
-    ensures writes { Writes (IsGiven W.contents) failures_of outlet.old (listing (meaning_of layout.now)) result outlet.new }
+    ensures writes { Writes (IsGiven W.calls) failures_of outlet.old (listing (meaning_of layout.now)) result outlet.new }
     ensures all { OnOk result (IsSent outlet.new) }
     ensures layout { IsLayout layout.now }
 {
@@ -40,12 +39,12 @@ fn put_and_close<W: Write>(
 ///
 /// A fault of the writer is `Why::Write`. Its place is the number of bytes that the writer took: the first ones of the
 /// listing. Where it is the number of all of them, the flush failed.
-pub fn write_compact_listing<W: Write>(
+pub fn write_compact_listing<W: Device>(
     layout: &CompactLayout,
     writer: &mut W,
 ) -> Result<u64, Refusal>
-    ensures written { IfOk result (IsWritten W.contents writer.old (listing (meaning_of layout.now)) writer.new) }
-    ensures refused { IfErr result (IsCutOff W.contents writer.old (listing (meaning_of layout.now)) writer.new) }
+    ensures written { IfOk result (IsWritten W.calls writer.old (listing (meaning_of layout.now)) writer.new) }
+    ensures refused { IfErr result (IsCutOff W.calls writer.old (listing (meaning_of layout.now)) writer.new) }
 {
     let mut outlet = Outlet::new(writer);
     match put_and_close(layout, &mut outlet) {

@@ -92,7 +92,7 @@ impl Kept<'_> {
         );
         let _ = told.close();
         let fault = out.fault();
-        session.tell(&said, None, fault, asked);
+        session.tell(said.get_ref(), None, fault, asked);
         Ok(Outcome {
             status,
             is_last: fault.is_some(),

@@ -118,6 +118,6 @@ fn explain(session: &Session<'_>, number: Option<&str>) -> Result<u8, u8> {
         path: None,
         onward: Onward::Shown,
     };
-    session.tell(&said, None, out.fault(), asked);
+    session.tell(said.get_ref(), None, out.fault(), asked);
     Ok(status)
 }

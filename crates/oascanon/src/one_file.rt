@@ -2,11 +2,10 @@
 
 use crate::guards::keep_old;
 use crate::plan::OneFile;
-use oas_explain::oas_canon::{Outlet, Sink, Source};
+use oas_explain::oas_canon::{Device, Outlet, Sink, Source};
 use oas_explain::oas_command::{name_of, work_telling};
 use oas_explain::oas_files::Existing;
 use oas_explain::{Incoming, Outcome, Session};
-use std::io::Write;
 
 impl<'a> OneFile<'a> {
     ghost use Rattle.oas_explain.specs.oas_command.Work.{DoesWork};
@@ -40,7 +39,7 @@ impl<'a> OneFile<'a> {
         let status = self.over(session, name, from, &mut out, &mut told);
         let _ = told.close();
         let fault = out.fault();
-        session.tell(&said, self.output, fault, self.asked());
+        session.tell(said.get_ref(), self.output, fault, self.asked());
         Ok(Outcome {
             status,
             is_last: fault.is_some(),
@@ -48,7 +47,7 @@ impl<'a> OneFile<'a> {
     }
 
     /// Runs on what was opened, within the session's limits, and returns the status.
-    fn over<S: Source, W: Write, K: Sink>(
+    fn over<S: Source, W: Device, K: Sink>(
         self,
         session: &Session<'_>,
         name: &str,
@@ -56,7 +55,7 @@ impl<'a> OneFile<'a> {
         out: &mut W,
         told: &mut K,
     ) -> u8
-        ensures { DoesWork W.contents K.given K.failures session.now.limits name.now (S.script from.old) out.old told.old self.entry.work result (S.script from.new) out.new told.new }
+        ensures { DoesWork W.calls K.given K.failures session.now.limits name.now (S.script from.old) out.old told.old self.entry.work result (S.script from.new) out.new told.new }
     {
         let (alloc, limits) = (session.rt.alloc(), session.limits);
         work_telling(alloc, self.work, name, from, out, told, limits)

@@ -2,11 +2,10 @@
 
 use crate::guards::keep_inputs;
 use crate::plan::{Marking, TwoFiles};
-use oas_explain::oas_canon::{Outlet, Sink, Source};
+use oas_explain::oas_canon::{Device, Outlet, Sink, Source};
 use oas_explain::oas_command::{marking_telling, name_of, pair_work_telling};
 use oas_explain::oas_files::Existing;
 use oas_explain::{Incoming, Named, Pair, Session};
-use std::io::Write;
 
 impl<'a> TwoFiles<'a> {
     ghost use Rattle.oas_explain.specs.oas_command.Work.{DoesPairWork};
@@ -48,12 +47,17 @@ impl<'a> TwoFiles<'a> {
         let mut told = Outlet::new(&mut said);
         let status = self.over(session, a, from_a, b, from_b, &mut out, &mut told);
         let _ = told.close();
-        session.tell(&said, None, out.fault(), pair.asked(&said));
+        session.tell(
+            said.get_ref(),
+            None,
+            out.fault(),
+            pair.asked(said.get_ref()),
+        );
         Ok(status)
     }
 
     /// Runs on what was opened, within the session's limits, and returns the status.
-    fn over<S: Source, T: Source, W: Write, K: Sink>(
+    fn over<S: Source, T: Source, W: Device, K: Sink>(
         self,
         session: &Session<'_>,
         name_a: &str,
@@ -63,7 +67,7 @@ impl<'a> TwoFiles<'a> {
         out: &mut W,
         told: &mut K,
     ) -> u8
-        ensures { DoesPairWork W.contents K.given K.failures session.now.limits T.script name_a.now name_b.now (S.script a.old) b.old out.old told.old self.entry.work result (S.script a.new) b.new out.new told.new }
+        ensures { DoesPairWork W.calls K.given K.failures session.now.limits T.script name_a.now name_b.now (S.script a.old) b.old out.old told.old self.entry.work result (S.script a.new) b.new out.new told.new }
     {
         let (alloc, limits) = (session.rt.alloc(), session.limits);
         pair_work_telling(alloc, self.work, name_a, a, name_b, b, out, told, limits)
@@ -126,10 +130,10 @@ impl<'a> Marking<'a> {
             session.limits,
         );
         let _ = told.close();
-        let asked = pair.asked(&said);
+        let asked = pair.asked(said.get_ref());
         match marked.fault() {
-            Some(fault) => session.tell(&said, Some(markers.name), Some(fault), asked),
-            None => session.tell(&said, None, out.fault(), asked),
+            Some(fault) => session.tell(said.get_ref(), Some(markers.name), Some(fault), asked),
+            None => session.tell(said.get_ref(), None, out.fault(), asked),
         }
         Ok(status)
     }

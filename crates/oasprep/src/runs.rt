@@ -5,7 +5,8 @@ use oas_preparing::oas_canon::Outlet;
 use oas_preparing::oas_command::{End, Label, name_of};
 use oas_preparing::oas_explain::oas_files::{Existing, Printed};
 use oas_preparing::oas_explain::{
-    Asked, CANONICAL, Incoming, Named, OfEach, Onward, Outcome, Outgoing, Pair, Session, label_of,
+    Asked, CANONICAL, Incoming, Named, OfEach, Onward, Outcome, Outgoing, Pair, Said, Session,
+    label_of,
 };
 use oas_preparing::oas_narrow::Dropping;
 use oas_preparing::{check_telling, key_telling, run_prepare, same_telling};
@@ -41,7 +42,7 @@ pub struct Comparing<'a> {
 
 /// Room for what a run says about files whose names have this many bytes, or the status if out of memory, which is said under
 /// this name.
-fn room(session: &Session<'_>, name: &str, bytes: usize) -> Result<Vec<u8>, u8> {
+fn room(session: &Session<'_>, name: &str, bytes: usize) -> Result<Said, u8> {
     session.room(name, bytes.saturating_add(LINES))
 }
 
@@ -67,7 +68,7 @@ impl<'a> Preparing<'a> {
             limits,
             self.dropping,
         );
-        session.tell(&said, self.output, out.fault(), self.asked());
+        session.tell(said.get_ref(), self.output, out.fault(), self.asked());
         Ok(status)
     }
 
@@ -105,7 +106,7 @@ impl Asking {
         let status = self.told(session, name, label, from, &mut out, &mut said);
         let fault = out.fault();
         let onward = self.onward();
-        session.tell(&said, None, fault, Asked { path, onward });
+        session.tell(said.get_ref(), None, fault, Asked { path, onward });
         Ok(Outcome {
             status,
             is_last: fault.is_some(),
@@ -120,7 +121,7 @@ impl Asking {
         label: Label<'_>,
         from: &mut Incoming<'_>,
         out: &mut Outgoing<'_>,
-        said: &mut Vec<u8>,
+        said: &mut Said,
     ) -> u8 {
         let (alloc, limits, dropping) = (session.rt.alloc(), session.limits, self.dropping);
         let mut told = Outlet::new(said);
@@ -186,7 +187,12 @@ impl Comparing<'_> {
             alloc, a, from_a, b, from_b, &mut out, &mut told, limits, dropping,
         );
         let _ = told.close();
-        session.tell(&said, None, out.fault(), pair.asked(&said));
+        session.tell(
+            said.get_ref(),
+            None,
+            out.fault(),
+            pair.asked(said.get_ref()),
+        );
         Ok(status)
     }
 }

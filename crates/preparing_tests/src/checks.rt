@@ -4,7 +4,7 @@ use crate::devices::{Narrow, Torn};
 use crate::faults::{FILE, record_at};
 use crate::rows::{Answer, NAME, ROWS, dropping_of, fields_of, line_of};
 use file_pieces::bytes_of;
-use oas_num::{INPUT_MAX, Outlet, ReaderSource, SliceSource, Source};
+use oas_num::{INPUT_MAX, NotedWriter, Outlet, ReaderSource, SliceSource, Source};
 use oas_preparing::check_telling;
 use oas_preparing::oas_canon::Limits;
 use oas_preparing::oas_command::{End, Label};
@@ -45,10 +45,18 @@ fn answer(
     line: &[u8],
 ) -> Answer {
     let (mut out, mut err) = (Narrow::new(alloc, room), Narrow::new(alloc, usize::MAX));
-    let mut told = Outlet::new(&mut err);
+    let mut noted = NotedWriter::new(&mut err);
+    let mut told = Outlet::new(&mut noted);
     let limits = Limits::standard();
     let status = check_telling(
-        alloc, NAME, LABEL, from, &mut out, &mut told, limits, dropping,
+        alloc,
+        NAME,
+        LABEL,
+        from,
+        &mut NotedWriter::new(&mut out),
+        &mut told,
+        limits,
+        dropping,
     );
     let _ = told.close();
     (

@@ -3,7 +3,7 @@
 use crate::devices::{Narrow, Torn};
 use crate::rows::{Answer, NAME, answer, dropping_of};
 use file_pieces::bytes_of;
-use oas_num::{INPUT_MAX, ReaderSource, SliceSource};
+use oas_num::{INPUT_MAX, NotedWriter, ReaderSource, SliceSource};
 use oas_preparing::oas_canon::Limits;
 use oas_preparing::run_prepare;
 use std::alloc::Global;
@@ -74,7 +74,15 @@ fn answer_of_writers(
     let from = &mut SliceSource::new(&file, INPUT_MAX);
     let (mut out, mut err) = (Narrow::new(alloc, out_room), Narrow::new(alloc, err_room));
     let (limits, dropping) = (Limits::standard(), dropping_of("properties"));
-    let status = run_prepare(alloc, NAME, from, &mut out, &mut err, limits, dropping);
+    let status = run_prepare(
+        alloc,
+        NAME,
+        from,
+        &mut NotedWriter::new(&mut out),
+        &mut NotedWriter::new(&mut err),
+        limits,
+        dropping,
+    );
     Ok((
         status,
         out.taken.as_slice() == output,

@@ -3,7 +3,7 @@
 use crate::devices::Narrow;
 use crate::rows::{Answer, NAME, ROWS, dropping_of, fields_of, line_of};
 use file_pieces::bytes_of;
-use oas_num::{INPUT_MAX, Outlet, SliceSource};
+use oas_num::{INPUT_MAX, NotedWriter, Outlet, SliceSource};
 use oas_preparing::key_telling;
 use oas_preparing::oas_canon::Limits;
 use oas_preparing::oas_command::{End, Label};
@@ -36,10 +36,18 @@ fn answer(
 ) -> Answer {
     let from = &mut SliceSource::new(file, INPUT_MAX);
     let (mut out, mut err) = (Narrow::new(alloc, room), Narrow::new(alloc, usize::MAX));
-    let mut told = Outlet::new(&mut err);
+    let mut noted = NotedWriter::new(&mut err);
+    let mut told = Outlet::new(&mut noted);
     let limits = Limits::standard();
     let status = key_telling(
-        alloc, NAME, LABEL, from, &mut out, &mut told, limits, dropping,
+        alloc,
+        NAME,
+        LABEL,
+        from,
+        &mut NotedWriter::new(&mut out),
+        &mut told,
+        limits,
+        dropping,
     );
     let _ = told.close();
     (

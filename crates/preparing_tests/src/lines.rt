@@ -1,6 +1,6 @@
 //! Lines that no file gives yet.
 
-use oas_num::Outlet;
+use oas_num::{NotedWriter, Outlet};
 use oas_preparing::oas_narrow::{Place, Rejection, Report};
 use oas_preparing::oas_wide::WideWhy;
 use oas_preparing::{put_rejection, put_report};
@@ -10,7 +10,8 @@ use std::process::Abort;
 /// Whether the line of a rejection is put and closed, and is this.
 fn tells_rejection(alloc: Global, rejection: Rejection, wanted: &str) -> [bool; 3] {
     let mut line: Vec<u8> = Vec::new(alloc);
-    let mut told = Outlet::new(&mut line);
+    let mut err = NotedWriter::new(&mut line);
+    let mut told = Outlet::new(&mut err);
     let is_put = put_rejection(&mut told, "chip.oas", rejection).is_ok();
     let is_closed = told.close().is_ok();
     [is_put, is_closed, line.as_slice() == wanted.as_bytes()]
@@ -31,7 +32,8 @@ fn place_in_a_block(rt: HostRuntime) {
 /// Whether the line of a report is put and closed, and is this.
 fn tells_report(alloc: Global, report: Report, wanted: &str) -> [bool; 3] {
     let mut line: Vec<u8> = Vec::new(alloc);
-    let mut told = Outlet::new(&mut line);
+    let mut err = NotedWriter::new(&mut line);
+    let mut told = Outlet::new(&mut err);
     let is_put = put_report(&mut told, "-", report).is_ok();
     let is_closed = told.close().is_ok();
     [is_put, is_closed, line.as_slice() == wanted.as_bytes()]

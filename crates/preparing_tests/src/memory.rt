@@ -6,7 +6,7 @@
 use crate::devices::Narrow;
 use crate::rows::dropping_of;
 use file_pieces::bytes_of;
-use oas_num::{INPUT_MAX, Outlet, SliceSource};
+use oas_num::{INPUT_MAX, NotedWriter, Outlet, SliceSource};
 use oas_preparing::oas_canon::Limits;
 use oas_preparing::oas_command::{End, Label};
 use oas_preparing::{check_telling, key_telling, prepare_telling};
@@ -53,7 +53,9 @@ const LABEL: Label<'static> = Label {
 fn status(alloc: Global, asked: Asked, file: &[u8], out: &mut Narrow, err: &mut Narrow) -> u8 {
     let from = &mut SliceSource::new(file, INPUT_MAX);
     let (limits, dropping) = (Limits::standard(), dropping_of("all"));
-    let mut told = Outlet::new(err);
+    let mut err = NotedWriter::new(err);
+    let mut told = Outlet::new(&mut err);
+    let out = &mut NotedWriter::new(out);
     let status = match asked {
         Asked::Prepare => prepare_telling(alloc, NAME, from, out, &mut told, limits, dropping),
         Asked::Key => key_telling(alloc, NAME, LABEL, from, out, &mut told, limits, dropping),

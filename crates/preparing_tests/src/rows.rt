@@ -1,7 +1,7 @@
 //! Files through `run_prepare`, over a slice.
 
 use file_pieces::bytes_of;
-use oas_num::{INPUT_MAX, SliceSource, Source};
+use oas_num::{INPUT_MAX, NotedWriter, SliceSource, Source};
 use oas_preparing::oas_canon::Limits;
 use oas_preparing::oas_narrow::Dropping;
 use oas_preparing::run_prepare;
@@ -61,7 +61,15 @@ pub fn answer(
 ) -> Answer {
     let (mut out, mut err): (Vec<u8>, Vec<u8>) = (Vec::new(alloc), Vec::new(alloc));
     let limits = Limits::standard();
-    let status = run_prepare(alloc, NAME, from, &mut out, &mut err, limits, dropping);
+    let status = run_prepare(
+        alloc,
+        NAME,
+        from,
+        &mut NotedWriter::new(&mut out),
+        &mut NotedWriter::new(&mut err),
+        limits,
+        dropping,
+    );
     (
         status,
         out.as_slice() == output,

@@ -3,7 +3,7 @@
 use crate::devices::Narrow;
 use crate::rows::dropping_of;
 use file_pieces::bytes_of;
-use oas_num::{INPUT_MAX, Outlet, SliceSource};
+use oas_num::{INPUT_MAX, NotedWriter, Outlet, SliceSource};
 use oas_preparing::oas_canon::Limits;
 use oas_preparing::oas_narrow::Dropping;
 use oas_preparing::same_telling;
@@ -63,10 +63,19 @@ fn answer(
         Narrow::new(alloc, usize::MAX),
         Narrow::new(alloc, usize::MAX),
     );
-    let mut told = Outlet::new(&mut err);
+    let mut noted = NotedWriter::new(&mut err);
+    let mut told = Outlet::new(&mut noted);
     let limits = Limits::standard();
     let status = same_telling(
-        alloc, "first", a, "second", b, &mut out, &mut told, limits, dropping,
+        alloc,
+        "first",
+        a,
+        "second",
+        b,
+        &mut NotedWriter::new(&mut out),
+        &mut told,
+        limits,
+        dropping,
     );
     let _ = told.close();
     (

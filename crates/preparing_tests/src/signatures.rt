@@ -2,6 +2,7 @@
 //! file is a head and an END by either scheme.
 
 use crate::devices::Torn;
+use oas_num::NotedWriter;
 use oas_preparing::oas_canon::{Limits, PROFILE, ReaderSource, SliceSource, Source, Why};
 use oas_preparing::oas_narrow::{Dropping, Place, Rejection};
 use oas_preparing::oas_prepare::prepare;
@@ -49,7 +50,14 @@ fn signed(alloc: Global, front: &[u8], scheme: u8, signature: u32) -> Result<Vec
 /// What is written for a file that a source gives.
 fn prepared<S: Source>(alloc: Global, from: &mut S) -> Result<Vec<u8>, Rejection> {
     let mut out: Vec<u8> = Vec::new(alloc);
-    prepare(alloc, from, &mut out, Limits::standard(), PROFILE, NOTHING)?;
+    prepare(
+        alloc,
+        from,
+        &mut NotedWriter::new(&mut out),
+        Limits::standard(),
+        PROFILE,
+        NOTHING,
+    )?;
     Ok(out)
 }
 

@@ -1,11 +1,11 @@
 //! What no contract says: the names and numbers of all reasons, and the lines as they are printed.
 
 use oas_explain::oas_command::{run_refused, run_unopened};
-use oas_explain::{Reason, Recorded, Voice, all_reasons, print_explained, run_explain};
-use oas_num::{Refusal, Why};
+use oas_explain::{Reason, Voice, all_reasons, print_explained};
+use oas_num::{NotedWriter, Refusal, Why};
 use std::alloc::Global;
 use std::io;
-use std::io::{ErrorKind, Write};
+use std::io::ErrorKind;
 use std::test::Fail;
 
 /// All reasons, by their numbers.
@@ -46,27 +46,6 @@ const ALL: [Why; 34] = [
     Why::Memory,
 ];
 
-/// Takes this many bytes, and then fails.
-#[derive(Drop)]
-struct Room {
-    left: usize,
-}
-
-impl Write for Room {
-    fn write(&mut self, buf: &[u8]) -> io::Result<usize> {
-        let count = buf.len().min(self.left);
-        if count == 0 && !buf.is_empty() {
-            return Err(io::Error::from(ErrorKind::StorageFull));
-        }
-        self.left -= count;
-        Ok(count)
-    }
-
-    fn flush(&mut self) -> io::Result<()> {
-        Ok(())
-    }
-}
-
 /// The number of a reason, and whether its name is that of the variant of this refusal, and its sentences are those of it.
 fn name_of(alloc: Global, reason: &Reason<'_>, why: Why) -> Result<(u8, bool), Fail> {
     let variant = format!(in alloc; "{why:?}")?;
@@ -94,9 +73,19 @@ fn explained(alloc: Global, why: Why) -> [bool; 3] {
     let refusal = Refusal { at: 450, why };
     let (mut said, mut err): (Vec<u8>, Vec<u8>) = (Vec::new(alloc), Vec::new(alloc));
     let mut whole: Vec<u8> = Vec::new(alloc);
-    let _ = run_refused("a: refused 9 at 1", refusal, &mut said);
-    print_explained(&all_reasons(), "", "", &said, &mut err);
-    Voice::new(&mut whole, true, false).refused("a: refused 9 at 1", refusal);
+    let _ = run_refused(
+        "a: refused 9 at 1",
+        refusal,
+        &mut NotedWriter::new(&mut said),
+    );
+    print_explained(
+        &all_reasons(),
+        "",
+        "",
+        &said,
+        &mut NotedWriter::new(&mut err),
+    );
+    Voice::new(NotedWriter::new(&mut whole), true, false).refused("a: refused 9 at 1", refusal);
     [
         err.starts_with(&said),
         err.len().saturating_sub(said.len()) > 10,
@@ -118,7 +107,13 @@ fn each_refusal_is_explained(rt: HostRuntime) {
 /// Whether what was said is explained by this, with words of the system and advice.
 fn is_explained_by(alloc: Global, said: &[u8], words: &str, advice: &str, wanted: &[u8]) -> bool {
     let mut err: Vec<u8> = Vec::new(alloc);
-    print_explained(&all_reasons(), words, advice, said, &mut err);
+    print_explained(
+        &all_reasons(),
+        words,
+        advice,
+        said,
+        &mut NotedWriter::new(&mut err),
+    );
     err.as_slice() == wanted
 }
 
@@ -154,7 +149,7 @@ fn line_of_an_explanation(rt: HostRuntime) {
 /// Whether what was said is printed unchanged where explanations are requested, and where they aren't.
 fn told(alloc: Global, said: &[u8]) -> [bool; 2] {
     let mut plain: Vec<u8> = Vec::new(alloc);
-    Voice::new(&mut plain, false, false).tell(said, "", "");
+    Voice::new(NotedWriter::new(&mut plain), false, false).tell(said, "", "");
     [
         is_explained_by(alloc, said, "", "", said),
         plain.as_slice() == said,
@@ -164,7 +159,7 @@ fn told(alloc: Global, said: &[u8]) -> [bool; 2] {
 /// The same for the line of an input that can't be opened.
 fn told_of_unopened(alloc: Global) -> [bool; 2] {
     let mut unopened: Vec<u8> = Vec::new(alloc);
-    let _ = run_unopened("in", &mut unopened);
+    let _ = run_unopened("in", &mut NotedWriter::new(&mut unopened));
     told(alloc, &unopened)
 }
 
@@ -179,90 +174,11 @@ fn other_lines_are_told_as_they_are(rt: HostRuntime) {
     assert!(rt; others == [[true; 2]; 3]);
 }
 
-/// Runs `explain` on a word. Returns its status, and whether it put this text and said this line.
-fn explain(alloc: Global, word: &str, text: &str, line: &str) -> (u8, [bool; 2]) {
-    let (mut out, mut err): (Vec<u8>, Vec<u8>) = (Vec::new(alloc), Vec::new(alloc));
-    let status = run_explain(&all_reasons(), Some(word), &mut out, &mut err);
-    let is_put = out.as_slice() == text.as_bytes();
-    (status, [is_put, err.as_slice() == line.as_bytes()])
-}
-
-#[test]
-fn one_reason(rt: HostRuntime) {
-    let text = "5 EmptyName\n  a cell name has length 0\n  Name the cell.\n";
-    for word in ["5", "EmptyName"] {
-        assert!(rt;
-            explain(rt.alloc(), word, text, "") == (0, [true; 2]),
-            "of {word}"
-        );
-    }
-}
-
-#[test]
-fn numbers_that_are_none(rt: HostRuntime) {
-    let line = "error: no reason has this number or name; `oascanon explain` lists all\n";
-    for word in [
-        "0",
-        "35",
-        "05",
-        "+5",
-        "-1",
-        "",
-        "five",
-        "5 ",
-        "emptyname",
-        "Empty",
-    ] {
-        assert!(rt;
-            explain(rt.alloc(), word, "", line) == (2, [true; 2]),
-            "of {word}"
-        );
-    }
-}
-
-/// Runs `explain` without a word. Returns its status, how many lines it put, and whether it said nothing.
-fn explain_all(alloc: Global) -> (u8, usize, bool) {
-    let (mut out, mut err): (Vec<u8>, Vec<u8>) = (Vec::new(alloc), Vec::new(alloc));
-    let status = run_explain(&all_reasons(), None, &mut out, &mut err);
-    (status, lines_in(out.as_slice()), err.is_empty())
-}
-
-/// How many lines end in these bytes.
-fn lines_in(bytes: &[u8]) -> usize {
-    let mut count: usize = 0;
-    for byte in bytes {
-        if *byte == b'\n' {
-            count = count.saturating_add(1);
-        }
-    }
-    count
-}
-
-#[test]
-fn every_reason(rt: HostRuntime) {
-    assert!(rt; explain_all(rt.alloc()) == (0, 3 * 47, true));
-}
-
-/// Runs `explain` to an output that takes five bytes. Returns its status, and whether it said so and kept the fault.
-fn explain_to_five(alloc: Global) -> (u8, [bool; 2]) {
-    let mut out = Recorded::new(Room { left: 5 });
-    let mut err: Vec<u8> = Vec::new(alloc);
-    let status = run_explain(&all_reasons(), Some("5"), &mut out, &mut err);
-    let is_said = err.as_slice() == "standard output: refused 33 at 5\n".as_bytes();
-    let is_kept = matches!(out.fault(), Some(error) if error.kind() == ErrorKind::StorageFull);
-    (status, [is_said, is_kept])
-}
-
-#[test]
-fn an_output_that_fails(rt: HostRuntime) {
-    assert!(rt; explain_to_five(rt.alloc()) == (1, [true; 2]));
-}
-
 /// The status of a voice's input that can't be opened, and whether it says this.
 fn unopened(alloc: Global, explains: bool, lines: &str) -> (u8, bool) {
     let error = io::Error::from(ErrorKind::NotFound);
     let mut err: Vec<u8> = Vec::new(alloc);
-    let status = Voice::new(&mut err, explains, false).unopened("in", &error);
+    let status = Voice::new(NotedWriter::new(&mut err), explains, false).unopened("in", &error);
     (status, err.as_slice() == lines.as_bytes())
 }
 
@@ -282,7 +198,7 @@ fn voices_of_unopened_inputs(rt: HostRuntime) {
 /// Whether a voice that shows progress removes the line of a meter, and then prints a line.
 fn cleared(alloc: Global) -> [bool; 2] {
     let mut err: Vec<u8> = Vec::new(alloc);
-    Voice::new(&mut err, false, true).tell(b"in: line\n", "", "");
+    Voice::new(NotedWriter::new(&mut err), false, true).tell(b"in: line\n", "", "");
     [err.starts_with(b"\r   "), err.ends_with(b"   \rin: line\n")]
 }
 

@@ -10,6 +10,7 @@ mod limited;
 use layouts::{Sketch, layout};
 use oas_layout::Layout;
 use oas_markers::oas_difference::{Choice, Detail, Options, PLAIN, write_difference};
+use oas_num::NotedWriter;
 use std::test::Fail;
 
 /// All cells, with all their elements.
@@ -38,7 +39,7 @@ fn is_written(
         return false;
     }
     let mut written = Vec::new(rt.alloc());
-    let count = write_difference(before, after, options, &mut written);
+    let count = write_difference(before, after, options, &mut NotedWriter::new(&mut written));
     count == Ok(text.len() as u64) && written.as_slice() == text.as_bytes()
 }
 

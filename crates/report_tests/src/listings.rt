@@ -6,6 +6,7 @@ pub mod layouts;
 use layouts::{backwards, empty, kinds, rectangles};
 use oas_layout::{Layout, Profile};
 use oas_listing::write_listing;
+use oas_num::NotedWriter;
 use std::test::Fail;
 
 /// What `kinds` returns.
@@ -29,7 +30,7 @@ circle 5 6 7 -8 9
 fn lists(rt: &HostRuntime, layout: Result<Layout, Fail>, text: &str) -> Result<bool, Fail> {
     let layout = layout?;
     let mut written = Vec::new(rt.alloc());
-    let count = write_listing(&layout, &mut written);
+    let count = write_listing(&layout, &mut NotedWriter::new(&mut written));
     Ok(count == Ok(text.len() as u64) && written.as_slice() == text.as_bytes())
 }
 

@@ -6,6 +6,7 @@ use layouts::{Sketch, kinds, rectangles};
 use oas_layout::Layout;
 use oas_markers::oas_difference::Choice;
 use oas_markers::write_markers;
+use oas_num::NotedWriter;
 use std::test::Fail;
 
 /// The end of a report without items.
@@ -39,7 +40,13 @@ fn mark_first(rt: &HostRuntime, before: &Layout, after: &Layout, most: u64, end:
         return false;
     }
     let mut written = Vec::new(rt.alloc());
-    let count = write_markers(before, after, Choice::all(), most, &mut written);
+    let count = write_markers(
+        before,
+        after,
+        Choice::all(),
+        most,
+        &mut NotedWriter::new(&mut written),
+    );
     count == Ok(written.len() as u64) && written.as_slice().ends_with(end.as_bytes())
 }
 

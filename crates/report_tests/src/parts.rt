@@ -4,7 +4,7 @@ use oas_info::oas_run_form::oas_runs::oas_compact::ByProfileTwo;
 use oas_info::oas_run_form::oas_runs::oas_form::write_canonical;
 use oas_info::oas_run_form::oas_runs::{CompactLayout, read_compact};
 use oas_layout::{Draft, Element, Layout, Limits, Profile};
-use oas_num::{Fraction, INPUT_MAX, Label, Name, SliceSource};
+use oas_num::{Fraction, INPUT_MAX, Label, Name, NotedWriter, SliceSource};
 use oas_ring::{Point, Points};
 use std::alloc::{AllocError, Global};
 use std::test::Fail;
@@ -58,7 +58,7 @@ pub fn put(draft: &mut Draft, cell: usize, element: Element, times: u64) -> Resu
 /// The layout as runs of keys, read from its canonical file.
 pub fn as_runs(alloc: Global, layout: &Layout) -> Result<CompactLayout, Fail> {
     let mut file = Vec::new(alloc);
-    write_canonical(layout, &mut file)?;
+    write_canonical(layout, &mut NotedWriter::new(&mut file))?;
     let mut source = SliceSource::new(&file, INPUT_MAX);
     Ok(read_compact::<_, ByProfileTwo>(alloc, &mut source, Limits::large())?)
 }

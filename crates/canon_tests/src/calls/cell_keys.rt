@@ -3,8 +3,8 @@
 use super::{KEY, file_of};
 use crate::reading::discard;
 use oas_canon::{
-    Layout, Limits, PROFILE, Refusal, SliceSource, Why, cell_key, key, layout_key, read_layout,
-    write_cell_keys,
+    Layout, Limits, NotedWriter, PROFILE, Refusal, SliceSource, Why, cell_key, key, layout_key,
+    read_layout, write_cell_keys,
 };
 use std::alloc::Global;
 use std::io;
@@ -52,7 +52,7 @@ fn written(alloc: Global, room: usize) -> Option<(Result<u64, Refusal>, usize, b
     let took = Vec::with_capacity(alloc, 256).ok()?;
     let mut out = Narrow { took, room };
     let layout = layout_of(alloc, &B)?;
-    let answer = write_cell_keys(&layout, &mut out);
+    let answer = write_cell_keys(&layout, &mut NotedWriter::new(&mut out));
     discard(layout);
     let is_front = LINES.as_bytes().starts_with(out.took.as_slice());
     Some((answer, out.took.len(), is_front))

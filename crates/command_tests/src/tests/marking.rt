@@ -6,7 +6,7 @@ use file_pieces::bytes_of;
 use oas_command::marking_telling;
 use oas_command::oas_canon::Limits;
 use oas_command::oas_difference::{Choice, Detail, Options, PLAIN};
-use oas_num::{INPUT_MAX, Outlet, SliceSource};
+use oas_num::{INPUT_MAX, NotedWriter, Outlet, SliceSource};
 use std::alloc::Global;
 use std::test::Fail;
 
@@ -40,7 +40,8 @@ fn run(
     let b = bytes_of(alloc, "HEAD CELL TAIL")?;
     let mut first = SliceSource::new(&a, INPUT_MAX);
     let mut second = SliceSource::new(&b, INPUT_MAX);
-    let mut told = Outlet::new(said);
+    let mut err = NotedWriter::new(said);
+    let mut told = Outlet::new(&mut err);
     let status = marking_telling(
         alloc,
         "first",
@@ -48,9 +49,9 @@ fn run(
         "second",
         &mut second,
         options,
-        out,
+        &mut NotedWriter::new(out),
         "marks",
-        markers,
+        &mut NotedWriter::new(markers),
         u64::MAX,
         &mut told,
         Limits::standard(),

@@ -11,7 +11,7 @@ use oas_command::{
     Choice, Detail, End, Form, Label, Options, PairWork, Work, oas_difference, pair_work_telling,
     work_telling,
 };
-use oas_num::{INPUT_MAX, Outlet, SliceSource, Source};
+use oas_num::{INPUT_MAX, NotedWriter, Outlet, SliceSource, Source};
 use std::alloc::Global;
 use std::io::Write;
 use std::process::Abort;
@@ -97,8 +97,17 @@ pub fn run_work<S: Source, W: Write, E: Write>(
     err: &mut E,
     limits: Limits,
 ) -> u8 {
-    let mut told = Outlet::new(err);
-    let status = work_telling(alloc, work, name, from, out, &mut told, limits);
+    let mut err = NotedWriter::new(err);
+    let mut told = Outlet::new(&mut err);
+    let status = work_telling(
+        alloc,
+        work,
+        name,
+        from,
+        &mut NotedWriter::new(out),
+        &mut told,
+        limits,
+    );
     let _ = told.close();
     status
 }
@@ -115,9 +124,18 @@ fn run_pair(
     let limits = Limits::standard();
     let mut a = SliceSource::new(first, INPUT_MAX);
     let mut b = SliceSource::new(second, INPUT_MAX);
-    let mut told = Outlet::new(err);
+    let mut err = NotedWriter::new(err);
+    let mut told = Outlet::new(&mut err);
     let status = pair_work_telling(
-        alloc, work, "first", &mut a, "second", &mut b, out, &mut told, limits,
+        alloc,
+        work,
+        "first",
+        &mut a,
+        "second",
+        &mut b,
+        &mut NotedWriter::new(out),
+        &mut told,
+        limits,
     );
     let _ = told.close();
     status

@@ -10,14 +10,13 @@ ghost use Rattle.oas_command.specs.Runs.{verdict_status, Delivers, Ends};
 use super::ends::{conclude, refuse, status_of_verdict};
 use crate::lines::{Label, Pieces, write_line, write_pieces};
 use oas_canon::{Limits, is_canonical};
-use oas_num::{Refusal, Sink, Source};
+use oas_num::{Device, Refusal, Sink, Source};
 use std::alloc::Global;
-use std::io::Write;
 
 /// Writes whether all that `from` gives within these limits is canonical, as a line to `out`, `canonical` or `not canonical`,
 /// and returns the status of the command: 0 or 3, or 1 after a refusal, which is named to `told` in a line that begins with
 /// `name`. A fault of `out` is the refusal `Why::Write`; a fault of `told` changes nothing.
-pub(crate) fn check_telling<S: Source, W: Write, K: Sink>(
+pub(crate) fn check_telling<S: Source, W: Device, K: Sink>(
     alloc: Global,
     name: &str,
     from: &mut S,
@@ -27,7 +26,7 @@ pub(crate) fn check_telling<S: Source, W: Write, K: Sink>(
 ) -> u8
     ensures { (found : Result Bool Refused) × (answer : Result Bool Refused) × (result ≡ verdict_status answer)
         × Judges limits (S.script from.old) found (S.script from.new)
-        × Delivers W.contents check_line out.old found answer out.new
+        × Delivers W.calls check_line out.old found answer out.new
         × Ends K.given K.failures name.now told.old answer told.new }
 {
     match is_canonical(alloc, from, limits) {
@@ -40,7 +39,7 @@ pub(crate) fn check_telling<S: Source, W: Write, K: Sink>(
 }
 
 /// Like `check_telling`, except that the line begins with the name of this label: `NAME: canonical`, `NAME: not canonical`.
-pub(crate) fn named_check_telling<S: Source, W: Write, K: Sink>(
+pub(crate) fn named_check_telling<S: Source, W: Device, K: Sink>(
     alloc: Global,
     name: &str,
     label: Label<'_>,
@@ -51,7 +50,7 @@ pub(crate) fn named_check_telling<S: Source, W: Write, K: Sink>(
 ) -> u8
     ensures { (found : Result Bool Refused) × (answer : Result Bool Refused) × (result ≡ verdict_status answer)
         × Judges limits (S.script from.old) found (S.script from.new)
-        × Delivers W.contents (named_check_line label.entry) out.old found answer out.new
+        × Delivers W.calls (named_check_line label.entry) out.old found answer out.new
         × Ends K.given K.failures name.now told.old answer told.new }
 {
     match is_canonical(alloc, from, limits) {
@@ -65,9 +64,13 @@ pub(crate) fn named_check_telling<S: Source, W: Write, K: Sink>(
 
 /// Writes the line of a result after the name of this label, as `Work::NamedCheck` does, and returns how many bytes that is.
 /// A fault of the writer is `Why::Write`, after as many bytes of the line as its place says.
-pub fn write_named_check<W: Write>(out: &mut W, label: Label<'_>, yes: bool) -> Result<u64, Refusal>
-    ensures written { IfOk result (IsWritten W.contents out.old (named_check_line label.entry yes) out.new) }
-    ensures refused { IfErr result (IsCutOff W.contents out.old (named_check_line label.entry yes) out.new) }
+pub fn write_named_check<W: Device>(
+    out: &mut W,
+    label: Label<'_>,
+    yes: bool,
+) -> Result<u64, Refusal>
+    ensures written { IfOk result (IsWritten W.calls out.old (named_check_line label.entry yes) out.new) }
+    ensures refused { IfErr result (IsCutOff W.calls out.old (named_check_line label.entry yes) out.new) }
 {
     let pieces = Pieces {
         first: label.name.as_bytes(),

@@ -10,16 +10,15 @@ ghost use Rattle.oas_command.specs.Runs.{Delivers, found_in, blamed, Ends};
 use super::ends::{DONE, NO, conclude, refuse};
 use oas_canon::{Layout, Limits, PROFILE, Which, read_layout};
 use oas_markers::oas_difference::{Options, write_difference};
-use oas_num::{Refusal, Sink, Source};
+use oas_num::{Device, Refusal, Sink, Source};
 use std::alloc::Global;
-use std::io::Write;
 
 /// Writes the difference of the layouts of all that `a` and `b` give within these limits to `out`, as the options say.
 /// Returns the status of the command: 0 where what the options compare is the same, so that there is no line, 3 where it
 /// differs, or 1 after a refusal, which is named to `told` in a line that begins with the name of the refused file. `a` is read
 /// whole before `b` is begun. A fault of `out` is the refusal `Why::Write`, under the name of `a`; a fault of `told` changes
 /// nothing.
-pub(crate) fn diff_telling<S: Source, T: Source, W: Write, K: Sink>(
+pub(crate) fn diff_telling<S: Source, T: Source, W: Device, K: Sink>(
     alloc: Global,
     name_a: &str,
     a: &mut S,
@@ -32,7 +31,7 @@ pub(crate) fn diff_telling<S: Source, T: Source, W: Write, K: Sink>(
 ) -> u8
     ensures { (found : Result (Contents × Contents) (WhichFile × Refused)) × (answer : Result (Contents × Contents) Refused) × (result ≡ diff_status options.entry answer)
         × ReadsBoth T.script limits (S.script a.old) (S.script a.new) b.old b.new found
-        × Delivers W.contents (diff_text options.entry) out.old (found_in found) answer out.new
+        × Delivers W.calls (diff_text options.entry) out.old (found_in found) answer out.new
         × Ends K.given K.failures (blamed name_a.now name_b.now found) told.old answer told.new }
 {
     match read_both(alloc, a, b, limits) {

@@ -3,11 +3,10 @@
 ghost use Rattle.std.specs.Prelude.{◌≡◌, ◌≢◌, ◌⊎◌, Ok};
 ghost use Rattle.oas_num.specs.Refusals.{number_of};
 ghost use Rattle.oas_command.specs.Lines.{refusal_line};
-ghost use Rattle.oas_command.specs.Runs.{status_after, verdict_status, Tells, Ends, AppendsPrefix};
+ghost use Rattle.oas_command.specs.Runs.{status_after, verdict_status, Tells, Ends, Says};
 
 use crate::messages::put_refusal;
-use oas_num::{Outlet, Refusal, Sink};
-use std::io::Write;
+use oas_num::{Device, Outlet, Refusal, Sink};
 
 /// The status of a run that did what was asked.
 pub(super) const DONE: u8 = 0;
@@ -66,10 +65,10 @@ pub(super) fn conclude<K: Sink>(
 }
 
 /// Ends a run that could not begin: names the refusal on `err`, and returns its status.
-pub fn run_refused<E: Write>(name: &str, refusal: Refusal, err: &mut E) -> u8
+pub fn run_refused<E: Device>(name: &str, refusal: Refusal, err: &mut E) -> u8
     ensures status { result ≡ 1 }
-    ensures tells { AppendsPrefix (E.contents err.old) (E.contents err.new)
-        (refusal_line name.now (number_of refusal.why) refusal.at) }
+    ensures tells { Says (E.calls err.old)
+        (refusal_line name.now (number_of refusal.why) refusal.at) (E.calls err.new) }
 {
     let mut told = Outlet::new(err);
     let status = refuse(name, refusal, &mut told);

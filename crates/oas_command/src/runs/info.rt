@@ -15,15 +15,14 @@ use super::ends::{DONE, conclude, refuse};
 use crate::lines::write_line;
 use oas_canon::{ByProfile, CompactLayout, Limits, PROFILE, read_compact};
 use oas_info::{Form, Info, info_of, text_in};
-use oas_num::{Refusal, Sink, Source, Why};
+use oas_num::{Device, Refusal, Sink, Source, Why};
 use std::alloc::{AllocError, Global};
-use std::io::Write;
 
 /// Writes the facts of the layout of all that `from` gives within these limits to `out`, in this format. Returns the status
 /// of the command: 0, or 1 after a refusal, which is named to `told` in a line that begins with `name`. Out of memory for the
 /// facts or their text is the refusal `Why::Memory`, and nothing is written. A fault of `out` is the refusal `Why::Write`; a
 /// fault of `told` changes nothing.
-pub(crate) fn info_telling<S: Source, W: Write, K: Sink>(
+pub(crate) fn info_telling<S: Source, W: Device, K: Sink>(
     alloc: Global,
     name: &str,
     from: &mut S,
@@ -35,7 +34,7 @@ pub(crate) fn info_telling<S: Source, W: Write, K: Sink>(
     ensures { (read : Result Contents Refused) × (found : Result Told Refused) × (answer : Result Told Refused) × (result ≡ status_of answer)
         × ReadsLayout limits PROFILE (S.script from.old) read (S.script from.new)
         × Informs (S.script from.new) read found
-        × Delivers W.contents (info_lines form) out.old found answer out.new
+        × Delivers W.calls (info_lines form) out.old found answer out.new
         × Ends K.given K.failures name.now told.old answer told.new }
 {
     match read_compact::<S, ByProfile>(alloc, from, limits) {

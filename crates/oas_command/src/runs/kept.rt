@@ -13,15 +13,14 @@ use super::ends::{conclude, refuse, status_of_verdict};
 use super::key::hex_text;
 use crate::lines::{Label, Pieces, write_pieces};
 use oas_canon::{Limits, key};
-use oas_num::{Refusal, Sink, Source};
+use oas_num::{Device, Refusal, Sink, Source};
 use std::alloc::Global;
-use std::io::Write;
 
 /// Writes whether the key of all that `from` gives within these limits is the saved one (lower-case hex digits), as a line to
 /// `out`, `NAME: OK` or `NAME: changed` with this label; a quiet run writes only the second. Returns the status of the
 /// command: 0 or 3, or 1 after a refusal, which is named to `told` in a line that begins with `name`. A fault of `out` is the
 /// refusal `Why::Write`; a fault of `told` changes nothing.
-pub fn kept_telling<S: Source, W: Write, K: Sink>(
+pub fn kept_telling<S: Source, W: Device, K: Sink>(
     alloc: Global,
     name: &str,
     label: Label<'_>,
@@ -35,7 +34,7 @@ pub fn kept_telling<S: Source, W: Write, K: Sink>(
     ensures { (found : Result (List ℕ) Refused) × (same : Result Bool Refused) × (answer : Result Bool Refused) × (result ≡ verdict_status answer)
         × Keys limits (S.script from.old) found (S.script from.new)
         × Agrees kept.now found same
-        × Delivers W.contents (saved_key_line is_quiet label.entry) out.old same answer out.new
+        × Delivers W.calls (saved_key_line is_quiet label.entry) out.old same answer out.new
         × Ends K.given K.failures name.now told.old answer told.new }
 {
     match key(alloc, from, limits) {
@@ -57,14 +56,14 @@ fn is_text_of(kept: &[u8], digest: &[u8; 32]) -> bool
 }
 
 /// Writes the line of a result after the name, where it should be written.
-fn write_kept<W: Write>(
+fn write_kept<W: Device>(
     out: &mut W,
     label: Label<'_>,
     is_quiet: bool,
     same: bool,
 ) -> Result<u64, Refusal>
-    ensures written { IfOk result (IsWritten W.contents out.old (saved_key_line is_quiet label.entry same) out.new) }
-    ensures refused { IfErr result (IsCutOff W.contents out.old (saved_key_line is_quiet label.entry same) out.new) }
+    ensures written { IfOk result (IsWritten W.calls out.old (saved_key_line is_quiet label.entry same) out.new) }
+    ensures refused { IfErr result (IsCutOff W.calls out.old (saved_key_line is_quiet label.entry same) out.new) }
 {
     if is_quiet && same {
         return Ok(0);

@@ -12,14 +12,13 @@ use super::ends::{DONE, conclude, refuse};
 use crate::lines::{Label, Pieces, write_line, write_pieces};
 use hex::encode_to_slice;
 use oas_canon::{Limits, key};
-use oas_num::{Refusal, Sink, Source};
+use oas_num::{Device, Refusal, Sink, Source};
 use std::alloc::Global;
-use std::io::Write;
 
 /// Writes the key of all that `from` gives within these limits, as a line of 64 lower-case hex digits to `out`, and returns
 /// the status of the command: 0, or 1 after a refusal, which is named to `told` in a line that begins with `name`. A fault of
 /// `out` is the refusal `Why::Write`; a fault of `told` changes nothing.
-pub(crate) fn key_telling<S: Source, W: Write, K: Sink>(
+pub(crate) fn key_telling<S: Source, W: Device, K: Sink>(
     alloc: Global,
     name: &str,
     from: &mut S,
@@ -29,7 +28,7 @@ pub(crate) fn key_telling<S: Source, W: Write, K: Sink>(
 ) -> u8
     ensures { (found : Result (List ℕ) Refused) × (answer : Result (List ℕ) Refused) × (result ≡ status_of answer)
         × Keys limits (S.script from.old) found (S.script from.new)
-        × Delivers W.contents key_line out.old found answer out.new
+        × Delivers W.calls key_line out.old found answer out.new
         × Ends K.given K.failures name.now told.old answer told.new }
 {
     match key(alloc, from, limits) {
@@ -43,7 +42,7 @@ pub(crate) fn key_telling<S: Source, W: Write, K: Sink>(
 
 /// Like `key_telling`, except that the line ends with the name of this label, as `sha256sum` prints it: `HEX  NAME`, with a
 /// backslash before it where the name was escaped.
-pub(crate) fn named_key_telling<S: Source, W: Write, K: Sink>(
+pub(crate) fn named_key_telling<S: Source, W: Device, K: Sink>(
     alloc: Global,
     name: &str,
     label: Label<'_>,
@@ -54,7 +53,7 @@ pub(crate) fn named_key_telling<S: Source, W: Write, K: Sink>(
 ) -> u8
     ensures { (found : Result (List ℕ) Refused) × (answer : Result (List ℕ) Refused) × (result ≡ status_of answer)
         × Keys limits (S.script from.old) found (S.script from.new)
-        × Delivers W.contents (named_key_line label.entry) out.old found answer out.new
+        × Delivers W.calls (named_key_line label.entry) out.old found answer out.new
         × Ends K.given K.failures name.now told.old answer told.new }
 {
     match key(alloc, from, limits) {
@@ -68,13 +67,13 @@ pub(crate) fn named_key_telling<S: Source, W: Write, K: Sink>(
 
 /// Writes the line of a key with the name of this label after it, as [`named_key_telling`] does, and returns how many bytes that
 /// is. A fault of the writer is `Why::Write`, after as many bytes of the line as its place says.
-pub fn write_named_key<W: Write>(
+pub fn write_named_key<W: Device>(
     out: &mut W,
     label: Label<'_>,
     digest: &[u8; 32],
 ) -> Result<u64, Refusal>
-    ensures written { IfOk result (IsWritten W.contents out.old (named_key_line label.entry digest.now) out.new) }
-    ensures refused { IfErr result (IsCutOff W.contents out.old (named_key_line label.entry digest.now) out.new) }
+    ensures written { IfOk result (IsWritten W.calls out.old (named_key_line label.entry digest.now) out.new) }
+    ensures refused { IfErr result (IsCutOff W.calls out.old (named_key_line label.entry digest.now) out.new) }
 {
     let text = hex_text(digest);
     let pieces = Pieces {

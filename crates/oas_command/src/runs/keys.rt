@@ -9,15 +9,14 @@ ghost use Rattle.oas_command.specs.Runs.{status_of, Delivers, Ends};
 
 use super::ends::{DONE, conclude, refuse};
 use oas_canon::{ByProfile, Limits, PROFILE, write_compact_cell_keys};
-use oas_num::{Sink, Source};
+use oas_num::{Device, Sink, Source};
 use oas_run_listing::oas_runs::read_compact;
 use std::alloc::Global;
-use std::io::Write;
 
 /// Writes the key of each cell of the layout of all that `from` gives within these limits to `out`, a line `HEX  CELL` each.
 /// Returns the status of the command: 0, or 1 after a refusal, which is named to `told` in a line that begins with `name`. A
 /// fault of `out` is the refusal `Why::Write`; a fault of `told` changes nothing.
-pub(crate) fn keys_telling<S: Source, W: Write, K: Sink>(
+pub(crate) fn keys_telling<S: Source, W: Device, K: Sink>(
     alloc: Global,
     name: &str,
     from: &mut S,
@@ -27,7 +26,7 @@ pub(crate) fn keys_telling<S: Source, W: Write, K: Sink>(
 ) -> u8
     ensures { (found : Result Contents Refused) × (answer : Result Contents Refused) × (result ≡ status_of answer)
         × ReadsLayout limits PROFILE (S.script from.old) found (S.script from.new)
-        × Delivers W.contents (λ l. cell_key_lines (meaning_of l)) out.old found answer out.new
+        × Delivers W.calls (λ l. cell_key_lines (meaning_of l)) out.old found answer out.new
         × Ends K.given K.failures name.now told.old answer told.new }
 {
     match read_compact::<S, ByProfile>(alloc, from, limits) {

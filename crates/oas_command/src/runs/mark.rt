@@ -13,15 +13,14 @@ use super::ends::{conclude, refuse};
 use oas_canon::{Limits, Which};
 use oas_markers::oas_difference::{Options, write_difference};
 use oas_markers::write_markers;
-use oas_num::{Sink, Source};
+use oas_num::{Device, Sink, Source};
 use std::alloc::Global;
-use std::io::Write;
 
 /// Writes the difference of two layouts to `out` as `diff_telling` does, and after that the markers of what the options
 /// compare to `markers`, at most this many, whatever else the options say. The status is that of `diff_telling`, or 1 where
 /// `markers` failed: that is the refusal `Why::Write`, under the markers' own name. Where an input is refused, or `out`
 /// failed, `markers` is given nothing.
-pub fn marking_telling<S: Source, T: Source, W: Write, M: Write, K: Sink>(
+pub fn marking_telling<S: Source, T: Source, W: Device, M: Device, K: Sink>(
     alloc: Global,
     name_a: &str,
     a: &mut S,
@@ -38,8 +37,8 @@ pub fn marking_telling<S: Source, T: Source, W: Write, M: Write, K: Sink>(
     ensures { (found : Result (Contents × Contents) (WhichFile × Refused)) × (lines : Result (Contents × Contents) Refused) × (last : Result (Contents × Contents) Refused)
         × (result ≡ diff_status options.entry last)
         × ReadsBoth T.script limits (S.script a.old) (S.script a.new) b.old b.new found
-        × Delivers W.contents (diff_text options.entry) out.old (found_in found) lines out.new
-        × Marks options.entry most M.contents markers.old lines last markers.new
+        × Delivers W.calls (diff_text options.entry) out.old (found_in found) lines out.new
+        × Marks options.entry most M.calls markers.old lines last markers.new
         × Ends K.given K.failures (blamed_marking name_a.now name_b.now name_of_markers.now found lines) told.old last told.new }
 {
     match read_both(alloc, a, b, limits) {

@@ -10,15 +10,14 @@ ghost use Rattle.oas_command.specs.Rekeying.{rekey_status, EndsRekeying};
 
 use super::ends::{DONE, NO, refuse};
 use oas_canon::{Limits, Rekeyed, rekey};
-use oas_num::{Refusal, Sink, SinkFault, Source};
+use oas_num::{Device, Refusal, Sink, SinkFault, Source};
 use std::alloc::Global;
-use std::io::Write;
 
 /// Writes the canonical bytes by profile two of all that `from` gives within these limits, which is canonical by profile one,
 /// to `out`, and returns the status of the command: 0; or 3 where it isn't canonical by profile one, and 1 after a refusal.
 /// Each of these two is said to `told`, in a line that begins with `name`, and neither writes anything to `out` unless `out`
 /// itself failed. A fault of `told` changes nothing.
-pub(crate) fn rekey_telling<S: Source, W: Write, K: Sink>(
+pub(crate) fn rekey_telling<S: Source, W: Device, K: Sink>(
     alloc: Global,
     name: &str,
     from: &mut S,
@@ -27,7 +26,7 @@ pub(crate) fn rekey_telling<S: Source, W: Write, K: Sink>(
     limits: Limits,
 ) -> u8
     ensures { (answer : Result WasRekeyed Refused) × (result ≡ rekey_status answer)
-        × RekeysFile W.contents limits (S.script from.old) out.old answer (S.script from.new) out.new
+        × RekeysFile W.calls limits (S.script from.old) out.old answer (S.script from.new) out.new
         × EndsRekeying K.given K.failures name.now told.old answer told.new }
 {
     conclude_rekeying(name, rekey(alloc, from, out, limits), told)

@@ -5,7 +5,7 @@ use super::layouts::{Sketch, layout};
 use crate::narrow::Narrow;
 use oas_layout::Layout;
 use oas_markers::oas_difference::write_difference;
-use oas_num::{Refusal, Why};
+use oas_num::{NotedWriter, Refusal, Why};
 use std::alloc::Global;
 use std::test::Fail;
 
@@ -33,7 +33,7 @@ fn is_cut_off(before: &Layout, after: &Layout, mut writer: Narrow) -> bool {
         at: place as u64,
         why: Why::Write,
     };
-    write_difference(before, after, ALL, &mut writer) == Err(refusal)
+    write_difference(before, after, ALL, &mut NotedWriter::new(&mut writer)) == Err(refusal)
         && writer.took.len() == place
         && CHANGED.as_bytes().starts_with(writer.took.as_slice())
 }

@@ -5,7 +5,7 @@ use super::layouts::kinds;
 use crate::narrow::Narrow;
 use oas_layout::Layout;
 use oas_listing::write_listing;
-use oas_num::{Refusal, Why};
+use oas_num::{NotedWriter, Refusal, Why};
 use std::alloc::Global;
 use std::test::Fail;
 
@@ -17,7 +17,7 @@ fn is_cut_off(layout: &Layout, writer: &mut Narrow) -> bool {
         at: place as u64,
         why: Why::Write,
     };
-    write_listing(layout, writer) == Err(refusal)
+    write_listing(layout, &mut NotedWriter::new(&mut *writer)) == Err(refusal)
         && writer.took.len() == place
         && KINDS.as_bytes().starts_with(writer.took.as_slice())
 }
@@ -61,7 +61,7 @@ fn flushed_again(alloc: Global) -> Result<[bool; 2], Fail> {
     writer.flushes = false;
     let refused = is_cut_off(&layout, &mut writer);
     writer.flushes = true;
-    let again = write_listing(&layout, &mut writer);
+    let again = write_listing(&layout, &mut NotedWriter::new(&mut writer));
     Ok([refused, again == Ok(KINDS.len() as u64)])
 }
 

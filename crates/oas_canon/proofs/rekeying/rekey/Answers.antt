@@ -24,7 +24,7 @@ pub returns-in_err-count-clause-cut : goal.returns-in_err-count-clause-cut
 returns-in_err-count-clause-cut g c =
     let p = err_from_is_err_and c.from_residual-in_err-count.result c.from_residual-in_err-count.ensures.1 in
     let r = c.in_ok-layout.ensures.read in
-    rw (p.1, p.2) (λ _. in_part r c.if-not-own.false g.W.Write.contents _ _ _ c.in_err-count.ensures.refused)
+    rw (p.1, p.2) (λ _. in_part r c.if-not-own.false g.W.Device.calls _ _ _ c.in_err-count.ensures.refused)
 
 pub returns-in_err-count-clause-exactly : goal.returns-in_err-count-clause-exactly
 returns-in_err-count-clause-exactly g c =
@@ -35,12 +35,12 @@ returns-in_err-count-clause-exactly g c =
 pub returns-clause-rekeyed : goal.returns-clause-rekeyed
 returns-clause-rekeyed g c =
     let r = c.in_ok-layout.ensures.read in
-    rekeyed r c.if-not-own.false g.W.Write.contents _ _ _ c.in_ok-count.ensures.written
+    rekeyed r c.if-not-own.false g.W.Device.calls _ _ _ c.in_ok-count.ensures.written
 
 pub returns-clause-again : goal.returns-clause-again
 returns-clause-again g c =
     let r = c.in_ok-layout.ensures.read in
-    stays _ _ _ _ _ (Done _) (rekeyed r c.if-not-own.false g.W.Write.contents _ _ _ c.in_ok-count.ensures.written)
+    stays _ _ _ _ _ (Done _) (rekeyed r c.if-not-own.false g.W.Device.calls _ _ _ c.in_ok-count.ensures.written)
 
 pub returns-clause-exactly : goal.returns-clause-exactly
 returns-clause-exactly g c = exactly_taken (Done c.in_ok-count.count) (taken c.in_ok-layout.ensures.read.read)

@@ -16,7 +16,7 @@ returns-in-Ok g c =
       answered found written,
       c.conclude_check.ensures.answers,
       c.in-Ok.ensures,
-      delivers found g.W.Write.contents (check_text c.args.label) written c.args.out.now c.write_named_check-written.new.out wrote.written wrote.refused,
+      delivers found g.W.Device.calls (check_text c.args.label) written c.args.out.now c.write_named_check-written.new.out wrote.written wrote.refused,
       subst (λ (r : Result Report Rejection). Ends g.K.Sink.given g.K.Sink.failures c.args.name.now c.args.told.now r c.conclude_check.new.told) (reports found.0 found.1 written) c.conclude_check.ensures.ends,
     )
 

@@ -16,7 +16,7 @@ returns-in-Ok g c =
       answered found written,
       c.conclude.ensures.answers ∙ ap status_of told,
       c.in-Ok.ensures,
-      delivers found g.W.Write.contents (key_text c.args.label) written c.args.out.now c.write_named_key-written.new.out wrote.written wrote.refused,
+      delivers found g.W.Device.calls (key_text c.args.label) written c.args.out.now c.write_named_key-written.new.out wrote.written wrote.refused,
       subst (λ (r : Result Report Rejection). Ends g.K.Sink.given g.K.Sink.failures c.args.name.now c.args.told.now r c.conclude.new.told) told c.conclude.ensures.ends,
     )
 

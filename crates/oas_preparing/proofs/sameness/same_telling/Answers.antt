@@ -13,6 +13,6 @@ returns-in-Ok g c =
       answered found written,
       c.conclude_both.ensures.answers,
       c.in-Ok.ensures,
-      delivers found g.W.Write.contents sameness_text written c.args.out.now c.write_sameness-written.new.out wrote.written wrote.refused,
+      delivers found g.W.Device.calls sameness_text written c.args.out.now c.write_sameness-written.new.out wrote.written wrote.refused,
       c.conclude_both.ensures.ends,
     )

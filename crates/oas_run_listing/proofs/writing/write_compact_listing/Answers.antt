@@ -8,9 +8,9 @@ use Rattle.oas_run_listing.proofs.writing.write_compact_listing.Goals as goal
 pub returns-in-Ok-clause-written : goal.returns-in-Ok-clause-written
 returns-in-Ok-clause-written g c =
     let short : length (listing (meaning_of c.args.layout.now)) < 2 ^ 64 = omega (arith, short_enough c.args.layout.now c.in-Ok.ensures.layout) in
-    written g.W.Write.contents c.new-outlet.ensures c.in-Ok.ensures.writes c.in-Ok.ensures.all (λ name. search rules) c.taken.ensures short
+    written g.W.Device.calls c.new-outlet.ensures c.in-Ok.ensures.writes c.in-Ok.ensures.all (λ name. search rules) c.taken.ensures short
 
 pub returns-in-Err-clause-refused : goal.returns-in-Err-clause-refused
 returns-in-Err-clause-refused g c =
     let short : length (listing (meaning_of c.args.layout.now)) < 2 ^ 64 = omega (arith, short_enough c.args.layout.now c.in-Err.ensures.layout) in
-    cut_off g.W.Write.contents c.new-outlet.ensures c.in-Err.ensures.writes (λ name. search rules) c.taken-in-Err.ensures short
+    cut_off g.W.Device.calls c.new-outlet.ensures c.in-Err.ensures.writes (λ name. search rules) c.taken-in-Err.ensures short

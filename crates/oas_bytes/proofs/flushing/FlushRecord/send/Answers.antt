@@ -10,7 +10,15 @@ loop-sent-preserved g c =
     let sent = c.loop-sent.sent in
     let n = c.in-Ok.count in
     let xs = c.args.bytes.now in
-    let fits = c.in-Ok.ensures.bound in
+    let call = c.in-Ok.ensures in
+    let so_far = c.loop-sent.invariant.took in
     let most = length-take (length xs - sent) (drop sent xs) in
     let joined = ap (λ l. take sent xs ++ l) (take-take n (length xs - sent) (drop sent xs) (omega arith)) ∙ sym (take-add sent n xs) in
-    record { within = omega arith; unflushed = c.loop-sent.invariant.unflushed; took = subst (Appends _ _) joined (Appends-then _ _ _ _ _ c.loop-sent.invariant.took c.in-Ok.ensures.bytes) }
+    record {
+      within = omega arith;
+      unflushed = c.loop-sent.invariant.unflushed;
+      took = record {
+        took = subst (Appends _ _) joined (Appends-then _ _ _ _ _ so_far.took call.took);
+        failures = omega arith;
+      };
+    }

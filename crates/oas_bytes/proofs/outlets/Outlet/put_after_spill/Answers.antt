@@ -13,4 +13,4 @@ pub returns-clause-writes : goal.returns-clause-writes
 returns-clause-writes g c =
     let done = c.in_ok-spill.ensures.all in
     Puts-then _ _ _ _ _ [] (c.args.byte ∷ []) c.in_ok-spill.ensures.writes
-    (byte_kept g.W.Write.contents c.spill.new.self _ refl done.works c.args.byte refl c.push.ensures refl done.works)
+    (byte_kept g.W.Device.calls c.spill.new.self _ refl done.works c.args.byte refl c.push.ensures refl done.works)

@@ -12,6 +12,6 @@ returns-in-Ok g c =
       result_after c.in-Ok.yes written,
       judged c.in-Ok.yes written _ _ c.status_of_verdict.ensures c.conclude.ensures.answers,
       record { judged = found.judged; refused = found.refused; placed = found.placed; decided = found.decided; exactly = found.exactly },
-      delivers c.in-Ok.yes g.W.Write.contents check_line written c.args.out.now c.write_line-written.new.writer (rw c.verdict.ensures at wrote.written) (rw c.verdict.ensures at wrote.refused),
+      delivers c.in-Ok.yes g.W.Device.calls check_line written c.args.out.now c.write_line-written.new.writer (rw c.verdict.ensures at wrote.written) (rw c.verdict.ensures at wrote.refused),
       tells c.in-Ok.yes g.K.Sink.given g.K.Sink.failures c.args.name.now c.args.told.now written c.conclude.new.told c.conclude.ensures.ends,
     )

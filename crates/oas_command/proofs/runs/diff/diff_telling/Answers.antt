@@ -19,12 +19,12 @@ returns-in-Ok g c =
     let written = c.write_difference-written.result in
     let out = c.args.out.now in
     let after = c.write_difference-written.new.writer in
-    let whole = subst (λ (t : List ℕ). IfOk written (IsWritten g.W.Write.contents out t after)) text c.write_difference-written.ensures.written in
-    let cut = subst (λ (t : List ℕ). IfErr written (IsCutOff g.W.Write.contents out t after)) text c.write_difference-written.ensures.refused in (
+    let whole = subst (λ (t : List ℕ). IfOk written (IsWritten g.W.Device.calls out t after)) text c.write_difference-written.ensures.written in
+    let cut = subst (λ (t : List ℕ). IfErr written (IsCutOff g.W.Device.calls out t after)) text c.write_difference-written.ensures.refused in (
       Ok found,
       result_after {T = Contents × Contents} found written,
-      differs options g.W.Write.contents out after found written _ _ whole c.status_of_length.ensures c.conclude.ensures.answers,
+      differs options g.W.Device.calls out after found written _ _ whole c.status_of_length.ensures c.conclude.ensures.answers,
       both,
-      delivers {T = Contents × Contents} found g.W.Write.contents (diff_text options) written out after whole cut,
+      delivers {T = Contents × Contents} found g.W.Device.calls (diff_text options) written out after whole cut,
       tells {T = Contents × Contents} found g.K.Sink.given g.K.Sink.failures c.args.name_a.now c.args.told.now written c.conclude.new.told c.conclude.ensures.ends,
     )

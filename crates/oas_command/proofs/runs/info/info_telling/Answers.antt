@@ -20,14 +20,14 @@ returns-in-Ok-facts_and_text g c =
     let out = c.args.out.now in
     let after = c.write_line-written.new.writer in
     let lines : line_of c.as_slice.result.now ≡ info_lines c.args.form info = ap line_of (c.as_slice.ensures.value ∙ c.in-Ok-facts_and_text.ensures.text) in
-    let whole = subst (λ (t : List ℕ). IfOk written (IsWritten g.W.Write.contents out t after)) lines wrote.written in
-    let cut = subst (λ (t : List ℕ). IfErr written (IsCutOff g.W.Write.contents out t after)) lines wrote.refused in (
+    let whole = subst (λ (t : List ℕ). IfOk written (IsWritten g.W.Device.calls out t after)) lines wrote.written in
+    let cut = subst (λ (t : List ℕ). IfErr written (IsCutOff g.W.Device.calls out t after)) lines wrote.refused in (
       Ok c.in-Ok.layout,
       Ok info,
       result_after {T = Info} info written,
       done {T = Info} info written _ c.conclude.ensures.answers,
       c.in-Ok.ensures,
       c.in-Ok-facts_and_text.ensures.facts,
-      delivers {T = Info} info g.W.Write.contents (info_lines c.args.form) written out after whole cut,
+      delivers {T = Info} info g.W.Device.calls (info_lines c.args.form) written out after whole cut,
       tells {T = Info} info g.K.Sink.given g.K.Sink.failures c.args.name.now c.args.told.now written c.conclude.new.told c.conclude.ensures.ends,
     )

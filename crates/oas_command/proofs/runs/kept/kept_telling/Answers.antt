@@ -15,6 +15,6 @@ returns-in-Ok g c =
       judged same written _ _ c.status_of_verdict.ensures c.conclude.ensures.answers,
       record { keyed = found.keyed; refused = found.refused; placed = found.placed; decided = found.decided; exactly = found.exactly },
       c.is_text_of-same.ensures,
-      delivers same g.W.Write.contents (saved_key_line c.args.is_quiet c.args.label) written c.args.out.now c.write_kept-written.new.out wrote.written wrote.refused,
+      delivers same g.W.Device.calls (saved_key_line c.args.is_quiet c.args.label) written c.args.out.now c.write_kept-written.new.out wrote.written wrote.refused,
       tells same g.K.Sink.given g.K.Sink.failures c.args.name.now c.args.told.now written c.conclude.new.told c.conclude.ensures.ends,
     )

@@ -12,6 +12,6 @@ returns-in-Ok g c =
       result_after c.in-Ok.digest written,
       done c.in-Ok.digest written _ c.conclude.ensures.answers,
       record { keyed = found.keyed; refused = found.refused; placed = found.placed; decided = found.decided; exactly = found.exactly },
-      delivers c.in-Ok.digest g.W.Write.contents key_line written c.args.out.now c.write_line-written.new.writer (rw c.hex_text.ensures at wrote.written) (rw c.hex_text.ensures at wrote.refused),
+      delivers c.in-Ok.digest g.W.Device.calls key_line written c.args.out.now c.write_line-written.new.writer (rw c.hex_text.ensures at wrote.written) (rw c.hex_text.ensures at wrote.refused),
       tells c.in-Ok.digest g.K.Sink.given g.K.Sink.failures c.args.name.now c.args.told.now written c.conclude.new.told c.conclude.ensures.ends,
     )

@@ -12,6 +12,6 @@ returns-in-Ok g c =
       result_after c.in-Ok.digest written,
       done c.in-Ok.digest written _ c.conclude.ensures.answers,
       record { keyed = found.keyed; refused = found.refused; placed = found.placed; decided = found.decided; exactly = found.exactly },
-      delivers c.in-Ok.digest g.W.Write.contents (named_key_line c.args.label) written c.args.out.now c.write_named_key-written.new.out wrote.written wrote.refused,
+      delivers c.in-Ok.digest g.W.Device.calls (named_key_line c.args.label) written c.args.out.now c.write_named_key-written.new.out wrote.written wrote.refused,
       tells c.in-Ok.digest g.K.Sink.given g.K.Sink.failures c.args.name.now c.args.told.now written c.conclude.new.told c.conclude.ensures.ends,
     )

@@ -24,7 +24,7 @@ returns-in-Ok-write_difference g c =
     let out = c.args.out.now in
     let after = c.write_difference.new.writer in
     let text : difference_by options a.profile (meaning_of a) (meaning_of b) ≡ diff_text options found = ap (λ p. difference_by options p (meaning_of a) (meaning_of b)) both.0.by in
-    let whole = subst (λ (t : List ℕ). IsWritten g.W.Write.contents out t after count) text c.in-Ok-write_difference.ensures.written in
+    let whole = subst (λ (t : List ℕ). IsWritten g.W.Device.calls out t after count) text c.in-Ok-write_difference.ensures.written in
     let marked = c.write_markers-marked.result in
     let old = c.args.markers.now in
     let new = c.write_markers-marked.new.writer in
@@ -32,15 +32,15 @@ returns-in-Ok-write_difference g c =
     let most = c.args.most in
     let same : markers most choice.layers a.profile (chosen choice (meaning_of a)) (chosen choice (meaning_of b)) ≡ marks options most found =
     ap (λ p. markers most choice.layers p (chosen choice (meaning_of a)) (chosen choice (meaning_of b))) both.0.by in
-    let all = subst (λ (t : List ℕ). IfOk marked (IsMarked g.M.Write.contents old t new)) same c.write_markers-marked.ensures.written in
-    let cut = subst (λ (t : List ℕ). IfErr marked (IsMarkedUpTo g.M.Write.contents old t new)) same c.write_markers-marked.ensures.refused in (
+    let all = subst (λ (t : List ℕ). IfOk marked (IsMarked g.M.Device.calls old t new)) same c.write_markers-marked.ensures.written in
+    let cut = subst (λ (t : List ℕ). IfErr marked (IsMarkedUpTo g.M.Device.calls old t new)) same c.write_markers-marked.ensures.refused in (
       Ok found,
       Ok found,
       result_after {T = Contents × Contents} found marked,
-      marks_differ found options g.W.Write.contents out after count marked _ _ whole c.status_of_length.ensures c.conclude.ensures.answers,
+      marks_differ found options g.W.Device.calls out after count marked _ _ whole c.status_of_length.ensures c.conclude.ensures.answers,
       both,
       (refl, whole.took),
-      marks_follow found options most g.M.Write.contents marked old new all cut,
+      marks_follow found options most g.M.Device.calls marked old new all cut,
       tells {T = Contents × Contents} found g.K.Sink.given g.K.Sink.failures c.args.name_of_markers.now c.args.told.now marked c.conclude.new.told c.conclude.ensures.ends,
     )
 
@@ -55,5 +55,5 @@ returns-in-Ok g c =
     let failed : Result (Contents × Contents) Refusal = Err refusal in
     let old = c.args.markers.now in
     let text : difference_by options a.profile (meaning_of a) (meaning_of b) ≡ diff_text options found = ap (λ p. difference_by options p (meaning_of a) (meaning_of b)) both.0.by in
-    let cut = subst (λ (t : List ℕ). IsCutOff g.W.Write.contents c.args.out.now t c.write_difference.new.writer refusal) text c.in-Err.ensures.refused in
+    let cut = subst (λ (t : List ℕ). IsCutOff g.W.Device.calls c.args.out.now t c.write_difference.new.writer refusal) text c.in-Err.ensures.refused in
     (Ok found, failed, failed, c.refuse.ensures.status, both, cut, (refl {a = failed}, refl {a = old}), c.refuse.ensures.tells)

@@ -12,7 +12,7 @@ returns-in-Ok g c =
       result_after c.in-Ok.same written,
       judged c.in-Ok.same written _ _ c.status_of_verdict.ensures c.conclude.ensures.answers,
       record { compared = found.compared; first = found.first; second = found.second; exactly = found.exactly },
-      delivers c.in-Ok.same g.W.Write.contents same_line written c.args.out.now c.write_sameness-written.new.out wrote.written wrote.refused,
+      delivers c.in-Ok.same g.W.Device.calls same_line written c.args.out.now c.write_sameness-written.new.out wrote.written wrote.refused,
       tells c.in-Ok.same g.K.Sink.given g.K.Sink.failures c.args.name_a.now c.args.told.now written c.conclude.new.told c.conclude.ensures.ends,
     )
 

@@ -13,7 +13,7 @@ returns-in-Ok g c =
       result_after {T = Contents} layout written,
       done {T = Contents} layout written _ c.conclude.ensures.answers,
       c.in-Ok.ensures,
-      delivers {T = Contents} layout g.W.Write.contents (λ (l : Contents). listing (meaning_of l)) written c.args.out.now c.write_compact_listing-written.new.writer wrote.written wrote.refused,
+      delivers {T = Contents} layout g.W.Device.calls (λ (l : Contents). listing (meaning_of l)) written c.args.out.now c.write_compact_listing-written.new.writer wrote.written wrote.refused,
       tells {T = Contents} layout g.K.Sink.given g.K.Sink.failures c.args.name.now c.args.told.now written c.conclude.new.told c.conclude.ensures.ends,
     )
 
